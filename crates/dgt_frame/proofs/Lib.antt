@@ -1,0 +1,5 @@
+pub mod FrameLemmas
+pub mod StateLemmas
+pub mod StepLemmas
+pub mod StoredLemmas
+pub mod OnceLemmas

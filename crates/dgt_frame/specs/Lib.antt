@@ -1,0 +1,10 @@
+pub mod Clock
+pub mod Decoding
+pub mod Encoding
+pub mod Frames
+pub mod Layout
+pub mod Room
+pub mod Stored
+pub mod Streams
+pub mod Times
+pub mod Watched

@@ -1,0 +1,264 @@
+//! The decoder: one byte in, at most one event out.
+ghost use Rattle.std.specs.Prelude.{◌≡◌, ◌≤◌, ◌<◌, ◌+◌, ◌*◌, ◌↔◌, ℕ, List, [], ◌∷◌, ◌++◌, length, take, IsTrue, Some, IfNone, IfSome, slice_set};
+ghost use Rattle.dgt_frame.specs.Frames.{Frame};
+ghost use Rattle.dgt_frame.specs.Room.{has_room};
+ghost use Rattle.dgt_frame.specs.Streams.{HasFrame, Timed, Shows};
+ghost use Rattle.dgt_frame.specs.Stored.{message_stored};
+ghost use Rattle.dgt_frame.specs.Layout.{fixed_size, byte_limit, FitsData, FitsSize, IsHeader};
+
+use crate::events::{Event, FaultKind, Message};
+
+const TOP_BIT: u8 = 0x80;
+
+const DUMP: u8 = 0x86;
+
+const UPDATE: u8 = 0x8E;
+
+const TIME: u8 = 0x8D;
+
+/// The most data bytes of a frame whose data matters.
+const STORED: u16 = 64;
+
+#[derive(Clone, Copy, Debug)]
+enum State {
+    /// No frame is begun.
+    Idle,
+    /// After a fault, up to the next byte with its top bit set.
+    Skipping,
+    /// One byte of a frame has come.
+    Identified { id: u8 },
+    /// Two bytes of a frame have come.
+    Measured { id: u8, high: u8 },
+    /// The header and `count` data bytes of a frame of `size` bytes have come.
+    Filling { id: u8, size: u16, count: u16 },
+}
+
+/// An event among several bytes.
+#[derive(Clone, Copy, Debug, PartialEq, Eq)]
+pub struct Arrival {
+    /// How many bytes were taken up to the event, its own among them: at least 1.
+    pub taken: usize,
+    /// What came at the last of them.
+    pub event: Event,
+}
+
+/// What one byte does.
+#[derive(Clone, Copy, Debug)]
+enum Progress {
+    /// No event comes at it.
+    Waits,
+    /// It can't stand where it does.
+    Fails(FaultKind),
+    /// It is the last of a frame, whose data is stored.
+    Ends { id: u8, size: u16 },
+}
+
+/// Finds the messages and faults in a stream of bytes (DGT Electronic Board Protocol), in whatever pieces they come. It
+/// takes no memory and refuses nothing.
+#[derive(Clone, Copy, Debug)]
+pub struct Decoder {
+    state: State,
+    stored: [u8; 64],
+    ghost room: { IsTrue (has_room state) },
+}
+
+impl Decoder {
+    ghost use Rattle.dgt_frame.specs.Decoding.{Decoded, Takes, TakesAll, TakesUpTo, answered, timed};
+
+    /// A decoder that was given no byte.
+    pub fn new() -> Decoder
+        ensures { Decoded result [] [] }
+    {
+        Decoder {
+            state: State::Idle,
+            stored: [0; 64],
+        }
+    }
+
+    /// How many bytes of an unfinished frame have come, 0 to 16,382: 0 between frames and while bytes are skipped.
+    pub fn pending(&self) -> u16
+        ensures { (bytes : List ℕ) (events : List Timed) → Decoded self.now bytes events → Shows bytes events result }
+    {
+        match self.state {
+            State::Idle => 0,
+            State::Skipping => 0,
+            State::Identified { .. } => 1,
+            State::Measured { .. } => 2,
+            State::Filling { count, .. } => count + 3,
+        }
+    }
+
+    /// Takes the next byte, and answers the event that comes at it, if one does.
+    pub fn push(&mut self, byte: u8) -> Option<Event>
+        // Whatever bytes the decoder was given and whatever events it has answered, it has now been given
+        // this byte too, and has answered this event too.
+        ensures decoded { (bytes : List ℕ) (events : List Timed) → Decoded self.old bytes events
+            → Decoded self.new (bytes ++ byte ∷ []) (events ++ timed (length bytes) result) }
+        ensures frame { (bytes : List ℕ) (events : List Timed) → Decoded self.old bytes events → IfSome result HasFrame }
+    {
+        match self.step(byte) {
+            Progress::Waits => None,
+            Progress::Fails(kind) => Some(Event::Fault(kind)),
+            Progress::Ends { id, size } => Some(Event::Message(message(id, size, &self.stored))),
+        }
+    }
+
+    /// Takes bytes up to the first at which an event comes, or all of them where none comes and the answer is `None`. It
+    /// does what `push` does byte by byte, in less time.
+    pub fn push_until(&mut self, bytes: &[u8]) -> Option<Arrival>
+        ensures none { IfNone result (TakesAll self.old bytes.now self.new) }
+        ensures some { IfSome result (λ arrival. TakesUpTo self.old bytes.now arrival.taken arrival.event self.new) }
+        ensures taken { IfSome result (λ arrival. (0 < arrival.taken) × (arrival.taken ≤ length bytes.now)) }
+        ensures frame { (before : List ℕ) (events : List Timed) → Decoded self.old before events → IfSome result (λ arrival. HasFrame arrival.event) }
+    {
+        for (i, byte) in bytes.iter().enumerate() {
+            let taken = i + 1;
+            match self.step(*byte) {
+                Progress::Waits => {}
+                Progress::Fails(kind) => {
+                    let event = Event::Fault(kind);
+                    return Some(Arrival { taken, event });
+                }
+                Progress::Ends { id, size } => {
+                    let event = Event::Message(message(id, size, &self.stored));
+                    return Some(Arrival { taken, event });
+                }
+            }
+        }
+        None
+    }
+
+    fn step(&mut self, byte: u8) -> Progress
+        ensures { Takes self.old byte (answered result self.new.stored) self.new }
+    {
+        if byte >= TOP_BIT {
+            return self.begin(byte);
+        }
+        match self.state {
+            State::Idle => self.fail(FaultKind::Stray),
+            State::Skipping => Progress::Waits,
+            State::Identified { id } => {
+                if byte > 0 && fixed_size(id) > 0 {
+                    return self.fail(FaultKind::Size);
+                }
+                self.state = State::Measured { id, high: byte };
+                Progress::Waits
+            }
+            State::Measured { id, high } => self.measure(id, high, byte),
+            State::Filling { id, size, count } => self.fill(id, size, count, byte),
+        }
+    }
+
+    fn fail(&mut self, kind: FaultKind) -> Progress
+        ensures skips { self.new.state ≡ State.Skipping }
+        ensures fault { result ≡ Progress.Fails kind }
+    {
+        self.state = State::Skipping;
+        Progress::Fails(kind)
+    }
+
+    fn begin(&mut self, id: u8) -> Progress
+        requires { 128 ≤ id }
+        ensures { Takes self.old id (answered result self.new.stored) self.new }
+    {
+        let before = self.state;
+        self.state = State::Identified { id };
+        match before {
+            State::Idle | State::Skipping => Progress::Waits,
+            _ => Progress::Fails(FaultKind::Cut),
+        }
+    }
+
+    fn measure(&mut self, id: u8, high: u8, low: u8) -> Progress
+        requires state { self.old.state ≡ State.Measured id high }
+        requires low { low < 128 }
+        ensures { Takes self.old low (answered result self.new.stored) self.new }
+    {
+        let size = u16::from(high) * 128 + u16::from(low);
+        if !fits_size(id, size) {
+            return self.fail(FaultKind::Size);
+        }
+        if size == 3 {
+            self.state = State::Idle;
+            return Progress::Ends { id, size };
+        }
+        self.state = State::Filling { id, size, count: 0 };
+        Progress::Waits
+    }
+
+    fn fill(&mut self, id: u8, size: u16, count: u16, byte: u8) -> Progress
+        requires state { self.old.state ≡ State.Filling id size count }
+        requires room { count + 3 < size }
+        requires byte { byte < 128 }
+        ensures { Takes self.old byte (answered result self.new.stored) self.new }
+    {
+        if byte >= byte_limit(id, count) {
+            return self.fail(FaultKind::Data);
+        }
+        store(&mut self.stored, count, byte);
+        if count + 4 < size {
+            self.state = State::Filling {
+                id,
+                size,
+                count: count + 1,
+            };
+            return Progress::Waits;
+        }
+        self.state = State::Idle;
+        Progress::Ends { id, size }
+    }
+}
+
+fn fixed_size(id: u8) -> u8
+    ensures { result ≡ fixed_size id }
+{
+    match id {
+        DUMP => 67,
+        UPDATE => 5,
+        TIME => 10,
+        _ => 0,
+    }
+}
+
+fn fits_size(id: u8, size: u16) -> bool
+    ensures { IsTrue result ↔ FitsSize id size }
+{
+    let fixed = u16::from(fixed_size(id));
+    size >= 3 && (fixed == 0 || size == fixed)
+}
+
+fn store(stored: &mut [u8; 64], index: u16, byte: u8)
+    ensures set { index < 64 → stored.new ≡ slice_set stored.old index byte }
+    ensures len { length stored.new ≡ 64 }
+{
+    if index < STORED {
+        stored[index as usize] = byte;
+    }
+}
+
+fn byte_limit(id: u8, index: u16) -> u8
+    ensures { result ≡ byte_limit id index }
+{
+    match id {
+        DUMP => 16,
+        UPDATE => { if index == 0 { 64 } else { 16 } }
+        _ => 128,
+    }
+}
+
+// The message of a whole frame, whose data is stored.
+fn message(id: u8, size: u16, stored: &[u8; 64]) -> Message
+    ensures { result ≡ message_stored id size stored.now }
+{
+    match id {
+        DUMP => Message::Dump(*stored),
+        UPDATE => Message::Update {
+            field: stored[0],
+            code: stored[1],
+        },
+        TIME => Message::Time([
+            stored[0], stored[1], stored[2], stored[3], stored[4], stored[5], stored[6],
+        ]),
+        _ => Message::Other { id, size },
+    }
+}

@@ -1,0 +1,22 @@
+//! Laws of what a stream shows: each stream shows exactly one list of events.
+ghost use Rattle.std.specs.Prelude.{◌≡◌, ℕ, List};
+ghost use Rattle.dgt_frame.specs.Streams.{Shows, Timed};
+
+use crate::decode::Decoder;
+
+/// A stream of bytes shows one list of events, and leaves one rest.
+pub fn shows_once()
+    ensures { (bytes : List ℕ) (events others : List Timed) (rest other : ℕ)
+        → Shows bytes events rest → Shows bytes others other → (events ≡ others) × (rest ≡ other) }
+{}
+
+/// Each stream of bytes shows some events, and leaves some rest.
+pub fn shows_some(bytes: &[u8])
+    ensures { (events : List Timed) × (rest : ℕ) × Shows bytes.now events rest }
+{
+    let mut decoder = Decoder::new();
+    for byte in bytes {
+        decoder.push(*byte);
+    }
+    decoder.pending();
+}
