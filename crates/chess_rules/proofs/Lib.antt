@@ -1,0 +1,16 @@
+pub mod Shifts
+pub mod Moving
+pub mod Tells
+pub mod Codes
+pub mod Seeing
+pub mod Attacking
+pub mod Ways
+pub mod Kings
+pub mod Replacing
+pub mod Transfers
+pub mod Staying
+pub mod Starting
+pub mod Listing
+pub mod Reaching
+pub mod Passing
+pub mod LawLemmas

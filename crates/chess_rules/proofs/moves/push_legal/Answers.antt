@@ -1,0 +1,18 @@
+use Rattle.std.proofs.Common.{arith}
+use Rattle.std.proofs.lemmas.Bool.{iff_false}
+use Rattle.chess_rules.specs.declared.men.Move.{Move}
+use Rattle.chess_rules.proofs.Listing.{lists_more, lists_skip}
+use Rattle.chess_rules.proofs.moves.push_legal.Goals as goal
+
+pub returns-in_ok-push : goal.returns-in_ok-push
+returns-in_ok-push c =
+    let m : Move = record { from = c.args.from; to = c.args.to; promotion = c.args.promotion } in
+    rw c.in_ok-push.ensures.items
+    (lists_more c.args.parts.now c.args.moves.now.items m c.requires.valid.squares c.requires.below (c.is_legal_in.ensures.0 c.if-is_legal_in.true))
+
+pub returns-else-is_legal_in : goal.returns-else-is_legal_in
+returns-else-is_legal_in c =
+    let m : Move = record { from = c.args.from; to = c.args.to; promotion = c.args.promotion } in
+    lists_skip c.args.parts.now c.args.moves.now.items m c.requires.valid.squares
+    (record { from = omega arith; to = omega arith; promotion = c.requires.named }) c.requires.below
+    (iff_false c.is_legal_in.ensures c.if-is_legal_in.false)

@@ -1,0 +1,12 @@
+pub mod Board
+pub mod Attack
+pub mod After
+pub mod Legal
+pub mod Valid
+pub mod Picture
+pub mod Laws
+pub mod Walk
+pub mod Initial
+pub mod Moves
+pub mod Places
+pub mod Reach

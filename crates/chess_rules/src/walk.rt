@@ -1,0 +1,220 @@
+// Looking outwards from a square: which men of a side attack it.
+ghost use Rattle.std.specs.Prelude.{◌≡◌, ◌+◌, ◌<◌, ◌↔◌, IsNone, IfSome, IfNone, IsTrue};
+ghost use Rattle.chess_rules.specs.Board.{Ahead, on, man};
+ghost use Rattle.chess_rules.specs.Attack.{Attacks, AttacksFrom, Ranges, IsJump, IsPawnDiagonal};
+ghost use Rattle.chess_rules.specs.Walk.{MayPoint, IsAtEdge, IsOpen, IsFirst, IsHitFrom, IsNotHit, IsJumped, opposite};
+
+use crate::lines::Direction;
+use crate::men::{Kind, Piece, Side};
+
+const DIRECTIONS: [Direction; 8] = [
+    Direction::North,
+    Direction::South,
+    Direction::East,
+    Direction::West,
+    Direction::NorthEast,
+    Direction::NorthWest,
+    Direction::SouthEast,
+    Direction::SouthWest,
+];
+
+fn opposite_of(direction: Direction) -> Direction
+    ensures { result ≡ opposite direction }
+{
+    match direction {
+        Direction::North => Direction::South,
+        Direction::South => Direction::North,
+        Direction::East => Direction::West,
+        Direction::West => Direction::East,
+        Direction::NorthEast => Direction::SouthWest,
+        Direction::NorthWest => Direction::SouthEast,
+        Direction::SouthEast => Direction::NorthWest,
+        Direction::SouthWest => Direction::NorthEast,
+    }
+}
+
+/// The next square in this direction, if the board has one.
+fn neighbour(direction: Direction, square: u8) -> Option<u8>
+    requires { square < 64 }
+    ensures none { IsNone result ↔ IsAtEdge direction square }
+    ensures in_range { IfSome result (λ t. t < 64) }
+    ensures ahead { IfSome result (λ t. Ahead direction 1 square t) }
+{
+    let file = square % 8;
+    let row = square / 8;
+    match direction {
+        Direction::North if row > 0 => Some(square - 8),
+        Direction::South if row < 7 => Some(square + 8),
+        Direction::East if file < 7 => Some(square + 1),
+        Direction::West if file > 0 => Some(square - 1),
+        Direction::NorthEast if row > 0 && file < 7 => Some(square - 7),
+        Direction::NorthWest if row > 0 && file > 0 => Some(square - 9),
+        Direction::SouthEast if row < 7 && file < 7 => Some(square + 9),
+        Direction::SouthWest if row < 7 && file > 0 => Some(square + 7),
+        _ => None,
+    }
+}
+
+/// Whether such a man attacks along a line in this direction at this distance.
+fn ranges(side: Side, kind: Kind, direction: Direction, distance: u8) -> bool
+    ensures { IsTrue result ↔ Ranges side kind direction distance }
+{
+    let straight = matches!(
+        direction,
+        Direction::North | Direction::South | Direction::East | Direction::West
+    );
+    match kind {
+        Kind::Rook => straight,
+        Kind::Bishop => !straight,
+        Kind::Queen => true,
+        Kind::King => distance == 1,
+        Kind::Pawn => distance == 1 && is_pawn_diagonal(side, direction),
+        Kind::Knight => false,
+    }
+}
+
+fn is_pawn_diagonal(side: Side, direction: Direction) -> bool
+    ensures { IsTrue result ↔ IsPawnDiagonal side direction }
+{
+    match side {
+        Side::White => matches!(direction, Direction::NorthEast | Direction::NorthWest),
+        Side::Black => matches!(direction, Direction::SouthEast | Direction::SouthWest),
+    }
+}
+
+/// A man that is seen from a square.
+#[derive(Clone, Copy)]
+struct Seen {
+    piece: Piece,
+    distance: u8,
+    square: u8,
+}
+
+/// The first man from a square in this direction.
+fn first_man(board: &[Option<Piece>; 64], square: u8, direction: Direction) -> Option<Seen>
+    requires { square < 64 }
+    ensures none { IfNone result (IsOpen board.now direction square) }
+    ensures some { IfSome result (λ seen. IsFirst board.now direction square seen) }
+{
+    let mut at = square;
+    for steps in 0..8u8 {
+        let Some(next) = neighbour(direction, at) else {
+            return None;
+        };
+        at = next;
+        if let Some(piece) = board[at as usize] {
+            return Some(Seen {
+                piece,
+                distance: steps + 1,
+                square: at,
+            });
+        }
+    }
+    None
+}
+
+/// The square of the first man in this direction, if it is of this side and attacks the square.
+fn hit(board: &[Option<Piece>; 64], side: Side, square: u8, direction: Direction) -> Option<u8>
+    requires { square < 64 }
+    ensures none { IfNone result (IsNotHit board.now side direction square) }
+    ensures some { IfSome result (IsHitFrom board.now side direction square) }
+{
+    let seen = first_man(board, square, direction)?;
+    if seen.piece.side.is(side)
+        && ranges(side, seen.piece.kind, opposite_of(direction), seen.distance)
+    {
+        Some(seen.square)
+    } else {
+        None
+    }
+}
+
+/// Whether the one square may lie in this direction from the other.
+fn may_point(direction: Direction, square: u8, from: u8) -> bool
+    ensures { IsTrue result ↔ MayPoint direction square from }
+{
+    match direction {
+        Direction::North | Direction::South => square % 8 == from % 8,
+        Direction::East | Direction::West => square / 8 == from / 8,
+        _ => (square % 8).abs_diff(from % 8) == (square / 8).abs_diff(from / 8),
+    }
+}
+
+/// Whether the man on `from` is seen in this direction, is of this side and attacks the square.
+fn is_hit_from(
+    board: &[Option<Piece>; 64],
+    side: Side,
+    square: u8,
+    direction: Direction,
+    from: u8,
+) -> bool
+    requires { square < 64 }
+    ensures { IsTrue result ↔ IsHitFrom board.now side direction square from }
+{
+    if !may_point(direction, square, from) {
+        return false;
+    }
+    match hit(board, side, square, direction) {
+        Some(found) => found == from,
+        None => false,
+    }
+}
+
+/// Whether a knight's jump leads from one square to the other.
+fn is_jump(from: u8, to: u8) -> bool
+    ensures { IsTrue result ↔ IsJump from to }
+{
+    let files = (from % 8).abs_diff(to % 8);
+    let rows = (from / 8).abs_diff(to / 8);
+    (files == 1 && rows == 2) || (files == 2 && rows == 1)
+}
+
+/// Whether a knight of this side jumps to the square. No jump leads farther than to the 17th square before or after.
+fn is_jumped(board: &[Option<Piece>; 64], side: Side, square: u8) -> bool
+    requires { square < 64 }
+    ensures { IsTrue result ↔ IsJumped board.now side square }
+{
+    let first = square.saturating_sub(17);
+    let end = (square + 18).min(64);
+    for from in first..end {
+        if let Some(piece) = board[from as usize]
+            && piece.kind.is(Kind::Knight)
+            && piece.side.is(side)
+            && is_jump(from, square)
+        {
+            return true;
+        }
+    }
+    false
+}
+
+/// Whether a man of this side attacks the square.
+pub fn is_attacked(board: &[Option<Piece>; 64], side: Side, square: u8) -> bool
+    requires { square < 64 }
+    ensures { IsTrue result ↔ Attacks board.now side square }
+{
+    for direction in DIRECTIONS {
+        if let Some(_) = hit(board, side, square, direction) {
+            return true;
+        }
+    }
+    is_jumped(board, side, square)
+}
+
+/// Whether the man on the one square, of this side and kind, attacks the other square.
+pub fn attacks_from(board: &[Option<Piece>; 64], side: Side, kind: Kind, from: u8, to: u8) -> bool
+    requires from { from < 64 }
+    requires to { to < 64 }
+    requires stands { on board.now from ≡ man side kind }
+    ensures { IsTrue result ↔ AttacksFrom board.now side kind from to }
+{
+    if kind.is(Kind::Knight) {
+        return is_jump(from, to);
+    }
+    for direction in DIRECTIONS {
+        if is_hit_from(board, side, to, direction, from) {
+            return true;
+        }
+    }
+    false
+}
