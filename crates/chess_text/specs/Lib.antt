@@ -1,0 +1,9 @@
+pub mod Squares
+pub mod Placement
+pub mod Fen
+pub mod FieldReading
+pub mod PlacementReading
+pub mod San
+pub mod Laws
+pub mod Rivals
+pub mod Reading
