@@ -1,0 +1,17 @@
+pub mod Boards
+pub mod Men
+pub mod Apart
+pub mod Stages
+pub mod Lines
+pub mod Lists
+pub mod Masking
+pub mod Changing
+pub mod Signing
+pub mod Counting
+pub mod Tracing
+pub mod Visiting
+pub mod Candidates
+pub mod Repeats
+pub mod Steps
+pub mod Growing
+pub mod Once

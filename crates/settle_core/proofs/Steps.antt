@@ -1,0 +1,256 @@
+-- What one picture makes of a settler.
+use Rattle.std.proofs.Common.{◌≡◌, ◌≢◌, ℕ, ◌<◌, ◌+◌, ◌-◌, List, [], ◌∷◌, ◌++◌, Option, Some, None, Bool, true, false, drop, reverse, length, length-append, get_or, slice_set, is_some, arith, refl, sym, ap, subst, ◌∙◌}
+use Rattle.std.specs.Str.{bytes_eq}
+use Rattle.std.specs.List.{slice_get}
+use Rattle.std.proofs.lemmas.Slice.Eq.{bytes_eq-Decides}
+use Rattle.std.proofs.lemmas.List.{reverse-append, reverse-reverse, set-get_or, set-set}
+use Rattle.std.proofs.lemmas.Option.{get_or_from_slice_get}
+use Rattle.std.proofs.lemmas.Bool.{cond-true, cond-false, false_from_ne_true}
+use Rattle.dgt_frame.specs.declared.time.Reading.{Reading}
+use Rattle.chess_rules.specs.declared.men.Move.{Move}
+use Rattle.chess_rules.specs.declared.men.Parts.{Parts}
+use Rattle.chess_rules.specs.After.{after}
+use Rattle.chess_rules.specs.Legal.{Legal}
+use Rattle.chess_rules.specs.Valid.{Valid}
+use Rattle.chess_rules.specs.Picture.{picture}
+use Rattle.chess_rules.specs.Laws.{PicturesTellMoves}
+use Rattle.settle_core.specs.declared.compared.Compared.{Compared}
+use Rattle.settle_core.specs.declared.game.Ply.{Ply}
+use Rattle.settle_core.specs.declared.game.Seen.{Seen}
+use Rattle.settle_core.specs.declared.game.Seen.TheVariants.{Same, Moved, Sign, Replaced, Waits}
+use Rattle.settle_core.specs.Entries.{Entry, entry_of, repeats, unstuttered}
+use Rattle.settle_core.specs.Settling.{Settles, reached, Played}
+use Rattle.settle_core.specs.Folding.{Score, Folds, Shows, Replaces, moves_of, score_after}
+use Rattle.settle_core.specs.Standing.{Sheet, StandsFor, Answers, GivesMove}
+use Rattle.settle_core.proofs.Changing.{set_differs}
+use Rattle.settle_core.specs.Kept.{IsLastSet, CanReplace, before_last, last_of, position_in}
+
+-- a legal move whose picture this is settles
+pub settled_from :
+    (p : Parts) (seen : List ℕ) (m m' m'' : Move) (next : Parts) (shot : List ℕ)
+    → PicturesTellMoves
+    → Valid p
+    → m' ≡ m
+    → Legal p m'
+    → m'' ≡ m
+    → next ≡ after p m''
+    → shot ≡ picture next
+    → bytes_eq shot seen ≡ true
+    → Settles p seen m
+settled_from p seen m m' m'' next shot tell v e l e' n s same =
+    let L : Move → Type 0 = λ x. Legal p x in
+    let l' : Legal p m = subst L e l in
+    let d = bytes_eq-Decides shot seen in
+    let shows : seen ≡ picture (after p m) = sym (d.0 same) ∙ s ∙ ap picture (n ∙ ap (after p) e') in
+    record { legal = l'; shows = shows; alone = λ k lk ek. tell p k m v lk l' (sym ek ∙ shows) }
+
+pub some_same : {A : Type 0} {a b : A} → Some a ≡ Some b → a ≡ b
+some_same e = cc
+
+pub none_some : {A : Type 0} {a : A} → None ≡ Some a → ⊥
+none_some e = cc
+
+-- the picture that was seen last
+pub last_is : (seen : Bool) (kept picture : List ℕ) → last_of seen kept ≡ Some picture → kept ≡ picture
+last_is true kept picture e = some_same e
+last_is false kept picture e = absurd (none_some e)
+
+pub seen_is : (seen : Bool) (kept picture : List ℕ) → last_of seen kept ≡ Some picture → seen ≡ true
+seen_is true kept picture e = refl
+seen_is false kept picture e = absurd (none_some e)
+
+-- the last move, and the position before it
+pub replaces_from :
+    (start : Parts) (before : Option Compared) (b : Compared) (k : Move) (seen : List ℕ) (turned : List Ply) (last : Ply)
+    → position_in before ≡ before_last start (moves_of turned)
+    → before ≡ Some b
+    → Settles b.position seen k
+    → ((earlier : List Ply) (other : Ply) → turned ≡ other ∷ earlier → last ≡ other)
+    → (k ≢ last.mv → Replaces start (moves_of turned) seen k)
+    × (k ≡ last.mv → (m : Move) → ¬ Replaces start (moves_of turned) seen m)
+replaces_from start before b k seen [] last s h e l = absurd (none_some (sym s ∙ ap position_in h))
+replaces_from start before b k seen (other ∷ earlier) last s h e l =
+    let at : b.position ≡ reached start (moves_of earlier) = some_same (sym (ap position_in h) ∙ s) in
+    let same : last ≡ other = l earlier other refl in
+    let S : Parts → Type 0 = λ x. Settles x seen k in
+    let e' : Settles (reached start (moves_of earlier)) seen k = subst S at e in (
+      λ ne. (e', λ q. ne (q ∙ ap (λ (x : Ply). x.mv) (sym same))),
+      λ q m r. r.1 (e'.alone m (r.0).legal (r.0).shows ∙ q ∙ ap (λ (x : Ply). x.mv) same),
+    )
+
+get_at_end : {X : Type 0} (xs : List X) (x d : X) → get_or (xs ++ x ∷ []) (length xs) d ≡ x
+get_at_end [] x d = refl
+get_at_end (z ∷ xs) x d = get_at_end xs x d
+
+pub last_from :
+    (items : List Ply) (last : Ply)
+    → Some last ≡ slice_get items (length items - 1)
+    → (earlier : List Ply) (other : Ply) → reverse items ≡ other ∷ earlier → last ≡ other
+last_from items last e earlier other r =
+    let is : items ≡ reverse earlier ++ other ∷ [] = sym (reverse-reverse items) ∙ ap reverse r ∙ reverse-append (other ∷ []) earlier in
+    let n : length (reverse earlier ++ other ∷ []) ≡ length (reverse earlier) + 1 = length-append (reverse earlier) (other ∷ []) in
+    let at : length items - 1 ≡ length (reverse earlier) = ap (λ (xs : List Ply). length xs - 1) is ∙ (let q : length (reverse earlier ++ other ∷ []) - 1 ≡ length (reverse earlier) = omega arith in q) in
+    let got : get_or items (length items - 1) last ≡ last = get_or_from_slice_get items (length items - 1) last last (sym e) in
+    sym got ∙ ap (λ k. get_or items k last) at ∙ ap (λ (xs : List Ply). get_or xs (length (reverse earlier)) last) is ∙ get_at_end (reverse earlier) other last
+
+-- the position before the last move
+pub before_of :
+    (start : Parts) (before : Option Compared) (b : Compared) (plies : List Ply) (m : Move)
+    → position_in before ≡ before_last start (moves_of plies)
+    → before ≡ Some b
+    → CanReplace start (moves_of plies) m
+    → b.position ≡ reached start (moves_of (drop 1 plies))
+before_of start before b [] m s h can = absurd can
+before_of start before b (last ∷ earlier) m s h can = some_same (sym (ap position_in h) ∙ s)
+
+pub can_replace :
+    (start : Parts) (plies : List Ply) (m : Move) → CanReplace start (moves_of plies) m → Legal (reached start (moves_of (drop 1 plies))) m
+can_replace start [] m can = absurd can
+can_replace start (last ∷ earlier) m can = can
+
+pub replacing_can :
+    (start : Parts) (plies : List Ply) (seen : List ℕ) (m : Move) → Replaces start (moves_of plies) seen m → CanReplace start (moves_of plies) m
+replacing_can start [] seen m r = r
+replacing_can start (last ∷ earlier) seen m r = (r.0).legal
+
+-- a line with another last ply
+pub line_replaced :
+    (start : Parts) (plies : List Ply) (old new : List Ply) (ply : Ply) (before : Option Compared)
+    → reverse old ≡ plies
+    → CanReplace start (moves_of plies) ply.mv
+    → IsLastSet old ply new
+    → Played start (moves_of plies)
+    → position_in before ≡ before_last start (moves_of plies)
+    → (reverse new ≡ ply ∷ drop 1 plies) × Played start (ply.mv ∷ moves_of (drop 1 plies)) × (position_in before ≡ Some (reached start (moves_of (drop 1 plies))))
+line_replaced start [] old new ply before e can set p b = absurd can
+line_replaced start (last ∷ earlier) old new ply before e can set p b = (set last earlier e, (can, p.1), b)
+
+-- The picture is new, and shows this: it stands.
+pub taken_stands :
+    (old new : Sheet) (start : Parts) (past : List Entry) (picture : List ℕ) (reading : Option Reading) (seen : Seen)
+    → StandsFor old start past
+    → repeats picture past ≡ false
+    → Shows old.start (moves_of old.score.plies) picture seen
+    → new ≡ record { start = old.start; score = score_after old.start old.score reading seen; last = Some picture }
+    → StandsFor new start (entry_of picture reading ∷ past)
+taken_stands old new start past picture reading seen st fresh shows is =
+    let P : Sheet → Type 0 = λ s. StandsFor s start (entry_of picture reading ∷ past) in
+    let F : List Entry → Type 0 = λ es. Folds start es (score_after old.start old.score reading seen) in
+    let S : Parts → Type 0 = λ s. Shows s (moves_of old.score.plies) picture seen in
+    let folds : Folds start (entry_of picture reading ∷ unstuttered past) (score_after old.start old.score reading seen) =
+    (old.score, seen, st.folds, subst S st.start_is shows, ap (λ (s : Parts). score_after s old.score reading seen) st.start_is) in
+    subst P (sym is)
+    (record {
+      start_is = st.start_is;
+      last = refl;
+      folds = subst F (sym (cond-false (repeats picture past) (unstuttered past) (entry_of picture reading ∷ unstuttered past) fresh)) folds;
+    })
+
+answers_new : (start : Parts) (past : List Entry) (seen : List ℕ) (score : Score) (answer : Seen)
+    → repeats seen past ≡ false → Folds start (unstuttered past) score → Shows start (moves_of score.plies) seen answer
+    → Answers start past seen answer
+answers_new start past seen score Same new f h = absurd h
+answers_new start past seen score (Moved m) new f h = (new, (score, f, h))
+answers_new start past seen score (Sign outcome) new f h = (new, (score, f, h))
+answers_new start past seen score (Replaced m) new f h = (new, (score, f, h))
+answers_new start past seen score Waits new f h = (new, (score, f, h))
+
+-- and this is the answer
+pub taken_answers :
+    (old : Sheet) (start : Parts) (past : List Entry) (picture : List ℕ) (seen : Seen)
+    → StandsFor old start past
+    → repeats picture past ≡ false
+    → Shows old.start (moves_of old.score.plies) picture seen
+    → Answers start past picture seen
+taken_answers old start past picture seen st fresh shows =
+    let S : Parts → Type 0 = λ s. Shows s (moves_of old.score.plies) picture seen in
+    answers_new start past picture old.score seen fresh st.folds (subst S st.start_is shows)
+
+-- memory was refused
+pub refused_gives :
+    (old : Sheet) (start : Parts) (past : List Entry) (picture : List ℕ) (m : Move)
+    → StandsFor old start past
+    → repeats picture past ≡ false
+    → Settles (reached old.start (moves_of old.score.plies)) picture m
+    → GivesMove start past picture
+refused_gives old start past picture m st fresh h = (m, taken_answers old start past picture (Moved m) st fresh h)
+
+-- The picture is the last one: it stands.
+pub same_stands :
+    (old : Sheet) (start : Parts) (past : List Entry) (picture : List ℕ) (reading : Option Reading)
+    → StandsFor old start past
+    → old.last ≡ Some picture
+    → StandsFor old start (entry_of picture reading ∷ past)
+same_stands old start [] picture reading st e = absurd (none_some (sym st.last ∙ e))
+same_stands old start (before ∷ past) picture reading st e =
+    let same : before.picture ≡ picture = some_same (sym st.last ∙ e) in
+    let d = bytes_eq-Decides picture before.picture in
+    let F : List Entry → Type 0 = λ es. Folds start es old.score in
+    record {
+      start_is = st.start_is;
+      last = e;
+      folds = subst F (sym (cond-true (repeats picture (before ∷ past)) (unstuttered (before ∷ past)) (entry_of picture reading ∷ unstuttered (before ∷ past)) (d.1 (sym same)))) st.folds;
+    }
+
+pub same_answers :
+    (old : Sheet) (start : Parts) (past : List Entry) (picture : List ℕ) → StandsFor old start past → old.last ≡ Some picture → repeats picture past ≡ true
+same_answers old start [] picture st e = absurd (none_some (sym st.last ∙ e))
+same_answers old start (before ∷ past) picture st e =
+    let same : before.picture ≡ picture = some_same (sym st.last ∙ e) in
+    let d = bytes_eq-Decides picture before.picture in d.1 (sym same)
+
+-- a picture that is not the last one is new
+pub fresh :
+    (old : Sheet) (start : Parts) (past : List Entry) (picture : List ℕ) → StandsFor old start past → old.last ≢ Some picture → repeats picture past ≡ false
+fresh old start [] picture st ne = refl
+fresh old start (before ∷ past) picture st ne =
+    let d = bytes_eq-Decides picture before.picture in
+    false_from_ne_true (bytes_eq picture before.picture) (λ same. ne (st.last ∙ ap (λ (x : List ℕ). Some x) (sym (d.0 same))))
+
+-- what was judged of the last picture
+pub judged :
+    (old mid new : Sheet) (picture : List ℕ) (reading : Option Reading) (seen : Seen)
+    → mid ≡ record { start = old.start; score = old.score; last = Some picture }
+    → Shows mid.start (moves_of mid.score.plies) picture seen × (new ≡ record { start = mid.start; score = score_after mid.start mid.score reading seen; last = mid.last })
+    → Shows old.start (moves_of old.score.plies) picture seen × (new ≡ record { start = old.start; score = score_after old.start old.score reading seen; last = Some picture })
+judged old mid new picture reading seen e h =
+    let P : Sheet → Type 0 = λ s. Shows s.start (moves_of s.score.plies) picture seen × (new ≡ record { start = s.start; score = score_after s.start s.score reading seen; last = s.last }) in
+    subst P e h
+
+-- a fact about a position and a picture, where they are named otherwise
+pub elsewhere : (Q : Parts → List ℕ → Type 0) (p p' : Parts) (seen seen' : List ℕ) → p ≡ p' → seen ≡ seen' → Q p seen → Q p' seen'
+elsewhere Q p p' seen seen' e e' h = subst (Q p') e' (let P : Parts → Type 0 = λ x. Q x seen in subst P e h)
+
+-- a field that shows what it showed
+pub field_same :
+    (kept picture : List ℕ) (number at code : ℕ) → kept ≡ picture → number ≡ at → get_or kept number 0 ≡ code → slice_set picture at code ≡ picture
+field_same kept picture number at code e n shown =
+    ap (λ c. slice_set picture at c) (sym shown ∙ ap (λ xs. get_or xs number 0) e ∙ ap (λ k. get_or picture k 0) n) ∙ set-get_or picture at 0
+
+-- a field that shows another code makes another picture
+pub field_differs :
+    (kept picture : List ℕ) (number at code : ℕ) → kept ≡ picture → number ≡ at → length kept ≡ 64 → number < 64 → get_or kept number 0 ≢ code → slice_set picture at code ≢ picture
+field_differs kept picture number at code e n l low ne same =
+    let P : ℕ → Type 0 = λ k. slice_set kept k code ≡ kept in
+    let Q : List ℕ → Type 0 = λ xs. slice_set xs at code ≡ xs in
+    set_differs kept number code (rw l low) ne (subst P (sym n) (subst Q (sym e) same))
+
+-- a field that is set back
+pub restored :
+    (old mid back new : Sheet) (picture : List ℕ) (at code : ℕ)
+    → old.last ≡ Some picture
+    → mid ≡ record { start = old.start; score = old.score; last = Some (slice_set picture at code) }
+    → back ≡ mid
+    → new ≡ record { start = back.start; score = back.score; last = Some (slice_set (slice_set picture at code) at (get_or picture at 0)) }
+    → new ≡ old
+restored old mid back new picture at code last changed refused again =
+    let e : back ≡ record { start = old.start; score = old.score; last = Some (slice_set picture at code) } = refused ∙ changed in
+    let shown : slice_set (slice_set picture at code) at (get_or picture at 0) ≡ picture = set-set picture at code (get_or picture at 0) ∙ set-get_or picture at 0 in
+    again
+    ∙ ap (λ (s : Sheet). record { start = s.start; score = s.score; last = Some (slice_set (slice_set picture at code) at (get_or picture at 0)) }) e
+    ∙ ap (λ (x : Option (List ℕ)). record { start = old.start; score = old.score; last = x }) (ap (λ (xs : List ℕ). Some xs) shown ∙ sym last)
+
+-- where a picture was seen, it is the last one
+pub seen_last : (seen : Bool) (kept : List ℕ) → is_some (last_of seen kept) ≡ true → last_of seen kept ≡ Some kept
+seen_last true kept e = refl
+seen_last false kept e = absurd (let never : ⊥ = cc in never)

@@ -1,0 +1,58 @@
+-- What a settler keeps: the line, and each position of its end beside the last picture. The code's own words: the public
+-- contracts do not cite them.
+use Rattle.std.specs.Prelude.{◌≡◌, ℕ, Bool, List, [], ◌∷◌, Option, Some, None, reverse, if◌then◌else◌}
+use Rattle.chess_rules.specs.declared.men.Move.{Move}
+use Rattle.chess_rules.specs.declared.men.Parts.{Parts}
+use Rattle.chess_rules.specs.Legal.{Legal}
+use Rattle.chess_rules.specs.Picture.{picture}
+use Rattle.settle_core.specs.declared.compared.Compared.{Compared}
+use Rattle.settle_core.specs.declared.game.Outcome.{Outcome}
+use Rattle.settle_core.specs.declared.game.Ply.{Ply}
+use Rattle.settle_core.specs.Settling.{reached, Played}
+use Rattle.settle_core.specs.Folding.{score_of}
+use Rattle.settle_core.specs.Masks.{IsDiff}
+use Rattle.settle_core.specs.Standing.{Sheet}
+
+-- The picture is the position's, and the mask has the squares on which another picture differs from it.
+pub record IsCompared (compared : Compared) (seen : List ℕ) : Type 0 where
+  pub picture : compared.picture ≡ picture compared.position
+  pub mask : IsDiff compared.mask compared.picture seen
+
+-- the position before the last of these moves, of which the latest comes first
+abbrev pub before_last : Parts → List Move → Option Parts
+before_last start [] = None
+before_last start (m ∷ earlier) = Some (reached start earlier)
+
+abbrev pub position_in : Option Compared → Option Parts
+position_in None = None
+position_in (Some compared) = Some compared.position
+
+-- so is the one that stands here, if there is one
+abbrev pub IsComparedIn : Option Compared → List ℕ → Type 0
+IsComparedIn None seen = Unit {0}
+IsComparedIn (Some compared) seen = IsCompared compared seen
+
+-- The moves, of which the latest comes first, are legal in their turn and lead to `here`, the last one from `before`; both
+-- are compared with the last picture.
+pub record IsKept (start : Parts) (moves : List Move) (here : Compared) (before : Option Compared) (seen : List ℕ) : Type 0 where
+  pub played : Played start moves
+  pub position : here.position ≡ reached start moves
+  pub before_is : position_in before ≡ before_last start moves
+  pub here_compared : IsCompared here seen
+  pub before_compared : IsComparedIn before seen
+
+-- the last picture, if one was seen
+abbrev pub last_of : Bool → List ℕ → Option (List ℕ)
+last_of seen picture = if seen then Some picture else None
+
+abbrev pub sheet_of : Parts → List Ply → Option Outcome → Bool → List ℕ → Sheet
+sheet_of start plies sign seen picture = record { start = start; score = score_of plies sign; last = last_of seen picture }
+
+-- this move is legal in the place of the last of these, of which the latest comes first
+abbrev pub CanReplace : Parts → List Move → Move → Type 0
+CanReplace start [] m = ⊥
+CanReplace start (last ∷ earlier) m = Legal (reached start earlier) m
+
+-- in the latest place of a list stands this ply, if there is one
+abbrev pub IsLastSet : List Ply → Ply → List Ply → Type 0
+IsLastSet old ply new = (other : Ply) (earlier : List Ply) → reverse old ≡ other ∷ earlier → reverse new ≡ ply ∷ earlier

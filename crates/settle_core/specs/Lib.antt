@@ -1,0 +1,11 @@
+pub mod Entries
+pub mod Settling
+pub mod Sign
+pub mod Folding
+pub mod Ending
+pub mod Showing
+pub mod Laws
+pub mod Masks
+pub mod Candidate
+pub mod Standing
+pub mod Kept

@@ -1,0 +1,201 @@
+// What holds of all games, each law as the contract of a function that does nothing; and how a move is read off two pictures.
+ghost use Rattle.std.specs.Prelude.{◌≡◌, ◌≢◌, ◌<◌, ℕ, IfSome, IfNone, Some, None, true, false, slice_index};
+ghost use Rattle.std.specs.Int.{bit_at};
+ghost use Rattle.chess_rules.specs.declared.men.Move.{Move as MoveOf};
+ghost use Rattle.chess_rules.specs.declared.men.Parts.{Parts as PartsOf};
+ghost use Rattle.chess_rules.specs.Valid.{Valid};
+ghost use Rattle.chess_rules.specs.Picture.{picture};
+ghost use Rattle.settle_core.specs.Laws.{FoldsOnce, HonestPlayFolds, HonestPlayIsKept, NoEntryGivesTwo, RepeatsCountOnce, RepliesReplaceNothing, SettlersTellTheScore, SignsSettleNothing};
+ghost use Rattle.settle_core.specs.Settling.{Settles};
+ghost use Rattle.settle_core.specs.Masks.{IsDiff, IsNoMove};
+ghost use Rattle.settle_core.specs.Candidate.{is_king_code, side_number, lands as lands_test, leaves as leaves_test, officer_of, promotion_between};
+
+use chess_rules::{Kind, Move, Square};
+use std::simd::prelude::*;
+
+/// Honest play is recorded: the pictures that show a line of moves, one after the other, fold to this line.
+pub fn honest_play_folds()
+    ensures { HonestPlayFolds }
+{}
+
+/// A settler that was given such pictures has exactly the moves of the line, and no sign.
+pub fn honest_play_is_kept()
+    ensures { HonestPlayIsKept }
+{}
+
+/// An entry whose picture equals the one before counts for nothing.
+pub fn repeats_count_once()
+    ensures { RepeatsCountOnce }
+{}
+
+/// From a valid start, a list of entries folds to one score at most.
+pub fn folds_once()
+    ensures { FoldsOnce }
+{}
+
+/// The score of a settler is the one to which its entries fold.
+pub fn settlers_tell_the_score()
+    ensures { SettlersTellTheScore }
+{}
+
+/// No entry gives more than one ply.
+pub fn no_entry_gives_two()
+    ensures { NoEntryGivesTwo }
+{}
+
+/// A picture that settles a move of a valid position is no sign.
+pub fn signs_settle_nothing()
+    ensures { SignsSettleNothing }
+{}
+
+/// A picture that settles a move of the position reached settles none in the place of the last one: it is no matter which of both is
+/// tested first.
+pub fn replies_replace_nothing()
+    ensures { RepliesReplaceNothing }
+{}
+
+/// The squares on which two pictures differ: bit n is square n.
+pub fn diff_mask(a: &[u8; 64], b: &[u8; 64]) -> u64
+    ensures { IsDiff result a.now b.now }
+{
+    u8x64::from_array(*a)
+        .simd_ne(u8x64::from_array(*b))
+        .to_bitmask()
+}
+
+fn is_king(code: u8) -> bool
+    ensures { result ≡ is_king_code code }
+{
+    code == 5 || code == 11
+}
+
+fn side_of(code: u8) -> u8
+    ensures { result ≡ side_number code }
+{
+    if code == 0 {
+        0
+    } else if code < 7 {
+        1
+    } else {
+        2
+    }
+}
+
+fn lands(kings: bool, before: u8, after: u8) -> bool
+    ensures { result ≡ lands_test kings before after }
+{
+    before != after && after != 0 && (!kings || is_king(after))
+}
+
+fn leaves(code: u8, before: u8, after: u8) -> bool
+    ensures { result ≡ leaves_test code before after }
+{
+    after == 0
+        && if is_king(code) {
+            before == code
+        } else {
+            side_of(before) == side_of(code)
+        }
+}
+
+/// The first square of a mask that has one.
+fn first_square(mask: u64) -> u8
+    requires { 0 < mask }
+    ensures range { result < 64 }
+    ensures set { bit_at mask result ≡ 1 }
+{
+    mask.trailing_zeros() as u8
+}
+
+/// The mask without one of its squares.
+fn without(mask: u64, square: u8) -> u64
+    requires range { square < 64 }
+    requires set { bit_at mask square ≡ 1 }
+    ensures smaller { result < mask }
+    ensures cleared { bit_at result square ≡ 0 }
+    ensures others { (s : ℕ) → s < 64 → s ≢ square → bit_at result s ≡ bit_at mask s }
+{
+    mask & !(1 << square)
+}
+
+/// A square on which a man landed, among those that differ.
+fn landing(kings: bool, before: &[u8; 64], after: &[u8; 64], mask: u64) -> Option<u8>
+    requires { IsDiff mask before.now after.now }
+    ensures range { IfSome result (λ s. s < 64) }
+    ensures some { IfSome result (λ s. lands_test kings (slice_index before.now s) (slice_index after.now s) ≡ true) }
+    ensures none { IfNone result ((s : ℕ) → s < 64 → lands_test kings (slice_index before.now s) (slice_index after.now s) ≡ false) }
+{
+    let mut rest = mask;
+    while rest > 0 {
+        let square = first_square(rest);
+        if lands(kings, before[square as usize], after[square as usize]) {
+            return Some(square);
+        }
+        rest = without(rest, square);
+    }
+    None
+}
+
+/// A square that the man of this code left, among those that differ.
+fn leaving(code: u8, before: &[u8; 64], after: &[u8; 64], mask: u64) -> Option<u8>
+    requires some_man { code ≢ 0 }
+    requires differ { IsDiff mask before.now after.now }
+    ensures range { IfSome result (λ s. s < 64) }
+    ensures some { IfSome result (λ s. leaves_test code (slice_index before.now s) (slice_index after.now s) ≡ true) }
+    ensures none { IfNone result ((s : ℕ) → s < 64 → leaves_test code (slice_index before.now s) (slice_index after.now s) ≡ false) }
+{
+    let mut rest = mask;
+    while rest > 0 {
+        let square = first_square(rest);
+        if leaves(code, before[square as usize], after[square as usize]) {
+            return Some(square);
+        }
+        rest = without(rest, square);
+    }
+    None
+}
+
+fn officer(code: u8) -> Option<Kind>
+    ensures { result ≡ officer_of code }
+{
+    match code {
+        2 | 8 => Some(Kind::Rook),
+        3 | 9 => Some(Kind::Knight),
+        4 | 10 => Some(Kind::Bishop),
+        6 | 12 => Some(Kind::Queen),
+        _ => None,
+    }
+}
+
+fn promotion(before: u8, after: u8) -> Option<Kind>
+    ensures { result ≡ promotion_between before after }
+{
+    if before == 1 || before == 7 {
+        officer(after)
+    } else {
+        None
+    }
+}
+
+/// The one move that the squares on which two pictures differ can show: where a position has the first picture and a move of it
+/// settles the second, it is that move. None where they differ on fewer squares than two, or on more than four.
+pub fn candidate(before: &[u8; 64], after: &[u8; 64], mask: u64) -> Option<Move>
+    requires { IsDiff mask before.now after.now }
+    ensures finds { (p : PartsOf) (m : MoveOf) → Valid p → before.now ≡ picture p → Settles p after.now m → result ≡ Some m }
+    ensures none { IsNoMove mask → result ≡ None }
+{
+    let bits = mask.count_ones();
+    if bits < 2 || bits > 4 {
+        return None;
+    }
+    let to = match landing(true, before, after, mask) {
+        Some(to) => to,
+        None => landing(false, before, after, mask)?,
+    };
+    let from = leaving(after[to as usize], before, after, mask)?;
+    Some(Move {
+        from: Square::new(from)?,
+        to: Square::new(to)?,
+        promotion: promotion(before[from as usize], after[to as usize]),
+    })
+}

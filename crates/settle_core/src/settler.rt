@@ -1,0 +1,330 @@
+// The settler: it takes pictures, and keeps the line that they show.
+ghost use Rattle.std.specs.Prelude.{◌≡◌, ◌<◌, ◌≤◌, ◌↔◌, ◌||◌, ◌∷◌, [], ℕ, List, All, IfOk, OnOk, OnErr, IfSome, IfNone, IsTrue, Some, true, is_ok, length, slice_set, reverse, drop};
+ghost use Rattle.chess_rules.specs.declared.men.Move.{Move as MoveOf};
+ghost use Rattle.chess_rules.specs.declared.men.Parts.{Parts as PartsOf};
+ghost use Rattle.chess_rules.specs.Legal.{Legal};
+ghost use Rattle.settle_core.specs.Entries.{Entry, entry_of, changed, unstuttered};
+ghost use Rattle.settle_core.specs.Settling.{Settles, Line, position_after};
+ghost use Rattle.settle_core.specs.Folding.{Folds, Replaces, Shows, moves_of, played, score_after, score_of, time_of as time_in};
+ghost use Rattle.settle_core.specs.Standing.{StandsFor, Answers, GivesMove, has_seen, plies_of, position_of};
+ghost use Rattle.settle_core.specs.Kept.{CanReplace, IsComparedIn, IsLastSet, last_of, position_in};
+
+use crate::compared::{Compared, copy};
+use crate::game::{Outcome, Ply, Seen};
+use crate::signs::sign_of;
+use chess_rules::{Move, Position, Side, Square};
+use dgt_frame::{Hms, Reading};
+use std::alloc::{AllocError, Global};
+use std::marker::Model;
+
+/// Settles pictures into a line of plies.
+#[derive(Debug, Drop)]
+pub struct Settler {
+    start: Position,
+    plies: Vec<Ply>,
+    sign: Option<Outcome>,
+    seen: bool,
+    /// The last picture; an empty board before the first.
+    picture: [u8; 64],
+    here: Compared,
+    before: Option<Compared>,
+}
+
+impl Model for Settler {
+    ghost use Rattle.settle_core.specs.Standing.{Sheet};
+    ghost use Rattle.settle_core.specs.Kept.{IsKept, sheet_of};
+    ghost use Rattle.settle_core.specs.Folding.{moves_of};
+    ghost use Rattle.std.specs.Prelude.{reverse};
+
+    ghost Value = { Sheet };
+
+    ghost view = { λ s. sheet_of s.start s.plies.items s.sign s.seen s.picture };
+
+    ghost invariant = { λ s. IsKept s.start (moves_of (reverse s.plies.items)) s.here s.before s.picture };
+}
+
+/// The side's time in a reading.
+fn time_of(side: Side, reading: Option<Reading>) -> Option<Hms>
+    ensures { result ≡ time_in side reading }
+{
+    match (side, reading) {
+        (Side::White, Some(reading)) => Some(reading.white),
+        (Side::Black, Some(reading)) => Some(reading.black),
+        (_, None) => None,
+    }
+}
+
+fn same_move(a: &Move, b: &Move) -> bool
+    ensures { IsTrue result ↔ (a.now ≡ b.now) }
+{
+    *a == *b
+}
+
+/// The last ply becomes this one.
+fn set_last(plies: &mut [Ply], ply: Ply)
+    ensures { IsLastSet plies.old ply plies.new }
+{
+    let count = plies.len();
+    if count > 0 {
+        plies[count - 1] = ply;
+    }
+}
+
+/// Each compared with this picture.
+fn all_with(compared: &Option<Compared>, seen: &[u8; 64]) -> Option<Compared>
+    ensures positions { position_in result ≡ position_in compared.now }
+    ensures compared { (old : List ℕ) → IsComparedIn compared.now old → IsComparedIn result seen.now }
+{
+    match compared {
+        Some(compared) => Some(compared.with(seen)),
+        None => None,
+    }
+}
+
+/// Each compared with a picture that shows this code on one square.
+fn change_all(compared: &mut Option<Compared>, at: u8, code: u8)
+    requires { at < 64 }
+    ensures positions { position_in compared.new ≡ position_in compared.old }
+    ensures compared { (seen : List ℕ) → length seen ≡ 64 → IsComparedIn compared.old seen → IsComparedIn compared.new (slice_set seen at code) }
+{
+    if let Some(compared) = compared {
+        compared.change(at, code);
+    }
+}
+
+impl Settler {
+    /// A settler that has seen no picture. Takes no memory.
+    pub fn new(alloc: Global, start: Position) -> Settler
+        ensures { StandsFor result start [] }
+    {
+        let picture = [0; 64];
+        Settler {
+            start,
+            plies: Vec::new(alloc),
+            sign: None,
+            seen: false,
+            picture,
+            here: Compared::new(start, &picture),
+            before: None,
+        }
+    }
+
+    /// Takes a picture, with the clocks' reading at which it was seen. Memory is taken only where a ply is appended; where
+    /// that is refused, nothing has changed.
+    pub fn see(&mut self, picture: &[u8; 64], clock: Option<Reading>) -> Result<Seen, AllocError>
+        requires { All (λ code. code < 16) picture.now }
+        ensures stands { (start : PartsOf) (past : List Entry) → StandsFor self.old start past
+            → OnOk result (StandsFor self.new start (entry_of picture.now clock ∷ past)) }
+        ensures answer { (start : PartsOf) (past : List Entry) → StandsFor self.old start past
+            → IfOk result (Answers start past picture.now) }
+        // An equal picture leaves the settler as it was.
+        ensures same { self.old.last ≡ Some picture.now → (self.new ≡ self.old) × (result ≡ Ok Seen.Same) }
+        ensures seen { has_seen self.new ≡ (has_seen self.old || is_ok result) }
+        ensures err { OnErr result (self.new ≡ self.old) }
+        ensures memory { (start : PartsOf) (past : List Entry) → StandsFor self.old start past
+            → OnErr result (GivesMove start past picture.now) }
+    {
+        if self.is_last(picture) {
+            return Ok(Seen::Same);
+        }
+        let seen = self.seen;
+        let last = self.picture;
+        self.keep(true, picture);
+        match self.judge(clock) {
+            Ok(answer) => Ok(answer),
+            Err(error) => {
+                self.keep(seen, &last);
+                Err(error)
+            }
+        }
+    }
+
+    /// Takes the last picture, in which now this square shows this code. Changes one square, and one bit of each mask.
+    pub fn see_field(
+        &mut self,
+        square: Square,
+        code: u8,
+        clock: Option<Reading>,
+    ) -> Result<Seen, AllocError>
+        requires seen { has_seen self.old ≡ true }
+        requires code { code < 16 }
+        ensures stands { (start : PartsOf) (before : Entry) (past : List Entry) → StandsFor self.old start (before ∷ past)
+            → OnOk result (StandsFor self.new start (changed before square code clock ∷ before ∷ past)) }
+        ensures answer { (start : PartsOf) (before : Entry) (past : List Entry) → StandsFor self.old start (before ∷ past)
+            → IfOk result (Answers start (before ∷ past) (slice_set before.picture square code)) }
+        // A code that the square showed leaves the settler as it was.
+        ensures same { (picture : List ℕ) → self.old.last ≡ Some picture → slice_set picture square code ≡ picture
+            → (self.new ≡ self.old) × (result ≡ Ok Seen.Same) }
+        ensures seen { has_seen self.new ≡ true }
+        ensures err { OnErr result (self.new ≡ self.old) }
+        ensures memory { (start : PartsOf) (before : Entry) (past : List Entry) → StandsFor self.old start (before ∷ past)
+            → OnErr result (GivesMove start (before ∷ past) (slice_set before.picture square code)) }
+    {
+        let at = square.number();
+        let last = self.picture[at as usize];
+        if last == code {
+            return Ok(Seen::Same);
+        }
+        self.change(at, code);
+        match self.judge(clock) {
+            Ok(answer) => Ok(answer),
+            Err(error) => {
+                self.change(at, last);
+                Err(error)
+            }
+        }
+    }
+
+    /// Whether the picture is the last one that was seen.
+    fn is_last(&self, picture: &[u8; 64]) -> bool
+        ensures { IsTrue result ↔ (self.now.last ≡ Some picture.now) }
+    {
+        self.seen && self.picture == *picture
+    }
+
+    /// Keeps another last picture, or none.
+    fn keep(&mut self, seen: bool, picture: &[u8; 64])
+        ensures { self.new ≡ record self.old { last = last_of seen picture.now } }
+    {
+        self.seen = seen;
+        self.picture = *picture;
+        self.here = self.here.with(picture);
+        self.before = all_with(&self.before, picture);
+    }
+
+    /// The last picture shows this code on one square.
+    fn change(&mut self, at: u8, code: u8)
+        requires { at < 64 }
+        ensures { (picture : List ℕ) → self.old.last ≡ Some picture
+            → self.new ≡ record self.old { last = Some (slice_set picture at code) } }
+    {
+        self.picture[at as usize] = code;
+        self.here.change(at, code);
+        change_all(&mut self.before, at, code);
+    }
+
+    /// The answer to the last picture; the score is brought to it.
+    fn judge(&mut self, clock: Option<Reading>) -> Result<Seen, AllocError>
+        ensures ok { (picture : List ℕ) → self.old.last ≡ Some picture
+            → IfOk result (λ seen. Shows self.old.start (moves_of self.old.score.plies) picture seen
+            × (self.new ≡ record self.old { score = score_after self.old.start self.old.score clock seen })) }
+        ensures err { OnErr result (self.new ≡ self.old) }
+        ensures memory { (picture : List ℕ) → self.old.last ≡ Some picture
+            → OnErr result ((m : MoveOf) × Settles (position_of self.old) picture m) }
+    {
+        if let Some(m) = self.here.settled(&self.picture) {
+            self.add(copy(&m), clock)?;
+            return Ok(Seen::Moved(m));
+        }
+        if let Some(outcome) = sign_of(&self.here, &self.picture) {
+            self.sign = Some(outcome);
+            return Ok(Seen::Sign(outcome));
+        }
+        if let Some(m) = self.instead() {
+            self.replace(copy(&m), clock);
+            return Ok(Seen::Replaced(m));
+        }
+        Ok(Seen::Waits)
+    }
+
+    /// Plays a move.
+    fn add(&mut self, m: Move, clock: Option<Reading>) -> Result<(), AllocError>
+        requires { Legal (position_of self.old) m }
+        ensures ok { OnOk result (self.new ≡ record self.old { score = played self.old.start self.old.score.plies clock m }) }
+        ensures err { OnErr result (self.new ≡ self.old) }
+    {
+        let ply = Ply {
+            mv: copy(&m),
+            clock: time_of(self.here.position.parts().side, clock),
+        };
+        self.plies.push(ply)?;
+        let before = self.here;
+        self.here = Compared::new(before.position.play(m), &self.picture);
+        self.before = Some(before);
+        self.sign = None;
+        Ok(())
+    }
+
+    /// The move that the last picture settles in the place of the last one, if any.
+    fn instead(&self) -> Option<Move>
+        ensures some { (picture : List ℕ) → self.now.last ≡ Some picture
+            → IfSome result (Replaces self.now.start (moves_of self.now.score.plies) picture) }
+        ensures none { (picture : List ℕ) → self.now.last ≡ Some picture
+            → IfNone result ((m : MoveOf) → ¬ Replaces self.now.start (moves_of self.now.score.plies) picture m) }
+        ensures legal { IfSome result (CanReplace self.now.start (moves_of self.now.score.plies)) }
+    {
+        let before = self.before?;
+        let m = before.settled(&self.picture)?;
+        let last = self.plies.last()?;
+        if same_move(&m, &last.mv) {
+            None
+        } else {
+            Some(m)
+        }
+    }
+
+    /// Plays a move in the place of the last one.
+    fn replace(&mut self, m: Move, clock: Option<Reading>)
+        requires { CanReplace self.old.start (moves_of self.old.score.plies) m }
+        ensures { self.new ≡ record self.old { score = played self.old.start (drop 1 self.old.score.plies) clock m } }
+    {
+        let Some(before) = self.before else {
+            unreachable!();
+        };
+        let ply = Ply {
+            mv: copy(&m),
+            clock: time_of(before.position.parts().side, clock),
+        };
+        set_last(&mut self.plies, ply);
+        self.here = Compared::new(before.position.play(m), &self.picture);
+        self.sign = None;
+    }
+
+    /// The plies, in their order.
+    pub fn moves(&self) -> &[Ply]
+        ensures plies { result.now ≡ plies_of self.now }
+        // Each move is legal where it stands.
+        ensures line { Line self.now.start (moves_of result.now) }
+        ensures folds { (start : PartsOf) (past : List Entry) → StandsFor self.now start past
+            → Folds start (unstuttered past) (score_of result.now self.now.score.sign) }
+        // No entry gives more than one move.
+        ensures count { (start : PartsOf) (past : List Entry) → StandsFor self.now start past → length result.now ≤ length past }
+    {
+        &self.plies
+    }
+
+    /// The position that the line starts in.
+    pub fn start(&self) -> &Position
+        ensures { result.now ≡ self.now.start }
+    {
+        &self.start
+    }
+
+    /// The position that the plies lead to.
+    pub fn position(&self) -> &Position
+        ensures reached { result.now ≡ position_of self.now }
+        ensures in_order { result.now ≡ position_after self.now.start (moves_of (plies_of self.now)) }
+    {
+        &self.here.position
+    }
+
+    /// The result whose sign was seen, if no move was made after it.
+    pub fn sign(&self) -> Option<Outcome>
+        ensures { result ≡ self.now.score.sign }
+    {
+        self.sign
+    }
+
+    /// The start, the plies in their order, and the sign.
+    pub fn into_parts(self) -> (Position, Vec<Ply>, Option<Outcome>)
+        ensures start { result.0 ≡ self.start }
+        ensures plies { result.1.items ≡ plies_of self }
+        ensures sign { result.2 ≡ self.score.sign }
+        ensures line { Line self.start (moves_of result.1.items) }
+        ensures folds { (start : PartsOf) (past : List Entry) → StandsFor self start past
+            → Folds start (unstuttered past) (score_of result.1.items result.2) }
+        ensures count { (start : PartsOf) (past : List Entry) → StandsFor self start past → length result.1.items ≤ length past }
+    {
+        (self.start, self.plies, self.sign)
+    }
+}

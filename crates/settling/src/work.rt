@@ -1,0 +1,103 @@
+// Work for settlers, in numbers of pictures.
+use chess_rules::{Move, Position, Square};
+use settle_core::{Seen, Settler};
+use std::alloc::{AllocError, Global};
+
+/// The position after the move, or the position itself if it is not legal.
+fn after(position: &Position, from: u8, to: u8) -> Position {
+    let (Some(from), Some(to)) = (Square::new(from), Square::new(to)) else {
+        return *position;
+    };
+    let m = Move {
+        from,
+        to,
+        promotion: None,
+    };
+    play(position, &m)
+}
+
+fn play(position: &Position, m: &Move) -> Position {
+    let (legal, played) = (*m, *m);
+    if position.is_legal(legal) {
+        position.play(played)
+    } else {
+        *position
+    }
+}
+
+fn is_waiting(seen: &Seen) -> bool {
+    matches!(seen, Seen::Waits)
+}
+
+/// Shows by turns the pictures after two moves and after two other moves; how many waited.
+pub fn waiting_pictures(alloc: Global, count: u32) -> Result<u32, AllocError> {
+    let start = Position::initial();
+    let one = after(&after(&start, 52, 36), 12, 28).picture();
+    let other = after(&after(&start, 51, 35), 11, 27).picture();
+    let mut settler = Settler::new(alloc, start);
+    let mut waiting = 0u32;
+    for turn in 0..count {
+        let seen = if turn % 2 == 0 {
+            settler.see(&one, None)?
+        } else {
+            settler.see(&other, None)?
+        };
+        if is_waiting(&seen) {
+            waiting = waiting.saturating_add(1);
+        }
+    }
+    Ok(waiting)
+}
+
+/// Lifts a pawn and puts it back, by turns; how many updates waited.
+pub fn waiting_updates(alloc: Global, count: u32) -> Result<u32, AllocError> {
+    let start = Position::initial();
+    let mut settler = Settler::new(alloc, start);
+    let _first = settler.see(&start.picture(), None)?;
+    let mut waiting = 0u32;
+    for turn in 0..count {
+        let Some(e2) = Square::new(52) else {
+            return Ok(waiting);
+        };
+        let code = if turn % 2 == 0 { 0 } else { 1 };
+        let seen = settler.see_field(e2, code, None)?;
+        if is_waiting(&seen) {
+            waiting = waiting.saturating_add(1);
+        }
+    }
+    Ok(waiting)
+}
+
+/// Both sides move a knight out and back; how many plies were settled.
+pub fn plies(alloc: Global, count: u32) -> Result<u32, AllocError> {
+    let start = Position::initial();
+    let white_out = after(&start, 62, 45);
+    let both_out = after(&white_out, 6, 21);
+    let white_back = after(&both_out, 45, 62);
+    let mut settler = Settler::new(alloc, start);
+    let mut settled = 0u32;
+    for turn in 0..count {
+        let seen = match turn % 4 {
+            0 => settler.see(&white_out.picture(), None)?,
+            1 => settler.see(&both_out.picture(), None)?,
+            2 => settler.see(&white_back.picture(), None)?,
+            _ => settler.see(&start.picture(), None)?,
+        };
+        if matches!(seen, Seen::Moved(_)) {
+            settled = settled.saturating_add(1);
+        }
+    }
+    Ok(settled)
+}
+
+/// Copies as many bytes as so many pictures have; how many pictures that were.
+pub fn copied(alloc: Global, count: u32) -> Result<u32, AllocError> {
+    let bytes = count as usize * 64;
+    let source = vec![in alloc; 7u8; bytes]?;
+    let mut target = vec![in alloc; 0u8; bytes]?;
+    target.copy_from_slice(&source);
+    match target.last() {
+        Some(7) => Ok(count),
+        _ => Ok(0),
+    }
+}
