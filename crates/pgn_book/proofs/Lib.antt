@@ -1,0 +1,16 @@
+pub mod Bytes
+pub mod Flowing
+pub mod Standing
+pub mod Plies
+pub mod TagValues
+pub mod Moves
+pub mod Tokens
+pub mod Export
+pub mod WordLemmas
+pub mod ReadingValues
+pub mod OneText
+pub mod ParseBack
+pub mod Starts
+pub mod TagsRead
+pub mod Turns
+pub mod Sectioned

@@ -1,0 +1,12 @@
+pub mod Values
+pub mod TagFields
+pub mod Games
+pub mod GameFields
+pub mod Lines
+pub mod Movetext
+pub mod Pgn
+pub mod Written
+pub mod Laws
+pub mod Flow
+pub mod Parse
+pub mod Sections

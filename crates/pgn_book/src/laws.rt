@@ -1,0 +1,21 @@
+//! What holds of all games and texts, each law as the contract of a function that does nothing.
+ghost use Rattle.pgn_book.specs.Laws.{TextsTellGames, GamesTellTexts};
+
+use chess_text::laws::{moves_tell_texts, texts_are_plain, texts_tell_moves, texts_tell_positions};
+
+/// No two games have one text.
+pub fn one_game()
+    ensures { TextsTellGames }
+{
+    texts_are_plain();
+    texts_tell_moves();
+    texts_tell_positions();
+}
+
+/// A game has at most one text.
+pub fn one_text()
+    ensures { GamesTellTexts }
+{
+    texts_are_plain();
+    moves_tell_texts();
+}

@@ -1,0 +1,23 @@
+//! Games as PGN export text (PGN Specification and Implementation Guide, 1994), both ways.
+#![tactic(auto)]
+
+mod game;
+pub mod laws;
+mod output;
+mod parts;
+mod place;
+mod reading;
+mod sections;
+mod tags;
+#[cfg(test)]
+mod tests;
+mod values;
+mod words;
+mod writing;
+
+pub use game::Game;
+pub use output::{WriteFault, put};
+pub use reading::{PgnError, read_pgn};
+pub use tags::Tags;
+pub use values::{Tag, TagError};
+pub use writing::{result_str, write_pgn};

@@ -1,0 +1,387 @@
+// Worked texts. The texts are those of the PGN standard's export form, worked out by hand from known games.
+ghost use Rattle.std.specs.Prelude.{◌≡◌, ◌≤◌};
+
+use crate::{Game, PgnError, Tag, TagError, Tags, WriteFault, put, read_pgn, write_pgn};
+use chess_rules::{Move, Position};
+use chess_text::{read_fen, read_san};
+use dgt_frame::{Hms, Watch};
+use settle_core::{Outcome, Ply};
+use std::alloc::{AllocError, Global};
+use std::io::{self, ErrorKind, Write};
+use std::process::Abort;
+use std::test::Fail;
+
+const ROSTER: &str =
+    "[Event \"?\"]\n[Site \"?\"]\n[Date \"????.??.??\"]\n[Round \"?\"]\n[White \"?\"]\n[Black \"?\"]\n";
+
+const CASTLING: &str = "4k3/8/8/8/8/8/8/4K2R w K - 0 1";
+
+const CASTLING_SET_UP: &str = "[FEN \"4k3/8/8/8/8/8/8/4K2R w K - 0 1\"]\n[SetUp \"1\"]\n";
+
+/// An export text whose tags are unknown.
+fn export(
+    rt: &(impl AllocGlobal + Abort),
+    outcome: &str,
+    set_up: &str,
+    movetext: &str,
+) -> Result<String, Fail> {
+    let mut text = String::from_str(rt.alloc(), ROSTER)?;
+    text.push_str("[Result \"")?;
+    text.push_str(outcome)?;
+    text.push_str("\"]\n")?;
+    text.push_str(set_up)?;
+    text.push_str("\n")?;
+    text.push_str(movetext)?;
+    text.push_str("\n\n")?;
+    Ok(text)
+}
+
+fn copy(m: &Move) -> Move
+    ensures { result ≡ m.now }
+{
+    *m
+}
+
+fn ply(mv: &Move, clock: Option<Hms>) -> Ply {
+    Ply { mv: *mv, clock }
+}
+
+/// The game of these moves, the first of which have these clocks.
+fn game(
+    rt: &(impl AllocGlobal + Abort),
+    start: Position,
+    moves: &str,
+    clocks: &[Option<Hms>],
+    sign: Option<Outcome>,
+) -> Result<Game, Fail> {
+    let mut plies = Vec::new(rt.alloc());
+    let mut position = start;
+    for (i, san) in moves.split_whitespace().enumerate() {
+        let mv = read_san(&position, san.as_bytes())?;
+        let clock = if i < clocks.len() { clocks[i] } else { None };
+        assert!(rt; position.is_legal(copy(&mv)), "{san}");
+        plies.push(ply(&mv, clock))?;
+        position = position.play(mv);
+    }
+    assert!(rt; Game::is_line(&start, &plies));
+    Ok(Game::new(Tags::new(rt.alloc()), start, plies, sign))
+}
+
+/// The export text of a game.
+fn text_of(rt: &(impl AllocGlobal + Abort), game: &Game) -> Result<Vec<u8>, Fail> {
+    let mut out = Watch::new(Vec::new(rt.alloc()));
+    write_pgn(game, &mut out)?;
+    Ok(out.inner().as_slice().to_vec(rt.alloc())?)
+}
+
+/// The game of these moves has this text, and the text reads back as a game with the same text.
+fn check(
+    rt: &(impl AllocGlobal + Abort),
+    game: &Game,
+    outcome: &str,
+    set_up: &str,
+    movetext: &str,
+) -> Result<(), Fail> {
+    let text = text_of(rt, game)?;
+    let wanted = export(rt, outcome, set_up, movetext)?;
+    assert_eq!(rt; text.as_slice(), wanted.as_bytes(), "{movetext}");
+    let read = read_pgn(rt.alloc(), &text)?;
+    let again = text_of(rt, &read)?;
+    assert_eq!(rt; again.as_slice(), text.as_slice(), "{movetext}");
+    assert_eq!(rt; read.plies().len(), game.plies().len());
+    assert_eq!(rt; read.result(), game.result());
+    Ok(())
+}
+
+fn time(hours: u8, minutes: u8, seconds: u8) -> Option<Hms>
+    requires hours { hours ≤ 9 }
+    requires minutes { minutes ≤ 59 }
+    requires seconds { seconds ≤ 59 }
+{
+    Some(Hms {
+        hours,
+        minutes,
+        seconds,
+    })
+}
+
+#[test]
+fn games_are_written_and_read(rt: HostRuntime) -> Result<(), Fail> {
+    let start = Position::initial();
+    check(&rt, &game(&rt, start, "", &[], None)?, "*", "", "*")?;
+    check(&rt, &game(&rt, start, "e4", &[], None)?, "*", "", "1. e4 *")?;
+    check(
+        &rt,
+        &game(&rt, start, "", &[], Some(Outcome::WhiteWins))?,
+        "1-0",
+        "",
+        "1-0",
+    )?;
+    check(
+        &rt,
+        &game(&rt, start, "e4 e5", &[], Some(Outcome::Drawn))?,
+        "1/2-1/2",
+        "",
+        "1. e4 e5 1/2-1/2",
+    )?;
+    Ok(())
+}
+
+#[test]
+fn mate_decides_whatever_the_sign(rt: HostRuntime) -> Result<(), Fail> {
+    for sign in [None, Some(Outcome::WhiteWins), Some(Outcome::BlackWins)] {
+        let mated = game(&rt, Position::initial(), "f3 e5 g4 Qh4#", &[], sign)?;
+        check(&rt, &mated, "0-1", "", "1. f3 e5 2. g4 Qh4# 0-1")?;
+    }
+    Ok(())
+}
+
+#[test]
+fn a_clock_comment_asks_for_the_number(rt: HostRuntime) -> Result<(), Fail> {
+    let start = Position::initial();
+    let both = game(
+        &rt,
+        start,
+        "e4 e5",
+        &[time(1, 30, 0), time(1, 29, 59)],
+        None,
+    )?;
+    check(
+        &rt,
+        &both,
+        "*",
+        "",
+        "1. e4 {[%clk 1:30:00]} 1... e5 {[%clk 1:29:59]} *",
+    )?;
+    let white = game(&rt, start, "e4 e5", &[time(1, 30, 0)], None)?;
+    check(&rt, &white, "*", "", "1. e4 {[%clk 1:30:00]} 1... e5 *")?;
+    let black = game(&rt, start, "e4 e5 Nf3 Nc6", &[None, time(0, 0, 7)], None)?;
+    check(
+        &rt,
+        &black,
+        "*",
+        "",
+        "1. e4 e5 {[%clk 0:00:07]} 2. Nf3 Nc6 *",
+    )?;
+    Ok(())
+}
+
+#[test]
+fn another_start_is_set_up(rt: HostRuntime) -> Result<(), Fail> {
+    let castling = read_fen(CASTLING.as_bytes())?;
+    check(
+        &rt,
+        &game(&rt, castling, "O-O", &[], None)?,
+        "*",
+        CASTLING_SET_UP,
+        "1. O-O *",
+    )?;
+    check(
+        &rt,
+        &game(&rt, castling, "Rf1", &[], None)?,
+        "*",
+        CASTLING_SET_UP,
+        "1. Rf1 *",
+    )?;
+    let black = read_fen(b"4k3/8/8/8/8/8/8/4K3 b - - 9999 9999")?;
+    check(
+        &rt,
+        &game(&rt, black, "Kd8 Kd1 Kc8", &[], None)?,
+        "*",
+        "[FEN \"4k3/8/8/8/8/8/8/4K3 b - - 9999 9999\"]\n[SetUp \"1\"]\n",
+        "9999... Kd8 9999. Kd1 Kc8 *",
+    )?;
+    let en_passant = read_fen(b"4k3/8/8/3pP3/8/8/8/4K3 w - d6 0 2")?;
+    check(
+        &rt,
+        &game(&rt, en_passant, "exd6", &[], None)?,
+        "*",
+        "[FEN \"4k3/8/8/3pP3/8/8/8/4K3 w - d6 0 2\"]\n[SetUp \"1\"]\n",
+        "2. exd6 *",
+    )?;
+    Ok(())
+}
+
+#[test]
+fn lines_are_filled_to_79(rt: HostRuntime) -> Result<(), Fail> {
+    let start = Position::initial();
+    let full = "a3 a6 b3 b6 c3 c6 d3 d6 e3 e6 Nf3 Nf6 Ng1 Ng8 Nf3 Nf6";
+    let line = "1. a3 a6 2. b3 b6 3. c3 c6 4. d3 d6 5. e3 e6 6. Nf3 Nf6 7. Ng1 Ng8 8. Nf3 Nf6 *";
+    assert_eq!(rt; line.len(), 79);
+    check(&rt, &game(&rt, start, full, &[], None)?, "*", "", line)?;
+    let broken = "a3 a6 b3 b6 c3 c6 d3 d6 e3 Nf6 Nf3 Ng8 Ng1 Nf6 Nf3 Ng8";
+    let lines = "1. a3 a6 2. b3 b6 3. c3 c6 4. d3 d6 5. e3 Nf6 6. Nf3 Ng8 7. Ng1 Nf6 8. Nf3 Ng8\n*";
+    assert_eq!(rt; lines.len(), 80);
+    check(&rt, &game(&rt, start, broken, &[], None)?, "*", "", lines)?;
+    Ok(())
+}
+
+/// So many of this character.
+fn repeated(alloc: Global, character: char, count: usize) -> Result<String, AllocError> {
+    let mut text = String::new(alloc);
+    for _ in 0..count {
+        text.push(character)?;
+    }
+    Ok(text)
+}
+
+/// What each value gets.
+const VALUES: [(Tag, &str, Result<(), TagError>); 8] = [
+    (Tag::Site, "caf\u{e9}", Err(TagError::Text)),
+    (Tag::Site, "a\nb", Err(TagError::Text)),
+    (Tag::Date, "2024.5.1", Err(TagError::Date)),
+    (Tag::Date, "", Err(TagError::Date)),
+    (Tag::Date, "2024.05.010", Err(TagError::Date)),
+    (Tag::Date, "2024-05-01", Err(TagError::Date)),
+    (Tag::Date, "2024.??.??", Ok(())),
+    (Tag::Event, "", Ok(())),
+];
+
+#[test]
+fn values_are_checked(rt: HostRuntime) {
+    let mut tags = Tags::new(rt.alloc());
+    for (tag, value, answer) in &VALUES {
+        assert_eq!(rt; tags.set(*tag, value), *answer, "{value}");
+    }
+    assert_eq!(rt; tags.get(Tag::Site), "?");
+    assert_eq!(rt; tags.get(Tag::Date), "2024.??.??");
+    assert_eq!(rt; tags.get(Tag::Event), "");
+}
+
+#[test]
+fn a_long_value_is_refused(rt: HostRuntime) -> Result<(), Fail> {
+    let mut tags = Tags::new(rt.alloc());
+    let fits = repeated(rt.alloc(), '"', 100)?;
+    let long = repeated(rt.alloc(), '"', 101)?;
+    let feeds = repeated(rt.alloc(), '\n', 200)?;
+    assert_eq!(rt; tags.set(Tag::White, fits.as_str()), Ok(()));
+    assert_eq!(rt; tags.set(Tag::White, long.as_str()), Err(TagError::Long));
+    assert_eq!(rt; tags.set(Tag::White, feeds.as_str()), Err(TagError::Text));
+    assert_eq!(rt; tags.get(Tag::White), fits.as_str());
+    Ok(())
+}
+
+const ESCAPED: &str =
+    "[Event \"?\"]\n[Site \"?\"]\n[Date \"????.??.??\"]\n[Round \"?\"]\n[White \"\\\"\\\"\"]\n[Black \"\\\\ and \\\"\"]\n[Result \"*\"]\n\n*\n\n";
+
+#[test]
+fn values_are_escaped(rt: HostRuntime) -> Result<(), Fail> {
+    let mut tags = Tags::new(rt.alloc());
+    tags.set(Tag::White, "\"\"")?;
+    tags.set(Tag::Black, "\\ and \"")?;
+    let game = Game::new(tags, Position::initial(), Vec::new(rt.alloc()), None);
+    let text = text_of(&rt, &game)?;
+    assert_eq!(rt; text.as_slice(), ESCAPED.as_bytes());
+    let read = read_pgn(rt.alloc(), &text)?;
+    assert_eq!(rt; read.tags().get(Tag::White), "\"\"");
+    assert_eq!(rt; read.tags().get(Tag::Black), "\\ and \"");
+    Ok(())
+}
+
+fn refuses(alloc: Global, text: &[u8]) -> bool {
+    matches!(read_pgn(alloc, text), Err(PgnError::NotExport))
+}
+
+/// The text of 1. e4.
+fn one_move(rt: &(impl AllocGlobal + Abort)) -> Result<Vec<u8>, Fail> {
+    let game = game(rt, Position::initial(), "e4", &[], None)?;
+    text_of(rt, &game)
+}
+
+#[test]
+fn a_part_is_refused(rt: HostRuntime) -> Result<(), Fail> {
+    let text = one_move(&rt)?;
+    for n in 0..text.len() {
+        assert!(rt; refuses(rt.alloc(), &text[..n]), "cut at {n}");
+    }
+    Ok(())
+}
+
+#[test]
+fn other_ends_of_lines_are_refused(rt: HostRuntime) -> Result<(), Fail> {
+    let mut text = one_move(&rt)?;
+    let mut crlf = Vec::new(rt.alloc());
+    for byte in &text {
+        if *byte == b'\n' {
+            crlf.push(b'\r')?;
+        }
+        crlf.push(*byte)?;
+    }
+    assert!(rt; refuses(rt.alloc(), &crlf));
+    text.push(b'\n')?;
+    assert!(rt; refuses(rt.alloc(), &text));
+    Ok(())
+}
+
+const FOUR_FIELDS: &str = "[FEN \"4k3/8/8/8/8/8/8/4K2R w K -\"]\n[SetUp \"1\"]\n";
+
+const NEEDLESS: &str =
+    "[FEN \"rnbqkbnr/pppppppp/8/8/8/8/PPPPPPPP/RNBQKBNR w KQkq - 0 1\"]\n[SetUp \"1\"]\n";
+
+/// Results, set-ups and movetexts of texts that are no export texts.
+const OTHERS: [[&str; 3]; 18] = [
+    ["*", "", "1. e2e4 *"],
+    ["*", "", "1. e4  *"],
+    ["*", "", "1.e4 *"],
+    ["*", "", "1. e4\n*"],
+    ["*", "", "1. e4 e5 2. Ke3 *"],
+    ["*", "", "1. e4 1... e5 *"],
+    ["*", "", "1. e4 {[%clk 1:30:00]} e5 *"],
+    ["*", "", "1. e4 {[%clk 1:60:00]} *"],
+    ["*", "", "1. e4 {[%clk 01:30:00]} *"],
+    ["1-0", "", "1. e4 *"],
+    ["*", "", "1. e4 1-0"],
+    ["*", NEEDLESS, "1. e4 *"],
+    ["*", CASTLING_SET_UP, "1. 0-0 *"],
+    ["*", CASTLING_SET_UP, "1. e4 *"],
+    ["*", FOUR_FIELDS, "1. O-O *"],
+    ["1-0", "", "1. f3 e5 2. g4 Qh4# 1-0"],
+    ["*", "", "1. f3 e5 2. g4 Qh4# *"],
+    ["*", "", "1. f3 e5 2. g4 Qh4 *"],
+];
+
+#[test]
+fn other_texts_are_refused(rt: HostRuntime) -> Result<(), Fail> {
+    for [outcome, set_up, movetext] in &OTHERS {
+        let text = export(&rt, outcome, set_up, movetext)?;
+        assert!(rt;
+            refuses(rt.alloc(), text.as_bytes()),
+            "{outcome} {movetext}"
+        );
+    }
+    assert!(rt; refuses(rt.alloc(), b""));
+    Ok(())
+}
+
+/// A stream that takes ten bytes, a few at a time, and then fails.
+#[derive(Drop)]
+struct Ten {
+    left: usize,
+}
+
+impl Write for Ten {
+    fn write(&mut self, buf: &[u8]) -> io::Result<usize> {
+        let count = buf.len().min(3).min(self.left);
+        if count == 0 && !buf.is_empty() {
+            return Err(io::Error::from(ErrorKind::BrokenPipe));
+        }
+        self.left -= count;
+        Ok(count)
+    }
+
+    fn flush(&mut self) -> io::Result<()> {
+        Ok(())
+    }
+}
+
+#[test]
+fn a_fault_tells_how_much_was_written(rt: HostRuntime) -> Result<(), Fail> {
+    let game = game(&rt, Position::initial(), "", &[], None)?;
+    let mut out = Watch::new(Ten { left: 10 });
+    assert_eq!(rt; write_pgn(&game, &mut out), Err(WriteFault { written: 10 }));
+    assert!(rt; out.failed());
+    let mut out = Watch::new(Ten { left: 10 });
+    assert_eq!(rt; put(&mut out, b"0123456789"), Ok(()));
+    assert!(rt; !out.failed());
+    Ok(())
+}

@@ -1,0 +1,98 @@
+//! The tags that a user sets, and which values they may have.
+ghost use Rattle.std.specs.Prelude.{◌≡◌, ◌≢◌, ◌<◌, ◌↔◌, ℕ, IsTrue, IfErr, OnOk, Err, length, slice_index};
+ghost use Rattle.pgn_book.specs.Values.{IsText, IsDate, IsDateDigit, IsValue, Refuses};
+
+use thiserror::Error;
+
+/// The six tags that a user sets, in the order of the text (PGN standard, seven tag roster).
+#[derive(Clone, Copy, Debug, PartialEq, Eq)]
+pub enum Tag {
+    Event,
+    Site,
+    Date,
+    Round,
+    White,
+    Black,
+}
+
+/// Why a value was refused: the first reason that holds, in this order.
+#[derive(Clone, Copy, Debug, PartialEq, Eq, Error)]
+pub enum TagError {
+    /// A character is outside printable ASCII, 32 to 126.
+    #[error("a character outside printable ASCII")]
+    Text,
+    /// It has more than 100 characters.
+    #[error("more than 100 characters")]
+    Long,
+    /// The value of Date is not ten characters, `.` in places 5 and 8 and a digit or `?` in each other.
+    #[error("no date")]
+    Date,
+    /// There was no memory for it.
+    #[error("out of memory")]
+    Memory,
+}
+
+impl Tag {
+    /// Whether both are one tag.
+    fn is(self, other: Tag) -> bool
+        ensures { IsTrue result ↔ (self ≡ other) }
+    {
+        self == other
+    }
+}
+
+/// Whether every byte is printable ASCII.
+fn is_text(value: &[u8]) -> bool
+    ensures { IsTrue result ↔ IsText value.now }
+{
+    value.iter().all(|b| 31 < *b && *b < 127)
+}
+
+fn is_date_digit(byte: u8) -> bool
+    ensures { IsTrue result ↔ IsDateDigit byte }
+{
+    byte == b'?' || byte.is_ascii_digit()
+}
+
+fn are_date_digits(value: &[u8]) -> bool
+    requires { length value.now ≡ 10 }
+    ensures { IsTrue result ↔ ((k : ℕ) → k < 10 → k ≢ 4 → k ≢ 7 → IsDateDigit (slice_index value.now k)) }
+{
+    for (i, byte) in value.iter().enumerate() {
+        if i != 4 && i != 7 && !is_date_digit(*byte) {
+            return false;
+        }
+    }
+    true
+}
+
+/// Whether the value has the form of a date.
+fn is_date(value: &[u8]) -> bool
+    ensures { IsTrue result ↔ IsDate value.now }
+{
+    value.len() == 10 && value[4] == b'.' && value[7] == b'.' && are_date_digits(value)
+}
+
+fn suits(tag: Tag, value: &[u8]) -> bool
+    ensures { IsTrue result ↔ (tag ≡ Tag.Date → IsDate value.now) }
+{
+    !tag.is(Tag::Date) || is_date(value)
+}
+
+/// Whether the tag may have the value, and if not, why.
+pub fn check_value(tag: Tag, value: &[u8]) -> Result<(), TagError>
+    ensures ok { OnOk result (IsValue tag value.now) }
+    ensures err { IfErr result (Refuses tag value.now) }
+    ensures cause { result ≢ Err TagError.Memory }
+{
+    if !is_text(value) {
+        return Err(TagError::Text);
+    }
+    if value.len() > 100 {
+        return Err(TagError::Long);
+    }
+    if !suits(tag, value) {
+        return Err(TagError::Date);
+    }
+    Ok(())
+}
