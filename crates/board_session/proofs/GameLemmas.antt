@@ -1,0 +1,116 @@
+-- The game of a list of events.
+use Rattle.std.proofs.Common.{◌≡◌, ◌≢◌, ◌⊎◌, inl, inr, ◌+◌, ◌≤◌, Bool, true, false, List, [], ◌∷◌, length, reverse, Option, Some, None, refl, sym, ap, ◌∙◌, arith}
+use Rattle.std.proofs.lemmas.List.{append-nil, length-reverse, reverse-reverse}
+use Rattle.chess_rules.specs.declared.men.Parts.{Parts}
+use Rattle.chess_rules.specs.Legal.{Mated, Stale}
+use Rattle.chess_rules.specs.Valid.{Valid}
+use Rattle.dgt_frame.specs.declared.events.Event.{Event}
+use Rattle.settle_core.specs.declared.game.Ply.{Ply}
+use Rattle.settle_core.specs.declared.game.Outcome.{Outcome}
+use Rattle.settle_core.specs.declared.game.Outcome.TheVariants.{WhiteWins, BlackWins, Drawn}
+use Rattle.settle_core.specs.Ending.{IsResult}
+use Rattle.settle_core.specs.Entries.{Entry, repeats, unstuttered}
+use Rattle.settle_core.specs.Folding.{Folds, Score, moves_of, score_of}
+use Rattle.settle_core.specs.Laws.{GivesScore, joined}
+use Rattle.settle_core.specs.Settling.{position_after}
+use Rattle.settle_core.proofs.Lines.{honest_play}
+use Rattle.settle_core.proofs.Once.{folds_once, no_entry_gives_two}
+use Rattle.pgn_book.specs.Games.{Content, Result}
+use Rattle.pgn_book.specs.Values.{TagValues}
+use Rattle.board_session.specs.Entering.{entry_at, is_entry}
+use Rattle.board_session.specs.Gaming.{GivesOneEach}
+use Rattle.board_session.specs.Laws.{EventsTellTheGame, HonestPlayIsRecorded, NoEventGivesTwo}
+use Rattle.board_session.specs.Settings.{Setting}
+use Rattle.board_session.specs.Standing.{entries_in}
+
+-- Two answers are the same or not.
+same_or_not : (a b : Option Outcome) → (a ≡ b) ⊎ (a ≢ b)
+same_or_not None None = inl refl
+same_or_not None (Some y) = inr (λ e. cc)
+same_or_not (Some x) None = inr (λ e. cc)
+same_or_not (Some WhiteWins) (Some WhiteWins) = inl refl
+same_or_not (Some WhiteWins) (Some BlackWins) = inr (λ e. cc)
+same_or_not (Some WhiteWins) (Some Drawn) = inr (λ e. cc)
+same_or_not (Some BlackWins) (Some WhiteWins) = inr (λ e. cc)
+same_or_not (Some BlackWins) (Some BlackWins) = inl refl
+same_or_not (Some BlackWins) (Some Drawn) = inr (λ e. cc)
+same_or_not (Some Drawn) (Some WhiteWins) = inr (λ e. cc)
+same_or_not (Some Drawn) (Some BlackWins) = inr (λ e. cc)
+same_or_not (Some Drawn) (Some Drawn) = inl refl
+
+-- A position has one result under a sign.
+one_result : (p : Parts) (sign a b : Option Outcome) → IsResult p sign a → IsResult p sign b → a ≡ b
+one_result p sign a b h k = elim (same_or_not a b) [
+  | inl same ↦ same
+  | inr differ ↦
+      let mated : Mated p → ⊥ = λ m. differ (h.mated m ∙ sym (k.mated m)) in
+      let stale : Stale p → ⊥ = λ m. differ (h.stale m ∙ sym (k.stale m)) in
+      h.running mated stale ∙ sym (k.running mated stale)
+]
+
+abbrev content : TagValues → Parts → List Ply → Option Outcome → Content
+content tags start plies result = record { tags = tags; start = start; plies = plies; result = result }
+
+-- Games of the same parts are the same.
+one_content : (one other : Content) → one.tags ≡ other.tags → one.start ≡ other.start → one.plies ≡ other.plies → one.result ≡ other.result → one ≡ other
+one_content one other tags start plies result = ap (λ (t : TagValues). content t one.start one.plies one.result) tags
+    ∙ ap (λ (p : Parts). content other.tags p one.plies one.result) start
+    ∙ ap (λ (ps : List Ply). content other.tags other.start ps one.result) plies
+    ∙ ap (λ (o : Option Outcome). content other.tags other.start other.plies o) result
+
+pub events_tell_the_game : EventsTellTheGame
+events_tell_the_game setting tags past one other valid h k =
+    let score = folds_once setting.start (unstuttered (entries_in setting past)) (score_of one.plies h.sign) (score_of other.plies k.sign) valid h.folds k.folds in
+    let plies : one.plies ≡ other.plies = sym (reverse-reverse one.plies) ∙ ap (λ (s : Score). reverse s.plies) score ∙ reverse-reverse other.plies in
+    let sign : h.sign ≡ k.sign = ap (λ (s : Score). s.sign) score in
+    let result : Result setting.start one.plies k.sign other.result = rw plies k.result_is in
+    one_content one other (h.tags_are ∙ sym k.tags_are) (h.start_is ∙ sym k.start_is) plies
+    (one_result (position_after setting.start (moves_of one.plies)) k.sign one.result other.result (rw (← sign) h.result_is) result)
+
+length-score_of : (plies : List Ply) (sign : Option Outcome) → length (score_of plies sign).plies ≡ length plies
+length-score_of plies sign = length-reverse plies
+
+-- the entries with one more, unstuttered
+added : (start : Parts) (entry : Entry) (past : List Entry) (before score : Score) (again : Bool) → repeats entry.picture past ≡ again → Valid start
+    → Folds start (unstuttered past) before → Folds start (unstuttered (entry ∷ past)) score → length score.plies ≤ length before.plies + 1
+added start entry past before score true e valid h k =
+    let same : unstuttered (entry ∷ past) ≡ unstuttered past = rw e refl in
+    let one : score ≡ before = folds_once start (unstuttered past) score before valid (rw same at k) h in
+    rw one (omega arith)
+added start entry past before score false e valid h k =
+    let more : unstuttered (entry ∷ past) ≡ entry ∷ unstuttered past = rw e refl in
+    no_entry_gives_two start entry (unstuttered past) before score valid h (rw more at k)
+
+added_event : (setting : Setting) (past : List Event) (event : Event) (before score : Score) (given : Bool) → is_entry event past ≡ given → Valid setting.start
+    → Folds setting.start (unstuttered (entries_in setting past)) before → Folds setting.start (unstuttered (entries_in setting (event ∷ past))) score
+    → length score.plies ≤ length before.plies + 1
+added_event setting past event before score true e valid h k =
+    let entry = entry_at setting.first setting.rotated (event ∷ past) in
+    let are : entries_in setting (event ∷ past) ≡ entry ∷ entries_in setting past = rw e refl in
+    added setting.start entry (entries_in setting past) before score (repeats entry.picture (entries_in setting past)) refl valid h (rw are at k)
+added_event setting past event before score false e valid h k =
+    let are : entries_in setting (event ∷ past) ≡ entries_in setting past = rw e refl in
+    let one : score ≡ before = folds_once setting.start (unstuttered (entries_in setting past)) score before valid (rw are at k) h in
+    rw one (omega arith)
+
+pub no_event_gives_two : NoEventGivesTwo
+no_event_gives_two setting tags past event before game valid h k =
+    omega (
+      arith,
+      added_event setting past event (score_of before.plies h.sign) (score_of game.plies k.sign) (is_entry event past) refl valid h.folds k.folds,
+      length-score_of before.plies h.sign,
+      length-score_of game.plies k.sign,
+    )
+
+pub one_each : (start : Parts) (past : List Entry) → Valid start → GivesOneEach start past
+one_each start [] valid = tt
+one_each start (entry ∷ past) valid = (λ before score h k. no_entry_gives_two start entry past before score valid h k, one_each start past valid)
+
+pub honest_play_is_recorded : HonestPlayIsRecorded
+honest_play_is_recorded setting tags past game moves lists valid line shown are is =
+    let folds : GivesScore setting.start (joined lists) (score_of game.plies is.sign) = rw are at is.folds in
+    let honest = honest_play setting.start moves lists valid line shown in
+    let none : is.sign ≡ None = honest.1 (joined lists) [] (score_of game.plies is.sign) (sym (append-nil (joined lists))) folds in (
+      ap moves_of (sym (reverse-reverse game.plies)) ∙ honest.0 (score_of game.plies is.sign) folds,
+      rw (← none) is.result_is,
+    )

@@ -1,0 +1,10 @@
+pub mod CountLemmas
+pub mod GameLemmas
+pub mod HearLemmas
+pub mod LawLemmas
+pub mod PictureLemmas
+pub mod ReadLemmas
+pub mod RecordLemmas
+pub mod StreamLemmas
+pub mod TakeLemmas
+pub mod ViewLemmas

@@ -1,0 +1,32 @@
+-- What stands on a stream after a write that failed, and after a flush that did.
+use Rattle.std.proofs.Common.{◌≡◌, ℕ, ◌<◌, true, false, List, [], length, take, drop, Option, Result, Ok, Err, IfErr, OnOk, sym}
+use Rattle.std.specs.Prelude.{⊤}
+use Rattle.std.specs.Result.{is_err}
+use Rattle.std.proofs.KnownBytes.{Appends-kept}
+use Rattle.std.proofs.lemmas.List.{append-nil, take-append-drop}
+use Rattle.std.specs.Io.KnownBytes.{Appends, Keeps}
+use Rattle.pgn_book.specs.declared.output.WriteFault.{WriteFault}
+use Rattle.pgn_book.specs.Games.{Content}
+use Rattle.pgn_book.specs.Pgn.{Pgn}
+use Rattle.pgn_book.specs.Written.{AppendsFront}
+use Rattle.board_session.specs.Recording.{AppendsPart}
+
+pub part_put : (old new : Option (List ℕ)) (bytes : List ℕ) (r : Result ⊤ WriteFault) → is_err r ≡ true
+    → IfErr r (λ fault. (fault.written < length bytes) × Appends old new (take fault.written bytes)) → AppendsPart old new bytes
+part_put old new bytes (Ok done) e h = absurd (let never : ⊥ = cc in never)
+part_put old new bytes (Err fault) e h = (take fault.written bytes, drop fault.written bytes, sym (take-append-drop fault.written bytes), h.1)
+
+pub part_flushed : (old mid new : Option (List ℕ)) (bytes : List ℕ) (r : Result ⊤ WriteFault) → is_err r ≡ false → OnOk r (Appends old mid bytes) → Keeps mid new
+    → AppendsPart old new bytes
+part_flushed old mid new bytes (Ok done) e h k = (bytes, [], sym (append-nil bytes), Appends-kept old mid new bytes h k)
+part_flushed old mid new bytes (Err fault) e h k = absurd (let never : ⊥ = cc in never)
+
+pub text_put : (game : Content) (old new : Option (List ℕ)) (r : Result ⊤ WriteFault) → is_err r ≡ true
+    → IfErr r (λ fault. (text : List ℕ) × Pgn game text × AppendsFront old new text fault.written) → (text : List ℕ) × Pgn game text × AppendsPart old new text
+text_put game old new (Ok done) e h = absurd (let never : ⊥ = cc in never)
+text_put game old new (Err fault) e h = let front = h.2 in (h.0, h.1, (take front.0 h.0, drop front.0 h.0, sym (take-append-drop front.0 h.0), front.3))
+
+pub text_flushed : (game : Content) (old mid new : Option (List ℕ)) (r : Result ⊤ WriteFault) → is_err r ≡ false
+    → OnOk r ((text : List ℕ) × Pgn game text × Appends old mid text) → Keeps mid new → (text : List ℕ) × Pgn game text × AppendsPart old new text
+text_flushed game old mid new (Ok done) e h k = (h.0, h.1, (h.0, [], sym (append-nil h.0), Appends-kept old mid new h.0 h.2 k))
+text_flushed game old mid new (Err fault) e h k = absurd (let never : ⊥ = cc in never)

@@ -1,0 +1,82 @@
+-- What holds of all lists of events. Events have the latest first.
+use Rattle.std.specs.Prelude.{◌≡◌, ◌↔◌, ◌≤◌, ◌⊎◌, ◌+◌, ℕ, Bool, List, [], ◌∷◌, ◌++◌, None, length, reverse, ⊤}
+use Rattle.std.specs.List.{AllByRecursion}
+use Rattle.chess_rules.specs.declared.men.Move.{Move}
+use Rattle.chess_rules.specs.Valid.{Valid}
+use Rattle.dgt_frame.specs.declared.events.FaultKind.{FaultKind}
+use Rattle.dgt_frame.specs.declared.events.Message.TheVariants.{Dump, Update, Time, Other}
+use Rattle.dgt_frame.specs.declared.events.Event.{Event}
+use Rattle.dgt_frame.specs.declared.events.Event.TheVariants.{Message as Shown, Fault}
+use Rattle.dgt_frame.specs.declared.First.{First}
+use Rattle.settle_core.specs.Entries.{Entry, unstuttered}
+use Rattle.settle_core.specs.Folding.{moves_of}
+use Rattle.settle_core.specs.Laws.{joined}
+use Rattle.settle_core.specs.Settling.{Line}
+use Rattle.settle_core.specs.Showing.{ShownEach}
+use Rattle.pgn_book.specs.Games.{Content, Result}
+use Rattle.pgn_book.specs.Pgn.{Pgn}
+use Rattle.pgn_book.specs.Values.{TagValues}
+use Rattle.board_session.specs.Asking.{asks}
+use Rattle.board_session.specs.Entering.{Idle}
+use Rattle.board_session.specs.Gaming.{IsGameOf}
+use Rattle.board_session.specs.Settings.{Setting}
+use Rattle.board_session.specs.Standing.{entries_in}
+
+-- The text is the PGN text of the game of these events.
+abbrev pub IsTextOf : List ℕ → Setting → TagValues → List Event → Type 0
+IsTextOf text setting tags past = (game : Content) × IsGameOf game setting tags past × Pgn game text
+
+-- Two lists of events have the same pictures, but for those that equal the one before, the same game and the same text.
+pub record TellTheSame (setting : Setting) (one other : List Event) : Type 0 where
+  pub pictures : unstuttered (entries_in setting one) ≡ unstuttered (entries_in setting other)
+  pub game : (tags : TagValues) (game : Content) → IsGameOf game setting tags one ↔ IsGameOf game setting tags other
+  pub text : (tags : TagValues) (text : List ℕ) → IsTextOf text setting tags one ↔ IsTextOf text setting tags other
+
+-- The short list is the other one, with some idle events taken out.
+abbrev pub Thins : First → Bool → List Event → List Event → Type 0
+Thins first rotated [] short = short ≡ []
+Thins first rotated (event ∷ past) short = (Idle first rotated past event × Thins first rotated past short)
+    ⊎ ((rest : List Event) × (short ≡ event ∷ rest) × Thins first rotated past rest)
+
+-- Idle events can be taken out.
+abbrev pub IdleEventsCanGo : Type 0
+IdleEventsCanGo = (setting : Setting) (past short : List Event) → Thins setting.first setting.rotated past short → TellTheSame setting past short
+
+-- a time or an ignored message
+abbrev pub IsQuiet : Event → Type 0
+IsQuiet (Shown (Dump codes)) = ⊥
+IsQuiet (Shown (Update field code)) = ⊥
+IsQuiet (Shown (Time times)) = ⊤
+IsQuiet (Shown (Other id size)) = ⊤
+IsQuiet (Fault kind) = ⊥
+
+-- A fault can be taken out where the next event, times and ignored messages aside, is a dump.
+abbrev pub FaultsBeforeDumpsCanGo : Type 0
+FaultsBeforeDumpsCanGo = (setting : Setting) (later between before : List Event) (codes : List ℕ) (kind : FaultKind)
+    → AllByRecursion IsQuiet between
+    → TellTheSame setting (later ++ Shown (Dump codes) ∷ (between ++ Fault kind ∷ before)) (later ++ Shown (Dump codes) ∷ (between ++ before))
+
+-- A fault costs one request for a dump.
+abbrev pub FaultsAskOnce : Type 0
+FaultsAskOnce = (later before : List Event) (kind : FaultKind) → asks (later ++ Fault kind ∷ before) ≡ asks (later ++ before) ++ 0x42 ∷ []
+
+-- From a valid start, events have one game at most.
+abbrev pub EventsTellTheGame : Type 0
+EventsTellTheGame = (setting : Setting) (tags : TagValues) (past : List Event) (one other : Content)
+    → Valid setting.start → IsGameOf one setting tags past → IsGameOf other setting tags past → one ≡ other
+
+-- No event gives more than one move.
+abbrev pub NoEventGivesTwo : Type 0
+NoEventGivesTwo = (setting : Setting) (tags : TagValues) (past : List Event) (event : Event) (before game : Content)
+    → Valid setting.start → IsGameOf before setting tags past → IsGameOf game setting tags (event ∷ past)
+    → length game.plies ≤ length before.plies + 1
+
+-- Honest play is recorded: where the entries of the events are, repeated pictures aside, the lists that show a line of moves
+-- from a valid start, one list after the other, the game of the events has exactly these moves, each once and in order, and
+-- its result is that of its last position, or none.
+abbrev pub HonestPlayIsRecorded : Type 0
+HonestPlayIsRecorded = (setting : Setting) (tags : TagValues) (past : List Event) (game : Content) (moves : List Move) (lists : List (List Entry))
+    → Valid setting.start → Line setting.start moves → ShownEach setting.start moves lists
+    → unstuttered (entries_in setting past) ≡ unstuttered (reverse (joined lists))
+    → IsGameOf game setting tags past
+    → (moves_of game.plies ≡ moves) × Result setting.start game.plies None game.result

@@ -1,0 +1,12 @@
+pub mod Asking
+pub mod Entering
+pub mod Gaming
+pub mod Hearing
+pub mod Laws
+pub mod Looking
+pub mod Recording
+pub mod Settings
+pub mod Standing
+pub mod States
+pub mod Viewing
+pub mod Views

@@ -1,0 +1,12 @@
+-- What a session keeps.
+use Rattle.std.specs.Prelude.{Bool, Option}
+use Rattle.dgt_frame.specs.declared.First.{First}
+use Rattle.dgt_frame.specs.declared.Reading.{Reading}
+use Rattle.settle_core.specs.Standing.{Sheet}
+
+pub record State : Type 0 where
+  pub settler : Sheet
+  pub first : First
+  pub rotated : Bool
+  pub trusted : Bool
+  pub reading : Option Reading

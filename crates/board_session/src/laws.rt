@@ -1,0 +1,49 @@
+//! What holds of all lists of events, each law as the contract of a function that does nothing; and that the text of a game
+//! reads back.
+ghost use Rattle.std.specs.Prelude.{◌≡◌, List, MatchResult};
+ghost use Rattle.dgt_frame.specs.declared.events.Event.{Event};
+ghost use Rattle.pgn_book.specs.Games.{Content};
+ghost use Rattle.pgn_book.specs.Pgn.{Pgn};
+ghost use Rattle.pgn_book.specs.Values.{TagValues};
+ghost use Rattle.board_session.specs.Gaming.{IsGameOf};
+ghost use Rattle.board_session.specs.Laws.{EventsTellTheGame, FaultsAskOnce, FaultsBeforeDumpsCanGo, HonestPlayIsRecorded, IdleEventsCanGo, NoEventGivesTwo};
+ghost use Rattle.board_session.specs.Settings.{Setting};
+
+use pgn_book::{Game, PgnError, read_pgn};
+use std::alloc::Global;
+
+/// Idle events can be taken out: repeated updates and dumps, repeated times, updates that aren't trusted, ignored messages.
+pub fn idle_events_can_go()
+    ensures { IdleEventsCanGo }
+{}
+
+/// A fault can be taken out where the next event, times and ignored messages aside, is a dump; and a fault costs one
+/// request for a dump.
+pub fn faults_before_dumps_can_go()
+    ensures same { FaultsBeforeDumpsCanGo }
+    ensures asks { FaultsAskOnce }
+{}
+
+/// Events have one game at most.
+pub fn events_tell_the_game()
+    ensures { EventsTellTheGame }
+{}
+
+/// No event gives more than one move.
+pub fn no_event_gives_two()
+    ensures { NoEventGivesTwo }
+{}
+
+/// Honest play is recorded: where the pictures of the events show a line of moves, their game has exactly these moves.
+pub fn honest_play_is_recorded()
+    ensures { HonestPlayIsRecorded }
+{}
+
+/// Reads the text of the game of some events back. The answer is that game; only want of memory can prevent it.
+pub fn read_recorded(alloc: Global, text: &[u8]) -> Result<Game, PgnError>
+    ensures { (setting : Setting) (tags : TagValues) (past : List Event) (game : Content)
+        → IsGameOf game setting tags past → Pgn game text.now
+        → MatchResult result (λ found. found ≡ game) (λ error. error ≡ PgnError.Memory) }
+{
+    read_pgn(alloc, text)
+}

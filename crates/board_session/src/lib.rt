@@ -1,0 +1,16 @@
+//! Sessions with a board, and recordings: which events are trusted, when the board is asked for a dump, and the game of a
+//! stream of board bytes.
+#![tactic(auto)]
+
+pub mod laws;
+mod recorder;
+mod recording;
+mod session;
+mod view;
+
+pub use recording::{RecordError, Report, Setup, record};
+pub use session::{Session, Taken};
+pub use view::View;
+
+#[cfg(test)]
+mod tests;

@@ -1,0 +1,197 @@
+//! The recorder: bytes of a board in, its session and the bytes for the board out.
+ghost use Rattle.std.specs.Prelude.{◌≡◌, ◌≢◌, ◌<◌, ◌≤◌, ◌+◌, ◌^◌, ◌∷◌, [], List, ℕ, Option, OnOk, OnErr, IfErr, Ok, Err, true, false, length, if◌then◌else◌};
+ghost use Rattle.std.specs.Io.KnownBytes.{Appends};
+ghost use Rattle.dgt_frame.specs.Decoding.{Decoded};
+ghost use Rattle.dgt_frame.specs.Streams.{HasFrame, Timed};
+ghost use Rattle.dgt_frame.specs.Watched.{inner_of, has_failed};
+ghost use Rattle.board_session.specs.Settings.{Setting};
+ghost use Rattle.board_session.specs.Looking.{is_fault};
+ghost use Rattle.board_session.specs.Recording.{AppendsPart};
+ghost use Rattle.board_session.specs.Hearing.{Hears, IsFed, IsRefusal, Kept, Listened, Live, TakesEvent, event_count};
+
+use crate::recording::RecordError;
+use crate::session::Session;
+use chess_rules::Position;
+use dgt_frame::{Decoder, Event, First, Watch};
+use pgn_book::put;
+use std::alloc::Global;
+use std::io::{Read, Write};
+
+/// The most bytes of a stream.
+pub const LIMIT: u32 = 67_108_864;
+
+/// The size of the buffer between the stream and the decoder.
+const PIECE: usize = 4096;
+
+/// The command that asks the board for a dump.
+const SEND_DUMP: u8 = 0x42;
+
+/// The command that asks the board for field updates, and for time messages on change.
+const SEND_UPDATES: u8 = 0x4B;
+
+/// Takes bytes, keeps the session of their events, and counts them.
+#[derive(Drop)]
+pub struct Recorder {
+    pub decoder: Decoder,
+    pub session: Session,
+    pub messages: u32,
+    pub faults: u32,
+}
+
+/// Sends bytes to the board at once.
+fn send<B: Write>(board: &mut Watch<B>, bytes: &[u8]) -> Result<(), RecordError>
+    requires { has_failed board.old ≡ false }
+    ensures ok { OnOk result (Appends (B.contents (inner_of board.old)) (B.contents (inner_of board.new)) bytes.now) }
+    ensures working { OnOk result (has_failed board.new ≡ false) }
+    ensures part { OnErr result (AppendsPart (B.contents (inner_of board.old)) (B.contents (inner_of board.new)) bytes.now) }
+    ensures failed { OnErr result (has_failed board.new ≡ true) }
+    ensures cause { IfErr result (λ error. error ≡ RecordError.Board) }
+{
+    if put(board, bytes).is_err() || board.flush().is_err() {
+        return Err(RecordError::Board);
+    }
+    Ok(())
+}
+
+impl Recorder {
+    /// A recorder that was given no byte.
+    pub fn new(alloc: Global, start: Position, first: First, rotated: bool) -> Recorder
+        ensures decoded { Decoded result.decoder [] [] }
+        ensures kept { let setting : Setting = record { start = start; first = first; rotated = rotated } in Kept result setting [] }
+        ensures count { event_count result ≡ 0 }
+    {
+        Recorder {
+            decoder: Decoder::new(),
+            session: Session::new(alloc, start, first, rotated),
+            messages: 0,
+            faults: 0,
+        }
+    }
+
+    /// Takes the next event, and sends what it asks for.
+    fn take_event<B: Write>(
+        &mut self,
+        event: Event,
+        board: &mut Watch<B>,
+    ) -> Result<(), RecordError>
+        requires frame { HasFrame event }
+        requires room { event_count self.old < 2 ^ 31 }
+        requires working { has_failed board.old ≡ false }
+        ensures count { event_count self.new ≤ event_count self.old + 1 }
+        ensures decoder { self.new.decoder ≡ self.old.decoder }
+        ensures taken { (setting : Setting) (taken : List Timed) (offset : ℕ) → Kept self.old setting taken
+            → TakesEvent self.new setting taken offset event result (B.contents (inner_of board.old)) (B.contents (inner_of board.new)) }
+        ensures working { OnOk result (has_failed board.new ≡ false) }
+        ensures failed { result ≡ Err RecordError.Board → has_failed board.new ≡ true }
+        ensures refusal { IfErr result IsRefusal }
+    {
+        let Ok(taken) = self.session.take(event) else {
+            return Err(RecordError::Memory);
+        };
+        self.count(event);
+        if taken.asks_dump {
+            send(board, &[SEND_DUMP])
+        } else {
+            Ok(())
+        }
+    }
+
+    /// Counts an event that was taken.
+    fn count(&mut self, event: Event)
+        requires { event_count self.old < 2 ^ 31 }
+        ensures count { event_count self.new ≡ event_count self.old + 1 }
+        ensures decoder { self.new.decoder ≡ self.old.decoder }
+        ensures session { self.new.session ≡ self.old.session }
+        ensures messages { self.new.messages ≡ (if is_fault event then self.old.messages else self.old.messages + 1) }
+        ensures faults { self.new.faults ≡ (if is_fault event then self.old.faults + 1 else self.old.faults) }
+    {
+        match event {
+            Event::Message(_) => self.messages += 1,
+            Event::Fault(_) => self.faults += 1,
+        }
+    }
+
+    /// Takes the events of a piece of the stream, each before the byte after it.
+    fn take_piece<B: Write>(
+        &mut self,
+        piece: &[u8],
+        board: &mut Watch<B>,
+    ) -> Result<(), RecordError>
+        requires fed { IsFed self.old.decoder }
+        requires room { event_count self.old + length piece.now < 2 ^ 31 }
+        requires working { has_failed board.old ≡ false }
+        ensures fed { IsFed self.new.decoder }
+        ensures count { event_count self.new ≤ event_count self.old + length piece.now }
+        ensures hears { Hears self.old self.new piece.now result (B.contents (inner_of board.old)) (B.contents (inner_of board.new)) }
+        ensures working { OnOk result (has_failed board.new ≡ false) }
+        ensures failed { result ≡ Err RecordError.Board → has_failed board.new ≡ true }
+        ensures refusal { IfErr result IsRefusal }
+    {
+        let mut at = 0;
+        'events: while let Some(arrival) = self.decoder.push_until(&piece[at..]) {
+            self.take_event(arrival.event, board)?;
+            at += arrival.taken;
+        }
+        Ok(())
+    }
+
+    /// Reads to the end of the input or past the limit, and takes each event before the byte after it.
+    fn read_all<R: Read, B: Write>(
+        &mut self,
+        reader: &mut Watch<R>,
+        board: &mut Watch<B>,
+    ) -> Result<(), RecordError>
+        requires fed { IsFed self.old.decoder }
+        requires none { event_count self.old ≡ 0 }
+        requires reading { has_failed reader.old ≡ false }
+        requires working { has_failed board.old ≡ false }
+        ensures count { event_count self.new ≤ LIMIT }
+        ensures listened { (setting : Setting) (before : Option (List ℕ)) → Live self.old setting before (B.contents (inner_of board.old)) [] []
+            → Listened result self.new setting (R.remaining (inner_of reader.old)) (R.remaining (inner_of reader.new)) before (B.contents (inner_of board.new)) }
+        ensures ok { OnOk result ((has_failed reader.new ≡ false) × (has_failed board.new ≡ false)) }
+        ensures read { result ≡ Err RecordError.Read → has_failed reader.new ≡ true }
+        ensures board { result ≡ Err RecordError.Board → has_failed board.new ≡ true }
+        ensures cause { result ≢ Err RecordError.Write }
+    {
+        let mut buffer = [0u8; PIECE];
+        let mut total: u32 = 0;
+        'pieces: loop {
+            let room = ((LIMIT + 1 - total) as usize).min(PIECE);
+            let space = &mut buffer[..room];
+            let Ok(n) = reader.read(space) else {
+                return Err(RecordError::Read);
+            };
+            if n == 0 {
+                return Ok(());
+            }
+            let within = n.min((LIMIT - total) as usize);
+            self.take_piece(&space[..within], board)?;
+            if within < n {
+                return Err(RecordError::TooLong);
+            }
+            total += n as u32;
+        }
+    }
+
+    /// Asks for a dump and for updates, and then reads to the end.
+    pub fn listen<R: Read, B: Write>(
+        &mut self,
+        reader: &mut Watch<R>,
+        board: &mut Watch<B>,
+    ) -> Result<(), RecordError>
+        requires decoded { Decoded self.old.decoder [] [] }
+        requires none { event_count self.old ≡ 0 }
+        requires reading { has_failed reader.old ≡ false }
+        requires working { has_failed board.old ≡ false }
+        ensures count { event_count self.new ≤ LIMIT }
+        ensures listened { (setting : Setting) → Kept self.old setting []
+            → Listened result self.new setting (R.remaining (inner_of reader.old)) (R.remaining (inner_of reader.new)) (B.contents (inner_of board.old)) (B.contents (inner_of board.new)) }
+        ensures ok { OnOk result ((has_failed reader.new ≡ false) × (has_failed board.new ≡ false)) }
+        ensures read { result ≡ Err RecordError.Read → has_failed reader.new ≡ true }
+        ensures board { result ≡ Err RecordError.Board → has_failed board.new ≡ true }
+        ensures cause { result ≢ Err RecordError.Write }
+    {
+        send(board, &[SEND_DUMP, SEND_UPDATES])?;
+        self.read_all(reader, board)
+    }
+}

@@ -1,0 +1,168 @@
+//! Recordings: the game of a stream of board bytes, as PGN text.
+ghost use Rattle.std.specs.Prelude.{◌≡◌, ◌≢◌, ◌≤◌, List, ℕ, MatchResult, OnOk, OnErr, IfErr, IfOk, IsOk, Err, true, false};
+ghost use Rattle.std.specs.Io.KnownBytes.{Appends};
+ghost use Rattle.dgt_frame.specs.Decoding.{Decoded};
+ghost use Rattle.dgt_frame.specs.Streams.{Timed};
+ghost use Rattle.dgt_frame.specs.Watched.{inner_of, has_failed};
+ghost use Rattle.pgn_book.specs.Pgn.{Pgn};
+ghost use Rattle.board_session.specs.Settings.{Setting};
+ghost use Rattle.board_session.specs.Recording.{AppendsPart, Leaves, RecordsAll};
+ghost use Rattle.board_session.specs.Hearing.{Finished, Kept, event_count};
+
+use crate::recorder::{LIMIT, Recorder};
+use chess_rules::Position;
+use dgt_frame::{First, Watch};
+use pgn_book::laws::one_game;
+use pgn_book::{Game, Tags, write_pgn};
+use std::alloc::Global;
+use std::io::{Read, Write};
+use thiserror::Error;
+
+/// How a recording is set up.
+#[derive(Drop)]
+pub struct Setup {
+    /// The position on the board when the game begins.
+    pub start: Position,
+    /// Whose time the first group of a time message is.
+    pub first: First,
+    /// Field n means square 63 - n, in dumps and updates: Black has the connector on the left.
+    pub rotated: bool,
+    /// The tags of the text.
+    pub tags: Tags,
+}
+
+/// What a recording counted.
+#[derive(Clone, Copy, Debug, PartialEq, Eq)]
+pub struct Report {
+    /// The well-formed frames, those of ignored messages too.
+    pub messages: u32,
+    /// The places where the bytes are no frame; the board was asked for a dump at each of them.
+    pub faults: u32,
+    /// The plies of the game.
+    pub moves: u32,
+    /// The bytes of an unfinished frame at the end.
+    pub rest: u16,
+}
+
+/// Why a recording gave up. The first of `Memory`, `Read`, `Board` and `TooLong` that comes ends the reading; the text of the
+/// events taken so far is written after it, and where that fails too the answer is `Write`.
+#[derive(Clone, Copy, Debug, PartialEq, Eq, Error)]
+pub enum RecordError {
+    /// The memory for a move was refused.
+    #[error("out of memory")]
+    Memory,
+    /// A read from the board failed; one that was interrupted counts as failed.
+    #[error("a read from the board failed")]
+    Read,
+    /// A command could not be sent to the board: a write failed or took no byte, or the flush failed.
+    #[error("a write to the board failed")]
+    Board,
+    /// The text could not be written: a write failed or took no byte, or the flush failed.
+    #[error("a write of the game failed")]
+    Write,
+    /// The stream has more than 67,108,864 bytes.
+    #[error("the stream is too long")]
+    TooLong,
+}
+
+/// Writes the text of the game at once.
+fn write_game<W: Write>(game: &Game, out: &mut Watch<W>) -> Result<(), RecordError>
+    requires { has_failed out.old ≡ false }
+    ensures text { MatchResult result
+        (λ _. (text : List ℕ) × Pgn game.now text × Appends (W.contents (inner_of out.old)) (W.contents (inner_of out.new)) text)
+        (λ _. (text : List ℕ) × Pgn game.now text × AppendsPart (W.contents (inner_of out.old)) (W.contents (inner_of out.new)) text) }
+    ensures working { OnOk result (has_failed out.new ≡ false) }
+    ensures failed { OnErr result (has_failed out.new ≡ true) }
+    ensures cause { IfErr result (λ error. error ≡ RecordError.Write) }
+{
+    if write_pgn(game, out).is_err() || out.flush().is_err() {
+        return Err(RecordError::Write);
+    }
+    Ok(())
+}
+
+/// Writes the text of what the recorder has taken, and answers.
+fn finish<W: Write>(
+    recorder: Recorder,
+    tags: Tags,
+    ending: Result<(), RecordError>,
+    out: &mut Watch<W>,
+) -> Result<Report, RecordError>
+    requires working { has_failed out.old ≡ false }
+    requires count { event_count recorder ≤ LIMIT }
+    requires kept { (setting : Setting) × (taken : List Timed) × Kept recorder setting taken }
+    ensures finished { (setting : Setting) (front : List ℕ) (events taken : List Timed) → Decoded recorder.decoder front events → Kept recorder setting taken
+        → Finished result ending setting tags front events taken (W.contents (inner_of out.old)) (W.contents (inner_of out.new)) }
+    ensures working { OnOk result (has_failed out.new ≡ false) }
+    ensures ended { OnOk result (IsOk ending) }
+    ensures read { result ≡ Err RecordError.Read → ending ≡ Err RecordError.Read }
+    ensures board { result ≡ Err RecordError.Board → ending ≡ Err RecordError.Board }
+    ensures failed { ending ≢ Err RecordError.Write → result ≡ Err RecordError.Write → has_failed out.new ≡ true }
+{
+    let Recorder {
+        decoder,
+        session,
+        messages,
+        faults,
+    } = recorder;
+    let rest = decoder.pending();
+    let game = session.into_game(tags);
+    let moves = game.plies().len() as u32;
+    write_game(&game, out)?;
+    ending?;
+    Ok(Report {
+        messages,
+        faults,
+        moves,
+        rest,
+    })
+}
+
+/// Records the game of a stream of board bytes (DGT Electronic Board Protocol) as PGN export text on `out`.
+///
+/// The board is asked for a dump and for field updates, and for a dump again after each fault. Each event is taken before the
+/// byte after it is decoded. Memory is taken only where a ply is appended. Whatever ends the reading, the text of the events
+/// taken so far is written; `board` and `out` are flushed. At most 67,108,865 bytes are read, the last one only to see that
+/// there are more than a stream may have.
+///
+/// # Errors
+///
+/// `Memory`, `Read`, `Board` and `TooLong` say what ended the reading early; then the whole text of the events taken stands.
+/// `Write` says that the text stands only in part.
+pub fn record<R: Read, B: Write, W: Write>(
+    alloc: Global,
+    setup: Setup,
+    reader: &mut Watch<R>,
+    board: &mut Watch<B>,
+    out: &mut Watch<W>,
+) -> Result<Report, RecordError>
+    requires reading { has_failed reader.old ≡ false }
+    requires sending { has_failed board.old ≡ false }
+    requires writing { has_failed out.old ≡ false }
+
+    // The whole stream is recorded: the text of its game is written, and of no other game.
+    ensures all { IfOk result (λ report. RecordsAll setup report (R.remaining (inner_of reader.old))
+        (B.contents (inner_of board.old)) (B.contents (inner_of board.new)) (W.contents (inner_of out.old)) (W.contents (inner_of out.new))) }
+
+    // Whatever the answer, this was read, sent and written.
+    ensures leaves { Leaves setup result (R.remaining (inner_of reader.old)) (R.remaining (inner_of reader.new))
+        (B.contents (inner_of board.old)) (B.contents (inner_of board.new)) (W.contents (inner_of out.old)) (W.contents (inner_of out.new)) }
+
+    // A stream is blamed only where it has failed.
+    ensures ok { OnOk result ((has_failed reader.new ≡ false) × (has_failed board.new ≡ false) × (has_failed out.new ≡ false)) }
+    ensures read { result ≡ Err RecordError.Read → has_failed reader.new ≡ true }
+    ensures board { result ≡ Err RecordError.Board → has_failed board.new ≡ true }
+    ensures write { result ≡ Err RecordError.Write → has_failed out.new ≡ true }
+{
+    // The text's game is the only one: no two games have one text.
+    one_game();
+    let Setup {
+        start,
+        first,
+        rotated,
+        tags,
+    } = setup;
+    let mut recorder = Recorder::new(alloc, start, first, rotated);
+    let ending = recorder.listen(reader, board);
+    finish(recorder, tags, ending, out)
+}
