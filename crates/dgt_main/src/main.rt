@@ -1,0 +1,22 @@
+//! Runs `dgt_replay` on the standard streams.
+#![tactic(auto)]
+
+use dgt_frame::Watch;
+use dgt_replay::run;
+use std::env;
+use std::process::ExitCode;
+
+fn main(rt: HostRuntime) -> ExitCode {
+    let alloc = rt.alloc();
+    let Ok(args) = env::args(&rt) else {
+        return ExitCode::from(4);
+    };
+    let Ok(words) = args.collect::<Vec<String>>(alloc) else {
+        return ExitCode::from(4);
+    };
+    let mut reader = Watch::new(rt.stdin());
+    let mut out = Watch::new(rt.stdout());
+    let mut err = Watch::new(rt.stderr());
+    let status = run(alloc, words.as_slice(), &mut reader, &mut out, &mut err);
+    ExitCode::from(status)
+}

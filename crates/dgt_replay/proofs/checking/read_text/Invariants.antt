@@ -1,0 +1,14 @@
+use Rattle.std.proofs.Common.{◌≤◌, ◌-◌}
+use Rattle.std.specs.Prelude.{vec_len}
+use Rattle.std.specs.Io.KnownBytes.{Consumes}
+use Rattle.dgt_frame.specs.Watched.{inner_of}
+use Rattle.dgt_replay.proofs.checking.read_text.Given as goal
+
+abbrev pub invariant-pieces : goal.invariant-pieces
+invariant-pieces g l = record {
+  within : vec_len l.text ≤ 268435456;
+  read : Consumes (g.R.Read.remaining (inner_of l.fn.reader)) (g.R.Read.remaining (inner_of l.reader)) l.text.items;
+}
+
+abbrev pub decreases-pieces : goal.decreases-pieces
+decreases-pieces g l = 268435457 - vec_len l.text

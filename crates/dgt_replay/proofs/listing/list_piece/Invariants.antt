@@ -1,0 +1,15 @@
+use Rattle.std.proofs.Common.{◌≡◌, ◌+◌, ◌-◌, ◌≤◌, length, take, false}
+use Rattle.dgt_frame.specs.Watched.{inner_of, has_failed}
+use Rattle.dgt_replay.specs.Reading.{HasTaken, ListsPiece}
+use Rattle.dgt_replay.proofs.listing.list_piece.Given as goal
+
+abbrev pub invariant-events : goal.invariant-events
+invariant-events g l = record {
+  inside : l.taken ≤ length l.piece;
+  working : has_failed l.out ≡ false;
+  taken : HasTaken l.decoder (l.start + l.taken);
+  listed : ListsPiece l.fn.decoder l.fn.lister l.start (take l.taken l.piece) l.decoder l.lister (g.O.Write.contents (inner_of l.fn.out)) (g.O.Write.contents (inner_of l.out)) l.lines.items;
+}
+
+abbrev pub decreases-events : goal.decreases-events
+decreases-events g l = length l.piece - l.taken

@@ -1,0 +1,35 @@
+use Rattle.std.proofs.Common.{◌≡◌, Some, ap, sym, ◌∙◌, refl}
+use Rattle.std.specs.Prelude.{is_some}
+use Rattle.clap.specs.Matches.{found_of}
+use Rattle.dgt_replay.specs.declared.listed.Listed.TheVariants.{Pictures}
+use Rattle.dgt_replay.specs.declared.words.Choice.TheVariants.{List as ListOf, Record}
+use Rattle.dgt_replay.specs.Choosing.{plain}
+use Rattle.dgt_replay.proofs.WordLemmas.{flag_reads, pictures_not_check, pictures_not_record, record_not_check, side_known}
+use Rattle.dgt_replay.proofs.words.choice_named.Goals as goal
+
+pub returns-in-pictures : goal.returns-in-pictures
+returns-in-pictures c = record {
+  show = λ e. absurd (c.in-pictures.not-show e);
+  pictures = λ rotated e given. ap (λ b. Some (ListOf (Pictures b))) (flag_reads (found_of c.args.matches.now) c.get_flag.result rotated c.get_flag.ensures.value c.get_flag.ensures.other given);
+  record_is = λ e none. absurd (pictures_not_record c.args.name.now c.in-pictures.is e);
+  check = λ e. absurd (pictures_not_check c.args.name.now c.in-pictures.is e);
+  known = rw c.in-pictures.is refl;
+}
+
+pub returns-in-Some : goal.returns-in-Some
+returns-in-Some c = record {
+  show = λ e. absurd (c.in-record.not-show e);
+  pictures = λ rotated e given. absurd (c.in-record.not-pictures e);
+  record_is = λ e none. (let same : Some c.in-Some.wishes ≡ Some plain = sym c.in-Some.is ∙ c.wishes_of.ensures.plain none in let wishes_are : c.in-Some.wishes ≡ plain = cc in ap (λ w. Some (Record w)) wishes_are);
+  check = λ e. absurd (record_not_check c.args.name.now c.in-record.is e);
+  known = rw c.in-record.is (ap is_some (sym c.in-Some.is) ∙ side_known (found_of c.args.matches.now) c.wishes_of.result c.wishes_of.ensures.known);
+}
+
+pub returns-in-None : goal.returns-in-None
+returns-in-None c = record {
+  show = λ e. absurd (c.in-record.not-show e);
+  pictures = λ rotated e given. absurd (c.in-record.not-pictures e);
+  record_is = λ e none. (let bad = sym c.in-None.is ∙ c.wishes_of.ensures.plain none in absurd (cc));
+  check = λ e. absurd (record_not_check c.args.name.now c.in-record.is e);
+  known = rw c.in-record.is (ap is_some (sym c.in-None.is) ∙ side_known (found_of c.args.matches.now) c.wishes_of.result c.wishes_of.ensures.known);
+}

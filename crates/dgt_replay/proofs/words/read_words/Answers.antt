@@ -1,0 +1,28 @@
+use Rattle.std.proofs.Common.{◌≡◌, ◌∙◌, List, Option, None, map, string_bytes, ap, inr, subst}
+use Rattle.std.specs.Prelude.{MatchOption}
+use Rattle.clap.specs.Walk.{Row, Text}
+use Rattle.clap.specs.Simple.{app_of, subcommand_of, subcommand_rows_of}
+use Rattle.clap.specs.Takes.{takes}
+use Rattle.dgt_replay.specs.Choosing.{Chooses}
+use Rattle.dgt_replay.specs.Command.{replay}
+use Rattle.dgt_replay.proofs.WordLemmas.{asks_for, asks_for_none, not_taken, rows_found}
+use Rattle.dgt_replay.proofs.words.read_words.Goals as goal
+
+pub returns-in-Err-clause-refused : goal.returns-in-Err-clause-refused
+returns-in-Err-clause-refused c =
+    let words = map string_bytes c.args.words.now in
+    not_taken (takes replay words) _ _ (λ taken. c.in-Err.ensures.passes (ap (λ app. takes app words) c.in_ok-command.ensures ∙ taken))
+
+pub returns-in-Some-clause-chooses : goal.returns-in-Some-clause-chooses
+returns-in-Some-clause-chooses c =
+    let words = map string_bytes c.args.words.now in
+    let found : subcommand_rows_of c.in-Ok.matches ≡ subcommand_of replay words = rows_found (app_of c.in_ok-command.command) words c.in-Ok.matches c.in_ok-command.ensures c.in-Ok.ensures.ok.2 in
+    let P : Option (Text × List Row) → Type 0 = λ rows. MatchOption rows (c.choice_of.result ≡ None) (λ f. Chooses f.0 f.1 c.choice_of.result) in
+    asks_for (subcommand_of replay words) c.choice_of.result c.in-Some.choice (subst P found c.choice_of.ensures) c.in-Some.is
+
+pub returns-in-Ok-error-clause-refused : goal.returns-in-Ok-error-clause-refused
+returns-in-Ok-error-clause-refused c =
+    let words = map string_bytes c.args.words.now in
+    let found : subcommand_rows_of c.in-Ok.matches ≡ subcommand_of replay words = rows_found (app_of c.in_ok-command.command) words c.in-Ok.matches c.in_ok-command.ensures c.in-Ok.ensures.ok.2 in
+    let P : Option (Text × List Row) → Type 0 = λ rows. MatchOption rows (c.choice_of.result ≡ None) (λ f. Chooses f.0 f.1 c.choice_of.result) in
+    inr (inr (asks_for_none (subcommand_of replay words) c.choice_of.result (subst P found c.choice_of.ensures) c.in_default.is))

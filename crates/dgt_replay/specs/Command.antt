@@ -1,0 +1,55 @@
+-- The command line, as a parse reads it.
+use Rattle.std.specs.Prelude.{◌≡◌, codes, Some, true, false, Result, IfOk}
+use Rattle.clap.specs.Walk.{Rule, Text}
+use Rattle.clap.specs.Simple.{App, app_of, new_app, new_rule, with_rule, with_subcommand}
+use Rattle.clap.specs.declared.builder.command.Command.TheViews.{out-Command}
+use Rattle.clap.specs.declared.builder.command.Command.{Command}
+use Rattle.std.specs.declared.alloc.AllocError.{AllocError}
+use Rattle.clap.specs.declared.builder.action.ArgAction.TheVariants.{SetTrue}
+
+-- a flag
+abbrev pub rotated_rule : Rule
+rotated_rule = record (new_rule (codes "rotated")) { long = Some (codes "rotated"); action = Some SetTrue }
+
+-- an option with a text
+abbrev pub text_rule : Text → Rule
+text_rule name = record (new_rule name) { long = Some name; value_names = 1 }
+
+abbrev pub show_app : App
+show_app = new_app (codes "show")
+
+abbrev pub pictures_app : App
+pictures_app = with_rule (new_app (codes "pictures")) rotated_rule
+
+abbrev pub with_text : App → Text → App
+with_text app name = with_rule app (text_rule name)
+
+abbrev pub with_tags : App → App
+with_tags app = with_text (with_text (with_text (with_text (with_text (with_text app
+    (codes "event")) (codes "site")) (codes "date")) (codes "round")) (codes "white")) (codes "black")
+
+abbrev pub record_app : App
+record_app = with_tags (with_text (with_text (with_rule (new_app (codes "record")) rotated_rule) (codes "first")) (codes "fen"))
+
+abbrev pub check_app : App
+check_app = new_app (codes "check")
+
+abbrev pub moves_app : App
+moves_app = with_text (new_app (codes "moves")) (codes "fen")
+
+abbrev pub requiring : App → App
+requiring app = record app { top = record app.top { subcommand_required = true } }
+
+-- the command with its subcommands
+abbrev pub replay : App
+replay = with_subcommand (with_subcommand (with_subcommand (with_subcommand (with_subcommand (requiring (new_app (codes "dgt_replay")))
+    show_app.top) pictures_app.top) record_app.top) check_app.top) moves_app.top
+
+-- The command is read so by a parse.
+pub record IsApp (command : Command) (app : App) : Type 0 where
+  pub app_is : app_of command ≡ app
+  pub local : (out-Command command).has_globals ≡ false
+
+-- Whatever the command was read as, it has this argument more.
+abbrev pub AddsRule : Command → Rule → Result Command AllocError → Type 0
+AddsRule old rule result = (app : App) → IsApp old app → IfOk result (λ command. IsApp command (with_rule app rule))

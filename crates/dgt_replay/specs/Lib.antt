@@ -1,0 +1,10 @@
+pub mod Checked
+pub mod Choosing
+pub mod Command
+pub mod Lines
+pub mod Lister
+pub mod Listing
+pub mod Placing
+pub mod Reading
+pub mod Recorded
+pub mod Status

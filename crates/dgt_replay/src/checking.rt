@@ -1,0 +1,79 @@
+//! The subcommand `check`.
+ghost use Rattle.std.specs.Prelude.{◌≡◌, ◌≢◌, ◌≤◌, IfOk, IfSome, false};
+ghost use Rattle.dgt_frame.specs.Watched.{inner_of, has_failed};
+ghost use Rattle.dgt_replay.specs.Checked.{ChecksGame};
+
+use crate::lines::{Lines, add_summary};
+use crate::saying::refused;
+use dgt_frame::Watch;
+use pgn_book::{PgnError, put, read_pgn};
+use std::alloc::Global;
+use std::io::{Read, Write};
+
+/// The most bytes of a PGN text.
+pub const TEXT_LIMIT: usize = 268_435_456;
+
+const PIECE: usize = 4096;
+
+/// Why a text could not be read.
+enum TextError {
+    Memory,
+    Read,
+    TooLong,
+}
+
+// Reads a text to its end, or one byte past its limit.
+fn read_text<R: Read>(alloc: Global, reader: &mut Watch<R>) -> Result<Vec<u8>, TextError>
+    requires { has_failed reader.old ≡ false }
+    ensures { IfOk result (λ text. IfSome (R.remaining (inner_of reader.old)) (λ bytes. text.items ≡ bytes)) }
+{
+    let mut text = Vec::new(alloc);
+    let mut buffer = [0u8; PIECE];
+    'pieces: loop {
+        let room = (TEXT_LIMIT + 1 - text.len()).min(PIECE);
+        let space = &mut buffer[..room];
+        let Ok(n) = reader.read(space) else {
+            return Err(TextError::Read);
+        };
+        if n == 0 {
+            return Ok(text);
+        }
+        if n > TEXT_LIMIT - text.len() {
+            return Err(TextError::TooLong);
+        }
+        if text.extend_from_slice(&space[..n]).is_err() {
+            return Err(TextError::Memory);
+        }
+    }
+}
+
+/// Says whether the input is a game in PGN export form, and answers the status.
+pub fn check<R: Read, O: Write, E: Write>(
+    alloc: Global,
+    reader: &mut Watch<R>,
+    out: &mut Watch<O>,
+    err: &mut Watch<E>,
+) -> u8
+    requires reading { has_failed reader.old ≡ false }
+    requires working { has_failed out.old ≡ false }
+    ensures passes { result ≡ 0 → ChecksGame (R.remaining (inner_of reader.old)) (O.contents (inner_of out.old)) (O.contents (inner_of out.new)) }
+    ensures status { result ≢ 2 }
+{
+    let text = match read_text(alloc, reader) {
+        Ok(text) => text,
+        Err(TextError::Memory) => return refused(err, b"memory\n", 4),
+        Err(TextError::Read) => return refused(err, b"read fault\n", 3),
+        Err(TextError::TooLong) => return refused(err, b"input: too long\n", 1),
+    };
+    let game = match read_pgn(alloc, text.as_slice()) {
+        Ok(game) => game,
+        Err(PgnError::Memory) => return refused(err, b"memory\n", 4),
+        Err(PgnError::NotExport) => return refused(err, b"pgn: not export\n", 1),
+    };
+    let mut lines = Lines::new();
+    add_summary(&mut lines, game.plies().len() as u64, game.result());
+    if put(out, lines.as_slice()).is_err() || out.flush().is_err() {
+        return refused(err, b"write fault\n", 3);
+    }
+    0
+}

@@ -1,0 +1,18 @@
+//! The subcommands of the program, over any streams.
+#![tactic(auto)]
+
+mod checking;
+mod lines;
+mod listed;
+mod lister;
+mod listing;
+mod moves;
+mod program;
+mod recording;
+mod saying;
+mod starting;
+#[cfg(test)]
+mod tests;
+mod words;
+
+pub use program::run;

@@ -1,0 +1,170 @@
+//! Streams to lines: the subcommands `show` and `pictures`.
+ghost use Rattle.std.specs.Prelude.{◌≡◌, ◌<◌, ◌≤◌, ◌+◌, ◌^◌, [], length, OnOk, OnErr, Err, true, false};
+ghost use Rattle.dgt_frame.specs.Streams.{HasFrame};
+ghost use Rattle.dgt_frame.specs.Watched.{inner_of, has_failed};
+ghost use Rattle.dgt_replay.specs.Listing.{ListsAll, ListsFirst, ListsFront, ListsRead};
+ghost use Rattle.dgt_replay.specs.Reading.{BreaksLines, BreaksOff, FinishBreaksOff, Finishes, GathersEvent, HasTaken, ListsPiece};
+ghost use Rattle.dgt_replay.specs.Status.{status_of};
+
+use crate::lines::{GATHERED, LONGEST, Lines};
+use crate::listed::Listed;
+use crate::lister::Lister;
+use dgt_frame::{Decoder, Event, Watch};
+use pgn_book::{WriteFault, put};
+use std::io::{Read, Write};
+
+/// The most bytes of a stream.
+pub const LIMIT: u32 = 67_108_864;
+
+const PIECE: usize = 4096;
+
+/// Why a listing gave up.
+#[derive(Clone, Copy, Debug, PartialEq, Eq)]
+pub enum ListError {
+    /// A read failed.
+    Read,
+    /// A write failed.
+    Write,
+    /// There is a byte past the limit.
+    TooLong,
+}
+
+impl ListError {
+    /// What the program says of it.
+    pub fn line(self) -> &'static [u8] {
+        match self {
+            ListError::Read => b"read fault\n",
+            ListError::Write => b"write fault\n",
+            ListError::TooLong => b"input: too long\n",
+        }
+    }
+
+    /// The exit status that tells of it.
+    pub fn status(self) -> u8
+        ensures { result ≡ status_of self }
+    {
+        match self {
+            ListError::Read | ListError::Write => 3,
+            ListError::TooLong => 1,
+        }
+    }
+}
+
+// Adds the lines of an event, after those that wait are written where there is no room for one more.
+fn gather<O: Write>(
+    lister: &mut Lister,
+    lines: &mut Lines,
+    offset: u32,
+    event: &Event,
+    out: &mut Watch<O>,
+) -> Result<(), WriteFault>
+    requires working { has_failed out.old ≡ false }
+    requires frame { HasFrame event.now }
+    ensures ok { OnOk result (GathersEvent lister.old (O.contents (inner_of out.old)) lines.old.items (record { offset = offset; event = event.now })
+        lister.new (O.contents (inner_of out.new)) lines.new.items) }
+    ensures working { OnOk result (has_failed out.new ≡ false) }
+    ensures front { OnErr result (BreaksLines lister.old (O.contents (inner_of out.old)) lines.old.items (O.contents (inner_of out.new))) }
+    ensures failed { OnErr result (has_failed out.new ≡ true) }
+{
+    if lines.len() + LONGEST > GATHERED {
+        put(out, lines.as_slice())?;
+        lines.clear();
+    }
+    lister.add(lines, offset, event);
+    Ok(())
+}
+
+// Gives the decoder a piece of the stream, and writes the lines of its events.
+fn list_piece<O: Write>(
+    decoder: &mut Decoder,
+    lister: &mut Lister,
+    start: u32,
+    piece: &[u8],
+    out: &mut Watch<O>,
+) -> Result<(), WriteFault>
+    requires working { has_failed out.old ≡ false }
+    requires room { start + length piece.now < 2 ^ 32 }
+    requires taken { HasTaken decoder.old start }
+    ensures ok { OnOk result (ListsPiece decoder.old lister.old start piece.now decoder.new lister.new
+        (O.contents (inner_of out.old)) (O.contents (inner_of out.new)) []) }
+    ensures working { OnOk result (has_failed out.new ≡ false) }
+    ensures front { OnErr result (BreaksOff decoder.old lister.old start piece.now decoder.new
+        (O.contents (inner_of out.old)) (O.contents (inner_of out.new))) }
+    ensures failed { OnErr result (has_failed out.new ≡ true) }
+{
+    let mut lines = Lines::new();
+    let mut taken = 0;
+    'events: while let Some(arrival) = decoder.push_until(&piece[taken..]) {
+        let last = taken + arrival.taken - 1;
+        gather(lister, &mut lines, start + last as u32, &arrival.event, out)?;
+        taken += arrival.taken;
+    }
+    put(out, lines.as_slice())
+}
+
+fn finish<O: Write>(
+    decoder: &Decoder,
+    lister: &Lister,
+    out: &mut Watch<O>,
+) -> Result<(), WriteFault>
+    requires working { has_failed out.old ≡ false }
+    ensures ok { OnOk result (Finishes decoder.now lister.now (O.contents (inner_of out.old)) (O.contents (inner_of out.new))) }
+    ensures working { OnOk result (has_failed out.new ≡ false) }
+    ensures front { OnErr result (FinishBreaksOff decoder.now lister.now (O.contents (inner_of out.old)) (O.contents (inner_of out.new))) }
+    ensures failed { OnErr result (has_failed out.new ≡ true) }
+{
+    let mut lines = Lines::new();
+    lister.end(&mut lines, decoder.pending());
+    put(out, lines.as_slice())
+}
+
+/// Writes the lines of a stream. Those of a piece are written before the next read, so that those of a slow board stand
+/// as they come.
+pub fn list_stream<R: Read, O: Write>(
+    listed: Listed,
+    reader: &mut Watch<R>,
+    out: &mut Watch<O>,
+) -> Result<(), ListError>
+    requires reading { has_failed reader.old ≡ false }
+    requires working { has_failed out.old ≡ false }
+    ensures ok { OnOk result (ListsAll listed (R.remaining (inner_of reader.old))
+        (O.contents (inner_of out.old)) (O.contents (inner_of out.new))) }
+    ensures reading { result ≡ Err ListError.Read → has_failed reader.new ≡ true }
+    ensures working { result ≡ Err ListError.Write → has_failed out.new ≡ true }
+    ensures whole { OnOk result ((has_failed reader.new ≡ false) × (has_failed out.new ≡ false)) }
+
+    // What stands after each refusal, and that nothing but a front of the text is ever written.
+    ensures read { result ≡ Err ListError.Read → ListsRead listed
+        (R.remaining (inner_of reader.old)) (R.remaining (inner_of reader.new))
+        (O.contents (inner_of out.old)) (O.contents (inner_of out.new)) }
+    ensures front { ListsFront listed (R.remaining (inner_of reader.old)) (R.remaining (inner_of reader.new))
+        (O.contents (inner_of out.old)) (O.contents (inner_of out.new)) }
+    ensures long { result ≡ Err ListError.TooLong → ListsFirst listed LIMIT (R.remaining (inner_of reader.old))
+        (O.contents (inner_of out.old)) (O.contents (inner_of out.new)) }
+{
+    let mut decoder = Decoder::new();
+    let mut lister = Lister::new(listed);
+    let mut buffer = [0u8; PIECE];
+    let mut total: u32 = 0;
+    'pieces: loop {
+        let room = ((LIMIT + 1 - total) as usize).min(PIECE);
+        let space = &mut buffer[..room];
+        let Ok(n) = reader.read(space) else {
+            decoder.pending();
+            return Err(ListError::Read);
+        };
+        if n == 0 {
+            return finish(&decoder, &lister, out).map_err(|_| ListError::Write);
+        }
+        let within = n.min((LIMIT - total) as usize);
+        if list_piece(&mut decoder, &mut lister, total, &space[..within], out).is_err() {
+            decoder.pending();
+            return Err(ListError::Write);
+        }
+        if within < n {
+            decoder.pending();
+            return Err(ListError::TooLong);
+        }
+        total += n as u32;
+    }
+}

@@ -1,0 +1,139 @@
+//! The program over any streams.
+ghost use Rattle.std.specs.Prelude.{◌≡◌, ◌≢◌, ◌⊎◌, Bool, map, string_bytes, false};
+ghost use Rattle.std.specs.Io.KnownBytes.{Keeps};
+ghost use Rattle.clap.specs.Values.{kind_of};
+ghost use Rattle.dgt_frame.specs.Watched.{inner_of, has_failed};
+ghost use Rattle.dgt_replay.specs.Checked.{ChecksGame};
+ghost use Rattle.dgt_replay.specs.Choosing.{IsCheck, IsPictures, IsRecord, IsRefused, IsShow, plain};
+ghost use Rattle.dgt_replay.specs.declared.listed.Listed.{Listed};
+ghost use Rattle.dgt_replay.specs.Listing.{ListingEnds};
+ghost use Rattle.dgt_replay.specs.Recorded.{RecordsPlain};
+
+use crate::checking::check;
+use crate::listed::Listed;
+use crate::listing::list_stream;
+use crate::moves::moves;
+use crate::recording::record_game;
+use crate::saying::refused;
+use crate::words::{Choice, read_words};
+use clap::Error;
+use clap::error::ErrorKind;
+use dgt_frame::Watch;
+use pgn_book::put;
+use std::alloc::Global;
+use std::io::{Read, Write};
+
+// Writes the text of `clap`, and answers its status.
+fn refused_words<O: Write, E: Write>(
+    alloc: Global,
+    error: &Error,
+    out: &mut Watch<O>,
+    err: &mut Watch<E>,
+) -> u8
+    requires working { has_failed out.old ≡ false }
+    requires erring { has_failed err.old ≡ false }
+    ensures memory { kind_of error.now ≡ ErrorKind.OutOfMemory → (result ≡ 4) × Keeps (O.contents (inner_of out.old)) (O.contents (inner_of out.new)) }
+{
+    if matches!(error.kind(), ErrorKind::OutOfMemory) {
+        return refused(err, b"memory\n", 4);
+    }
+    let Ok(text) = format!(in alloc; "{error}") else {
+        return refused(err, b"memory\n", 4);
+    };
+    if error.use_stderr() {
+        return refused(err, text.as_str().as_bytes(), 2);
+    }
+    if put(out, text.as_str().as_bytes()).is_err() || out.flush().is_err() {
+        return refused(err, b"write fault\n", 3);
+    }
+    0
+}
+
+fn list<R: Read, O: Write, E: Write>(
+    listed: Listed,
+    reader: &mut Watch<R>,
+    out: &mut Watch<O>,
+    err: &mut Watch<E>,
+) -> u8
+    requires reading { has_failed reader.old ≡ false }
+    requires working { has_failed out.old ≡ false }
+    requires erring { has_failed err.old ≡ false }
+    ensures ends { ListingEnds listed result (R.remaining (inner_of reader.old)) (R.remaining (inner_of reader.new))
+        (O.contents (inner_of out.old)) (O.contents (inner_of out.new)) (has_failed reader.new) (has_failed out.new) }
+    ensures status { (result ≡ 0) ⊎ ((result ≡ 1) ⊎ (result ≡ 3)) }
+{
+    let done = list_stream(listed, reader, out);
+    if out.failed() || out.flush().is_err() {
+        return refused(err, b"write fault\n", 3);
+    }
+    match done {
+        Ok(()) => 0,
+        Err(error) => refused(err, error.line(), error.status()),
+    }
+}
+
+// Does what was chosen.
+fn obey<R: Read, O: Write, E: Write>(
+    alloc: Global,
+    choice: Choice<'_>,
+    reader: &mut Watch<R>,
+    out: &mut Watch<O>,
+    err: &mut Watch<E>,
+) -> u8
+    requires reading { has_failed reader.old ≡ false }
+    requires working { has_failed out.old ≡ false }
+    requires erring { has_failed err.old ≡ false }
+    ensures lists { (listed : Listed) → choice.entry ≡ Choice.List listed → ListingEnds listed result
+        (R.remaining (inner_of reader.old)) (R.remaining (inner_of reader.new))
+        (O.contents (inner_of out.old)) (O.contents (inner_of out.new)) (has_failed reader.new) (has_failed out.new) }
+    ensures records { choice.entry ≡ Choice.Record plain → result ≡ 0 → RecordsPlain (R.remaining (inner_of reader.old))
+        (E.contents (inner_of err.old)) (E.contents (inner_of err.new)) (O.contents (inner_of out.old)) (O.contents (inner_of out.new)) }
+    ensures checks { choice.entry ≡ Choice.Check → result ≡ 0 → ChecksGame (R.remaining (inner_of reader.old))
+        (O.contents (inner_of out.old)) (O.contents (inner_of out.new)) }
+    ensures status { result ≢ 2 }
+{
+    match choice {
+        Choice::List(listed) => list(listed, reader, out, err),
+        Choice::Record(wishes) => record_game(alloc, &wishes, reader, out, err),
+        Choice::Check => check(alloc, reader, out, err),
+        Choice::Moves { fen } => moves(alloc, fen, out, err),
+    }
+}
+
+/// Does what the words ask for, and answers the exit status: 0 where all was done, 1 where the input is refused, 2
+/// where the words are, 3 where a stream has failed, 4 for want of memory.
+pub fn run<R: Read, O: Write, E: Write>(
+    alloc: Global,
+    words: &[String],
+    reader: &mut Watch<R>,
+    out: &mut Watch<O>,
+    err: &mut Watch<E>,
+) -> u8
+    requires reading { has_failed reader.old ≡ false }
+    requires working { has_failed out.old ≡ false }
+    requires erring { has_failed err.old ≡ false }
+
+    // NAME `show`: the lines of the events, and of the rest.
+    ensures show { IsShow (map string_bytes words.now) → ListingEnds Listed.Events result
+        (R.remaining (inner_of reader.old)) (R.remaining (inner_of reader.new))
+        (O.contents (inner_of out.old)) (O.contents (inner_of out.new)) (has_failed reader.new) (has_failed out.new) }
+
+    // NAME `pictures`, with or without `--rotated`: the placements.
+    ensures pictures { (rotated : Bool) → IsPictures rotated (map string_bytes words.now) → ListingEnds (Listed.Pictures rotated) result
+        (R.remaining (inner_of reader.old)) (R.remaining (inner_of reader.new))
+        (O.contents (inner_of out.old)) (O.contents (inner_of out.new)) (has_failed reader.new) (has_failed out.new) }
+
+    // NAME `record`: the game, from the initial position and with unknown tags.
+    ensures record_is { IsRecord (map string_bytes words.now) → result ≡ 0 → RecordsPlain (R.remaining (inner_of reader.old))
+        (E.contents (inner_of err.old)) (E.contents (inner_of err.new)) (O.contents (inner_of out.old)) (O.contents (inner_of out.new)) }
+
+    // NAME `check`: the input is the export text of a game.
+    ensures check { IsCheck (map string_bytes words.now) → result ≡ 0 → ChecksGame (R.remaining (inner_of reader.old))
+        (O.contents (inner_of out.old)) (O.contents (inner_of out.new)) }
+    ensures usage { result ≡ 2 → IsRefused (map string_bytes words.now) }
+{
+    match read_words(alloc, words) {
+        Err(error) => refused_words(alloc, &error, out, err),
+        Ok(choice) => obey(alloc, choice, reader, out, err),
+    }
+}

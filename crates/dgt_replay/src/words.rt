@@ -1,0 +1,251 @@
+//! What the words of the command line ask for.
+ghost use Rattle.std.specs.Prelude.{◌≡◌, ◌⊎◌, Some, None, map, string_bytes, codes, IfOk, IfErr, MatchOption, is_some, option_map};
+ghost use Rattle.clap.specs.Values.{kind_of};
+ghost use Rattle.clap.specs.Matches.{first_value, found_of};
+ghost use Rattle.clap.specs.Simple.{App, app_of, new_app, subcommand_rows_of};
+ghost use Rattle.clap.specs.Walk.{rows_of};
+ghost use Rattle.dgt_replay.specs.Command.{AddsRule, IsApp, check_app, moves_app, pictures_app, record_app, replay, rotated_rule, show_app, text_rule, with_tags};
+ghost use Rattle.dgt_replay.specs.Choosing.{AsksFor, Chooses, IsPlain, IsRefused, plain, side_in};
+
+use crate::listed::Listed;
+use clap::error::ErrorKind;
+use clap::{Arg, ArgAction, ArgMatches, Command, Error};
+use dgt_frame::First;
+use std::alloc::{AllocError, Global};
+
+/// What the words ask for.
+#[derive(Clone, Copy, Debug)]
+pub enum Choice<'a> {
+    /// The lines of a capture.
+    List(Listed),
+    /// The PGN of a capture.
+    Record(Wishes<'a>),
+    /// Whether a text is PGN in export form.
+    Check,
+    /// The legal moves of a position.
+    Moves { fen: Option<&'a str> },
+}
+
+/// How a game is to be recorded.
+#[derive(Clone, Copy, Debug)]
+pub struct Wishes<'a> {
+    pub rotated: bool,
+    pub first: First,
+    pub fen: Option<&'a str>,
+    pub event: Option<&'a str>,
+    pub site: Option<&'a str>,
+    pub date: Option<&'a str>,
+    pub round: Option<&'a str>,
+    pub white: Option<&'a str>,
+    pub black: Option<&'a str>,
+}
+
+// The command with a flag more.
+fn with_rotated<'a>(alloc: Global, command: Command<'a>) -> Result<Command<'a>, AllocError>
+    ensures { AddsRule command.entry rotated_rule result }
+{
+    let rotated = Arg::new(alloc, "rotated")
+        .long("rotated")
+        .action(ArgAction::SetTrue)
+        .help("Field n means square 63 - n: Black has the connector on the left");
+    command.arg(rotated)
+}
+
+// The command with an option more, which has a value.
+fn with_text<'a>(
+    alloc: Global,
+    command: Command<'a>,
+    name: &'a str,
+    value: &'a str,
+    help: &'a str,
+) -> Result<Command<'a>, AllocError>
+    ensures { AddsRule command.entry (text_rule name.entry.now) result }
+{
+    let text = Arg::new(alloc, name)
+        .long(name)
+        .value_name(value)
+        .help(help);
+    command.arg(text)
+}
+
+// A command of this name, without arguments.
+fn named<'a>(alloc: Global, name: &'a str, about: &'a str) -> Command<'a>
+    ensures { IsApp result (new_app name.entry.now) }
+{
+    Command::new(alloc, name).about(about)
+}
+
+fn show<'a>(alloc: Global) -> Command<'a>
+    ensures { IsApp result show_app }
+{
+    named(
+        alloc,
+        "show",
+        "Prints one line for each message and fault of a capture on standard input",
+    )
+}
+
+fn pictures<'a>(alloc: Global) -> Result<Command<'a>, AllocError>
+    ensures { IfOk result (λ command. IsApp command pictures_app) }
+{
+    let command = named(
+        alloc,
+        "pictures",
+        "Prints the placement of each picture of a capture on standard input",
+    );
+    with_rotated(alloc, command)
+}
+
+fn with_tags<'a>(alloc: Global, command: Command<'a>) -> Result<Command<'a>, AllocError>
+    ensures { (app : App) → IsApp command.entry app → IfOk result (λ command. IsApp command (with_tags app)) }
+{
+    let command = with_text(alloc, command, "event", "TEXT", "The tag Event")?;
+    let command = with_text(alloc, command, "site", "TEXT", "The tag Site")?;
+    let command = with_text(
+        alloc,
+        command,
+        "date",
+        "TEXT",
+        "The tag Date, as 2024.05.31 or 2024.??.??",
+    )?;
+    let command = with_text(alloc, command, "round", "TEXT", "The tag Round")?;
+    let command = with_text(alloc, command, "white", "TEXT", "The tag White")?;
+    with_text(alloc, command, "black", "TEXT", "The tag Black")
+}
+
+fn record<'a>(alloc: Global) -> Result<Command<'a>, AllocError>
+    ensures { IfOk result (λ command. IsApp command record_app) }
+{
+    let command = named(
+        alloc,
+        "record",
+        "Records the game of a board on standard input as PGN; what the board is sent goes to standard error",
+    );
+    let command = with_rotated(alloc, command)?;
+    let command = with_text(
+        alloc,
+        command,
+        "first",
+        "SIDE",
+        "Whose time comes first in a time message: white or black",
+    )?;
+    let command = with_text(alloc, command, "fen", "TEXT", "The position at the start")?;
+    with_tags(alloc, command)
+}
+
+fn check<'a>(alloc: Global) -> Command<'a>
+    ensures { IsApp result check_app }
+{
+    named(
+        alloc,
+        "check",
+        "Checks that standard input is a game in PGN export form",
+    )
+}
+
+fn moves<'a>(alloc: Global) -> Result<Command<'a>, AllocError>
+    ensures { IfOk result (λ command. IsApp command moves_app) }
+{
+    let command = named(alloc, "moves", "Prints the legal moves of a position");
+    with_text(alloc, command, "fen", "TEXT", "The position")
+}
+
+fn command<'a>(alloc: Global) -> Result<Command<'a>, AllocError>
+    ensures { IfOk result (λ command. app_of command ≡ replay) }
+{
+    named(
+        alloc,
+        "dgt_replay",
+        "Records games of chess from a DGT board",
+    )
+    .subcommand_required(true)
+    .subcommand(show(alloc))?
+    .subcommand(pictures(alloc)?)?
+    .subcommand(record(alloc)?)?
+    .subcommand(check(alloc))?
+    .subcommand(moves(alloc)?)
+}
+
+// The side that the text names, or White.
+fn side_of(text: Option<&str>) -> Option<First>
+    ensures { result ≡ side_in (option_map (λ text. text.now) text.entry) }
+{
+    match text {
+        None => Some(First::White),
+        Some("white") => Some(First::White),
+        Some("black") => Some(First::Black),
+        Some(_) => None,
+    }
+}
+
+fn wishes_of<'a>(matches: &ArgMatches<'a>) -> Option<Wishes<'a>>
+    ensures plain { IsPlain (rows_of (found_of matches.now)) → result ≡ Some plain }
+    ensures known { is_some result ≡ is_some (side_in (first_value (found_of matches.now) (codes "first"))) }
+{
+    let Some(first) = side_of(matches.get_str("first")) else {
+        return None;
+    };
+    Some(Wishes {
+        rotated: matches.get_flag("rotated"),
+        first,
+        fen: matches.get_str("fen"),
+        event: matches.get_str("event"),
+        site: matches.get_str("site"),
+        date: matches.get_str("date"),
+        round: matches.get_str("round"),
+        white: matches.get_str("white"),
+        black: matches.get_str("black"),
+    })
+}
+
+fn choice_named<'a>(name: &str, matches: &ArgMatches<'a>) -> Option<Choice<'a>>
+    ensures { Chooses name.now (rows_of (found_of matches.now)) result }
+{
+    match name {
+        "show" => Some(Choice::List(Listed::Events)),
+        "pictures" => Some(Choice::List(Listed::Pictures {
+            rotated: matches.get_flag("rotated"),
+        })),
+        "record" => match wishes_of(matches) {
+            Some(wishes) => Some(Choice::Record(wishes)),
+            None => None,
+        },
+        "check" => Some(Choice::Check),
+        "moves" => Some(Choice::Moves {
+            fen: matches.get_str("fen"),
+        }),
+        _ => None,
+    }
+}
+
+fn choice_of<'a>(matches: &ArgMatches<'a>) -> Option<Choice<'a>>
+    ensures { MatchOption (subcommand_rows_of matches.now) (result ≡ None) (λ found. Chooses found.0 found.1 result) }
+{
+    match matches.subcommand() {
+        Some((name, matches)) => choice_named(name, matches),
+        None => None,
+    }
+}
+
+/// Reads the words, of which the first is the program's name. An `Err` has the text of `clap`: help that was asked
+/// for, or why the words are refused, or that memory is wanting.
+pub fn read_words<'a>(alloc: Global, words: &'a [String]) -> Result<Choice<'a>, Error>
+    ensures chooses { IfOk result (λ choice. AsksFor (map string_bytes words.entry.now) choice) }
+    ensures refused { IfErr result (λ error. (kind_of error ≡ ErrorKind.OutOfMemory) ⊎ IsRefused (map string_bytes words.entry.now)) }
+{
+    let mut command = command(alloc)?;
+    let matches = match command.try_get_matches_from_mut(words) {
+        Ok(matches) => matches,
+        Err(error) => return Err(error),
+    };
+    if let Some(choice) = choice_of(&matches) {
+        return Ok(choice);
+    }
+    match command.error(
+        ErrorKind::InvalidValue,
+        "the side after '--first' is white or black",
+    ) {
+        Ok(error) => Err(error),
+        Err(refused) => Err(Error::from(refused)),
+    }
+}
