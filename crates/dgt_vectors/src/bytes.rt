@@ -1,0 +1,71 @@
+//! Bytes in a fixed array.
+
+/// The most bytes of a capture or a text here.
+pub const ROOM: usize = 512;
+
+/// Bytes in a fixed array. What finds no room is left out.
+#[derive(Drop)]
+pub struct Bytes {
+    held: [u8; ROOM],
+    len: usize,
+}
+
+impl Bytes {
+    pub fn new() -> Bytes {
+        Bytes {
+            held: [0; ROOM],
+            len: 0,
+        }
+    }
+
+    pub fn of(parts: &[&[u8]]) -> Bytes {
+        let mut bytes = Bytes::new();
+        for part in parts {
+            bytes.add(part);
+        }
+        bytes
+    }
+
+    pub fn add(&mut self, more: &[u8]) {
+        for byte in more {
+            if let Some(place) = self.held.get_mut(self.len) {
+                *place = *byte;
+                self.len = self.len.saturating_add(1);
+            }
+        }
+    }
+
+    /// Sets the byte at a place that is held.
+    pub fn set(&mut self, at: usize, byte: u8) {
+        if at < self.len {
+            if let Some(place) = self.held.get_mut(at) {
+                *place = byte;
+            }
+        }
+    }
+
+    /// Turns these bits of the byte at a place that is held.
+    pub fn turn(&mut self, at: usize, bits: u8) {
+        if at < self.len {
+            if let Some(place) = self.held.get_mut(at) {
+                *place ^= bits;
+            }
+        }
+    }
+
+    pub fn len(&self) -> usize {
+        self.len
+    }
+
+    pub fn get(&self) -> &[u8] {
+        self.front(self.len)
+    }
+
+    /// The first so many bytes.
+    pub fn front(&self, len: usize) -> &[u8] {
+        match self.held.get(..len) {
+            Some(bytes) => bytes,
+            None => &[],
+        }
+    }
+}

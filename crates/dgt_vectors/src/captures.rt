@@ -1,0 +1,123 @@
+//! Captures: what a board sends, built from placements and the names of squares.
+
+use crate::bytes::Bytes;
+
+/// The initial position.
+pub const INITIAL: &str = "rnbqkbnr/pppppppp/8/8/8/8/PPPPPPPP/RNBQKBNR";
+
+/// What the board sends.
+#[derive(Clone, Copy)]
+pub enum Signal<'a> {
+    /// The dump of a placement, White with the connector on the left.
+    Dump(&'a str),
+    /// The dump of a placement, Black with the connector on the left.
+    TurnedDump(&'a str),
+    /// This square is empty now.
+    Lift(&'a str),
+    /// This square shows this man now: a letter of the placement, or `*` for a code that no man has.
+    Put(&'a str, &'a str),
+    /// This square is empty now, on a board that stands the other way round.
+    TurnedLift(&'a str),
+    /// This square shows this man now, on a board that stands the other way round.
+    TurnedPut(&'a str, &'a str),
+    /// The seven data bytes of a time message.
+    Time([u8; 7]),
+    /// Text, for what isn't a board.
+    Text(&'a str),
+    /// Bytes of no whole frame, or of a frame of another kind.
+    Raw(&'a [u8]),
+}
+
+/// The letters of the piece codes 0 to 13, `.` for an empty square.
+const LETTERS: &[u8] = b".PRNBKQprnbkq*";
+
+fn code_of(letter: u8) -> u8 {
+    let mut code: u8 = 0;
+    for other in LETTERS {
+        if *other == letter {
+            return code;
+        }
+        code = code.saturating_add(1);
+    }
+    0
+}
+
+/// The field of a square, as `e4`; that of a8 where there is no such square.
+fn field_of(square: &str) -> u8 {
+    let (Some(file), Some(rank)) = (square.as_bytes().get(0), square.as_bytes().get(1)) else {
+        return 0;
+    };
+    let column = file.saturating_sub(b'a').min(7);
+    let row = b'8'.saturating_sub(*rank).min(7);
+    row * 8 + column
+}
+
+/// The codes of a placement, in the order of the squares from a8 to h1.
+fn codes_of(placement: &str) -> [u8; 64] {
+    let mut codes = [0; 64];
+    let mut at: usize = 0;
+    for letter in placement.as_bytes() {
+        let digit = letter.saturating_sub(b'0');
+        if *letter == b'/' {} else if *letter >= b'1' && digit <= 8 {
+            at = at.saturating_add(digit as usize);
+        } else {
+            if let Some(code) = codes.get_mut(at) {
+                *code = code_of(*letter);
+            }
+            at = at.saturating_add(1);
+        }
+    }
+    codes
+}
+
+fn man_of(man: &str) -> u8 {
+    match man.as_bytes().get(0) {
+        Some(letter) => code_of(*letter),
+        None => 0,
+    }
+}
+
+fn turned(field: u8) -> u8 {
+    63u8.saturating_sub(field)
+}
+
+fn update(field: u8, code: u8) -> [u8; 5] {
+    [0x8E, 0x00, 0x05, field, code]
+}
+
+/// Adds the bytes of a signal.
+pub fn add_signal(bytes: &mut Bytes, signal: Signal<'_>) {
+    match signal {
+        Signal::Dump(placement) => {
+            bytes.add(&[0x86, 0x00, 0x43]);
+            bytes.add(&codes_of(placement));
+        }
+        Signal::TurnedDump(placement) => {
+            let mut codes = codes_of(placement);
+            codes.reverse();
+            bytes.add(&[0x86, 0x00, 0x43]);
+            bytes.add(&codes);
+        }
+        Signal::Lift(square) => bytes.add(&update(field_of(square), 0)),
+        Signal::Put(square, man) => bytes.add(&update(field_of(square), man_of(man))),
+        Signal::TurnedLift(square) => bytes.add(&update(turned(field_of(square)), 0)),
+        Signal::TurnedPut(square, man) => {
+            bytes.add(&update(turned(field_of(square)), man_of(man)));
+        }
+        Signal::Time(data) => {
+            bytes.add(&[0x8D, 0x00, 0x0A]);
+            bytes.add(&data);
+        }
+        Signal::Text(text) => bytes.add(text.as_bytes()),
+        Signal::Raw(raw) => bytes.add(raw),
+    }
+}
+
+/// The bytes of a capture.
+pub fn bytes_of(capture: &[Signal<'_>]) -> Bytes {
+    let mut bytes = Bytes::new();
+    for signal in capture {
+        add_signal(&mut bytes, *signal);
+    }
+    bytes
+}

@@ -1,0 +1,56 @@
+//! The decoder against a slow reading of the protocol.
+
+use crate::rows::{Row, rows_by_subject};
+use crate::slow::last_event;
+use dgt_frame::Decoder;
+use std::process::Abort;
+
+/// The bytes of the short lists: those that bound something in the protocol.
+const EDGES: [u8; 10] = [0x00, 0x03, 0x05, 0x43, 0x7F, 0x80, 0x86, 0x8D, 0x8E, 0xFF];
+
+/// At each byte `push` answers what the slow reading of all bytes up to there says, and so does `pending`.
+fn agrees(bytes: &[u8]) -> bool {
+    let mut decoder = Decoder::new();
+    let mut len: usize = 0;
+    for byte in bytes {
+        len = len.saturating_add(1);
+        let pushed = decoder.push(*byte);
+        let front = match bytes.get(..len) {
+            Some(front) => front,
+            None => &[],
+        };
+        let (event, rest) = last_event(front);
+        if pushed != event || decoder.pending() as usize != rest {
+            return false;
+        }
+    }
+    true
+}
+
+#[test]
+fn short_lists_are_decoded_as_the_protocol_says(rt: HostRuntime) {
+    assert!(rt; agrees(&[]));
+    for a in EDGES {
+        for b in EDGES {
+            for c in EDGES {
+                for d in EDGES {
+                    // `agrees` looks at each front too, so these are all lists of at most four bytes.
+                    assert!(rt; agrees(&[a, b, c, d]), "{a} {b} {c} {d}");
+                }
+            }
+        }
+    }
+}
+
+fn captures_agree(rt: &impl Abort, rows: &[Row<'_>]) {
+    for row in rows {
+        assert!(rt; agrees(row.bytes().get()), "{}", row.name);
+    }
+}
+
+#[test]
+fn captures_are_decoded_as_the_protocol_says(rt: HostRuntime) {
+    for rows in rows_by_subject() {
+        captures_agree(&rt, rows);
+    }
+}

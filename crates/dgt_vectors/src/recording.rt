@@ -1,0 +1,88 @@
+//! Recordings over streams in memory.
+
+use crate::bytes::Bytes;
+use crate::rows::Row;
+use crate::streams::{ALWAYS, Sink, Source};
+use board_session::{RecordError, Report, Setup, record};
+use chess_rules::Position;
+use chess_text::{FenError, read_fen};
+use dgt_frame::Watch;
+use pgn_book::Tags;
+use std::alloc::Global;
+
+pub fn start_of(row: &Row<'_>) -> Result<Position, FenError> {
+    if row.start.is_empty() {
+        Ok(Position::initial())
+    } else {
+        read_fen(row.start.as_bytes())
+    }
+}
+
+pub fn setup_of(alloc: Global, row: &Row<'_>) -> Result<Setup, FenError> {
+    let start = start_of(row)?;
+    Ok(Setup {
+        start,
+        first: row.first,
+        rotated: row.rotated,
+        tags: Tags::new(alloc),
+    })
+}
+
+/// The answer of a recording, and what the board's stream and the output then show and hold.
+#[derive(Drop)]
+pub struct Recording {
+    pub answer: Result<Report, RecordError>,
+    pub board_shown: Bytes,
+    pub text_shown: Bytes,
+    pub board_held: Bytes,
+    pub text_held: Bytes,
+}
+
+/// Records over these streams, set up as a row says.
+pub fn recorded_over(
+    alloc: Global,
+    row: &Row<'_>,
+    source: Source<'_>,
+    board: Sink,
+    out: Sink,
+) -> Result<Recording, FenError> {
+    let setup = setup_of(alloc, row)?;
+    let mut reader = Watch::new(source);
+    let mut board = Watch::new(board);
+    let mut out = Watch::new(out);
+    let answer = record(alloc, setup, &mut reader, &mut board, &mut out);
+    Ok(Recording {
+        answer,
+        board_shown: Bytes::of(&[board.inner().shown()]),
+        text_shown: Bytes::of(&[out.inner().shown()]),
+        board_held: Bytes::of(&[board.inner().held()]),
+        text_held: Bytes::of(&[out.inner().held()]),
+    })
+}
+
+/// Records these bytes over streams that don't fail, with so many bytes a read.
+pub fn recorded(
+    alloc: Global,
+    row: &Row<'_>,
+    bytes: &[u8],
+    piece: usize,
+) -> Result<Recording, FenError> {
+    let source = Source::new(bytes, piece, ALWAYS);
+    recorded_over(
+        alloc,
+        row,
+        source,
+        Sink::new(512, ALWAYS),
+        Sink::new(512, ALWAYS),
+    )
+}
+
+pub fn report_of(numbers: (u32, u32, u32, u16)) -> Report {
+    let (messages, faults, moves, rest) = numbers;
+    Report {
+        messages,
+        faults,
+        moves,
+        rest,
+    }
+}
