@@ -1,0 +1,114 @@
+#!/usr/bin/env python3
+"""Plays a DGT board on a device, for trying the recorder without one.
+
+Waits until it is asked for field updates (4B), answers each request for a dump (42), and makes the moves that are
+named: `e2e4`, castling as the king's move `e1g1`, en passant as `e5d6`, a promotion as `e7e8q`. Then it hangs up.
+"""
+
+import argparse
+import os
+import select
+import sys
+import time
+
+SEND_DUMP, SEND_UPDATES = 0x42, 0x4B
+DUMP, UPDATE, TIME = 0x86, 0x8E, 0x8D
+EMPTY, PAWN, KING, BLACK = 0, 1, 5, 6
+PROMOTED = {"r": 2, "n": 3, "b": 4, "q": 6}
+BACK_RANK = [2, 3, 4, 6, 5, 4, 3, 2]
+INITIAL = [BLACK + kind for kind in BACK_RANK] + [BLACK + PAWN] * 8 + [EMPTY] * 32 + [PAWN] * 8 + BACK_RANK
+
+
+def field(square):
+    """The number of a square: a8 is 0, h1 is 63."""
+    return "abcdefgh".index(square[0]) + 8 * (8 - int(square[1]))
+
+
+def frame(identifier, data):
+    size = 3 + len(data)
+    return bytes([identifier, size >> 7, size & 0x7F, *data])
+
+
+class Board:
+    def __init__(self, device, pause, cut):
+        self.line = os.open(device, os.O_RDWR | os.O_NOCTTY)
+        self.codes = list(INITIAL)
+        self.pause = pause
+        self.cut = cut
+        self.updates = 0
+        self.asked_for_updates = False
+
+    def send(self, bytes_sent):
+        while bytes_sent:
+            bytes_sent = bytes_sent[os.write(self.line, bytes_sent) :]
+
+    def listen(self, seconds):
+        """Answers what is asked within so many seconds."""
+        until = time.monotonic() + seconds
+        while (left := until - time.monotonic()) > 0:
+            if not select.select([self.line], [], [], left)[0]:
+                return
+            for command in os.read(self.line, 64):
+                print(f"board: asked {command:02X}", file=sys.stderr)
+                if command == SEND_DUMP:
+                    self.send(frame(DUMP, self.codes))
+                elif command == SEND_UPDATES:
+                    self.asked_for_updates = True
+
+    def show(self, number, code):
+        """A square changes. One update, if it was asked for, is cut off after its header."""
+        self.codes[number] = code
+        self.updates += 1
+        whole = frame(UPDATE, [number, code])
+        self.send(whole[:3] if self.updates == self.cut else whole)
+        self.listen(self.pause)
+
+    def carry(self, origin, target, code):
+        if self.codes[target] != EMPTY:
+            self.show(target, EMPTY)
+        self.show(origin, EMPTY)
+        self.show(target, code)
+
+    def play(self, move):
+        origin, target = field(move[:2]), field(move[2:4])
+        code = self.codes[origin]
+        side = BLACK if code > BLACK else 0
+        passant = code - side == PAWN and origin % 8 != target % 8 and self.codes[target] == EMPTY
+        steps = target - origin
+        self.carry(origin, target, PROMOTED[move[4]] + side if len(move) > 4 else code)
+        if passant:
+            self.show(origin - origin % 8 + target % 8, EMPTY)
+        if code - side == KING and abs(steps) == 2:
+            rook = origin + 3 if steps > 0 else origin - 4
+            self.carry(rook, origin + steps // 2, self.codes[rook])
+
+    def clock(self, white, black):
+        """Both times in seconds."""
+        groups = [f"{n:02}" for t in (white, black) for n in (t // 3600, t // 60 % 60, t % 60)]
+        self.send(frame(TIME, [*(int(digits, 16) for digits in groups), 0]))
+
+
+def main():
+    words = argparse.ArgumentParser(description=__doc__)
+    words.add_argument("device")
+    words.add_argument("moves", nargs="*")
+    words.add_argument("--pause", type=float, default=0.05, help="seconds after each update")
+    words.add_argument("--cut", type=int, default=0, help="the number of the update that is cut off")
+    words.add_argument("--clock", type=int, default=0, help="seconds on each clock; each ply takes seven")
+    words.add_argument("--stay", type=float, default=0.5, help="seconds before it hangs up")
+    words = words.parse_intermixed_args()
+
+    board = Board(words.device, words.pause, words.cut)
+    while not board.asked_for_updates:
+        board.listen(1)
+    times = [words.clock, words.clock]
+    for ply, move in enumerate(words.moves):
+        if words.clock:
+            times[ply % 2] -= 7
+            board.clock(*times)
+            board.listen(words.pause)
+        board.play(move)
+    board.listen(words.stay)
+
+
+main()
