@@ -604,6 +604,28 @@ fn moves_lists_legal_moves(rt: HostRuntime) -> Result<(), Fail> {
 }
 
 #[test]
+fn moves_lists_as_many_as_there_are(rt: HostRuntime) -> Result<(), Fail> {
+    for (start, moves) in [
+        (
+            "r3k2r/p1ppqpb1/bn2pnp1/3PN3/1p2P3/2N2Q1p/PPPBBPPP/R3K2R w KQkq - 0 1",
+            48,
+        ),
+        ("8/2p5/3p4/KP5r/1R3p1k/8/4P1P1/8 w - - 0 1", 14),
+    ] {
+        let left = run_over(rt.alloc(), &["moves", "--fen", start], &[], 512, 512)?;
+        let mut lines: u32 = 0;
+        for byte in left.out.get() {
+            if *byte == b'\n' {
+                lines = lines.saturating_add(1);
+            }
+        }
+        assert_eq!(rt; left.status, 0, "{start}");
+        assert_eq!(rt; lines, moves, "{start}");
+    }
+    Ok(())
+}
+
+#[test]
 fn check_refuses_each_cut_text(rt: HostRuntime) -> Result<(), Fail> {
     let text = kings_pawn_opening().text();
     for len in 0..text.len() {
