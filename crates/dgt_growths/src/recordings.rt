@@ -6,7 +6,7 @@ use dgt_frame::Watch;
 use dgt_replay::run;
 use dgt_vectors::bytes::Bytes;
 use dgt_vectors::recording::{Recording, recorded, report_of};
-use dgt_vectors::rows::{Row, commands, kings_pawn_opening, text_of};
+use dgt_vectors::rows::{Row, commands, kings_pawn_opening, text_of, unknown_code};
 use dgt_vectors::streams::{ALWAYS, Sink, Source};
 use std::alloc::{AllocError, Global};
 
@@ -43,15 +43,10 @@ pub fn records(alloc: Global) -> Outcome {
 
 /// Where no move is appended no growth can be refused.
 pub fn takes_no_memory(alloc: Global) -> Outcome {
-    let row = Row {
-        report: (2, 0, 0, 0),
-        ..kings_pawn_opening()
-    };
-    let bytes = row.bytes();
-    match recorded(alloc, &row, bytes.front(72), 4096) {
+    let row = unknown_code();
+    match recorded(alloc, &row, row.bytes().get(), 4096) {
         Ok(got) => Outcome::granted(
-            got.answer == Ok(report_of(row.report))
-                && got.text_shown.get() == text_of("", "*", "*").get(),
+            got.answer == Ok(report_of(row.report)) && got.text_shown.get() == row.text().get(),
         ),
         Err(_) => Outcome::Broken,
     }

@@ -18,5 +18,7 @@ mod recordings;
 #[cfg(test)]
 mod refusals;
 pub mod rows;
+#[cfg(test)]
+mod settling;
 pub mod slow;
 pub mod streams;

@@ -1,46 +1,39 @@
 //! The updates of one move, in every order in which hands can make them.
 
 use crate::captures::Signal::{self, Dump, Lift, Put};
-use crate::captures::bytes_of;
-use crate::recording::recorded;
-use crate::rows::{Row, kings_pawn_opening, text_of};
-use chess_text::FenError;
+use crate::recordings::row_holds;
+use crate::rows::{Row, kings_pawn_opening};
+use crate::settling::settles_as_told;
 use std::alloc::Global;
 use std::process::Abort;
 use std::test::Fail;
 
-const CASTLING: &str = "4k3/8/8/8/8/8/8/4K2R w K - 0 1";
-
-const EN_PASSANT: &str = "4k3/8/8/3pP3/8/8/8/4K3 w - d6 0 2";
-
-/// These updates are castling.
-fn castles(rt: &impl Abort, alloc: Global, capture: &[Signal<'_>]) -> Result<(), FenError> {
-    let row = Row {
-        start: CASTLING,
+fn castling<'a>(capture: &'a [Signal<'a>]) -> Row<'a> {
+    Row {
+        name: "castling in some order",
+        start: "4k3/8/8/8/8/8/8/4K2R w K - 0 1",
+        capture,
+        movetext: "1. O-O *",
+        report: (5, 0, 1, 0),
         ..kings_pawn_opening()
-    };
-    let got = recorded(alloc, &row, bytes_of(capture).get(), 4096)?;
-    assert!(rt;
-        got.answer.is_ok() && got.text_shown.get() == text_of(CASTLING, "*", "1. O-O *").get()
-    );
-    Ok(())
+    }
 }
 
-/// These updates are a capture en passant.
-fn captures_in_passing(
-    rt: &impl Abort,
-    alloc: Global,
-    capture: &[Signal<'_>],
-) -> Result<(), FenError> {
-    let row = Row {
-        start: EN_PASSANT,
+fn en_passant<'a>(capture: &'a [Signal<'a>]) -> Row<'a> {
+    Row {
+        name: "en passant in some order",
+        start: "4k3/8/8/3pP3/8/8/8/4K3 w - d6 0 2",
+        capture,
+        movetext: "2. exd6 *",
+        report: (4, 0, 1, 0),
         ..kings_pawn_opening()
-    };
-    let got = recorded(alloc, &row, bytes_of(capture).get(), 4096)?;
-    assert!(rt;
-        got.answer.is_ok() && got.text_shown.get() == text_of(EN_PASSANT, "*", "2. exd6 *").get()
-    );
-    Ok(())
+    }
+}
+
+/// What is recorded is what the row says and what the pictures tell.
+fn holds(rt: &impl Abort, alloc: Global, row: &Row<'_>) -> Result<(), Fail> {
+    row_holds(rt, alloc, row, 4096)?;
+    settles_as_told(rt, alloc, row)
 }
 
 #[test]
@@ -54,7 +47,8 @@ fn castling_in_each_order(rt: HostRuntime) -> Result<(), Fail> {
                 for (d, fourth) in updates.iter().enumerate() {
                     let differ = a != b && a != c && b != c;
                     if differ && d != a && d != b && d != c {
-                        castles(&rt, rt.alloc(), &[dump, *first, *second, *third, *fourth])?;
+                        let capture = [dump, *first, *second, *third, *fourth];
+                        holds(&rt, rt.alloc(), &castling(&capture))?;
                         count = count.saturating_add(1);
                     }
                 }
@@ -74,7 +68,8 @@ fn en_passant_in_each_order(rt: HostRuntime) -> Result<(), Fail> {
         for (b, second) in updates.iter().enumerate() {
             for (c, third) in updates.iter().enumerate() {
                 if a != b && a != c && b != c {
-                    captures_in_passing(&rt, rt.alloc(), &[dump, *first, *second, *third])?;
+                    let capture = [dump, *first, *second, *third];
+                    holds(&rt, rt.alloc(), &en_passant(&capture))?;
                     count = count.saturating_add(1);
                 }
             }

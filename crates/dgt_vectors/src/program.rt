@@ -672,6 +672,24 @@ fn failed_streams_have_status_3(rt: HostRuntime) -> Result<(), Fail> {
     Ok(())
 }
 
+/// A frame has at most 16,383 bytes; until its last one they are the rest.
+#[test]
+fn the_longest_frame_is_shown(rt: HostRuntime) -> Result<(), Fail> {
+    let mut bytes = Vec::new(rt.alloc());
+    for byte in [0x93u8, 0x7F, 0x7F] {
+        bytes.push(byte)?;
+    }
+    for _ in 0..16_379u32 {
+        bytes.push(0)?;
+    }
+    let left = run_over(rt.alloc(), &["show"], bytes.as_slice(), 512, 512)?;
+    assert!(rt; left.out.get() == b"rest 16382\n".as_slice());
+    bytes.push(0)?;
+    let left = run_over(rt.alloc(), &["show"], bytes.as_slice(), 512, 512)?;
+    assert!(rt; left.out.get() == b"16382 other 93 16383\nrest 0\n".as_slice());
+    Ok(())
+}
+
 /// Runs over so many like bytes.
 fn run_alike(alloc: Global, word: &str, byte: u8, left: u32) -> Result<Run, AllocError> {
     let words = words_of(alloc, &[word])?;

@@ -8,7 +8,12 @@ use std::process::Abort;
 use std::test::Fail;
 
 /// What is recorded of a row's capture is what the row says, with so many bytes a read.
-fn row_holds(rt: &impl Abort, alloc: Global, row: &Row<'_>, piece: usize) -> Result<(), FenError> {
+pub fn row_holds(
+    rt: &impl Abort,
+    alloc: Global,
+    row: &Row<'_>,
+    piece: usize,
+) -> Result<(), FenError> {
     let got = recorded(alloc, row, row.bytes().get(), piece)?;
     assert_eq!(rt;
         got.answer,

@@ -110,9 +110,29 @@ const PLAIN: Row<'static> = Row {
     report: (0, 0, 0, 0),
 };
 
-const KINGS_PAWN_OPENING: &[Signal<'static>] = &[Dump(INITIAL), Lift("e2"), Put("e4", "P")];
+const KINGS_PAWN_OPENING: Row<'static> = Row {
+    name: "a man is lifted and put down",
+    capture: &[Dump(INITIAL), Lift("e2"), Put("e4", "P")],
+    movetext: "1. e4 *",
+    report: (3, 0, 1, 0),
+    ..PLAIN
+};
 
-const CUT_AND_DUMP: &[Signal<'static>] = &[Dump(INITIAL), CUT_UPDATE, Dump(KINGS_PAWN)];
+const CUT_AND_DUMP: Row<'static> = Row {
+    name: "a cut frame is made up for by a dump",
+    capture: &[Dump(INITIAL), CUT_UPDATE, Dump(KINGS_PAWN)],
+    movetext: "1. e4 *",
+    report: (2, 1, 1, 0),
+    ..PLAIN
+};
+
+const UNKNOWN_CODE: Row<'static> = Row {
+    name: "a code that no man has matches no position",
+    capture: &[Dump(INITIAL), Put("e2", "*")],
+    movetext: "*",
+    report: (2, 0, 0, 0),
+    ..PLAIN
+};
 
 /// How men are lifted and put down.
 const SETTLING: &[Row<'static>] = &[
@@ -123,13 +143,7 @@ const SETTLING: &[Row<'static>] = &[
         report: (0, 0, 0, 0),
         ..PLAIN
     },
-    Row {
-        name: "a man is lifted and put down",
-        capture: &[Dump(INITIAL), Lift("e2"), Put("e4", "P")],
-        movetext: "1. e4 *",
-        report: (3, 0, 1, 0),
-        ..PLAIN
-    },
+    KINGS_PAWN_OPENING,
     Row {
         name: "a man is put down before it is lifted",
         capture: &[Dump(INITIAL), Put("e4", "P"), Lift("e2")],
@@ -243,13 +257,7 @@ const SPECIAL: &[Row<'static>] = &[
 
 /// Faults, other messages and unfinished frames.
 const FAULTS: &[Row<'static>] = &[
-    Row {
-        name: "a cut frame is made up for by a dump",
-        capture: &[Dump(INITIAL), CUT_UPDATE, Dump(KINGS_PAWN)],
-        movetext: "1. e4 *",
-        report: (2, 1, 1, 0),
-        ..PLAIN
-    },
+    CUT_AND_DUMP,
     Row {
         name: "two moves at once wait",
         capture: &[Dump(INITIAL), CUT_UPDATE, Dump(OPEN_GAME)],
@@ -444,13 +452,7 @@ const BOARDS: &[Row<'static>] = &[
         report: (3, 0, 0, 0),
         ..PLAIN
     },
-    Row {
-        name: "a code that no man has matches no position",
-        capture: &[Dump(INITIAL), Put("e2", "*")],
-        movetext: "*",
-        report: (2, 0, 0, 0),
-        ..PLAIN
-    },
+    UNKNOWN_CODE,
 ];
 
 /// The last move stays open.
@@ -627,22 +629,15 @@ pub fn rows_by_subject<'a>() -> [&'a [Row<'a>]; 8] {
 
 /// 1. e4, the pawn lifted before it is put down.
 pub fn kings_pawn_opening<'a>() -> Row<'a> {
-    Row {
-        name: "1. e4",
-        capture: KINGS_PAWN_OPENING,
-        movetext: "1. e4 *",
-        report: (3, 0, 1, 0),
-        ..PLAIN
-    }
+    KINGS_PAWN_OPENING
 }
 
 /// An update is cut off, and a dump after 1. e4 makes up for it.
 pub fn cut_and_dump<'a>() -> Row<'a> {
-    Row {
-        name: "cut",
-        capture: CUT_AND_DUMP,
-        movetext: "1. e4 *",
-        report: (2, 1, 1, 0),
-        ..PLAIN
-    }
+    CUT_AND_DUMP
+}
+
+/// A code that no man has, on e2.
+pub fn unknown_code<'a>() -> Row<'a> {
+    UNKNOWN_CODE
 }

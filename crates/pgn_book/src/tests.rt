@@ -278,6 +278,32 @@ fn values_are_escaped(rt: HostRuntime) -> Result<(), Fail> {
     Ok(())
 }
 
+/// How often a byte stands in a text.
+fn count_of(text: &[u8], wanted: u8) -> usize {
+    let mut count: usize = 0;
+    for byte in text {
+        if *byte == wanted {
+            count = count.saturating_add(1);
+        }
+    }
+    count
+}
+
+#[test]
+fn a_hundred_quotation_marks_come_back(rt: HostRuntime) -> Result<(), Fail> {
+    let marks = repeated(rt.alloc(), '"', 100)?;
+    let mut tags = Tags::new(rt.alloc());
+    tags.set(Tag::White, marks.as_str())?;
+    let game = Game::new(tags, Position::initial(), Vec::new(rt.alloc()), None);
+    let text = text_of(&rt, &game)?;
+    // Each has a backslash, and the values of the seven tags have two marks each around them.
+    assert_eq!(rt; count_of(&text, b'\\'), 100);
+    assert_eq!(rt; count_of(&text, b'"'), 114);
+    let read = read_pgn(rt.alloc(), &text)?;
+    assert_eq!(rt; read.tags().get(Tag::White), marks.as_str());
+    Ok(())
+}
+
 fn refuses(alloc: Global, text: &[u8]) -> bool {
     matches!(read_pgn(alloc, text), Err(PgnError::NotExport))
 }
