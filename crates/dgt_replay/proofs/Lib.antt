@@ -3,6 +3,7 @@ pub mod CommandLemmas
 pub mod EndLemmas
 pub mod GatherLemmas
 pub mod LineLemmas
+pub mod MoveLemmas
 pub mod PieceLemmas
 pub mod StreamLemmas
 pub mod WordLemmas

@@ -13,10 +13,10 @@ use Rattle.clap.proofs.OnLiterals.{clap_on_literals}
 use Rattle.clap.proofs.WalkLemmas.{first_value-rows, one_text-rows}
 use Rattle.dgt_replay.specs.declared.listed.Listed.TheVariants.{Events, Pictures}
 use Rattle.dgt_replay.specs.declared.words.Choice.{Choice}
-use Rattle.dgt_replay.specs.declared.words.Choice.TheVariants.{List as ListOf, Record, Check}
+use Rattle.dgt_replay.specs.declared.words.Choice.TheVariants.{List as ListOf, Record, Check, Moves}
 use Rattle.dgt_replay.specs.declared.words.Wishes.{Wishes}
 use Rattle.dgt_replay.specs.Command.{replay}
-use Rattle.dgt_replay.specs.Choosing.{AsksFor, Chooses, IsPictures, IsPlain, IsRecord, IsRefused, IsShow, flag_text, is_choice, plain, side_in, IsCheck}
+use Rattle.dgt_replay.specs.Choosing.{AsksFor, Chooses, IsPictures, IsPlain, IsRecord, IsRefused, IsShow, flag_text, is_choice, plain, side_in, IsCheck, IsMoves}
 
 -- a text that wasn't given
 pub none_given : (found : Found) (id : Text) (result : Option (Bor (List ℕ))) → option_map (λ s. s.now) result ≡ first_value found id → first_of id (rows_of found) ≡ None → result ≡ None
@@ -62,6 +62,12 @@ pictures_not_record name is other = let bad : 112 ≡ 114 = ap (λ t. slice_inde
 
 pub pictures_not_check : (name : Text) → name ≡ codes "pictures" → name ≡ codes "check" → ⊥
 pictures_not_check name is other = let bad : 112 ≡ 99 = ap (λ t. slice_index t 0) (sym is ∙ other) in absurd (omega (arith, bad))
+
+pub pictures_not_moves : (name : Text) → name ≡ codes "pictures" → name ≡ codes "moves" → ⊥
+pictures_not_moves name is other = let bad : 112 ≡ 109 = ap (λ t. slice_index t 0) (sym is ∙ other) in absurd (omega (arith, bad))
+
+pub record_not_moves : (name : Text) → name ≡ codes "record" → name ≡ codes "moves" → ⊥
+record_not_moves name is other = let bad : 114 ≡ 109 = ap (λ t. slice_index t 0) (sym is ∙ other) in absurd (omega (arith, bad))
 
 pub record_not_check : (name : Text) → name ≡ codes "record" → name ≡ codes "check" → ⊥
 record_not_check name is other = let bad : 114 ≡ 99 = ap (λ t. slice_index t 0) (sym is ∙ other) in absurd (omega (arith, bad))
@@ -202,3 +208,24 @@ chooses_check words choice is asks = some_choice choice Check ((with_found (subc
 
 pub check_unrefused : (words : List Text) → IsCheck words → IsRefused words → ⊥
 check_unrefused words is refused = names_unrefused words (codes "check") (check_named words is) refused
+
+moves_found : (name : Text) → (name_in (subcommand_of replay (name ∷ codes "moves" ∷ [])) ≡ Some (codes "moves"))
+    × (first_of (codes "fen") (rows_in (subcommand_of replay (name ∷ codes "moves" ∷ []))) ≡ None)
+    × (takes replay (name ∷ codes "moves" ∷ []) ≡ true)
+unfolding clap_on_literals
+moves_found name = (refl, refl, refl)
+
+moves_named : (words : List Text) → IsMoves words → Names words (codes "moves") × (first_of (codes "fen") (rows_in (subcommand_of replay words)) ≡ None)
+moves_named words (name, is) =
+    let f = moves_found name in
+    let P : List Text → Type 0 = λ w. Names w (codes "moves") × (first_of (codes "fen") (rows_in (subcommand_of replay w)) ≡ None) in
+    subst P (sym is) (record { taken = f.2; found = f.0; known = refl }, f.1)
+
+-- `moves` asks for those of the initial position
+pub chooses_moves : (words : List Text) (choice : Choice) → IsMoves words → AsksFor words choice → choice ≡ Moves None
+chooses_moves words choice is asks =
+    let named = moves_named words is in
+    some_choice choice (Moves None) ((with_found (subcommand_of replay words) (codes "moves") choice named.0.found asks).moves refl named.1)
+
+pub moves_unrefused : (words : List Text) → IsMoves words → IsRefused words → ⊥
+moves_unrefused words is refused = names_unrefused words (codes "moves") (moves_named words is).0 refused

@@ -12,7 +12,7 @@ use Rattle.dgt_frame.specs.declared.time.First.{First}
 use Rattle.dgt_frame.specs.declared.time.First.TheVariants.{White, Black}
 use Rattle.dgt_replay.specs.declared.listed.Listed.TheVariants.{Events, Pictures}
 use Rattle.dgt_replay.specs.declared.words.Choice.{Choice}
-use Rattle.dgt_replay.specs.declared.words.Choice.TheVariants.{List as ListOf, Record, Check}
+use Rattle.dgt_replay.specs.declared.words.Choice.TheVariants.{List as ListOf, Record, Check, Moves}
 use Rattle.dgt_replay.specs.declared.words.Wishes.{Wishes}
 use Rattle.dgt_replay.specs.Command.{replay}
 
@@ -53,6 +53,7 @@ pub record Chooses (name : Text) (rows : List Row) (choice : Option Choice) : Ty
   pub pictures : (rotated : Bool) → name ≡ codes "pictures" → one_of (codes "rotated") rows ≡ Some (flag_text rotated) → choice ≡ Some (ListOf (Pictures rotated))
   pub record_is : name ≡ codes "record" → IsPlain rows → choice ≡ Some (Record plain)
   pub check : name ≡ codes "check" → choice ≡ Some Check
+  pub moves : name ≡ codes "moves" → first_of (codes "fen") rows ≡ None → choice ≡ Some (Moves None)
   pub known : is_some choice ≡ is_choice name rows
 
 -- a parse finds this in the words
@@ -82,3 +83,7 @@ IsRecord words = (name : Text) × (words ≡ name ∷ codes "record" ∷ [])
 -- The words are a program's name, whatever it is, and `check`.
 abbrev pub IsCheck : List Text → Type 0
 IsCheck words = (name : Text) × (words ≡ name ∷ codes "check" ∷ [])
+
+-- The words are a program's name, whatever it is, and `moves`.
+abbrev pub IsMoves : List Text → Type 0
+IsMoves words = (name : Text) × (words ≡ name ∷ codes "moves" ∷ [])

@@ -5,6 +5,7 @@ pub mod Lines
 pub mod Lister
 pub mod Listing
 pub mod Placing
+pub mod Printed
 pub mod Reading
 pub mod Recorded
 pub mod Status

@@ -1,12 +1,14 @@
 -- What `record` does without options.
-use Rattle.std.specs.Prelude.{ℕ, List, ◌++◌, codes, decimal, Option, false}
+use Rattle.std.specs.Prelude.{◌≡◌, ◌⊎◌, ℕ, List, ◌++◌, codes, decimal, Bool, Option, Err, false, true}
 use Rattle.std.specs.Io.KnownBytes.{Appends}
 use Rattle.chess_rules.specs.Initial.{initial}
 use Rattle.dgt_frame.specs.declared.time.First.TheVariants.{White}
 use Rattle.pgn_book.specs.Values.{unknown_values}
+use Rattle.board_session.specs.declared.recording.RecordError.{RecordError}
+use Rattle.board_session.specs.declared.recording.RecordError.TheVariants.{Read, Board, Write}
 use Rattle.board_session.specs.declared.recording.Report.{Report}
 use Rattle.board_session.specs.declared.recording.Setup.{Setup}
-use Rattle.board_session.specs.Recording.{RecordsAll}
+use Rattle.board_session.specs.Recording.{Leaves, RecordsAll}
 
 -- the line about a recording, which begins a new line after the bytes for the board
 abbrev pub report_line : Report → List ℕ
@@ -21,3 +23,18 @@ plain_setup = record { start = initial; first = White; rotated = false; tags = u
 abbrev pub RecordsPlain : Option (List ℕ) → Option (List ℕ) → Option (List ℕ) → Option (List ℕ) → Option (List ℕ) → Type 0
 RecordsPlain input sent sent' written written' = (report : Report) × (asked : Option (List ℕ))
     × RecordsAll plain_setup report input sent asked written written' × Appends asked sent' (report_line report)
+
+-- The recording has ended for this reason, and left what it leaves then: bytes read, bytes for the board, and a text.
+abbrev pub EndsPlain : RecordError → Option (List ℕ) → Option (List ℕ) → Option (List ℕ) → Option (List ℕ) → Option (List ℕ) → Type 0
+EndsPlain reason input input' sent written written' = (asked : Option (List ℕ)) × Leaves plain_setup (Err reason) input input' sent asked written written'
+
+-- The whole was recorded, and the line about it could not be written.
+abbrev pub RecordsUntold : Option (List ℕ) → Option (List ℕ) → Option (List ℕ) → Option (List ℕ) → Type 0
+RecordsUntold input sent written written' = (report : Report) × (asked : Option (List ℕ)) × RecordsAll plain_setup report input sent asked written written'
+
+-- A stream has failed: the reader, the output, or standard error, on which the board is sent its bytes.
+abbrev pub FailsPlain : Option (List ℕ) → Option (List ℕ) → Option (List ℕ) → Option (List ℕ) → Option (List ℕ) → Bool → Bool → Bool → Type 0
+FailsPlain input input' sent written written' reader_failed out_failed err_failed =
+    ((reader_failed ≡ true) × EndsPlain Read input input' sent written written')
+    ⊎ (((out_failed ≡ true) × EndsPlain Write input input' sent written written')
+    ⊎ ((err_failed ≡ true) × (EndsPlain Board input input' sent written written' ⊎ RecordsUntold input sent written written')))

@@ -1,7 +1,8 @@
 //! The subcommand `check`.
-ghost use Rattle.std.specs.Prelude.{◌≡◌, ◌≢◌, ◌≤◌, IfOk, IfSome, false};
+ghost use Rattle.std.specs.Prelude.{◌≡◌, ◌≢◌, ◌<◌, ◌≤◌, ◌⊎◌, Err, IfOk, IfSome, false, true, length};
+ghost use Rattle.std.specs.Io.KnownBytes.{Keeps};
 ghost use Rattle.dgt_frame.specs.Watched.{inner_of, has_failed};
-ghost use Rattle.dgt_replay.specs.Checked.{ChecksGame};
+ghost use Rattle.dgt_replay.specs.Checked.{ChecksGame, RefusesText};
 
 use crate::lines::{Lines, add_summary};
 use crate::saying::refused;
@@ -25,7 +26,9 @@ enum TextError {
 // Reads a text to its end, or one byte past its limit.
 fn read_text<R: Read>(alloc: Global, reader: &mut Watch<R>) -> Result<Vec<u8>, TextError>
     requires { has_failed reader.old ≡ false }
-    ensures { IfOk result (λ text. IfSome (R.remaining (inner_of reader.old)) (λ bytes. text.items ≡ bytes)) }
+    ensures whole { IfOk result (λ text. IfSome (R.remaining (inner_of reader.old)) (λ bytes. text.items ≡ bytes)) }
+    ensures read { result ≡ Err TextError.Read → has_failed reader.new ≡ true }
+    ensures long { result ≡ Err TextError.TooLong → IfSome (R.remaining (inner_of reader.old)) (λ bytes. 268435456 < length bytes) }
 {
     let mut text = Vec::new(alloc);
     let mut buffer = [0u8; PIECE];
@@ -57,6 +60,10 @@ pub fn check<R: Read, O: Write, E: Write>(
     requires reading { has_failed reader.old ≡ false }
     requires working { has_failed out.old ≡ false }
     ensures passes { result ≡ 0 → ChecksGame (R.remaining (inner_of reader.old)) (O.contents (inner_of out.old)) (O.contents (inner_of out.new)) }
+    ensures refuses { result ≡ 1 → RefusesText (R.remaining (inner_of reader.old)) }
+    ensures fails { result ≡ 3 → (has_failed reader.new ≡ true) ⊎ (has_failed out.new ≡ true) }
+    ensures silent { (result ≡ 1) ⊎ (result ≡ 4) → Keeps (O.contents (inner_of out.old)) (O.contents (inner_of out.new)) }
+    ensures known { result ≤ 4 }
     ensures status { result ≢ 2 }
 {
     let text = match read_text(alloc, reader) {

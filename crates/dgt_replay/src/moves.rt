@@ -1,7 +1,10 @@
 //! The subcommand `moves`.
-ghost use Rattle.std.specs.Prelude.{◌≡◌, ◌≢◌, All, OnOk, false};
+ghost use Rattle.std.specs.Prelude.{◌≡◌, ◌≢◌, ◌≤◌, ℕ, List, All, None, OnErr, OnOk, false, true};
+ghost use Rattle.std.specs.Io.KnownBytes.{Appends};
+ghost use Rattle.chess_rules.specs.Initial.{initial};
 ghost use Rattle.chess_rules.specs.Legal.{Legal};
-ghost use Rattle.dgt_frame.specs.Watched.{has_failed};
+ghost use Rattle.dgt_frame.specs.Watched.{inner_of, has_failed};
+ghost use Rattle.dgt_replay.specs.Printed.{PrintsMoves, TellsMoves};
 
 use crate::lines::{GATHERED, LONGEST, Lines, add_san};
 use crate::saying::{refused, refused_fen};
@@ -21,7 +24,9 @@ fn put_moves<O: Write>(
 ) -> Result<(), WriteFault>
     requires working { has_failed out.old ≡ false }
     requires legal { All (λ m. Legal position.now m) moves.now }
+    ensures told { OnOk result ((text : List ℕ) × TellsMoves position.now moves.now text × Appends (O.contents (inner_of out.old)) (O.contents (inner_of out.new)) text) }
     ensures working { OnOk result (has_failed out.new ≡ false) }
+    ensures failed { OnErr result (has_failed out.new ≡ true) }
 {
     let mut lines = Lines::new();
     for m in moves {
@@ -42,7 +47,10 @@ pub fn moves<O: Write, E: Write>(
     err: &mut Watch<E>,
 ) -> u8
     requires working { has_failed out.old ≡ false }
-    ensures { result ≢ 2 }
+    ensures prints { fen.entry ≡ None → result ≡ 0 → PrintsMoves initial (O.contents (inner_of out.old)) (O.contents (inner_of out.new)) }
+    ensures fails { fen.entry ≡ None → (result ≢ 1) × (result ≡ 3 → has_failed out.new ≡ true) }
+    ensures known { result ≤ 4 }
+    ensures status { result ≢ 2 }
 {
     let position = match start_of(fen) {
         Ok(position) => position,

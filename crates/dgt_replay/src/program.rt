@@ -1,13 +1,16 @@
 //! The program over any streams.
-ghost use Rattle.std.specs.Prelude.{◌≡◌, ◌≢◌, ◌⊎◌, Bool, map, string_bytes, false};
+ghost use Rattle.std.specs.Prelude.{◌≡◌, ◌≢◌, ◌≤◌, ◌⊎◌, Bool, map, string_bytes, None, false, true};
 ghost use Rattle.std.specs.Io.KnownBytes.{Keeps};
+ghost use Rattle.board_session.specs.declared.recording.RecordError.{RecordError};
+ghost use Rattle.chess_rules.specs.Initial.{initial};
 ghost use Rattle.clap.specs.Values.{kind_of};
 ghost use Rattle.dgt_frame.specs.Watched.{inner_of, has_failed};
-ghost use Rattle.dgt_replay.specs.Checked.{ChecksGame};
-ghost use Rattle.dgt_replay.specs.Choosing.{IsCheck, IsPictures, IsRecord, IsRefused, IsShow, plain};
+ghost use Rattle.dgt_replay.specs.Checked.{ChecksGame, RefusesText};
+ghost use Rattle.dgt_replay.specs.Choosing.{IsCheck, IsMoves, IsPictures, IsRecord, IsRefused, IsShow, plain};
 ghost use Rattle.dgt_replay.specs.declared.listed.Listed.{Listed};
 ghost use Rattle.dgt_replay.specs.Listing.{ListingEnds};
-ghost use Rattle.dgt_replay.specs.Recorded.{RecordsPlain};
+ghost use Rattle.dgt_replay.specs.Printed.{PrintsMoves};
+ghost use Rattle.dgt_replay.specs.Recorded.{EndsPlain, FailsPlain, RecordsPlain};
 
 use crate::checking::check;
 use crate::listed::Listed;
@@ -33,6 +36,7 @@ fn refused_words<O: Write, E: Write>(
     requires working { has_failed out.old ≡ false }
     requires erring { has_failed err.old ≡ false }
     ensures memory { kind_of error.now ≡ ErrorKind.OutOfMemory → (result ≡ 4) × Keeps (O.contents (inner_of out.old)) (O.contents (inner_of out.new)) }
+    ensures known { result ≤ 4 }
 {
     if matches!(error.kind(), ErrorKind::OutOfMemory) {
         return refused(err, b"memory\n", 4);
@@ -88,8 +92,21 @@ fn obey<R: Read, O: Write, E: Write>(
         (O.contents (inner_of out.old)) (O.contents (inner_of out.new)) (has_failed reader.new) (has_failed out.new) }
     ensures records { choice.entry ≡ Choice.Record plain → result ≡ 0 → RecordsPlain (R.remaining (inner_of reader.old))
         (E.contents (inner_of err.old)) (E.contents (inner_of err.new)) (O.contents (inner_of out.old)) (O.contents (inner_of out.new)) }
+    ensures record_long { choice.entry ≡ Choice.Record plain → result ≡ 1 → EndsPlain RecordError.TooLong (R.remaining (inner_of reader.old)) (R.remaining (inner_of reader.new))
+        (E.contents (inner_of err.old)) (O.contents (inner_of out.old)) (O.contents (inner_of out.new)) }
+    ensures record_fails { choice.entry ≡ Choice.Record plain → result ≡ 3 → FailsPlain (R.remaining (inner_of reader.old)) (R.remaining (inner_of reader.new))
+        (E.contents (inner_of err.old)) (O.contents (inner_of out.old)) (O.contents (inner_of out.new))
+        (has_failed reader.new) (has_failed out.new) (has_failed err.new) }
+    ensures record_memory { choice.entry ≡ Choice.Record plain → result ≡ 4 → EndsPlain RecordError.Memory (R.remaining (inner_of reader.old)) (R.remaining (inner_of reader.new))
+        (E.contents (inner_of err.old)) (O.contents (inner_of out.old)) (O.contents (inner_of out.new)) }
     ensures checks { choice.entry ≡ Choice.Check → result ≡ 0 → ChecksGame (R.remaining (inner_of reader.old))
         (O.contents (inner_of out.old)) (O.contents (inner_of out.new)) }
+    ensures check_refuses { choice.entry ≡ Choice.Check → result ≡ 1 → RefusesText (R.remaining (inner_of reader.old)) }
+    ensures check_fails { choice.entry ≡ Choice.Check → result ≡ 3 → (has_failed reader.new ≡ true) ⊎ (has_failed out.new ≡ true) }
+    ensures check_silent { choice.entry ≡ Choice.Check → (result ≡ 1) ⊎ (result ≡ 4) → Keeps (O.contents (inner_of out.old)) (O.contents (inner_of out.new)) }
+    ensures moves { choice.entry ≡ Choice.Moves None → result ≡ 0 → PrintsMoves initial (O.contents (inner_of out.old)) (O.contents (inner_of out.new)) }
+    ensures moves_fails { choice.entry ≡ Choice.Moves None → (result ≢ 1) × (result ≡ 3 → has_failed out.new ≡ true) }
+    ensures known { result ≤ 4 }
     ensures status { result ≢ 2 }
 {
     match choice {
@@ -127,9 +144,32 @@ pub fn run<R: Read, O: Write, E: Write>(
     ensures record_is { IsRecord (map string_bytes words.now) → result ≡ 0 → RecordsPlain (R.remaining (inner_of reader.old))
         (E.contents (inner_of err.old)) (E.contents (inner_of err.new)) (O.contents (inner_of out.old)) (O.contents (inner_of out.new)) }
 
+    // Its other statuses: the stream is past its limit, and the game of what is within it stands; a stream has failed, and what
+    // stands is what `record` says; memory was refused, at a ply, or before anything was read or written.
+    ensures record_long { IsRecord (map string_bytes words.now) → result ≡ 1 → EndsPlain RecordError.TooLong (R.remaining (inner_of reader.old)) (R.remaining (inner_of reader.new))
+        (E.contents (inner_of err.old)) (O.contents (inner_of out.old)) (O.contents (inner_of out.new)) }
+    ensures record_fails { IsRecord (map string_bytes words.now) → result ≡ 3 → FailsPlain (R.remaining (inner_of reader.old)) (R.remaining (inner_of reader.new))
+        (E.contents (inner_of err.old)) (O.contents (inner_of out.old)) (O.contents (inner_of out.new))
+        (has_failed reader.new) (has_failed out.new) (has_failed err.new) }
+    ensures record_memory { IsRecord (map string_bytes words.now) → result ≡ 4 → EndsPlain RecordError.Memory (R.remaining (inner_of reader.old)) (R.remaining (inner_of reader.new))
+        (E.contents (inner_of err.old)) (O.contents (inner_of out.old)) (O.contents (inner_of out.new))
+        ⊎ (Keeps (R.remaining (inner_of reader.old)) (R.remaining (inner_of reader.new)) × Keeps (O.contents (inner_of out.old)) (O.contents (inner_of out.new))) }
+
     // NAME `check`: the input is the export text of a game.
     ensures check { IsCheck (map string_bytes words.now) → result ≡ 0 → ChecksGame (R.remaining (inner_of reader.old))
         (O.contents (inner_of out.old)) (O.contents (inner_of out.new)) }
+    // Its other statuses: it is longer than a text may be, or the export text of no game; a stream has failed; and nothing is
+    // written of a text that is refused, or for want of memory.
+    ensures check_refuses { IsCheck (map string_bytes words.now) → result ≡ 1 → RefusesText (R.remaining (inner_of reader.old)) }
+    ensures check_fails { IsCheck (map string_bytes words.now) → result ≡ 3 → (has_failed reader.new ≡ true) ⊎ (has_failed out.new ≡ true) }
+    ensures check_silent { IsCheck (map string_bytes words.now) → (result ≡ 1) ⊎ (result ≡ 4) → Keeps (O.contents (inner_of out.old)) (O.contents (inner_of out.new)) }
+
+    // NAME `moves`: the legal moves of the initial position; status 3 where the output has failed, and never 1.
+    ensures moves { IsMoves (map string_bytes words.now) → result ≡ 0 → PrintsMoves initial (O.contents (inner_of out.old)) (O.contents (inner_of out.new)) }
+    ensures moves_fails { IsMoves (map string_bytes words.now) → (result ≢ 1) × (result ≡ 3 → has_failed out.new ≡ true) }
+
+    // There is no other status, and 2 is for words that are refused.
+    ensures known { result ≤ 4 }
     ensures usage { result ≡ 2 → IsRefused (map string_bytes words.now) }
 {
     match read_words(alloc, words) {

@@ -1,9 +1,9 @@
 //! The subcommand `record`.
-ghost use Rattle.std.specs.Prelude.{◌≡◌, ◌≢◌, false, IfOk, Ok, None};
+ghost use Rattle.std.specs.Prelude.{◌≡◌, ◌≢◌, ◌≤◌, false, IfOk, Ok, None};
 ghost use Rattle.dgt_frame.specs.Watched.{inner_of, has_failed};
 ghost use Rattle.pgn_book.specs.Values.{unknown_values};
 ghost use Rattle.dgt_replay.specs.Choosing.{plain};
-ghost use Rattle.dgt_replay.specs.Recorded.{RecordsPlain};
+ghost use Rattle.dgt_replay.specs.Recorded.{EndsPlain, FailsPlain, RecordsPlain};
 
 use crate::lines::{Lines, add_report};
 use crate::saying::{refused, refused_fen, refused_tag, say};
@@ -61,6 +61,14 @@ pub fn record_game<R: Read, O: Write, E: Write>(
     requires erring { has_failed err.old ≡ false }
     ensures plain { wishes.now ≡ plain → result ≡ 0 → RecordsPlain (R.remaining (inner_of reader.old))
         (E.contents (inner_of err.old)) (E.contents (inner_of err.new)) (O.contents (inner_of out.old)) (O.contents (inner_of out.new)) }
+    ensures long { wishes.now ≡ plain → result ≡ 1 → EndsPlain RecordError.TooLong (R.remaining (inner_of reader.old)) (R.remaining (inner_of reader.new))
+        (E.contents (inner_of err.old)) (O.contents (inner_of out.old)) (O.contents (inner_of out.new)) }
+    ensures fails { wishes.now ≡ plain → result ≡ 3 → FailsPlain (R.remaining (inner_of reader.old)) (R.remaining (inner_of reader.new))
+        (E.contents (inner_of err.old)) (O.contents (inner_of out.old)) (O.contents (inner_of out.new))
+        (has_failed reader.new) (has_failed out.new) (has_failed err.new) }
+    ensures memory { wishes.now ≡ plain → result ≡ 4 → EndsPlain RecordError.Memory (R.remaining (inner_of reader.old)) (R.remaining (inner_of reader.new))
+        (E.contents (inner_of err.old)) (O.contents (inner_of out.old)) (O.contents (inner_of out.new)) }
+    ensures known { result ≤ 4 }
     ensures status { result ≢ 2 }
 {
     let start = match start_of(wishes.fen) {

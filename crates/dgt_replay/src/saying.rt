@@ -1,5 +1,5 @@
 //! What the program says on standard error when it refuses.
-ghost use Rattle.std.specs.Prelude.{◌≡◌, ◌≢◌};
+ghost use Rattle.std.specs.Prelude.{◌≡◌, ◌⊎◌};
 
 use chess_text::FenError;
 use dgt_frame::Watch;
@@ -59,7 +59,7 @@ fn refused_value<E: Write>(err: &mut Watch<E>, tag: Tag, word: &[u8]) -> u8
 
 /// Says why the value of a tag is refused, and answers the status.
 pub fn refused_tag<E: Write>(err: &mut Watch<E>, tag: Tag, error: TagError) -> u8
-    ensures { result ≢ 2 }
+    ensures { (result ≡ 1) ⊎ (result ≡ 4) }
 {
     match error {
         TagError::Text => refused_value(err, tag, b": text\n"),

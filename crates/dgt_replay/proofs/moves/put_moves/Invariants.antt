@@ -1,6 +1,13 @@
-use Rattle.std.proofs.Common.{◌≡◌, false}
-use Rattle.dgt_frame.specs.Watched.{has_failed}
+use Rattle.std.proofs.Common.{◌≡◌, ℕ, List, drop, false}
+use Rattle.dgt_frame.specs.Watched.{inner_of, has_failed}
+use Rattle.dgt_replay.specs.Listing.{Gathers}
+use Rattle.dgt_replay.proofs.MoveLemmas.{Continues}
 use Rattle.dgt_replay.proofs.moves.put_moves.Given as goal
 
 abbrev pub invariant-loop-m : goal.invariant-loop-m
-invariant-loop-m g l = has_failed l.out ≡ false
+invariant-loop-m g l = record {
+  working : has_failed l.out ≡ false;
+  done : List ℕ;
+  continues : Continues l.position l.moves (drop l.m-index l.moves) done;
+  gathers : Gathers (g.O.Write.contents (inner_of l.initial.out)) (g.O.Write.contents (inner_of l.out)) l.lines.items done;
+}

@@ -3,7 +3,7 @@ use Rattle.std.proofs.KnownBytes.{Keeps-refl}
 use Rattle.dgt_frame.specs.Watched.{inner_of, has_failed}
 use Rattle.dgt_replay.specs.declared.listed.Listed.TheVariants.{Events, Pictures}
 use Rattle.dgt_replay.proofs.EndLemmas.{ends_for_memory}
-use Rattle.dgt_replay.proofs.WordLemmas.{check_unrefused, chooses_check, chooses_pictures, chooses_record, chooses_show, or_refused, pictures_unrefused, record_unrefused, show_unrefused}
+use Rattle.dgt_replay.proofs.WordLemmas.{check_unrefused, moves_unrefused, chooses_check, chooses_moves, chooses_pictures, chooses_record, chooses_show, or_refused, pictures_unrefused, record_unrefused, show_unrefused}
 use Rattle.dgt_replay.proofs.program.run.Goals as goal
 
 pub returns-in-Err-clause-show : goal.returns-in-Err-clause-show
@@ -48,3 +48,65 @@ returns-in-Err-clause-check g c is done =
 
 pub returns-in-Ok-clause-check : goal.returns-in-Ok-clause-check
 returns-in-Ok-clause-check g c is = c.obey.ensures.checks (chooses_check (map string_bytes c.args.words.now) c.in-Ok.choice is c.in-Ok.ensures.chooses)
+
+pub returns-in-Err-clause-record_long : goal.returns-in-Err-clause-record_long
+returns-in-Err-clause-record_long g c is long =
+    let four = (c.refused_words.ensures.memory (or_refused c.in-Err.ensures.refused (record_unrefused (map string_bytes c.args.words.now) is))).0 in
+    absurd (omega arith)
+
+pub returns-in-Err-clause-record_fails : goal.returns-in-Err-clause-record_fails
+returns-in-Err-clause-record_fails g c is fails =
+    let four = (c.refused_words.ensures.memory (or_refused c.in-Err.ensures.refused (record_unrefused (map string_bytes c.args.words.now) is))).0 in
+    absurd (omega arith)
+
+pub returns-in-Err-clause-record_memory : goal.returns-in-Err-clause-record_memory
+returns-in-Err-clause-record_memory g c is memory =
+    let ended = c.refused_words.ensures.memory (or_refused c.in-Err.ensures.refused (record_unrefused (map string_bytes c.args.words.now) is)) in
+    inr (Keeps-refl (g.R.Read.remaining (inner_of c.args.reader.now)), ended.1)
+
+pub returns-in-Err-clause-check_refuses : goal.returns-in-Err-clause-check_refuses
+returns-in-Err-clause-check_refuses g c is refuses =
+    let four = (c.refused_words.ensures.memory (or_refused c.in-Err.ensures.refused (check_unrefused (map string_bytes c.args.words.now) is))).0 in
+    absurd (omega arith)
+
+pub returns-in-Ok-clause-record_long : goal.returns-in-Ok-clause-record_long
+returns-in-Ok-clause-record_long g c is = c.obey.ensures.record_long (chooses_record (map string_bytes c.args.words.now) c.in-Ok.choice is c.in-Ok.ensures.chooses)
+
+pub returns-in-Ok-clause-record_fails : goal.returns-in-Ok-clause-record_fails
+returns-in-Ok-clause-record_fails g c is = c.obey.ensures.record_fails (chooses_record (map string_bytes c.args.words.now) c.in-Ok.choice is c.in-Ok.ensures.chooses)
+
+pub returns-in-Ok-clause-record_memory : goal.returns-in-Ok-clause-record_memory
+returns-in-Ok-clause-record_memory g c is memory = inl (c.obey.ensures.record_memory (chooses_record (map string_bytes c.args.words.now) c.in-Ok.choice is c.in-Ok.ensures.chooses) memory)
+
+pub returns-in-Ok-clause-check_refuses : goal.returns-in-Ok-clause-check_refuses
+returns-in-Ok-clause-check_refuses g c is = c.obey.ensures.check_refuses (chooses_check (map string_bytes c.args.words.now) c.in-Ok.choice is c.in-Ok.ensures.chooses)
+
+pub returns-in-Err-clause-check_fails : goal.returns-in-Err-clause-check_fails
+returns-in-Err-clause-check_fails g c is fails =
+    let four = (c.refused_words.ensures.memory (or_refused c.in-Err.ensures.refused (check_unrefused (map string_bytes c.args.words.now) is))).0 in
+    absurd (omega arith)
+
+pub returns-in-Err-clause-check_silent : goal.returns-in-Err-clause-check_silent
+returns-in-Err-clause-check_silent g c is silent = (c.refused_words.ensures.memory (or_refused c.in-Err.ensures.refused (check_unrefused (map string_bytes c.args.words.now) is))).1
+
+pub returns-in-Ok-clause-check_fails : goal.returns-in-Ok-clause-check_fails
+returns-in-Ok-clause-check_fails g c is = c.obey.ensures.check_fails (chooses_check (map string_bytes c.args.words.now) c.in-Ok.choice is c.in-Ok.ensures.chooses)
+
+pub returns-in-Ok-clause-check_silent : goal.returns-in-Ok-clause-check_silent
+returns-in-Ok-clause-check_silent g c is = c.obey.ensures.check_silent (chooses_check (map string_bytes c.args.words.now) c.in-Ok.choice is c.in-Ok.ensures.chooses)
+
+pub returns-in-Err-clause-moves : goal.returns-in-Err-clause-moves
+returns-in-Err-clause-moves g c is done =
+    let four = (c.refused_words.ensures.memory (or_refused c.in-Err.ensures.refused (moves_unrefused (map string_bytes c.args.words.now) is))).0 in
+    absurd (omega arith)
+
+pub returns-in-Err-clause-moves_fails : goal.returns-in-Err-clause-moves_fails
+returns-in-Err-clause-moves_fails g c is =
+    let four = (c.refused_words.ensures.memory (or_refused c.in-Err.ensures.refused (moves_unrefused (map string_bytes c.args.words.now) is))).0 in
+    (λ one. absurd (omega arith), λ three. absurd (omega arith))
+
+pub returns-in-Ok-clause-moves : goal.returns-in-Ok-clause-moves
+returns-in-Ok-clause-moves g c is = c.obey.ensures.moves (chooses_moves (map string_bytes c.args.words.now) c.in-Ok.choice is c.in-Ok.ensures.chooses)
+
+pub returns-in-Ok-clause-moves_fails : goal.returns-in-Ok-clause-moves_fails
+returns-in-Ok-clause-moves_fails g c is = c.obey.ensures.moves_fails (chooses_moves (map string_bytes c.args.words.now) c.in-Ok.choice is c.in-Ok.ensures.chooses)
