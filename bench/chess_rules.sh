@@ -6,24 +6,10 @@
 set -euo pipefail
 cd "$(dirname "$0")/.."
 runs=${1:-10}
-work=$(mktemp -d)
-trap 'rm -rf "$work"' EXIT
+. bench/timing.sh
 
 (cd crates/perft && rt run > "$work/build.log")
 nodes=$(awk '{ sum += $3 } END { print sum }' crates/perft/stdout)
-
-# the least wall time of several runs of a command that reads standard input from a file, in nanoseconds
-least() {
-    local input=$1 best= start took
-    shift
-    for _ in $(seq "$runs"); do
-        start=$(date +%s%N)
-        "$@" < "$input" > "$work/out"
-        took=$(($(date +%s%N) - start))
-        if [ -z "$best" ] || [ "$took" -lt "$best" ]; then best=$took; fi
-    done
-    echo "$best"
-}
 
 report() {
     awk -v name="$1" -v nodes="$2" -v time="$3" \

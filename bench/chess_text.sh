@@ -7,24 +7,11 @@ set -euo pipefail
 cd "$(dirname "$0")/.."
 runs=${1:-10}
 rounds=500
-work=$(mktemp -d)
-trap 'rm -rf "$work"' EXIT
+. bench/timing.sh
 game=crates/san_bench/stdin
 
 (cd crates/san_bench && rt run -- write 1 < stdin > "$work/build.log")
 plies=$(wc -w < "$game")
-
-# the least wall time of several runs of a command that reads the game, in nanoseconds
-least() {
-    local best= start took
-    for _ in $(seq "$runs"); do
-        start=$(date +%s%N)
-        "$@" < "$game" > "$work/out"
-        took=$(($(date +%s%N) - start))
-        if [ -z "$best" ] || [ "$took" -lt "$best" ]; then best=$took; fi
-    done
-    echo "$best"
-}
 
 report() {
     awk -v name="$1" -v moves=$((plies * rounds)) -v time="$2" \
@@ -32,12 +19,12 @@ report() {
 }
 
 for what in write read; do
-    time=$(least crates/san_bench/out/san_bench "$what" "$rounds")
+    time=$(least "$game" crates/san_bench/out/san_bench "$what" "$rounds")
     cp "$work/out" "$work/counts"
     report "${what}_san, chess_text (proved)" "$time"
     if command -v rustc > "$work/which"; then
         [ -e "$work/plain" ] || rustc -O -o "$work/plain" bench/san.rs
-        time=$(least "$work/plain" "$what" "$rounds")
+        time=$(least "$game" "$work/plain" "$what" "$rounds")
         cmp -s "$work/out" "$work/counts" || { echo 'bench/san.rs: other counts' >&2; exit 1; }
         report "${what}_san, plain Rust, rustc -O" "$time"
     fi

@@ -6,8 +6,7 @@
 set -euo pipefail
 cd "$(dirname "$0")/.."
 runs=${1:-5}
-work=$(mktemp -d)
-trap 'rm -rf "$work"' EXIT
+. bench/timing.sh
 
 (cd crates/pgn_bench && rt run -- copy < stdin > "$work/build.log")
 
@@ -26,19 +25,6 @@ long_game() {
         else if (column + 1 + length(token) <= 79) { printf " %s", token; column += 1 + length(token) }
         else { printf "\n%s", token; column = length(token) }
     }'
-}
-
-# the least wall time of several runs of a command that reads standard input from a file, in nanoseconds
-least() {
-    local input=$1 best= start took
-    shift
-    for _ in $(seq "$runs"); do
-        start=$(date +%s%N)
-        "$@" < "$input" > "$work/out" 2> "$work/err"
-        took=$(($(date +%s%N) - start))
-        if [ -z "$best" ] || [ "$took" -lt "$best" ]; then best=$took; fi
-    done
-    echo "$best"
 }
 
 extract=$(command -v pgn-extract || command -v /usr/games/pgn-extract || true)

@@ -1,15 +1,15 @@
-#!/bin/sh
+#!/usr/bin/env bash
 # Compares `record` and `pictures` with `sha256sum` on one capture of 64 MiB, a long game with repeated dumps, updates and
 # times, in one run on one machine: the best of three runs of each, output into /dev/null.
-set -eu
+set -euo pipefail
 
-top=$(CDPATH='' cd -P -- "$(dirname -- "$(readlink -f -- "$0")")/.." && pwd)
-"$top/bin/dgt_replay" --help > /dev/null
-program=$top/build/dgt_replay
-folder=$(mktemp -d)
-trap 'rm -rf "$folder"' EXIT
+cd "$(dirname "$0")/.."
+. bench/timing.sh
 
-python3 - "$folder/game" << 'PYTHON'
+bin/dgt_replay --help > "$work/help"
+program=build/dgt_replay
+
+python3 - "$work/game" << 'PYTHON'
 import pathlib
 import sys
 
@@ -37,20 +37,11 @@ capture += round_trip * ((most - len(capture)) // len(round_trip))
 pathlib.Path(sys.argv[1]).write_bytes(capture)
 PYTHON
 
-# best WORD..: prints the CPU seconds of the best of three runs, and the peak memory in KiB
-best() {
-    for _ in 1 2 3; do
-        /usr/bin/time -f '%U %S %M' -o "$folder/time" "$@" < "$folder/game" > /dev/null 2> /dev/null
-        cat "$folder/time"
-    done | awk '{ cpu = $1 + $2; if (NR == 1 || cpu < least) least = cpu; if ($3 > peak) peak = $3 }
-        END { printf "%.2f %d\n", least, peak }'
-}
-
-echo "processor: $(sed -n 's/^model name[^:]*: //p' /proc/cpuinfo | head -n 1), $(nproc) cores"
-"$program" record < "$folder/game" 2>&1 > /dev/null | tail -n 1
+processor
+"$program" record < "$work/game" 2>&1 > /dev/null | tail -n 1
 printf '%-10s %8s %8s %10s\n' by 'CPU s' MB/s 'peak KiB'
 for by in record pictures sha256sum; do
-    if [ "$by" = sha256sum ]; then figures=$(best sha256sum); else figures=$(best "$program" "$by"); fi
-    echo "$by $figures $(wc -c < "$folder/game")" |
+    if [ "$by" = sha256sum ]; then figures=$(best "$work/game" sha256sum); else figures=$(best "$work/game" "$program" "$by"); fi
+    echo "$by $figures $(wc -c < "$work/game")" |
         awk '{ printf "%-10s %8.2f %8.0f %10d\n", $1, $2, $4 / 1e6 / ($2 > 0 ? $2 : 0.01), $3 }'
 done

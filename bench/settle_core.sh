@@ -4,23 +4,9 @@
 set -euo pipefail
 cd "$(dirname "$0")/.."
 runs=${1:-5}
-work=$(mktemp -d)
-trap 'rm -rf "$work"' EXIT
+. bench/timing.sh
 
 (cd crates/settling && rt run > "$work/build.log")
-
-# the least wall time of several runs, in nanoseconds
-least() {
-    local best= start took
-    for _ in $(seq "$runs"); do
-        start=$(date +%s%N)
-        crates/settling/out/settling "$1" "$2" > "$work/out"
-        took=$(($(date +%s%N) - start))
-        if [ -z "$best" ] || [ "$took" -lt "$best" ]; then best=$took; fi
-    done
-    [ "$(cat "$work/out")" = "$1 $2" ] || { echo "settling $1: another count" >&2; exit 1; }
-    echo "$best"
-}
 
 report() {
     awk -v name="$1" -v count="$2" -v time="$3" \
@@ -29,5 +15,7 @@ report() {
 
 for task in 'pictures 1000000' 'updates 1000000' 'plies 100000' 'copy 1000000'; do
     read -r name count <<< "$task"
-    report "$name" "$count" "$(least "$name" "$count")"
+    time=$(least /dev/null crates/settling/out/settling "$name" "$count")
+    [ "$(cat "$work/out")" = "$name $count" ] || { echo "settling $name: another count" >&2; exit 1; }
+    report "$name" "$count" "$time"
 done

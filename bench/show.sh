@@ -1,15 +1,15 @@
-#!/bin/sh
+#!/usr/bin/env bash
 # Compares `show` with `xxd -p` on captures of 64 MiB, both into /dev/null, in one run on one machine: the best of three
 # runs of each. Then counts the writes of `show` where each byte is a fault, if strace is there.
-set -eu
+set -euo pipefail
 
-top=$(CDPATH='' cd -P -- "$(dirname -- "$(readlink -f -- "$0")")/.." && pwd)
-"$top/bin/dgt_replay" --help > /dev/null
-program=$top/build/dgt_replay
-folder=$(mktemp -d)
-trap 'rm -rf "$folder"' EXIT
+cd "$(dirname "$0")/.."
+. bench/timing.sh
 
-python3 - "$folder" << 'PYTHON'
+bin/dgt_replay --help > "$work/help"
+program=build/dgt_replay
+
+python3 - "$work" << 'PYTHON'
 import pathlib
 import sys
 
@@ -25,31 +25,20 @@ for name, part in (("dumps", dump), ("games", game), ("faults", b"\xff")):
     (folder / name).write_bytes(part * (most // len(part)))
 PYTHON
 
-# best PROGRAM CAPTURE WORD..: prints the CPU seconds of the best of three runs, and the peak memory in KiB
-best() {
-    capture=$1
-    shift
-    for _ in 1 2 3; do
-        /usr/bin/time -f '%U %S %M' -o "$folder/time" "$@" < "$folder/$capture" > /dev/null
-        cat "$folder/time"
-    done | awk '{ cpu = $1 + $2; if (NR == 1 || cpu < least) least = cpu; if ($3 > peak) peak = $3 }
-        END { printf "%.2f %d\n", least, peak }'
-}
-
-echo "processor: $(sed -n 's/^model name[^:]*: //p' /proc/cpuinfo | head -n 1), $(nproc) cores"
+processor
 printf '%-8s %-6s %8s %8s %10s\n' capture by 'CPU s' MB/s 'peak KiB'
 for capture in dumps games faults; do
     for by in show xxd; do
-        if [ "$by" = show ]; then figures=$(best "$capture" "$program" show); else figures=$(best "$capture" xxd -p); fi
-        echo "$capture $by $figures $(wc -c < "$folder/$capture")" |
+        if [ "$by" = show ]; then figures=$(best "$work/$capture" "$program" show); else figures=$(best "$work/$capture" xxd -p); fi
+        echo "$capture $by $figures $(wc -c < "$work/$capture")" |
             awk '{ printf "%-8s %-6s %8.2f %8.0f %10d\n", $1, $2, $3, $5 / 1e6 / ($3 > 0 ? $3 : 0.01), $4 }'
     done
 done
 
 if command -v strace > /dev/null; then
-    text=$("$program" show < "$folder/faults" | wc -c)
-    strace -c -e trace=write -o "$folder/calls" "$program" show < "$folder/faults" > /dev/null
-    writes=$(awk '$NF == "write" { print $4 }' "$folder/calls")
+    text=$("$program" show < "$work/faults" | wc -c)
+    strace -c -e trace=write -o "$work/calls" "$program" show < "$work/faults" > /dev/null
+    writes=$(awk '$NF == "write" { print $4 }' "$work/calls")
     echo "$text $writes" | awk '{ printf "faults: %d bytes of text in %d writes, %.2f writes for 4 KiB\n", $1, $2, $2 * 4096 / $1 }'
 else
     echo 'faults: no strace here, so the writes are not counted'
