@@ -5,5 +5,6 @@ pub mod GatherLemmas
 pub mod LineLemmas
 pub mod MoveLemmas
 pub mod PieceLemmas
+pub mod SettingLemmas
 pub mod StreamLemmas
 pub mod WordLemmas

@@ -1,6 +1,6 @@
 -- What the parse of words gives.
 use Rattle.std.proofs.Common.{◌≡◌, ◌⊎◌, ℕ, ◌∷◌, [], ◌∙◌, Bool, true, false, List, Option, Some, None, ap, refl, sym, inl, inr, codes, option_map, slice_index, subst, arith}
-use Rattle.std.specs.Prelude.{MatchOption, is_some}
+use Rattle.std.specs.Prelude.{IfSome, MatchOption, is_some}
 use Rattle.std.specs.Option.{option_map_or}
 use Rattle.std.specs.Borrow.{Bor}
 use Rattle.clap.specs.Walk.{Row, Text, first_of, one_of, rows_of}
@@ -11,17 +11,27 @@ use Rattle.clap.specs.declared.parser.matches.ArgMatches.{ArgMatches}
 use Rattle.clap.specs.declared.parser.matches.Found.{Found}
 use Rattle.clap.proofs.OnLiterals.{clap_on_literals}
 use Rattle.clap.proofs.WalkLemmas.{first_value-rows, one_text-rows}
+use Rattle.chess_rules.specs.Initial.{initial}
+use Rattle.chess_rules.specs.declared.men.Parts.{Parts}
+use Rattle.pgn_book.specs.declared.values.Tag.{Tag}
+use Rattle.pgn_book.specs.declared.values.Tag.TheVariants.{Event, Site, Date, Round, White, Black}
+use Rattle.board_session.specs.declared.recording.Setup.{Setup}
 use Rattle.dgt_replay.specs.declared.listed.Listed.TheVariants.{Events, Pictures}
 use Rattle.dgt_replay.specs.declared.words.Choice.{Choice}
 use Rattle.dgt_replay.specs.declared.words.Choice.TheVariants.{List as ListOf, Record, Check, Moves}
 use Rattle.dgt_replay.specs.declared.words.Wishes.{Wishes}
 use Rattle.dgt_replay.specs.Command.{replay}
-use Rattle.dgt_replay.specs.Choosing.{AsksFor, Chooses, IsPictures, IsPlain, IsRecord, IsRefused, IsShow, flag_text, is_choice, plain, side_in, IsCheck, IsMoves}
+use Rattle.dgt_replay.specs.Choosing.{Asks, AsksFor, AsksForMoves, AsksForNoMoves, AsksToRecord, AsksToRecordNothing, Chooses, IsCheck, IsMoves, IsPictures, IsRecord, IsRefused, IsShow, is_choice}
+use Rattle.dgt_replay.specs.Recorded.{plain_setup}
+use Rattle.dgt_replay.specs.SettingUp.{HasNoStart, Meets, MeetsNothing, StartsAt, flag_text, given, option_of, side_in}
+use Rattle.dgt_replay.proofs.SettingLemmas.{meets, meets_nothing, sets_up_plainly}
 
--- a text that wasn't given
-pub none_given : (found : Found) (id : Text) (result : Option (Bor (List ℕ))) → option_map (λ s. s.now) result ≡ first_value found id → first_of id (rows_of found) ≡ None → result ≡ None
-none_given found id None is none = refl
-none_given found id (Some text) is none = let bad : Some text.now ≡ None = is ∙ first_value-rows found id ∙ none in absurd (cc)
+-- a text that was given, or not, is in the rows
+pub text_given : (found : Found) (id : Text) (result : Option (Bor (List ℕ))) → option_map (λ s. s.now) result ≡ first_value found id → given result ≡ first_of id (rows_of found)
+text_given found id result is = is ∙ first_value-rows found id
+
+pub if_some_at : {A : Type 0} (P : A → Type 0) (o : Option A) (a : A) → o ≡ Some a → IfSome o P → P a
+if_some_at {A} P o a is holds = let Q : Option A → Type 0 = λ o. IfSome o P in subst Q is holds
 
 pub flag_given : (found : Found) (id text : Text) → one_of id (rows_of found) ≡ Some text → one_text found id ≡ Some text
 flag_given found id text given = one_text-rows found id ∙ given
@@ -102,130 +112,190 @@ record_found : (name : Text) → (name_in (subcommand_of replay (name ∷ codes 
 unfolding clap_on_literals
 record_found name = (refl, refl)
 
-record_plain : (name : Text) → IsPlain (rows_in (subcommand_of replay (name ∷ codes "record" ∷ [])))
-unfolding clap_on_literals
-record_plain name = record { rotated = refl; first = refl; fen = refl; event = refl; site = refl; date = refl; round = refl; white = refl; black = refl }
-
 check_found : (name : Text) → (name_in (subcommand_of replay (name ∷ codes "check" ∷ [])) ≡ Some (codes "check")) × (takes replay (name ∷ codes "check" ∷ []) ≡ true)
 unfolding clap_on_literals
 check_found name = (refl, refl)
 
-with_found : (found : Option (Text × List Row)) (name : Text) (choice : Choice) → name_in found ≡ Some name → MatchOption found ⊥ (λ f. Chooses f.0 f.1 (Some choice))
-    → Chooses name (rows_in found) (Some choice)
-with_found None name choice is asks = absurd asks
-with_found (Some found) name choice is asks =
-    let same : found.0 ≡ name = cc in
-    let P : Text → Type 0 = λ n. Chooses n found.1 (Some choice) in subst P same asks
+found_with : (found : Option (Text × List Row)) (name : Text) → name_in found ≡ Some name → found ≡ Some (name, rows_in found)
+found_with None name is = absurd (cc)
+found_with (Some found) name is = let same : found.0 ≡ name = cc in ap (λ n. Some (n, found.1)) same
 
-known_found : (found : Option (Text × List Row)) (name : Text) → name_in found ≡ Some name → is_choice name (rows_in found) ≡ true
-    → option_map_or (λ f. is_choice f.0 f.1) found false ≡ false → ⊥
-known_found None name is known refused = absurd (cc)
-known_found (Some found) name is known refused =
-    let same : found.0 ≡ name = cc in
-    let bad : true ≡ false = sym known ∙ ap (λ n. is_choice n found.1) (sym same) ∙ refused in cc
+-- what the words of this name ask for
+chosen_with : (found : Option (Text × List Row)) (name : Text) (rows : List Row) (choice : Choice) → found ≡ Some (name, rows)
+    → MatchOption found ⊥ (λ f. Chooses f.0 f.1 (Some choice)) → Chooses name rows (Some choice)
+chosen_with found name rows choice is asks =
+    let P : Option (Text × List Row) → Type 0 = λ f. MatchOption f ⊥ (λ f. Chooses f.0 f.1 (Some choice)) in subst P is asks
 
-unrefused : (words : List Text) (name : Text) → takes replay words ≡ true → name_in (subcommand_of replay words) ≡ Some name → is_choice name (rows_in (subcommand_of replay words)) ≡ true
-    → IsRefused words → ⊥
-unrefused words name taken is known refused = elim refused [
-  | inl untaken ↦ (let bad : true ≡ false = sym taken ∙ untaken in cc)
-  | inr unknown ↦ known_found (subcommand_of replay words) name is known unknown
+chosen : (words : List Text) (name : Text) (rows : List Row) (choice : Choice) → Asks words name rows → AsksFor words choice → Chooses name rows (Some choice)
+chosen words name rows choice asks found = chosen_with (subcommand_of replay words) name rows choice asks.found found
+
+pub unrefused : (words : List Text) (name : Text) (rows : List Row) → Asks words name rows → IsRefused words → ⊥
+unrefused words name rows asks refused = elim refused [
+  | inl untaken ↦ (let bad : true ≡ false = sym asks.taken ∙ untaken in cc)
+  | inr unknown ↦ (let bad : true ≡ false = sym asks.known ∙ sym (ap (λ found. option_map_or (λ f. is_choice f.0 f.1) found false) asks.found) ∙ unknown in cc)
 ]
 
 some_choice : (a b : Choice) → Some a ≡ Some b → a ≡ b
 some_choice a b e = cc
 
--- what is known of words that name a subcommand, with these rows
-pub record Names (words : List Text) (name : Text) : Type 0 where
-  pub taken : takes replay words ≡ true
-  pub found : name_in (subcommand_of replay words) ≡ Some name
-  pub known : is_choice name (rows_in (subcommand_of replay words)) ≡ true
+-- the rows that a parse of the words finds
+abbrev rows_for : List Text → List Row
+rows_for words = rows_in (subcommand_of replay words)
 
-show_named : (words : List Text) → IsShow words → Names words (codes "show")
-show_named words (name, is) =
+asks_by : (words : List Text) (name : Text) → takes replay words ≡ true → name_in (subcommand_of replay words) ≡ Some name → is_choice name (rows_for words) ≡ true → Asks words name (rows_for words)
+asks_by words name taken is known = record { taken = taken; found = found_with (subcommand_of replay words) name is; known = known }
+
+show_asks : (words : List Text) → IsShow words → Asks words (codes "show") (rows_for words)
+show_asks words (name, is) =
     let f = show_found name in
-    let P : List Text → Type 0 = λ w. Names w (codes "show") in
-    subst P (sym is) (record { taken = f.1; found = ap name_in f.0; known = refl })
+    let P : List Text → Type 0 = λ w. Asks w (codes "show") (rows_for w) in
+    subst P (sym is) (asks_by (name ∷ codes "show" ∷ []) (codes "show") f.1 (ap name_in f.0) refl)
 
-pictures_named : (rotated : Bool) (words : List Text) → IsPictures rotated words → Names words (codes "pictures") × (one_of (codes "rotated") (rows_in (subcommand_of replay words)) ≡ Some (flag_text rotated))
-pictures_named true words (name, is) =
+pictures_asks : (rotated : Bool) (words : List Text) → IsPictures rotated words
+    → Asks words (codes "pictures") (rows_for words) × (one_of (codes "rotated") (rows_for words) ≡ Some (flag_text rotated))
+pictures_asks true words (name, is) =
     let f = rotated_found name in
-    let P : List Text → Type 0 = λ w. Names w (codes "pictures") × (one_of (codes "rotated") (rows_in (subcommand_of replay w)) ≡ Some (codes "true")) in
-    subst P (sym is) (record { taken = f.2; found = f.0; known = refl }, f.1)
-pictures_named false words (name, is) =
+    let P : List Text → Type 0 = λ w. Asks w (codes "pictures") (rows_for w) × (one_of (codes "rotated") (rows_for w) ≡ Some (codes "true")) in
+    subst P (sym is) (asks_by (name ∷ codes "pictures" ∷ codes "--rotated" ∷ []) (codes "pictures") f.2 f.0 refl, f.1)
+pictures_asks false words (name, is) =
     let f = pictures_found name in
-    let P : List Text → Type 0 = λ w. Names w (codes "pictures") × (one_of (codes "rotated") (rows_in (subcommand_of replay w)) ≡ Some (codes "false")) in
-    subst P (sym is) (record { taken = f.2; found = f.0; known = refl }, f.1)
+    let P : List Text → Type 0 = λ w. Asks w (codes "pictures") (rows_for w) × (one_of (codes "rotated") (rows_for w) ≡ Some (codes "false")) in
+    subst P (sym is) (asks_by (name ∷ codes "pictures" ∷ []) (codes "pictures") f.2 f.0 refl, f.1)
 
-record_named : (words : List Text) → IsRecord words → Names words (codes "record") × IsPlain (rows_in (subcommand_of replay words))
-record_named words (name, is) =
-    let f = record_found name in
-    let none = record_plain name in
-    let P : List Text → Type 0 = λ w. Names w (codes "record") × IsPlain (rows_in (subcommand_of replay w)) in
-    subst P (sym is) (record { taken = f.1; found = f.0; known = rw none.first refl }, none)
+check_asks : (words : List Text) → IsCheck words → Asks words (codes "check") (rows_for words)
+check_asks words (name, is) =
+    let f = check_found name in
+    let P : List Text → Type 0 = λ w. Asks w (codes "check") (rows_for w) in
+    subst P (sym is) (asks_by (name ∷ codes "check" ∷ []) (codes "check") f.1 f.0 refl)
 
 -- `show` asks for the events
 pub chooses_show : (words : List Text) (choice : Choice) → IsShow words → AsksFor words choice → choice ≡ ListOf Events
-chooses_show words choice is asks = some_choice choice (ListOf Events) ((with_found (subcommand_of replay words) (codes "show") choice (show_named words is).found asks).show refl)
+chooses_show words choice is asks = some_choice choice (ListOf Events) ((chosen words (codes "show") (rows_for words) choice (show_asks words is) asks).show refl)
 
 -- `pictures` asks for the pictures, turned or not
 pub chooses_pictures : (rotated : Bool) (words : List Text) (choice : Choice) → IsPictures rotated words → AsksFor words choice → choice ≡ ListOf (Pictures rotated)
 chooses_pictures rotated words choice is asks =
-    let named = pictures_named rotated words is in
-    some_choice choice (ListOf (Pictures rotated)) ((with_found (subcommand_of replay words) (codes "pictures") choice named.0.found asks).pictures rotated refl named.1)
+    let named = pictures_asks rotated words is in
+    some_choice choice (ListOf (Pictures rotated)) ((chosen words (codes "pictures") (rows_for words) choice named.0 asks).pictures rotated refl named.1)
 
--- `record` asks for the game, without options
-pub chooses_record : (words : List Text) (choice : Choice) → IsRecord words → AsksFor words choice → choice ≡ Record plain
-chooses_record words choice is asks =
-    let named = record_named words is in
-    some_choice choice (Record plain) ((with_found (subcommand_of replay words) (codes "record") choice named.0.found asks).record_is refl named.1)
+-- `check` asks for a check
+pub chooses_check : (words : List Text) (choice : Choice) → IsCheck words → AsksFor words choice → choice ≡ Check
+chooses_check words choice is asks = some_choice choice Check ((chosen words (codes "check") (rows_for words) choice (check_asks words is) asks).check refl)
 
-names_unrefused : (words : List Text) (name : Text) → Names words name → IsRefused words → ⊥
-names_unrefused words name names refused = unrefused words name names.taken names.found names.known refused
+-- `record` asks for a recording that is set up as its options say
+pub chooses_record : (words : List Text) (setup : Setup) (choice : Choice) → AsksToRecord words setup → AsksFor words choice
+    → (wishes : Wishes) × (choice ≡ Record wishes) × Meets wishes setup
+chooses_record words setup choice (rows, asks, sets) asked =
+    let found = (chosen words (codes "record") rows choice asks asked).record_is refl in
+    (found.0, found.1, meets rows found.0 setup found.2 sets)
+
+pub chooses_no_setup : (words : List Text) (choice : Choice) → AsksToRecordNothing words → AsksFor words choice
+    → (wishes : Wishes) × (choice ≡ Record wishes) × MeetsNothing wishes
+chooses_no_setup words choice (rows, asks, nothing) asked =
+    let found = (chosen words (codes "record") rows choice asks asked).record_is refl in
+    (found.0, found.1, meets_nothing rows found.0 found.2 nothing)
+
+-- `moves` asks for those of the position that its option says
+pub chooses_moves : (words : List Text) (start : Parts) (choice : Choice) → AsksForMoves words start → AsksFor words choice
+    → (fen : Option (Bor Text)) × (choice ≡ Moves fen) × StartsAt (given fen) start
+chooses_moves words start choice (rows, asks, starts) asked =
+    let found = (chosen words (codes "moves") rows choice asks asked).moves refl in
+    let P : Option Text → Type 0 = λ fen. StartsAt fen start in
+    (found.0, some_choice choice (Moves found.0) found.1, subst P (sym found.2) starts)
+
+pub chooses_no_moves : (words : List Text) (choice : Choice) → AsksForNoMoves words → AsksFor words choice
+    → (fen : Option (Bor Text)) × (choice ≡ Moves fen) × HasNoStart (given fen)
+chooses_no_moves words choice (rows, asks, none) asked =
+    let found = (chosen words (codes "moves") rows choice asks asked).moves refl in
+    (found.0, some_choice choice (Moves found.0) found.1, subst HasNoStart (sym found.2) none)
 
 -- None of them is refused.
 pub show_unrefused : (words : List Text) → IsShow words → IsRefused words → ⊥
-show_unrefused words is refused = names_unrefused words (codes "show") (show_named words is) refused
+show_unrefused words is = unrefused words (codes "show") (rows_for words) (show_asks words is)
 
 pub pictures_unrefused : (rotated : Bool) (words : List Text) → IsPictures rotated words → IsRefused words → ⊥
-pictures_unrefused rotated words is refused = names_unrefused words (codes "pictures") (pictures_named rotated words is).0 refused
+pictures_unrefused rotated words is = unrefused words (codes "pictures") (rows_for words) (pictures_asks rotated words is).0
 
-pub record_unrefused : (words : List Text) → IsRecord words → IsRefused words → ⊥
-record_unrefused words is refused = names_unrefused words (codes "record") (record_named words is).0 refused
+pub check_unrefused : (words : List Text) → IsCheck words → IsRefused words → ⊥
+check_unrefused words is = unrefused words (codes "check") (rows_for words) (check_asks words is)
+
+pub record_unrefused : (words : List Text) (setup : Setup) → AsksToRecord words setup → IsRefused words → ⊥
+record_unrefused words setup (rows, asks, sets) = unrefused words (codes "record") rows asks
+
+pub no_setup_unrefused : (words : List Text) → AsksToRecordNothing words → IsRefused words → ⊥
+no_setup_unrefused words (rows, asks, nothing) = unrefused words (codes "record") rows asks
+
+pub moves_unrefused : (words : List Text) (start : Parts) → AsksForMoves words start → IsRefused words → ⊥
+moves_unrefused words start (rows, asks, starts) = unrefused words (codes "moves") rows asks
+
+pub no_moves_unrefused : (words : List Text) → AsksForNoMoves words → IsRefused words → ⊥
+no_moves_unrefused words (rows, asks, none) = unrefused words (codes "moves") rows asks
 
 pub or_refused : {P Q : Type 0} → P ⊎ Q → (Q → ⊥) → P
 or_refused (inl p) k = p
 or_refused (inr q) k = absurd (k q)
 
-check_named : (words : List Text) → IsCheck words → Names words (codes "check")
-check_named words (name, is) =
-    let f = check_found name in
-    let P : List Text → Type 0 = λ w. Names w (codes "check") in
-    subst P (sym is) (record { taken = f.1; found = f.0; known = refl })
+-- ---- words without options
 
--- `check` asks for a check
-pub chooses_check : (words : List Text) (choice : Choice) → IsCheck words → AsksFor words choice → choice ≡ Check
-chooses_check words choice is asks = some_choice choice Check ((with_found (subcommand_of replay words) (codes "check") choice (check_named words is).found asks).check refl)
+turned_found : (name : Text) → (name_in (subcommand_of replay (name ∷ codes "record" ∷ codes "--rotated" ∷ [])) ≡ Some (codes "record"))
+    × (takes replay (name ∷ codes "record" ∷ codes "--rotated" ∷ []) ≡ true)
+unfolding clap_on_literals
+turned_found name = (refl, refl)
 
-pub check_unrefused : (words : List Text) → IsCheck words → IsRefused words → ⊥
-check_unrefused words is refused = names_unrefused words (codes "check") (check_named words is) refused
+plain_tags : (name : Text) (tag : Tag) → first_of (option_of tag) (rows_for (name ∷ codes "record" ∷ [])) ≡ None
+unfolding clap_on_literals
+plain_tags name Event = refl
+plain_tags name Site = refl
+plain_tags name Date = refl
+plain_tags name Round = refl
+plain_tags name White = refl
+plain_tags name Black = refl
+
+turned_tags : (name : Text) (tag : Tag) → first_of (option_of tag) (rows_for (name ∷ codes "record" ∷ codes "--rotated" ∷ [])) ≡ None
+unfolding clap_on_literals
+turned_tags name Event = refl
+turned_tags name Site = refl
+turned_tags name Date = refl
+turned_tags name Round = refl
+turned_tags name White = refl
+turned_tags name Black = refl
+
+plain_others : (name : Text) → (one_of (codes "rotated") (rows_for (name ∷ codes "record" ∷ [])) ≡ Some (codes "false"))
+    × (first_of (codes "first") (rows_for (name ∷ codes "record" ∷ [])) ≡ None) × (first_of (codes "fen") (rows_for (name ∷ codes "record" ∷ [])) ≡ None)
+unfolding clap_on_literals
+plain_others name = (refl, refl, refl)
+
+turned_others : (name : Text) → (one_of (codes "rotated") (rows_for (name ∷ codes "record" ∷ codes "--rotated" ∷ [])) ≡ Some (codes "true"))
+    × (first_of (codes "first") (rows_for (name ∷ codes "record" ∷ codes "--rotated" ∷ [])) ≡ None)
+    × (first_of (codes "fen") (rows_for (name ∷ codes "record" ∷ codes "--rotated" ∷ [])) ≡ None)
+unfolding clap_on_literals
+turned_others name = (refl, refl, refl)
+
+asks_to_record : (words : List Text) (rotated : Bool) → takes replay words ≡ true → name_in (subcommand_of replay words) ≡ Some (codes "record")
+    → (one_of (codes "rotated") (rows_for words) ≡ Some (flag_text rotated)) × (first_of (codes "first") (rows_for words) ≡ None) × (first_of (codes "fen") (rows_for words) ≡ None)
+    → ((tag : Tag) → first_of (option_of tag) (rows_for words) ≡ None) → AsksToRecord words (plain_setup rotated)
+asks_to_record words rotated taken is (turned, first, fen) none =
+    (rows_for words, asks_by words (codes "record") taken is (rw first refl), sets_up_plainly (rows_for words) rotated turned first fen none)
+
+pub record_asks : (rotated : Bool) (words : List Text) → IsRecord rotated words → AsksToRecord words (plain_setup rotated)
+record_asks true words (name, is) =
+    let f = turned_found name in
+    let P : List Text → Type 0 = λ w. AsksToRecord w (plain_setup true) in
+    subst P (sym is) (asks_to_record (name ∷ codes "record" ∷ codes "--rotated" ∷ []) true f.1 f.0 (turned_others name) (turned_tags name))
+record_asks false words (name, is) =
+    let f = record_found name in
+    let P : List Text → Type 0 = λ w. AsksToRecord w (plain_setup false) in
+    subst P (sym is) (asks_to_record (name ∷ codes "record" ∷ []) false f.1 f.0 (plain_others name) (plain_tags name))
 
 moves_found : (name : Text) → (name_in (subcommand_of replay (name ∷ codes "moves" ∷ [])) ≡ Some (codes "moves"))
-    × (first_of (codes "fen") (rows_in (subcommand_of replay (name ∷ codes "moves" ∷ []))) ≡ None)
+    × (first_of (codes "fen") (rows_for (name ∷ codes "moves" ∷ [])) ≡ None)
     × (takes replay (name ∷ codes "moves" ∷ []) ≡ true)
 unfolding clap_on_literals
 moves_found name = (refl, refl, refl)
 
-moves_named : (words : List Text) → IsMoves words → Names words (codes "moves") × (first_of (codes "fen") (rows_in (subcommand_of replay words)) ≡ None)
-moves_named words (name, is) =
+pub moves_asks : (words : List Text) → IsMoves words → AsksForMoves words initial
+moves_asks words (name, is) =
     let f = moves_found name in
-    let P : List Text → Type 0 = λ w. Names w (codes "moves") × (first_of (codes "fen") (rows_in (subcommand_of replay w)) ≡ None) in
-    subst P (sym is) (record { taken = f.2; found = f.0; known = refl }, f.1)
-
--- `moves` asks for those of the initial position
-pub chooses_moves : (words : List Text) (choice : Choice) → IsMoves words → AsksFor words choice → choice ≡ Moves None
-chooses_moves words choice is asks =
-    let named = moves_named words is in
-    some_choice choice (Moves None) ((with_found (subcommand_of replay words) (codes "moves") choice named.0.found asks).moves refl named.1)
-
-pub moves_unrefused : (words : List Text) → IsMoves words → IsRefused words → ⊥
-moves_unrefused words is refused = names_unrefused words (codes "moves") (moves_named words is).0 refused
+    let these = name ∷ codes "moves" ∷ [] in
+    let P : List Text → Type 0 = λ w. AsksForMoves w initial in
+    subst P (sym is) (rows_for these, asks_by these (codes "moves") f.2 f.0 refl, rw f.1 refl)

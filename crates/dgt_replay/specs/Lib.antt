@@ -8,4 +8,5 @@ pub mod Placing
 pub mod Printed
 pub mod Reading
 pub mod Recorded
+pub mod SettingUp
 pub mod Status

@@ -1,6 +1,6 @@
--- What `record` does without options.
-use Rattle.std.specs.Prelude.{◌≡◌, ◌⊎◌, ℕ, List, ◌++◌, codes, decimal, Bool, Option, Err, false, true}
-use Rattle.std.specs.Io.KnownBytes.{Appends}
+-- What `record` does.
+use Rattle.std.specs.Prelude.{◌≡◌, ◌⊎◌, ℕ, List, ◌++◌, codes, decimal, Bool, Option, Err, true}
+use Rattle.std.specs.Io.KnownBytes.{Appends, Keeps}
 use Rattle.chess_rules.specs.Initial.{initial}
 use Rattle.dgt_frame.specs.declared.time.First.TheVariants.{White}
 use Rattle.pgn_book.specs.Values.{unknown_values}
@@ -15,26 +15,30 @@ abbrev pub report_line : Report → List ℕ
 report_line report = codes "\nmessages " ++ decimal report.messages ++ codes ", faults " ++ decimal report.faults
     ++ codes ", moves " ++ decimal report.moves ++ codes ", rest " ++ decimal report.rest ++ codes "\n"
 
--- the initial position, White's time first, not rotated, unknown tags
-abbrev pub plain_setup : Setup
-plain_setup = record { start = initial; first = White; rotated = false; tags = unknown_values }
+-- the setup without options but that one: the initial position, White's time first, unknown tags
+abbrev pub plain_setup : Bool → Setup
+plain_setup rotated = record { start = initial; first = White; rotated = rotated; tags = unknown_values }
 
 -- The whole of the stream was recorded so, and the line about it stands after the bytes for the board.
-abbrev pub RecordsPlain : Option (List ℕ) → Option (List ℕ) → Option (List ℕ) → Option (List ℕ) → Option (List ℕ) → Type 0
-RecordsPlain input sent sent' written written' = (report : Report) × (asked : Option (List ℕ))
-    × RecordsAll plain_setup report input sent asked written written' × Appends asked sent' (report_line report)
+abbrev pub RecordsAndTells : Setup → Option (List ℕ) → Option (List ℕ) → Option (List ℕ) → Option (List ℕ) → Option (List ℕ) → Type 0
+RecordsAndTells setup input sent sent' written written' = (report : Report) × (asked : Option (List ℕ))
+    × RecordsAll setup report input sent asked written written' × Appends asked sent' (report_line report)
 
 -- The recording has ended for this reason, and left what it leaves then: bytes read, bytes for the board, and a text.
-abbrev pub EndsPlain : RecordError → Option (List ℕ) → Option (List ℕ) → Option (List ℕ) → Option (List ℕ) → Option (List ℕ) → Type 0
-EndsPlain reason input input' sent written written' = (asked : Option (List ℕ)) × Leaves plain_setup (Err reason) input input' sent asked written written'
+abbrev pub EndsFor : RecordError → Setup → Option (List ℕ) → Option (List ℕ) → Option (List ℕ) → Option (List ℕ) → Option (List ℕ) → Type 0
+EndsFor reason setup input input' sent written written' = (asked : Option (List ℕ)) × Leaves setup (Err reason) input input' sent asked written written'
 
 -- The whole was recorded, and the line about it could not be written.
-abbrev pub RecordsUntold : Option (List ℕ) → Option (List ℕ) → Option (List ℕ) → Option (List ℕ) → Type 0
-RecordsUntold input sent written written' = (report : Report) × (asked : Option (List ℕ)) × RecordsAll plain_setup report input sent asked written written'
+abbrev pub RecordsUntold : Setup → Option (List ℕ) → Option (List ℕ) → Option (List ℕ) → Option (List ℕ) → Type 0
+RecordsUntold setup input sent written written' = (report : Report) × (asked : Option (List ℕ)) × RecordsAll setup report input sent asked written written'
 
 -- A stream has failed: the reader, the output, or standard error, on which the board is sent its bytes.
-abbrev pub FailsPlain : Option (List ℕ) → Option (List ℕ) → Option (List ℕ) → Option (List ℕ) → Option (List ℕ) → Bool → Bool → Bool → Type 0
-FailsPlain input input' sent written written' reader_failed out_failed err_failed =
-    ((reader_failed ≡ true) × EndsPlain Read input input' sent written written')
-    ⊎ (((out_failed ≡ true) × EndsPlain Write input input' sent written written')
-    ⊎ ((err_failed ≡ true) × (EndsPlain Board input input' sent written written' ⊎ RecordsUntold input sent written written')))
+abbrev pub Fails : Setup → Option (List ℕ) → Option (List ℕ) → Option (List ℕ) → Option (List ℕ) → Option (List ℕ) → Bool → Bool → Bool → Type 0
+Fails setup input input' sent written written' reader_failed out_failed err_failed =
+    ((reader_failed ≡ true) × EndsFor Read setup input input' sent written written')
+    ⊎ (((out_failed ≡ true) × EndsFor Write setup input input' sent written written')
+    ⊎ ((err_failed ≡ true) × (EndsFor Board setup input input' sent written written' ⊎ RecordsUntold setup input sent written written')))
+
+-- Nothing was read, and nothing written.
+abbrev pub Untouched : Option (List ℕ) → Option (List ℕ) → Option (List ℕ) → Option (List ℕ) → Type 0
+Untouched input input' written written' = Keeps input input' × Keeps written written'

@@ -2,6 +2,7 @@
 #![tactic(auto)]
 
 mod checking;
+pub mod laws;
 mod lines;
 mod listed;
 mod lister;

@@ -1,10 +1,11 @@
 //! The subcommand `moves`.
-ghost use Rattle.std.specs.Prelude.{◌≡◌, ◌≢◌, ◌≤◌, ℕ, List, All, None, OnErr, OnOk, false, true};
-ghost use Rattle.std.specs.Io.KnownBytes.{Appends};
-ghost use Rattle.chess_rules.specs.Initial.{initial};
+ghost use Rattle.std.specs.Prelude.{◌≡◌, ◌≢◌, ◌≤◌, ◌⊎◌, ℕ, List, All, OnErr, OnOk, false, true};
+ghost use Rattle.std.specs.Io.KnownBytes.{Appends, Keeps};
+ghost use Rattle.chess_rules.specs.declared.men.Parts.{Parts as PartsOf};
 ghost use Rattle.chess_rules.specs.Legal.{Legal};
 ghost use Rattle.dgt_frame.specs.Watched.{inner_of, has_failed};
 ghost use Rattle.dgt_replay.specs.Printed.{PrintsMoves, TellsMoves};
+ghost use Rattle.dgt_replay.specs.SettingUp.{HasNoStart, StartsAt, given};
 
 use crate::lines::{GATHERED, LONGEST, Lines, add_san};
 use crate::saying::{refused, refused_fen};
@@ -47,8 +48,11 @@ pub fn moves<O: Write, E: Write>(
     err: &mut Watch<E>,
 ) -> u8
     requires working { has_failed out.old ≡ false }
-    ensures prints { fen.entry ≡ None → result ≡ 0 → PrintsMoves initial (O.contents (inner_of out.old)) (O.contents (inner_of out.new)) }
-    ensures fails { fen.entry ≡ None → (result ≢ 1) × (result ≡ 3 → has_failed out.new ≡ true) }
+    ensures prints { (start : PartsOf) → StartsAt (given fen.entry) start → result ≡ 0 → PrintsMoves start (O.contents (inner_of out.old)) (O.contents (inner_of out.new)) }
+    ensures accepts { (start : PartsOf) → StartsAt (given fen.entry) start → result ≢ 1 }
+    ensures refuses { HasNoStart (given fen.entry) → (result ≡ 1) × Keeps (O.contents (inner_of out.old)) (O.contents (inner_of out.new)) }
+    ensures fails { result ≡ 3 → has_failed out.new ≡ true }
+    ensures silent { result ≡ 4 → Keeps (O.contents (inner_of out.old)) (O.contents (inner_of out.new)) }
     ensures known { result ≤ 4 }
     ensures status { result ≢ 2 }
 {

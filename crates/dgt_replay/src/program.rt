@@ -1,16 +1,20 @@
 //! The program over any streams.
-ghost use Rattle.std.specs.Prelude.{◌≡◌, ◌≢◌, ◌≤◌, ◌⊎◌, Bool, map, string_bytes, None, false, true};
+ghost use Rattle.std.specs.Prelude.{◌≡◌, ◌≢◌, ◌≤◌, ◌⊎◌, Bool, List, ℕ, Option, map, string_bytes, false, true};
+ghost use Rattle.std.specs.Borrow.{Bor};
 ghost use Rattle.std.specs.Io.KnownBytes.{Keeps};
 ghost use Rattle.board_session.specs.declared.recording.RecordError.{RecordError};
-ghost use Rattle.chess_rules.specs.Initial.{initial};
+ghost use Rattle.board_session.specs.declared.recording.Setup.{Setup};
+ghost use Rattle.chess_rules.specs.declared.men.Parts.{Parts as PartsOf};
 ghost use Rattle.clap.specs.Values.{kind_of};
 ghost use Rattle.dgt_frame.specs.Watched.{inner_of, has_failed};
 ghost use Rattle.dgt_replay.specs.Checked.{ChecksGame, RefusesText};
-ghost use Rattle.dgt_replay.specs.Choosing.{IsCheck, IsMoves, IsPictures, IsRecord, IsRefused, IsShow, plain};
+ghost use Rattle.dgt_replay.specs.Choosing.{AsksForMoves, AsksForNoMoves, AsksToRecord, AsksToRecordNothing, IsCheck, IsPictures, IsRefused, IsShow};
 ghost use Rattle.dgt_replay.specs.declared.listed.Listed.{Listed};
 ghost use Rattle.dgt_replay.specs.Listing.{ListingEnds};
 ghost use Rattle.dgt_replay.specs.Printed.{PrintsMoves};
-ghost use Rattle.dgt_replay.specs.Recorded.{EndsPlain, FailsPlain, RecordsPlain};
+ghost use Rattle.dgt_replay.specs.declared.words.Wishes.{Wishes};
+ghost use Rattle.dgt_replay.specs.Recorded.{EndsFor, Fails, RecordsAndTells, Untouched};
+ghost use Rattle.dgt_replay.specs.SettingUp.{HasNoStart, Meets, MeetsNothing, StartsAt, given};
 
 use crate::checking::check;
 use crate::listed::Listed;
@@ -90,22 +94,28 @@ fn obey<R: Read, O: Write, E: Write>(
     ensures lists { (listed : Listed) → choice.entry ≡ Choice.List listed → ListingEnds listed result
         (R.remaining (inner_of reader.old)) (R.remaining (inner_of reader.new))
         (O.contents (inner_of out.old)) (O.contents (inner_of out.new)) (has_failed reader.new) (has_failed out.new) }
-    ensures records { choice.entry ≡ Choice.Record plain → result ≡ 0 → RecordsPlain (R.remaining (inner_of reader.old))
+    ensures records { (setup : Setup) (wishes : Wishes) → choice.entry ≡ Choice.Record wishes → Meets wishes setup → result ≡ 0 → RecordsAndTells setup (R.remaining (inner_of reader.old))
         (E.contents (inner_of err.old)) (E.contents (inner_of err.new)) (O.contents (inner_of out.old)) (O.contents (inner_of out.new)) }
-    ensures record_long { choice.entry ≡ Choice.Record plain → result ≡ 1 → EndsPlain RecordError.TooLong (R.remaining (inner_of reader.old)) (R.remaining (inner_of reader.new))
+    ensures record_long { (setup : Setup) (wishes : Wishes) → choice.entry ≡ Choice.Record wishes → Meets wishes setup → result ≡ 1 → EndsFor RecordError.TooLong setup (R.remaining (inner_of reader.old)) (R.remaining (inner_of reader.new))
         (E.contents (inner_of err.old)) (O.contents (inner_of out.old)) (O.contents (inner_of out.new)) }
-    ensures record_fails { choice.entry ≡ Choice.Record plain → result ≡ 3 → FailsPlain (R.remaining (inner_of reader.old)) (R.remaining (inner_of reader.new))
+    ensures record_fails { (setup : Setup) (wishes : Wishes) → choice.entry ≡ Choice.Record wishes → Meets wishes setup → result ≡ 3 → Fails setup (R.remaining (inner_of reader.old)) (R.remaining (inner_of reader.new))
         (E.contents (inner_of err.old)) (O.contents (inner_of out.old)) (O.contents (inner_of out.new))
         (has_failed reader.new) (has_failed out.new) (has_failed err.new) }
-    ensures record_memory { choice.entry ≡ Choice.Record plain → result ≡ 4 → EndsPlain RecordError.Memory (R.remaining (inner_of reader.old)) (R.remaining (inner_of reader.new))
-        (E.contents (inner_of err.old)) (O.contents (inner_of out.old)) (O.contents (inner_of out.new)) }
+    ensures record_memory { (setup : Setup) (wishes : Wishes) → choice.entry ≡ Choice.Record wishes → Meets wishes setup → result ≡ 4 → EndsFor RecordError.Memory setup (R.remaining (inner_of reader.old)) (R.remaining (inner_of reader.new))
+        (E.contents (inner_of err.old)) (O.contents (inner_of out.old)) (O.contents (inner_of out.new))
+        ⊎ Untouched (R.remaining (inner_of reader.old)) (R.remaining (inner_of reader.new)) (O.contents (inner_of out.old)) (O.contents (inner_of out.new)) }
+    ensures record_refuses { (wishes : Wishes) → choice.entry ≡ Choice.Record wishes → MeetsNothing wishes → ((result ≡ 1) ⊎ (result ≡ 4))
+        × Untouched (R.remaining (inner_of reader.old)) (R.remaining (inner_of reader.new)) (O.contents (inner_of out.old)) (O.contents (inner_of out.new)) }
     ensures checks { choice.entry ≡ Choice.Check → result ≡ 0 → ChecksGame (R.remaining (inner_of reader.old))
         (O.contents (inner_of out.old)) (O.contents (inner_of out.new)) }
     ensures check_refuses { choice.entry ≡ Choice.Check → result ≡ 1 → RefusesText (R.remaining (inner_of reader.old)) }
     ensures check_fails { choice.entry ≡ Choice.Check → result ≡ 3 → (has_failed reader.new ≡ true) ⊎ (has_failed out.new ≡ true) }
     ensures check_silent { choice.entry ≡ Choice.Check → (result ≡ 1) ⊎ (result ≡ 4) → Keeps (O.contents (inner_of out.old)) (O.contents (inner_of out.new)) }
-    ensures moves { choice.entry ≡ Choice.Moves None → result ≡ 0 → PrintsMoves initial (O.contents (inner_of out.old)) (O.contents (inner_of out.new)) }
-    ensures moves_fails { choice.entry ≡ Choice.Moves None → (result ≢ 1) × (result ≡ 3 → has_failed out.new ≡ true) }
+    ensures moves { (fen : Option (Bor (List ℕ))) (start : PartsOf) → choice.entry ≡ Choice.Moves fen → StartsAt (given fen) start → result ≡ 0 → PrintsMoves start (O.contents (inner_of out.old)) (O.contents (inner_of out.new)) }
+    ensures moves_accept { (fen : Option (Bor (List ℕ))) (start : PartsOf) → choice.entry ≡ Choice.Moves fen → StartsAt (given fen) start → result ≢ 1 }
+    ensures moves_refuse { (fen : Option (Bor (List ℕ))) → choice.entry ≡ Choice.Moves fen → HasNoStart (given fen) → (result ≡ 1) × Keeps (O.contents (inner_of out.old)) (O.contents (inner_of out.new)) }
+    ensures moves_fail { (fen : Option (Bor (List ℕ))) → choice.entry ≡ Choice.Moves fen → result ≡ 3 → has_failed out.new ≡ true }
+    ensures moves_silent { (fen : Option (Bor (List ℕ))) → choice.entry ≡ Choice.Moves fen → result ≡ 4 → Keeps (O.contents (inner_of out.old)) (O.contents (inner_of out.new)) }
     ensures known { result ≤ 4 }
     ensures status { result ≢ 2 }
 {
@@ -140,20 +150,24 @@ pub fn run<R: Read, O: Write, E: Write>(
         (R.remaining (inner_of reader.old)) (R.remaining (inner_of reader.new))
         (O.contents (inner_of out.old)) (O.contents (inner_of out.new)) (has_failed reader.new) (has_failed out.new) }
 
-    // NAME `record`: the game, from the initial position and with unknown tags.
-    ensures record_is { IsRecord (map string_bytes words.now) → result ≡ 0 → RecordsPlain (R.remaining (inner_of reader.old))
+    // `record` with any options: the game, from the start and with the tags that they say.
+    ensures record_is { (setup : Setup) → AsksToRecord (map string_bytes words.now) setup → result ≡ 0 → RecordsAndTells setup (R.remaining (inner_of reader.old))
         (E.contents (inner_of err.old)) (E.contents (inner_of err.new)) (O.contents (inner_of out.old)) (O.contents (inner_of out.new)) }
 
     // Its other statuses: the stream is past its limit, and the game of what is within it stands; a stream has failed, and what
     // stands is what `record` says; memory was refused, at a ply, or before anything was read or written.
-    ensures record_long { IsRecord (map string_bytes words.now) → result ≡ 1 → EndsPlain RecordError.TooLong (R.remaining (inner_of reader.old)) (R.remaining (inner_of reader.new))
+    ensures record_long { (setup : Setup) → AsksToRecord (map string_bytes words.now) setup → result ≡ 1 → EndsFor RecordError.TooLong setup (R.remaining (inner_of reader.old)) (R.remaining (inner_of reader.new))
         (E.contents (inner_of err.old)) (O.contents (inner_of out.old)) (O.contents (inner_of out.new)) }
-    ensures record_fails { IsRecord (map string_bytes words.now) → result ≡ 3 → FailsPlain (R.remaining (inner_of reader.old)) (R.remaining (inner_of reader.new))
+    ensures record_fails { (setup : Setup) → AsksToRecord (map string_bytes words.now) setup → result ≡ 3 → Fails setup (R.remaining (inner_of reader.old)) (R.remaining (inner_of reader.new))
         (E.contents (inner_of err.old)) (O.contents (inner_of out.old)) (O.contents (inner_of out.new))
         (has_failed reader.new) (has_failed out.new) (has_failed err.new) }
-    ensures record_memory { IsRecord (map string_bytes words.now) → result ≡ 4 → EndsPlain RecordError.Memory (R.remaining (inner_of reader.old)) (R.remaining (inner_of reader.new))
+    ensures record_memory { (setup : Setup) → AsksToRecord (map string_bytes words.now) setup → result ≡ 4 → EndsFor RecordError.Memory setup (R.remaining (inner_of reader.old)) (R.remaining (inner_of reader.new))
         (E.contents (inner_of err.old)) (O.contents (inner_of out.old)) (O.contents (inner_of out.new))
-        ⊎ (Keeps (R.remaining (inner_of reader.old)) (R.remaining (inner_of reader.new)) × Keeps (O.contents (inner_of out.old)) (O.contents (inner_of out.new))) }
+        ⊎ Untouched (R.remaining (inner_of reader.old)) (R.remaining (inner_of reader.new)) (O.contents (inner_of out.old)) (O.contents (inner_of out.new)) }
+
+    // Where no position has the FEN, or a tag may not have its text, nothing is read and nothing written.
+    ensures record_refuses { AsksToRecordNothing (map string_bytes words.now) → ((result ≡ 1) ⊎ (result ≡ 4))
+        × Untouched (R.remaining (inner_of reader.old)) (R.remaining (inner_of reader.new)) (O.contents (inner_of out.old)) (O.contents (inner_of out.new)) }
 
     // NAME `check`: the input is the export text of a game.
     ensures check { IsCheck (map string_bytes words.now) → result ≡ 0 → ChecksGame (R.remaining (inner_of reader.old))
@@ -164,9 +178,14 @@ pub fn run<R: Read, O: Write, E: Write>(
     ensures check_fails { IsCheck (map string_bytes words.now) → result ≡ 3 → (has_failed reader.new ≡ true) ⊎ (has_failed out.new ≡ true) }
     ensures check_silent { IsCheck (map string_bytes words.now) → (result ≡ 1) ⊎ (result ≡ 4) → Keeps (O.contents (inner_of out.old)) (O.contents (inner_of out.new)) }
 
-    // NAME `moves`: the legal moves of the initial position; status 3 where the output has failed, and never 1.
-    ensures moves { IsMoves (map string_bytes words.now) → result ≡ 0 → PrintsMoves initial (O.contents (inner_of out.old)) (O.contents (inner_of out.new)) }
-    ensures moves_fails { IsMoves (map string_bytes words.now) → (result ≢ 1) × (result ≡ 3 → has_failed out.new ≡ true) }
+    // `moves` with any options: the legal moves of the position that they say.
+    ensures moves { (start : PartsOf) → AsksForMoves (map string_bytes words.now) start → result ≡ 0 → PrintsMoves start (O.contents (inner_of out.old)) (O.contents (inner_of out.new)) }
+    // Its other statuses: no position has the FEN; the output has failed; and nothing is written of a FEN that is refused, or for
+    // want of memory.
+    ensures moves_accept { (start : PartsOf) → AsksForMoves (map string_bytes words.now) start → result ≢ 1 }
+    ensures moves_refuse { AsksForNoMoves (map string_bytes words.now) → ((result ≡ 1) ⊎ (result ≡ 4)) × Keeps (O.contents (inner_of out.old)) (O.contents (inner_of out.new)) }
+    ensures moves_fail { (start : PartsOf) → AsksForMoves (map string_bytes words.now) start → result ≡ 3 → has_failed out.new ≡ true }
+    ensures moves_silent { (start : PartsOf) → AsksForMoves (map string_bytes words.now) start → result ≡ 4 → Keeps (O.contents (inner_of out.old)) (O.contents (inner_of out.new)) }
 
     // There is no other status, and 2 is for words that are refused.
     ensures known { result ≤ 4 }

@@ -1,41 +1,47 @@
 //! The subcommand `record`.
-ghost use Rattle.std.specs.Prelude.{◌≡◌, ◌≢◌, ◌≤◌, false, IfOk, Ok, None};
+ghost use Rattle.std.specs.Prelude.{◌≡◌, ◌≢◌, ◌≤◌, ◌⊎◌, false, IfErr, OnOk, MatchResult};
+ghost use Rattle.board_session.specs.declared.recording.Setup.{Setup as SetupOf};
+ghost use Rattle.pgn_book.specs.declared.values.Tag.{Tag as TagOf};
 ghost use Rattle.dgt_frame.specs.Watched.{inner_of, has_failed};
-ghost use Rattle.pgn_book.specs.Values.{unknown_values};
-ghost use Rattle.dgt_replay.specs.Choosing.{plain};
-ghost use Rattle.dgt_replay.specs.Recorded.{EndsPlain, FailsPlain, RecordsPlain};
+ghost use Rattle.dgt_replay.specs.Recorded.{EndsFor, Fails, RecordsAndTells, Untouched};
+ghost use Rattle.dgt_replay.specs.SettingUp.{ForMemory, HasNoValue, HasValues, MayHave, Meets, MeetsNothing, given, wished, with_given};
 
 use crate::lines::{Lines, add_report};
-use crate::saying::{refused, refused_fen, refused_tag, say};
+use crate::saying::{refused, refused_fen, refused_tag};
 use crate::starting::start_of;
 use crate::words::Wishes;
 use board_session::{RecordError, Setup, record};
+use chess_text::FenError;
+use chess_text::laws::texts_tell_positions;
 use dgt_frame::Watch;
 use pgn_book::{Tag, TagError, Tags, put};
 use std::alloc::Global;
 use std::io::{Read, Write};
 
-/// A tag whose value was refused.
+/// Why a recording can't be set up as is wished.
 #[derive(Clone, Copy, Debug)]
-struct Refusal {
-    tag: Tag,
-    error: TagError,
+enum Refusal {
+    Fen(FenError),
+    Tag { tag: Tag, error: TagError },
 }
 
 fn set(tags: &mut Tags, tag: Tag, value: Option<&str>) -> Result<(), Refusal>
-    ensures { value.entry ≡ None → (result ≡ Ok tt) × (tags.new ≡ tags.old) }
+    ensures set { OnOk result (tags.new ≡ with_given tag (given value.entry) tags.old) }
+    ensures may { OnOk result (MayHave tag (given value.entry)) }
+    ensures refused { IfErr result (λ refusal. ForMemory refusal ⊎ HasNoValue tag (given value.entry)) }
 {
     match value {
         None => Ok(()),
         Some(value) => match tags.set(tag, value) {
             Ok(()) => Ok(()),
-            Err(error) => Err(Refusal { tag, error }),
+            Err(error) => Err(Refusal::Tag { tag, error }),
         },
     }
 }
 
 fn tags_of(alloc: Global, wishes: &Wishes<'_>) -> Result<Tags, Refusal>
-    ensures { wishes.now ≡ plain → result ≡ Ok unknown_values }
+    ensures { MatchResult result (HasValues wishes.now)
+        (λ refusal. ForMemory refusal ⊎ ((tag : TagOf) × HasNoValue tag (wished wishes.now tag))) }
 {
     let mut tags = Tags::new(alloc);
     set(&mut tags, Tag::Event, wishes.event)?;
@@ -47,11 +53,40 @@ fn tags_of(alloc: Global, wishes: &Wishes<'_>) -> Result<Tags, Refusal>
     Ok(tags)
 }
 
-/// Records the game of a board whose bytes are read, and answers the status. The bytes for the board go to `err`, and one
-/// more line after them.
-pub fn record_game<R: Read, O: Write, E: Write>(
+fn setup_of(alloc: Global, wishes: &Wishes<'_>) -> Result<Setup, Refusal>
+    ensures { MatchResult result (Meets wishes.now) (λ refusal. ForMemory refusal ⊎ MeetsNothing wishes.now) }
+{
+    let start = match start_of(wishes.fen) {
+        Ok(start) => start,
+        Err(error) => return Err(Refusal::Fen(error)),
+    };
+    let tags = match tags_of(alloc, wishes) {
+        Ok(tags) => tags,
+        Err(refusal) => return Err(refusal),
+    };
+    Ok(Setup {
+        start,
+        first: wishes.first,
+        rotated: wishes.rotated,
+        tags,
+    })
+}
+
+// Says why a recording can't be set up, and answers the status.
+fn refused_setup<E: Write>(err: &mut Watch<E>, refusal: Refusal) -> u8
+    ensures status { (result ≡ 1) ⊎ (result ≡ 4) }
+    ensures memory { ForMemory refusal → result ≡ 4 }
+{
+    match refusal {
+        Refusal::Fen(error) => refused_fen(err, error),
+        Refusal::Tag { tag, error } => refused_tag(err, tag, error),
+    }
+}
+
+// Records the game that is set up so, and answers the status.
+fn record_as<R: Read, O: Write, E: Write>(
     alloc: Global,
-    wishes: &Wishes<'_>,
+    setup: Setup,
     reader: &mut Watch<R>,
     out: &mut Watch<O>,
     err: &mut Watch<E>,
@@ -59,32 +94,18 @@ pub fn record_game<R: Read, O: Write, E: Write>(
     requires reading { has_failed reader.old ≡ false }
     requires working { has_failed out.old ≡ false }
     requires erring { has_failed err.old ≡ false }
-    ensures plain { wishes.now ≡ plain → result ≡ 0 → RecordsPlain (R.remaining (inner_of reader.old))
+    ensures all { result ≡ 0 → RecordsAndTells setup (R.remaining (inner_of reader.old))
         (E.contents (inner_of err.old)) (E.contents (inner_of err.new)) (O.contents (inner_of out.old)) (O.contents (inner_of out.new)) }
-    ensures long { wishes.now ≡ plain → result ≡ 1 → EndsPlain RecordError.TooLong (R.remaining (inner_of reader.old)) (R.remaining (inner_of reader.new))
+    ensures long { result ≡ 1 → EndsFor RecordError.TooLong setup (R.remaining (inner_of reader.old)) (R.remaining (inner_of reader.new))
         (E.contents (inner_of err.old)) (O.contents (inner_of out.old)) (O.contents (inner_of out.new)) }
-    ensures fails { wishes.now ≡ plain → result ≡ 3 → FailsPlain (R.remaining (inner_of reader.old)) (R.remaining (inner_of reader.new))
+    ensures fails { result ≡ 3 → Fails setup (R.remaining (inner_of reader.old)) (R.remaining (inner_of reader.new))
         (E.contents (inner_of err.old)) (O.contents (inner_of out.old)) (O.contents (inner_of out.new))
         (has_failed reader.new) (has_failed out.new) (has_failed err.new) }
-    ensures memory { wishes.now ≡ plain → result ≡ 4 → EndsPlain RecordError.Memory (R.remaining (inner_of reader.old)) (R.remaining (inner_of reader.new))
+    ensures memory { result ≡ 4 → EndsFor RecordError.Memory setup (R.remaining (inner_of reader.old)) (R.remaining (inner_of reader.new))
         (E.contents (inner_of err.old)) (O.contents (inner_of out.old)) (O.contents (inner_of out.new)) }
     ensures known { result ≤ 4 }
     ensures status { result ≢ 2 }
 {
-    let start = match start_of(wishes.fen) {
-        Ok(start) => start,
-        Err(error) => return refused_fen(err, error),
-    };
-    let tags = match tags_of(alloc, wishes) {
-        Ok(tags) => tags,
-        Err(refusal) => return refused_tag(err, refusal.tag, refusal.error),
-    };
-    let setup = Setup {
-        start,
-        first: wishes.first,
-        rotated: wishes.rotated,
-        tags,
-    };
     match record(alloc, setup, reader, err, out) {
         Ok(report) => {
             let mut lines = Lines::new();
@@ -99,5 +120,40 @@ pub fn record_game<R: Read, O: Write, E: Write>(
         Err(RecordError::Board) => 3,
         Err(RecordError::Write) => refused(err, b"\nwrite fault\n", 3),
         Err(RecordError::TooLong) => refused(err, b"\ninput: too long\n", 1),
+    }
+}
+
+/// Records the game of a board whose bytes are read, and answers the status. The bytes for the board go to `err`, and one
+/// more line after them.
+pub fn record_game<R: Read, O: Write, E: Write>(
+    alloc: Global,
+    wishes: &Wishes<'_>,
+    reader: &mut Watch<R>,
+    out: &mut Watch<O>,
+    err: &mut Watch<E>,
+) -> u8
+    requires reading { has_failed reader.old ≡ false }
+    requires working { has_failed out.old ≡ false }
+    requires erring { has_failed err.old ≡ false }
+    ensures all { (setup : SetupOf) → Meets wishes.now setup → result ≡ 0 → RecordsAndTells setup (R.remaining (inner_of reader.old))
+        (E.contents (inner_of err.old)) (E.contents (inner_of err.new)) (O.contents (inner_of out.old)) (O.contents (inner_of out.new)) }
+    ensures long { (setup : SetupOf) → Meets wishes.now setup → result ≡ 1 → EndsFor RecordError.TooLong setup (R.remaining (inner_of reader.old)) (R.remaining (inner_of reader.new))
+        (E.contents (inner_of err.old)) (O.contents (inner_of out.old)) (O.contents (inner_of out.new)) }
+    ensures fails { (setup : SetupOf) → Meets wishes.now setup → result ≡ 3 → Fails setup (R.remaining (inner_of reader.old)) (R.remaining (inner_of reader.new))
+        (E.contents (inner_of err.old)) (O.contents (inner_of out.old)) (O.contents (inner_of out.new))
+        (has_failed reader.new) (has_failed out.new) (has_failed err.new) }
+    ensures memory { (setup : SetupOf) → Meets wishes.now setup → result ≡ 4 → EndsFor RecordError.Memory setup (R.remaining (inner_of reader.old)) (R.remaining (inner_of reader.new))
+        (E.contents (inner_of err.old)) (O.contents (inner_of out.old)) (O.contents (inner_of out.new))
+        ⊎ Untouched (R.remaining (inner_of reader.old)) (R.remaining (inner_of reader.new)) (O.contents (inner_of out.old)) (O.contents (inner_of out.new)) }
+    ensures refuses { MeetsNothing wishes.now → ((result ≡ 1) ⊎ (result ≡ 4))
+        × Untouched (R.remaining (inner_of reader.old)) (R.remaining (inner_of reader.new)) (O.contents (inner_of out.old)) (O.contents (inner_of out.new)) }
+    ensures known { result ≤ 4 }
+    ensures status { result ≢ 2 }
+{
+    // The setup that is wished is the only one: no two positions share a FEN.
+    texts_tell_positions();
+    match setup_of(alloc, wishes) {
+        Ok(setup) => record_as(alloc, setup, reader, out, err),
+        Err(refusal) => refused_setup(err, refusal),
     }
 }

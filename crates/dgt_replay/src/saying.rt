@@ -59,7 +59,8 @@ fn refused_value<E: Write>(err: &mut Watch<E>, tag: Tag, word: &[u8]) -> u8
 
 /// Says why the value of a tag is refused, and answers the status.
 pub fn refused_tag<E: Write>(err: &mut Watch<E>, tag: Tag, error: TagError) -> u8
-    ensures { (result ≡ 1) ⊎ (result ≡ 4) }
+    ensures status { (result ≡ 1) ⊎ (result ≡ 4) }
+    ensures memory { error ≡ TagError.Memory → result ≡ 4 }
 {
     match error {
         TagError::Text => refused_value(err, tag, b": text\n"),

@@ -1,11 +1,12 @@
 //! What the words of the command line ask for.
-ghost use Rattle.std.specs.Prelude.{◌≡◌, ◌⊎◌, Some, None, map, string_bytes, codes, IfOk, IfErr, MatchOption, is_some, option_map};
+ghost use Rattle.std.specs.Prelude.{◌≡◌, ◌⊎◌, Some, None, map, string_bytes, codes, IfOk, IfErr, IfSome, MatchOption, is_some, option_map};
 ghost use Rattle.clap.specs.Values.{kind_of};
 ghost use Rattle.clap.specs.Matches.{first_value, found_of};
 ghost use Rattle.clap.specs.Simple.{App, app_of, new_app, subcommand_rows_of};
 ghost use Rattle.clap.specs.Walk.{rows_of};
 ghost use Rattle.dgt_replay.specs.Command.{AddsRule, IsApp, check_app, moves_app, pictures_app, record_app, replay, rotated_rule, show_app, text_rule, with_tags};
-ghost use Rattle.dgt_replay.specs.Choosing.{AsksFor, Chooses, IsPlain, IsRefused, plain, side_in};
+ghost use Rattle.dgt_replay.specs.Choosing.{AsksFor, Chooses, IsRefused};
+ghost use Rattle.dgt_replay.specs.SettingUp.{Wants, side_in};
 
 use crate::listed::Listed;
 use clap::error::ErrorKind;
@@ -179,7 +180,7 @@ fn side_of(text: Option<&str>) -> Option<First>
 }
 
 fn wishes_of<'a>(matches: &ArgMatches<'a>) -> Option<Wishes<'a>>
-    ensures plain { IsPlain (rows_of (found_of matches.now)) → result ≡ Some plain }
+    ensures wants { IfSome result (λ wishes. Wants (rows_of (found_of matches.now)) wishes) }
     ensures known { is_some result ≡ is_some (side_in (first_value (found_of matches.now) (codes "first"))) }
 {
     let Some(first) = side_of(matches.get_str("first")) else {

@@ -9,3 +9,12 @@ put_moves-requires-clause-legal g c k d inside =
     let P : List Move → Type 0 = λ moves. Contains moves (get_or c.as_slice.result.now k d) in
     let listed = c.in-Ok-legal_moves.ensures.each (get_or c.as_slice.result.now k d) in
     listed.0 (subst P c.as_slice.ensures.value (Contains-get_or c.as_slice.result.now k d inside))
+
+pub returns-in_default-clause-refuses : goal.returns-in_default-clause-refuses
+returns-in_default-clause-refuses g c none = absurd (none c.in-Ok.position ((c.start_of.ensures c.in-Ok.position).0 c.in-Ok.is))
+
+pub returns-then-is_err-clause-refuses : goal.returns-then-is_err-clause-refuses
+returns-then-is_err-clause-refuses g c none = absurd (none c.in-Ok.position ((c.start_of.ensures c.in-Ok.position).0 c.in-Ok.is))
+
+pub returns-clause-refuses : goal.returns-clause-refuses
+returns-clause-refuses g c none = absurd (none c.in-Ok.position ((c.start_of.ensures c.in-Ok.position).0 c.in-Ok.is))

@@ -1,15 +1,32 @@
-use Rattle.std.proofs.Common.{inl, inr, rules}
+use Rattle.std.proofs.Common.{◌≡◌, arith, inl, inr}
+use Rattle.std.proofs.KnownBytes.{Keeps-refl}
 use Rattle.dgt_frame.specs.Watched.{inner_of}
+use Rattle.dgt_replay.proofs.SettingLemmas.{one_setup, only_for_memory}
 use Rattle.dgt_replay.proofs.recording.record_game.Goals as goal
 
-pub returns-in-Err-put-clause-fails : goal.returns-in-Err-put-clause-fails
-returns-in-Err-put-clause-fails g c is three = inr (inr (c.in-Err-put.ensures.failed, inr (c.in-Ok-record.report, g.E.Write.contents (inner_of c.record.new.board), search rules)))
+pub returns-in-Ok-clause-all : goal.returns-in-Ok-clause-all
+returns-in-Ok-clause-all g c setup meets status =
+    let same : c.in-Ok.setup ≡ setup = one_setup c.texts_tell_positions.ensures c.args.wishes.now c.in-Ok.setup setup c.in-Ok.ensures meets in
+    rw (← same) (c.record_as.ensures.all status)
 
-pub returns-in-Err-Read-clause-fails : goal.returns-in-Err-Read-clause-fails
-returns-in-Err-Read-clause-fails g c is three = inl (search rules, search rules)
+pub returns-in-Ok-clause-long : goal.returns-in-Ok-clause-long
+returns-in-Ok-clause-long g c setup meets status =
+    let same : c.in-Ok.setup ≡ setup = one_setup c.texts_tell_positions.ensures c.args.wishes.now c.in-Ok.setup setup c.in-Ok.ensures meets in
+    rw (← same) (c.record_as.ensures.long status)
 
-pub returns-in-Err-Board-clause-fails : goal.returns-in-Err-Board-clause-fails
-returns-in-Err-Board-clause-fails g c is three = inr (inr (search rules, inl (search rules)))
+pub returns-in-Ok-clause-fails : goal.returns-in-Ok-clause-fails
+returns-in-Ok-clause-fails g c setup meets status =
+    let same : c.in-Ok.setup ≡ setup = one_setup c.texts_tell_positions.ensures c.args.wishes.now c.in-Ok.setup setup c.in-Ok.ensures meets in
+    rw (← same) (c.record_as.ensures.fails status)
 
-pub returns-in-Err-Write-clause-fails : goal.returns-in-Err-Write-clause-fails
-returns-in-Err-Write-clause-fails g c is three = inr (inl (search rules, search rules))
+pub returns-in-Ok-clause-memory : goal.returns-in-Ok-clause-memory
+returns-in-Ok-clause-memory g c setup meets status =
+    let same : c.in-Ok.setup ≡ setup = one_setup c.texts_tell_positions.ensures c.args.wishes.now c.in-Ok.setup setup c.in-Ok.ensures meets in
+    rw (← same) (inl (c.record_as.ensures.memory status))
+
+pub returns-in-Err-clause-long : goal.returns-in-Err-clause-long
+returns-in-Err-clause-long g c setup meets one =
+    let four = c.refused_setup.ensures.memory (only_for_memory c.args.wishes.now setup c.in-Err.refusal meets c.in-Err.ensures) in absurd (omega (arith, four, one))
+
+pub returns-in-Err-clause-memory : goal.returns-in-Err-clause-memory
+returns-in-Err-clause-memory g c setup meets four = inr (Keeps-refl (g.R.Read.remaining (inner_of c.args.reader.now)), Keeps-refl (g.O.Write.contents (inner_of c.args.out.now)))

@@ -1,19 +1,20 @@
-use Rattle.std.proofs.Common.{◌≡◌, Some, ap, codes, sym, ◌∙◌, refl}
+use Rattle.std.proofs.Common.{Some, ap, codes, sym, ◌∙◌, refl}
 use Rattle.std.specs.Prelude.{is_some}
 use Rattle.clap.specs.Matches.{found_of}
+use Rattle.clap.specs.Walk.{rows_of}
 use Rattle.dgt_replay.specs.declared.listed.Listed.TheVariants.{Pictures}
-use Rattle.dgt_replay.specs.declared.words.Choice.TheVariants.{List as ListOf, Record, Moves}
-use Rattle.dgt_replay.specs.Choosing.{plain}
-use Rattle.dgt_replay.proofs.WordLemmas.{flag_reads, none_given, pictures_not_check, pictures_not_moves, pictures_not_record, record_not_check, record_not_moves, side_known}
+use Rattle.dgt_replay.specs.declared.words.Choice.TheVariants.{List as ListOf}
+use Rattle.dgt_replay.specs.SettingUp.{Wants}
+use Rattle.dgt_replay.proofs.WordLemmas.{flag_reads, if_some_at, pictures_not_check, pictures_not_moves, pictures_not_record, record_not_check, record_not_moves, side_known, text_given}
 use Rattle.dgt_replay.proofs.words.choice_named.Goals as goal
 
 pub returns-in-pictures : goal.returns-in-pictures
 returns-in-pictures c = record {
   show = λ e. absurd (c.in-pictures.not-show e);
   pictures = λ rotated e given. ap (λ b. Some (ListOf (Pictures b))) (flag_reads (found_of c.args.matches.now) c.get_flag.result rotated c.get_flag.ensures.value c.get_flag.ensures.other given);
-  record_is = λ e none. absurd (pictures_not_record c.args.name.now c.in-pictures.is e);
+  record_is = λ e. absurd (pictures_not_record c.args.name.now c.in-pictures.is e);
   check = λ e. absurd (pictures_not_check c.args.name.now c.in-pictures.is e);
-  moves = λ e none. absurd (pictures_not_moves c.args.name.now c.in-pictures.is e);
+  moves = λ e. absurd (pictures_not_moves c.args.name.now c.in-pictures.is e);
   known = rw c.in-pictures.is refl;
 }
 
@@ -21,9 +22,9 @@ pub returns-in-Some : goal.returns-in-Some
 returns-in-Some c = record {
   show = λ e. absurd (c.in-record.not-show e);
   pictures = λ rotated e given. absurd (c.in-record.not-pictures e);
-  record_is = λ e none. (let same : Some c.in-Some.wishes ≡ Some plain = sym c.in-Some.is ∙ c.wishes_of.ensures.plain none in let wishes_are : c.in-Some.wishes ≡ plain = cc in ap (λ w. Some (Record w)) wishes_are);
+  record_is = λ e. (c.in-Some.wishes, refl, if_some_at (Wants (rows_of (found_of c.args.matches.now))) c.wishes_of.result c.in-Some.wishes c.in-Some.is c.wishes_of.ensures.wants);
   check = λ e. absurd (record_not_check c.args.name.now c.in-record.is e);
-  moves = λ e none. absurd (record_not_moves c.args.name.now c.in-record.is e);
+  moves = λ e. absurd (record_not_moves c.args.name.now c.in-record.is e);
   known = rw c.in-record.is (ap is_some (sym c.in-Some.is) ∙ side_known (found_of c.args.matches.now) c.wishes_of.result c.wishes_of.ensures.known);
 }
 
@@ -31,9 +32,9 @@ pub returns-in-None : goal.returns-in-None
 returns-in-None c = record {
   show = λ e. absurd (c.in-record.not-show e);
   pictures = λ rotated e given. absurd (c.in-record.not-pictures e);
-  record_is = λ e none. (let bad = sym c.in-None.is ∙ c.wishes_of.ensures.plain none in absurd (cc));
+  record_is = λ e. tt;
   check = λ e. absurd (record_not_check c.args.name.now c.in-record.is e);
-  moves = λ e none. absurd (record_not_moves c.args.name.now c.in-record.is e);
+  moves = λ e. absurd (record_not_moves c.args.name.now c.in-record.is e);
   known = rw c.in-record.is (ap is_some (sym c.in-None.is) ∙ side_known (found_of c.args.matches.now) c.wishes_of.result c.wishes_of.ensures.known);
 }
 
@@ -41,8 +42,8 @@ pub returns-in-moves : goal.returns-in-moves
 returns-in-moves c = record {
   show = λ e. absurd (c.in-moves.not-show e);
   pictures = λ rotated e given. absurd (c.in-moves.not-pictures e);
-  record_is = λ e none. absurd (c.in-moves.not-record e);
+  record_is = λ e. absurd (c.in-moves.not-record e);
   check = λ e. absurd (c.in-moves.not-check e);
-  moves = λ e none. ap (λ fen. Some (Moves fen)) (none_given (found_of c.args.matches.now) (codes "fen") c.get_str.result c.get_str.ensures none);
+  moves = λ e. (c.get_str.result, refl, text_given (found_of c.args.matches.now) (codes "fen") c.get_str.result c.get_str.ensures);
   known = rw c.in-moves.is refl;
 }

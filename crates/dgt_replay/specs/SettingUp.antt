@@ -1,0 +1,117 @@
+-- What the options of `record` and of `moves` mean.
+use Rattle.std.specs.Prelude.{◌≡◌, ◌⊎◌, Bool, List, ℕ, codes, Option, Some, None, option_map, true, false, if◌then◌else◌, ⊤}
+use Rattle.std.specs.Borrow.{Bor}
+use Rattle.std.specs.Str.{bytes_eq}
+use Rattle.clap.specs.Walk.{Row, Text, first_of, one_of}
+use Rattle.chess_rules.specs.declared.men.Parts.{Parts}
+use Rattle.chess_rules.specs.Initial.{initial}
+use Rattle.chess_rules.specs.Valid.{Valid}
+use Rattle.chess_text.specs.Fen.{Tells}
+use Rattle.dgt_frame.specs.declared.time.First.{First}
+use Rattle.dgt_frame.specs.declared.time.First.TheVariants as first
+use Rattle.pgn_book.specs.declared.values.Tag.{Tag}
+use Rattle.pgn_book.specs.declared.values.Tag.TheVariants.{Event, Site, Date, Round, White, Black}
+use Rattle.pgn_book.specs.declared.values.TagError.TheVariants.{Memory}
+use Rattle.pgn_book.specs.Values.{IsValue, TagValues, unknown_of, value_of, with_value}
+use Rattle.board_session.specs.declared.recording.Setup.{Setup}
+use Rattle.dgt_replay.specs.declared.recording.Refusal.{Refusal}
+use Rattle.dgt_replay.specs.declared.recording.Refusal.TheVariants.{Fen, Tag as OfTag}
+use Rattle.dgt_replay.specs.declared.words.Wishes.{Wishes}
+
+-- the text of a flag
+abbrev pub flag_text : Bool → Text
+flag_text true = codes "true"
+flag_text false = codes "false"
+
+-- the side that the text after `--first` names, or White where there is none
+abbrev pub side_in : Option Text → Option First
+side_in None = Some first.White
+side_in (Some text) = if bytes_eq text (codes "white") then Some first.White else (if bytes_eq text (codes "black") then Some first.Black else None)
+
+-- The start: the position that the FEN tells, or the initial position where none is given.
+abbrev pub StartsAt : Option Text → Parts → Type 0
+StartsAt None start = start ≡ initial
+StartsAt (Some text) start = Valid start × Tells text start
+
+-- The value of a tag: the text that is given, if the tag may have it, or the unknown value where none is given.
+abbrev pub HasValue : Tag → Option Text → List ℕ → Type 0
+HasValue tag None value = value ≡ unknown_of tag
+HasValue tag (Some text) value = (value ≡ text) × IsValue tag text
+
+-- the option that gives a tag's value
+abbrev pub option_of : Tag → Text
+option_of Event = codes "event"
+option_of Site = codes "site"
+option_of Date = codes "date"
+option_of Round = codes "round"
+option_of White = codes "white"
+option_of Black = codes "black"
+
+-- The options set a recording up so.
+pub record SetsUp (rows : List Row) (setup : Setup) : Type 0 where
+  pub rotated : one_of (codes "rotated") rows ≡ Some (flag_text setup.rotated)
+  pub first : side_in (first_of (codes "first") rows) ≡ Some setup.first
+  pub start : StartsAt (first_of (codes "fen") rows) setup.start
+  pub tags : (tag : Tag) → HasValue tag (first_of (option_of tag) rows) (value_of tag setup.tags)
+
+-- No position has the FEN.
+abbrev pub HasNoStart : Option Text → Type 0
+HasNoStart fen = (start : Parts) → StartsAt fen start → ⊥
+
+-- The tag may not have the text.
+abbrev pub HasNoValue : Tag → Option Text → Type 0
+HasNoValue tag text = (value : List ℕ) → HasValue tag text value → ⊥
+
+-- No position has the FEN that is given, or a tag may not have the text that is given for it.
+abbrev pub SetsUpNothing : List Row → Type 0
+SetsUpNothing rows = HasNoStart (first_of (codes "fen") rows) ⊎ ((tag : Tag) × HasNoValue tag (first_of (option_of tag) rows))
+
+-- the text that is given, where one is
+abbrev pub given : Option (Bor Text) → Option Text
+given = option_map (λ text. text.now)
+
+-- the text that is wished for a tag
+abbrev pub wished : Wishes → Tag → Option Text
+wished wishes Event = given wishes.event
+wished wishes Site = given wishes.site
+wished wishes Date = given wishes.date
+wished wishes Round = given wishes.round
+wished wishes White = given wishes.white
+wished wishes Black = given wishes.black
+
+-- The wishes are what the options say.
+pub record Wants (rows : List Row) (wishes : Wishes) : Type 0 where
+  pub rotated : (rotated : Bool) → one_of (codes "rotated") rows ≡ Some (flag_text rotated) → wishes.rotated ≡ rotated
+  pub first : side_in (first_of (codes "first") rows) ≡ Some wishes.first
+  pub fen : given wishes.fen ≡ first_of (codes "fen") rows
+  pub tags : (tag : Tag) → wished wishes tag ≡ first_of (option_of tag) rows
+
+-- The tags have the values that are wished.
+abbrev pub HasValues : Wishes → TagValues → Type 0
+HasValues wishes values = (tag : Tag) → HasValue tag (wished wishes tag) (value_of tag values)
+
+-- The setup is as wished.
+pub record Meets (wishes : Wishes) (setup : Setup) : Type 0 where
+  pub rotated : setup.rotated ≡ wishes.rotated
+  pub first : setup.first ≡ wishes.first
+  pub start : StartsAt (given wishes.fen) setup.start
+  pub tags : HasValues wishes setup.tags
+
+-- No position has the FEN that is wished, or a tag may not have the text that is wished for it.
+abbrev pub MeetsNothing : Wishes → Type 0
+MeetsNothing wishes = HasNoStart (given wishes.fen) ⊎ ((tag : Tag) × HasNoValue tag (wished wishes tag))
+
+-- the values with a tag's changed to the text, where one is given
+abbrev pub with_given : Tag → Option Text → TagValues → TagValues
+with_given tag None values = values
+with_given tag (Some text) values = with_value tag text values
+
+-- The tag may have the text, where one is given.
+abbrev pub MayHave : Tag → Option Text → Type 0
+MayHave tag None = ⊤
+MayHave tag (Some text) = IsValue tag text
+
+-- The refusal is for want of memory.
+abbrev pub ForMemory : Refusal → Type 0
+ForMemory (Fen error) = ⊥
+ForMemory (OfTag tag error) = error ≡ Memory

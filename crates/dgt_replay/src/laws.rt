@@ -1,0 +1,12 @@
+//! What words without options ask for, as the contract of a function that does nothing.
+ghost use Rattle.std.specs.Prelude.{Bool, List, ℕ};
+ghost use Rattle.chess_rules.specs.Initial.{initial};
+ghost use Rattle.dgt_replay.specs.Choosing.{AsksForMoves, AsksToRecord, IsMoves, IsRecord};
+ghost use Rattle.dgt_replay.specs.Recorded.{plain_setup};
+
+/// `record` asks for a recording from the initial position, with White's time first and unknown tags, turned where `--rotated`
+/// is given; `moves` asks for those of the initial position.
+pub fn without_options()
+    ensures records { (rotated : Bool) (words : List (List ℕ)) → IsRecord rotated words → AsksToRecord words (plain_setup rotated) }
+    ensures moves { (words : List (List ℕ)) → IsMoves words → AsksForMoves words initial }
+{}
