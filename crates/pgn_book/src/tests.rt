@@ -16,20 +16,46 @@ const ROSTER: &str =
 
 const CASTLING: &str = "4k3/8/8/8/8/8/8/4K2R w K - 0 1";
 
-const CASTLING_SET_UP: &str = "[FEN \"4k3/8/8/8/8/8/8/4K2R w K - 0 1\"]\n[SetUp \"1\"]\n";
+/// A game and its export text. Its tags are unknown.
+#[derive(Clone, Copy)]
+struct Row<'a> {
+    /// The FEN of the start; empty for the initial position.
+    start: &'a str,
+    moves: &'a str,
+    /// Hours, minutes and seconds after the first moves.
+    clocks: &'a [Option<[u8; 3]>],
+    sign: Option<Outcome>,
+    /// The result that is written.
+    outcome: &'a str,
+    movetext: &'a str,
+}
 
-/// An export text whose tags are unknown.
+/// No move from the initial position, without clocks and sign.
+const EMPTY: Row<'static> = Row {
+    start: "",
+    moves: "",
+    clocks: &[],
+    sign: None,
+    outcome: "*",
+    movetext: "*",
+};
+
+/// An export text whose tags are unknown. The FEN is empty for the initial position.
 fn export(
     rt: &(impl AllocGlobal + Abort),
     outcome: &str,
-    set_up: &str,
+    fen: &str,
     movetext: &str,
 ) -> Result<String, Fail> {
     let mut text = String::from_str(rt.alloc(), ROSTER)?;
     text.push_str("[Result \"")?;
     text.push_str(outcome)?;
     text.push_str("\"]\n")?;
-    text.push_str(set_up)?;
+    if !fen.is_empty() {
+        text.push_str("[FEN \"")?;
+        text.push_str(fen)?;
+        text.push_str("\"]\n[SetUp \"1\"]\n")?;
+    }
     text.push_str("\n")?;
     text.push_str(movetext)?;
     text.push_str("\n\n")?;
@@ -46,19 +72,43 @@ fn ply(mv: &Move, clock: Option<Hms>) -> Ply {
     Ply { mv: *mv, clock }
 }
 
+/// The position of a FEN, or the initial position where it is empty.
+fn start_of(fen: &str) -> Result<Position, Fail> {
+    if fen.is_empty() {
+        return Ok(Position::initial());
+    }
+    Ok(read_fen(fen.as_bytes())?)
+}
+
+fn time(clock: Option<[u8; 3]>) -> Option<Hms> {
+    let [hours, minutes, seconds] = clock?;
+    if hours > 9 || minutes > 59 || seconds > 59 {
+        return None;
+    }
+    Some(Hms {
+        hours,
+        minutes,
+        seconds,
+    })
+}
+
 /// The game of these moves, the first of which have these clocks.
 fn game(
     rt: &(impl AllocGlobal + Abort),
     start: Position,
     moves: &str,
-    clocks: &[Option<Hms>],
+    clocks: &[Option<[u8; 3]>],
     sign: Option<Outcome>,
 ) -> Result<Game, Fail> {
     let mut plies = Vec::new(rt.alloc());
     let mut position = start;
     for (i, san) in moves.split_whitespace().enumerate() {
         let mv = read_san(&position, san.as_bytes())?;
-        let clock = if i < clocks.len() { clocks[i] } else { None };
+        let clock = if i < clocks.len() {
+            time(clocks[i])
+        } else {
+            None
+        };
         assert!(rt; position.is_legal(copy(&mv)), "{san}");
         plies.push(ply(&mv, clock))?;
         position = position.play(mv);
@@ -74,146 +124,159 @@ fn text_of(rt: &(impl AllocGlobal + Abort), game: &Game) -> Result<Vec<u8>, Fail
     Ok(out.inner().as_slice().to_vec(rt.alloc())?)
 }
 
-/// The game of these moves has this text, and the text reads back as a game with the same text.
-fn check(
-    rt: &(impl AllocGlobal + Abort),
-    game: &Game,
-    outcome: &str,
-    set_up: &str,
-    movetext: &str,
-) -> Result<(), Fail> {
-    let text = text_of(rt, game)?;
-    let wanted = export(rt, outcome, set_up, movetext)?;
-    assert_eq!(rt; text.as_slice(), wanted.as_bytes(), "{movetext}");
-    let read = read_pgn(rt.alloc(), &text)?;
+/// The text reads back as a game with the same text.
+fn reads_back(rt: &(impl AllocGlobal + Abort), text: &[u8], game: &Game) -> Result<(), Fail> {
+    let read = read_pgn(rt.alloc(), text)?;
     let again = text_of(rt, &read)?;
-    assert_eq!(rt; again.as_slice(), text.as_slice(), "{movetext}");
+    assert_eq!(rt; again.as_slice(), text);
     assert_eq!(rt; read.plies().len(), game.plies().len());
     assert_eq!(rt; read.result(), game.result());
     Ok(())
 }
 
-fn time(hours: u8, minutes: u8, seconds: u8) -> Option<Hms>
-    requires hours { hours ≤ 9 }
-    requires minutes { minutes ≤ 59 }
-    requires seconds { seconds ≤ 59 }
-{
-    Some(Hms {
-        hours,
-        minutes,
-        seconds,
-    })
+/// The game has its text, which reads back.
+fn check(rt: &(impl AllocGlobal + Abort), row: &Row<'_>) -> Result<(), Fail> {
+    let start = start_of(row.start)?;
+    let game = game(rt, start, row.moves, row.clocks, row.sign)?;
+    let text = text_of(rt, &game)?;
+    let wanted = export(rt, row.outcome, row.start, row.movetext)?;
+    assert_eq!(rt; text.as_slice(), wanted.as_bytes(), "{}", row.movetext);
+    reads_back(rt, &text, &game)
 }
+
+fn check_all(rt: &(impl AllocGlobal + Abort), rows: &[Row<'_>]) -> Result<(), Fail> {
+    for row in rows {
+        check(rt, row)?;
+    }
+    Ok(())
+}
+
+const ONE_MOVE: Row<'static> = Row {
+    moves: "e4",
+    movetext: "1. e4 *",
+    ..EMPTY
+};
+
+const GAMES: [Row<'static>; 4] = [
+    EMPTY,
+    ONE_MOVE,
+    Row {
+        sign: Some(Outcome::WhiteWins),
+        outcome: "1-0",
+        movetext: "1-0",
+        ..EMPTY
+    },
+    Row {
+        sign: Some(Outcome::Drawn),
+        outcome: "1/2-1/2",
+        moves: "e4 e5",
+        movetext: "1. e4 e5 1/2-1/2",
+        ..EMPTY
+    },
+];
 
 #[test]
 fn games_are_written_and_read(rt: HostRuntime) -> Result<(), Fail> {
-    let start = Position::initial();
-    check(&rt, &game(&rt, start, "", &[], None)?, "*", "", "*")?;
-    check(&rt, &game(&rt, start, "e4", &[], None)?, "*", "", "1. e4 *")?;
-    check(
-        &rt,
-        &game(&rt, start, "", &[], Some(Outcome::WhiteWins))?,
-        "1-0",
-        "",
-        "1-0",
-    )?;
-    check(
-        &rt,
-        &game(&rt, start, "e4 e5", &[], Some(Outcome::Drawn))?,
-        "1/2-1/2",
-        "",
-        "1. e4 e5 1/2-1/2",
-    )?;
-    Ok(())
+    check_all(&rt, &GAMES)
 }
 
 #[test]
 fn mate_decides_whatever_the_sign(rt: HostRuntime) -> Result<(), Fail> {
     for sign in [None, Some(Outcome::WhiteWins), Some(Outcome::BlackWins)] {
-        let mated = game(&rt, Position::initial(), "f3 e5 g4 Qh4#", &[], sign)?;
-        check(&rt, &mated, "0-1", "", "1. f3 e5 2. g4 Qh4# 0-1")?;
+        let mated = Row {
+            sign,
+            outcome: "0-1",
+            moves: "f3 e5 g4 Qh4#",
+            movetext: "1. f3 e5 2. g4 Qh4# 0-1",
+            ..EMPTY
+        };
+        check(&rt, &mated)?;
     }
     Ok(())
 }
 
+const TIMED: [Row<'static>; 3] = [
+    Row {
+        moves: "e4 e5",
+        clocks: &[Some([1, 30, 0]), Some([1, 29, 59])],
+        movetext: "1. e4 {[%clk 1:30:00]} 1... e5 {[%clk 1:29:59]} *",
+        ..EMPTY
+    },
+    Row {
+        moves: "e4 e5",
+        clocks: &[Some([1, 30, 0])],
+        movetext: "1. e4 {[%clk 1:30:00]} 1... e5 *",
+        ..EMPTY
+    },
+    Row {
+        moves: "e4 e5 Nf3 Nc6",
+        clocks: &[None, Some([0, 0, 7])],
+        movetext: "1. e4 e5 {[%clk 0:00:07]} 2. Nf3 Nc6 *",
+        ..EMPTY
+    },
+];
+
 #[test]
 fn a_clock_comment_asks_for_the_number(rt: HostRuntime) -> Result<(), Fail> {
-    let start = Position::initial();
-    let both = game(
-        &rt,
-        start,
-        "e4 e5",
-        &[time(1, 30, 0), time(1, 29, 59)],
-        None,
-    )?;
-    check(
-        &rt,
-        &both,
-        "*",
-        "",
-        "1. e4 {[%clk 1:30:00]} 1... e5 {[%clk 1:29:59]} *",
-    )?;
-    let white = game(&rt, start, "e4 e5", &[time(1, 30, 0)], None)?;
-    check(&rt, &white, "*", "", "1. e4 {[%clk 1:30:00]} 1... e5 *")?;
-    let black = game(&rt, start, "e4 e5 Nf3 Nc6", &[None, time(0, 0, 7)], None)?;
-    check(
-        &rt,
-        &black,
-        "*",
-        "",
-        "1. e4 e5 {[%clk 0:00:07]} 2. Nf3 Nc6 *",
-    )?;
-    Ok(())
+    check_all(&rt, &TIMED)
 }
+
+const SET_UP: [Row<'static>; 4] = [
+    Row {
+        start: CASTLING,
+        moves: "O-O",
+        movetext: "1. O-O *",
+        ..EMPTY
+    },
+    Row {
+        start: CASTLING,
+        moves: "Rf1",
+        movetext: "1. Rf1 *",
+        ..EMPTY
+    },
+    Row {
+        start: "4k3/8/8/8/8/8/8/4K3 b - - 9999 9999",
+        moves: "Kd8 Kd1 Kc8",
+        movetext: "9999... Kd8 9999. Kd1 Kc8 *",
+        ..EMPTY
+    },
+    Row {
+        start: "4k3/8/8/3pP3/8/8/8/4K3 w - d6 0 2",
+        moves: "exd6",
+        movetext: "2. exd6 *",
+        ..EMPTY
+    },
+];
 
 #[test]
 fn another_start_is_set_up(rt: HostRuntime) -> Result<(), Fail> {
-    let castling = read_fen(CASTLING.as_bytes())?;
-    check(
-        &rt,
-        &game(&rt, castling, "O-O", &[], None)?,
-        "*",
-        CASTLING_SET_UP,
-        "1. O-O *",
-    )?;
-    check(
-        &rt,
-        &game(&rt, castling, "Rf1", &[], None)?,
-        "*",
-        CASTLING_SET_UP,
-        "1. Rf1 *",
-    )?;
-    let black = read_fen(b"4k3/8/8/8/8/8/8/4K3 b - - 9999 9999")?;
-    check(
-        &rt,
-        &game(&rt, black, "Kd8 Kd1 Kc8", &[], None)?,
-        "*",
-        "[FEN \"4k3/8/8/8/8/8/8/4K3 b - - 9999 9999\"]\n[SetUp \"1\"]\n",
-        "9999... Kd8 9999. Kd1 Kc8 *",
-    )?;
-    let en_passant = read_fen(b"4k3/8/8/3pP3/8/8/8/4K3 w - d6 0 2")?;
-    check(
-        &rt,
-        &game(&rt, en_passant, "exd6", &[], None)?,
-        "*",
-        "[FEN \"4k3/8/8/3pP3/8/8/8/4K3 w - d6 0 2\"]\n[SetUp \"1\"]\n",
-        "2. exd6 *",
-    )?;
-    Ok(())
+    check_all(&rt, &SET_UP)
 }
+
+const FULL: &str =
+    "1. a3 a6 2. b3 b6 3. c3 c6 4. d3 d6 5. e3 e6 6. Nf3 Nf6 7. Ng1 Ng8 8. Nf3 Nf6 *";
+
+const BROKEN: &str =
+    "1. a3 a6 2. b3 b6 3. c3 c6 4. d3 d6 5. e3 Nf6 6. Nf3 Ng8 7. Ng1 Nf6 8. Nf3 Ng8\n*";
+
+const FILLED: [Row<'static>; 2] = [
+    Row {
+        moves: "a3 a6 b3 b6 c3 c6 d3 d6 e3 e6 Nf3 Nf6 Ng1 Ng8 Nf3 Nf6",
+        movetext: FULL,
+        ..EMPTY
+    },
+    Row {
+        moves: "a3 a6 b3 b6 c3 c6 d3 d6 e3 Nf6 Nf3 Ng8 Ng1 Nf6 Nf3 Ng8",
+        movetext: BROKEN,
+        ..EMPTY
+    },
+];
 
 #[test]
 fn lines_are_filled_to_79(rt: HostRuntime) -> Result<(), Fail> {
-    let start = Position::initial();
-    let full = "a3 a6 b3 b6 c3 c6 d3 d6 e3 e6 Nf3 Nf6 Ng1 Ng8 Nf3 Nf6";
-    let line = "1. a3 a6 2. b3 b6 3. c3 c6 4. d3 d6 5. e3 e6 6. Nf3 Nf6 7. Ng1 Ng8 8. Nf3 Nf6 *";
-    assert_eq!(rt; line.len(), 79);
-    check(&rt, &game(&rt, start, full, &[], None)?, "*", "", line)?;
-    let broken = "a3 a6 b3 b6 c3 c6 d3 d6 e3 Nf6 Nf3 Ng8 Ng1 Nf6 Nf3 Ng8";
-    let lines = "1. a3 a6 2. b3 b6 3. c3 c6 4. d3 d6 5. e3 Nf6 6. Nf3 Ng8 7. Ng1 Nf6 8. Nf3 Ng8\n*";
-    assert_eq!(rt; lines.len(), 80);
-    check(&rt, &game(&rt, start, broken, &[], None)?, "*", "", lines)?;
-    Ok(())
+    assert_eq!(rt; FULL.len(), 79);
+    assert_eq!(rt; BROKEN.len(), 80);
+    check_all(&rt, &FILLED)
 }
 
 /// So many of this character.
@@ -339,12 +402,11 @@ fn other_ends_of_lines_are_refused(rt: HostRuntime) -> Result<(), Fail> {
     Ok(())
 }
 
-const FOUR_FIELDS: &str = "[FEN \"4k3/8/8/8/8/8/8/4K2R w K -\"]\n[SetUp \"1\"]\n";
+const FOUR_FIELDS: &str = "4k3/8/8/8/8/8/8/4K2R w K -";
 
-const NEEDLESS: &str =
-    "[FEN \"rnbqkbnr/pppppppp/8/8/8/8/PPPPPPPP/RNBQKBNR w KQkq - 0 1\"]\n[SetUp \"1\"]\n";
+const INITIAL: &str = "rnbqkbnr/pppppppp/8/8/8/8/PPPPPPPP/RNBQKBNR w KQkq - 0 1";
 
-/// Results, set-ups and movetexts of texts that are no export texts.
+/// Results, starts and movetexts of texts that are no export texts.
 const OTHERS: [[&str; 3]; 18] = [
     ["*", "", "1. e2e4 *"],
     ["*", "", "1. e4  *"],
@@ -357,9 +419,9 @@ const OTHERS: [[&str; 3]; 18] = [
     ["*", "", "1. e4 {[%clk 01:30:00]} *"],
     ["1-0", "", "1. e4 *"],
     ["*", "", "1. e4 1-0"],
-    ["*", NEEDLESS, "1. e4 *"],
-    ["*", CASTLING_SET_UP, "1. 0-0 *"],
-    ["*", CASTLING_SET_UP, "1. e4 *"],
+    ["*", INITIAL, "1. e4 *"],
+    ["*", CASTLING, "1. 0-0 *"],
+    ["*", CASTLING, "1. e4 *"],
     ["*", FOUR_FIELDS, "1. O-O *"],
     ["1-0", "", "1. f3 e5 2. g4 Qh4# 1-0"],
     ["*", "", "1. f3 e5 2. g4 Qh4# *"],
@@ -368,8 +430,8 @@ const OTHERS: [[&str; 3]; 18] = [
 
 #[test]
 fn other_texts_are_refused(rt: HostRuntime) -> Result<(), Fail> {
-    for [outcome, set_up, movetext] in &OTHERS {
-        let text = export(&rt, outcome, set_up, movetext)?;
+    for [outcome, fen, movetext] in &OTHERS {
+        let text = export(&rt, outcome, fen, movetext)?;
         assert!(rt;
             refuses(rt.alloc(), text.as_bytes()),
             "{outcome} {movetext}"
