@@ -11,10 +11,10 @@ put_moves-requires-clause-legal g c k d inside =
     listed.0 (subst P c.as_slice.ensures.value (Contains-get_or c.as_slice.result.now k d inside))
 
 pub returns-in_default-clause-refuses : goal.returns-in_default-clause-refuses
-returns-in_default-clause-refuses g c none = absurd (none c.in-Ok.position ((c.start_of.ensures c.in-Ok.position).0 c.in-Ok.is))
+returns-in_default-clause-refuses g c none = absurd (none c.in-Ok.position ((c.start_of.ensures.start c.in-Ok.position).0 c.in-Ok.is))
 
 pub returns-then-is_err-clause-refuses : goal.returns-then-is_err-clause-refuses
-returns-then-is_err-clause-refuses g c none = absurd (none c.in-Ok.position ((c.start_of.ensures c.in-Ok.position).0 c.in-Ok.is))
+returns-then-is_err-clause-refuses g c none = absurd (none c.in-Ok.position ((c.start_of.ensures.start c.in-Ok.position).0 c.in-Ok.is))
 
 pub returns-clause-refuses : goal.returns-clause-refuses
-returns-clause-refuses g c none = absurd (none c.in-Ok.position ((c.start_of.ensures c.in-Ok.position).0 c.in-Ok.is))
+returns-clause-refuses g c none = absurd (none c.in-Ok.position ((c.start_of.ensures.start c.in-Ok.position).0 c.in-Ok.is))
