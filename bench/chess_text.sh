@@ -1,11 +1,11 @@
 #!/usr/bin/env bash
 # Times write_san and read_san of the crate chess_text over a game of 200 plies (crates/san_bench/stdin), by the program
 # san_bench from outside, beside the plain Rust program bench/san.rs in the same run, which prints the same counts.
-# Each time is the least of several runs, process start and one reading of the game included. Of write_san, the program
-# also asks is_legal of each move, and so does the yardstick.
+# Each time is the least of several runs, process start and one reading of the game included. Before each write_san the
+# program asks is_legal of the move, and so does the yardstick.
 set -euo pipefail
 cd "$(dirname "$0")/.."
-runs=${1:-10}
+runs=${1:-5}
 rounds=500
 . bench/timing.sh
 game=crates/san_bench/stdin

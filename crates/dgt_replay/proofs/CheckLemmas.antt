@@ -1,15 +1,22 @@
 -- What `check` has said of a text.
-use Rattle.std.proofs.Common.{◌≡◌, ℕ, List, length, Option, Some, None, IfSome, inr, subst}
-use Rattle.std.specs.Io.KnownBytes.{Appends}
+use Rattle.std.proofs.Common.{◌≡◌, ℕ, ◌+◌, ◌≤◌, List, ◌++◌, length, length-append, Option, Some, None, IfSome, ap, subst, arith}
+use Rattle.std.proofs.KnownBytes.{Consumes-trans}
+use Rattle.std.specs.Io.KnownBytes.{Appends, Consumes}
 use Rattle.pgn_book.specs.Games.{Content}
 use Rattle.pgn_book.specs.Pgn.{Pgn}
-use Rattle.dgt_replay.specs.Checked.{ChecksGame, RefusesText, summary_line}
+use Rattle.dgt_replay.specs.Checked.{ChecksGame, summary_line, text_limit}
+use Rattle.dgt_replay.specs.Listing.{ReadsWithin}
 
-pub checked : (input written written' : Option (List ℕ)) (text : List ℕ) (game : Content) → IfSome input (λ bytes. text ≡ bytes) → Pgn game text
+pub checked : (input written written' : Option (List ℕ)) (text : List ℕ) (game : Content) → IfSome input (λ bytes. text ≡ bytes) → Pgn game text → length text ≤ text_limit
     → Appends written written' (summary_line (length game.plies) game.result) → ChecksGame input written written'
-checked None written written' text game text_is pgn said = tt
-checked (Some bytes) written written' text game text_is pgn said = (game, (let P : List ℕ → Type 0 = λ bs. Pgn game bs in subst P text_is pgn), said)
+checked None written written' text game text_is pgn within said = tt
+checked (Some bytes) written written' text game text_is pgn within said = (game, (let P : List ℕ → Type 0 = λ bs. Pgn game bs in subst P text_is pgn), omega (arith, within, ap length text_is), said)
 
-pub no_game : (input : Option (List ℕ)) (text : List ℕ) → IfSome input (λ bytes. text ≡ bytes) → ((game : Content) → Pgn game text → ⊥) → RefusesText input
+pub no_game : (input : Option (List ℕ)) (text : List ℕ) → IfSome input (λ bytes. text ≡ bytes) → ((game : Content) → Pgn game text → ⊥)
+    → IfSome input (λ bytes. (game : Content) → Pgn game bytes → ⊥)
 no_game None text text_is none = tt
-no_game (Some bytes) text text_is none = inr (let P : List ℕ → Type 0 = λ bs. (game : Content) → Pgn game bs → ⊥ in subst P text_is none)
+no_game (Some bytes) text text_is none = let P : List ℕ → Type 0 = λ bs. (game : Content) → Pgn game bs → ⊥ in subst P text_is none
+
+-- At most so many bytes were read.
+pub read_more : (limit : ℕ) (input now left : Option (List ℕ)) (text piece : List ℕ) → Consumes input now text → Consumes now left piece → length text + length piece ≤ limit + 1 → ReadsWithin limit input left
+read_more limit input now left text piece before more within = (text ++ piece, Consumes-trans input now left text piece before more, omega (arith, length-append text piece, within))

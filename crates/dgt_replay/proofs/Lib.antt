@@ -5,6 +5,7 @@ pub mod GatherLemmas
 pub mod LineLemmas
 pub mod MoveLemmas
 pub mod PieceLemmas
+pub mod SayingLemmas
 pub mod SettingLemmas
 pub mod StreamLemmas
 pub mod WordLemmas

@@ -1,8 +1,13 @@
 -- What options set up, and wishes.
-use Rattle.std.proofs.Common.{◌≡◌, ◌⊎◌, ◌∙◌, ℕ, Bool, List, Option, Some, None, ap, codes, inl, inr, refl, subst, sym}
+use Rattle.std.proofs.Common.{◌≡◌, ◌⊎◌, ◌∙◌, ◌≢◌, ℕ, Bool, false, List, [], ◌∷◌, ◌++◌, Option, Some, None, ap, codes, inl, inr, refl, subst, sym}
+use Rattle.std.specs.Prelude.{All, IfSome, MatchOption, slice_index_or}
+use Rattle.std.proofs.lemmas.List.Elements.{All-cons, All-nil}
 use Rattle.std.specs.Borrow.{Bor}
 use Rattle.clap.specs.Walk.{Row, Text, first_of, one_of}
 use Rattle.chess_rules.specs.declared.men.Parts.{Parts}
+use Rattle.chess_rules.specs.Initial.{initial}
+use Rattle.chess_text.specs.declared.fen.FenError.{FenError}
+use Rattle.chess_text.specs.Fen.{RefusedFirst}
 use Rattle.chess_text.specs.Laws.{TextsTellPositions}
 use Rattle.dgt_frame.specs.declared.time.First.{First}
 use Rattle.pgn_book.specs.declared.values.Tag.{Tag}
@@ -12,9 +17,12 @@ use Rattle.pgn_book.specs.declared.values.TagError.TheVariants.{Text as NoText, 
 use Rattle.pgn_book.specs.Values.{Refuses, TagValues, unknown_of, unknown_values, value_of}
 use Rattle.board_session.specs.declared.recording.Setup.{Setup}
 use Rattle.dgt_replay.specs.declared.recording.Refusal.{Refusal}
+use Rattle.dgt_replay.specs.declared.recording.Refusal.TheVariants.{Fen, Tag as OfTag}
 use Rattle.dgt_replay.specs.declared.words.Wishes.{Wishes}
 use Rattle.dgt_replay.specs.Recorded.{plain_setup}
-use Rattle.dgt_replay.specs.SettingUp.{ForMemory, HasNoStart, HasNoValue, HasValue, HasValues, MayHave, Meets, MeetsNothing, SetsUp, SetsUpNothing, StartsAt, Wants, flag_text, given, option_of, wished, with_given}
+use Rattle.dgt_replay.specs.SettingUp.{ForMemory, HasNoStart, HasNoValue, HasValue, HasValues, IsFirst, MayHave, Meets, MeetsNothing, OfFirstTag, RefusesSetup, RefusesStart, RefusesValue, SetsUp, SetsUpNothing, StartsAt, Wants, flag_text, given, option_of, refusal_words, tags, wished, with_given}
+use Rattle.dgt_replay.specs.Telling.{Says, Tells, fen_words, tag_words}
+use Rattle.dgt_replay.proofs.SayingLemmas.{tells_memory, tells_refused}
 
 -- What options set up is what the wishes want.
 pub meets : (rows : List Row) (wishes : Wishes) (setup : Setup) → Wants rows wishes → SetsUp rows setup → Meets wishes setup
@@ -145,9 +153,110 @@ all_set wishes none event site date round white black is s1 s2 s3 s4 s5 s6 m1 m2
     let e6 = s6 ∙ ap (λ v. with_given Black (given wishes.black) v) e5 ∙ set_black (given wishes.black) v1 v2 v3 v4 v5 in
     all_values wishes black e6 m1 m2 m3 m4 m5 m6
 
-pub one_refused : {P : Type 0} (wishes : Wishes) (tag : Tag) → P ⊎ HasNoValue tag (wished wishes tag) → P ⊎ ((t : Tag) × HasNoValue t (wished wishes t))
-one_refused wishes tag (inl p) = inl p
-one_refused wishes tag (inr none) = inr (tag, none)
+-- The tags before each may have their texts.
+abbrev BeforeMay : (Tag → Option Text) → List Tag → Type 0
+BeforeMay text before = All (λ t. MayHave t (text t)) before
+
+pub one_may : (text : Tag → Option Text) (a : Tag) (after : List Tag) → MayHave a (text a) → BeforeMay text after → BeforeMay text (a ∷ after)
+one_may text a after may rest = All-cons (λ t. MayHave t (text t)) a after may rest
+
+pub none_may : (text : Tag → Option Text) → BeforeMay text []
+none_may text = All-nil (λ t. MayHave t (text t))
+
+-- A tag is refused, and those before it aren't.
+pub first_tag : (text : Tag → Option Text) (before after : List Tag) (tag : Tag) (refusal : Refusal) → tags ≡ before ++ tag ∷ after → BeforeMay text before
+    → ((error : TagError) × (refusal ≡ OfTag tag error) × MatchOption (text tag) ⊥ (λ value. Refuses tag value error)) → OfFirstTag text refusal
+first_tag text before after tag refusal is may (error, refusal_is, refused) = let P : Refusal → Type 0 = λ r. OfFirstTag text r in subst P (sym refusal_is) (before, after, is, may, refused)
+
+match_map : {A : Type 0} (o : Option A) (P Q : A → Type 0) → ((a : A) → P a → Q a) → MatchOption o ⊥ P → MatchOption o ⊥ Q
+match_map None P Q f none = none
+match_map (Some a) P Q f p = f a p
+
+value_none : (tag : Tag) (text : Option Text) (error : TagError) → MatchOption text ⊥ (λ value. Refuses tag value error) → (error ≡ Memory) ⊎ HasNoValue tag text
+value_none tag None error refused = absurd refused
+value_none tag (Some text) error refused = value_refused tag text error refused
+
+-- Such a refusal is for memory, or no setup is as wished.
+pub tag_none : (wishes : Wishes) (refusal : Refusal) → OfFirstTag (wished wishes) refusal → ForMemory refusal ⊎ MeetsNothing wishes
+tag_none wishes (Fen error) first = absurd first
+tag_none wishes (OfTag tag error) first = elim (value_none tag (wished wishes tag) error first.4) [
+  | inl memory ↦ inl memory
+  | inr none ↦ inr (inr (tag, none))
+]
+
+pub tag_first : (wishes : Wishes) (refusal : Refusal) (start : Parts) → StartsAt (given wishes.fen) start → OfFirstTag (wished wishes) refusal → IsFirst wishes refusal
+tag_first wishes (Fen error) start starts first = absurd first
+tag_first wishes (OfTag tag error) start starts first = ((start, starts), first)
+
+fen_given : (fen : Option Text) (error : FenError) → IfSome fen (λ text. RefusedFirst text error) → ((start : Parts) → StartsAt fen start → ⊥) → MatchOption fen ⊥ (λ text. RefusedFirst text error)
+fen_given None error refused none = none initial refl
+fen_given (Some text) error refused none = refused
+
+pub fen_first : (wishes : Wishes) (error : FenError) → IfSome (given wishes.fen) (λ text. RefusedFirst text error) → ((start : Parts) → StartsAt (given wishes.fen) start → ⊥) → IsFirst wishes (Fen error)
+fen_first wishes error refused none = fen_given (given wishes.fen) error refused none
+
+pub start_refused : (fen : Option Text) (error : FenError) → IfSome fen (λ text. RefusedFirst text error) → ((start : Parts) → StartsAt fen start → ⊥) → RefusesStart fen (fen_words error)
+start_refused None error refused none = none initial refl
+start_refused (Some text) error refused none = (error, refused, refl)
+
+-- What is said of the first refusal.
+tells_value : (wishes : Wishes) (tag : Tag) (error : TagError) (status : ℕ) (said said' : Option (List ℕ)) (err_failed : Bool) → (error ≢ Memory) → IsFirst wishes (OfTag tag error)
+    → status ≡ 1 → Says said said' err_failed (tag_words tag error) → Tells status (RefusesSetup (given wishes.fen) (wished wishes)) said said' false false err_failed
+tells_value wishes tag error status said said' err_failed value first one says =
+    let tagged = first.1 in
+    tells_refused status (RefusesSetup (given wishes.fen) (wished wishes)) said said' false false err_failed (tag_words tag error) one
+    (inr (
+      first.0,
+      (
+        tagged.0,
+        tagged.1,
+        tag,
+        tagged.2,
+        tagged.3,
+        match_map (wished wishes tag) (λ text. Refuses tag text error) (λ text. (e : TagError) × (e ≢ Memory) × Refuses tag text e × (tag_words tag error ≡ tag_words tag e))
+            (λ text refused. (error, value, refused, refl)) tagged.4,
+      ),
+    )) says
+
+pub tells_refusal : (wishes : Wishes) (refusal : Refusal) (status : ℕ) (said said' : Option (List ℕ)) (err_failed : Bool) → IsFirst wishes refusal → (ForMemory refusal → status ≡ 4)
+    → (¬ ForMemory refusal → status ≡ 1) → Says said said' err_failed (refusal_words refusal) → Tells status (RefusesSetup (given wishes.fen) (wished wishes)) said said' false false err_failed
+tells_refusal wishes (Fen error) status said said' err_failed first memory refused says =
+    tells_refused status (RefusesSetup (given wishes.fen) (wished wishes)) said said' false false err_failed (fen_words error) (refused (λ m. m))
+    (inl (match_map (given wishes.fen) (λ text. RefusedFirst text error) (λ text. (e : FenError) × RefusedFirst text e × (fen_words error ≡ fen_words e)) (λ text first. (error, first, refl)) first)) says
+tells_refusal wishes (OfTag tag NoText) status said said' err_failed first memory refused says =
+    let value : NoText ≢ Memory = λ e. cc in tells_value wishes tag NoText status said said' err_failed value first (refused value) says
+tells_refusal wishes (OfTag tag Long) status said said' err_failed first memory refused says =
+    let value : Long ≢ Memory = λ e. cc in tells_value wishes tag Long status said said' err_failed value first (refused value) says
+tells_refusal wishes (OfTag tag NoDate) status said said' err_failed first memory refused says =
+    let value : NoDate ≢ Memory = λ e. cc in tells_value wishes tag NoDate status said said' err_failed value first (refused value) says
+tells_refusal wishes (OfTag tag Memory) status said said' err_failed first memory refused says =
+    tells_memory status (RefusesSetup (given wishes.fen) (wished wishes)) said said' false false err_failed (memory refl) says
+
+pub says_memory : (refusal : Refusal) (said said' : Option (List ℕ)) (err_failed : Bool) → ForMemory refusal → Says said said' err_failed (refusal_words refusal)
+    → Says said said' err_failed (codes "memory\n")
+says_memory (Fen error) said said' err_failed memory says = absurd memory
+says_memory (OfTag tag error) said said' err_failed memory says = let P : TagError → Type 0 = λ e. Says said said' err_failed (tag_words tag e) in subst P memory says
+
+-- The same reasons where the texts are the same.
+pub refuses_start_alike : (fen fen' : Option Text) (words : List ℕ) → fen ≡ fen' → RefusesStart fen words → RefusesStart fen' words
+refuses_start_alike fen fen' words same refuses = let P : Option Text → Type 0 = λ f. RefusesStart f words in subst P same refuses
+
+pub refuses_alike : (fen fen' : Option Text) (text text' : Tag → Option Text) → fen ≡ fen' → ((tag : Tag) → text tag ≡ text' tag) → (words : List ℕ) → RefusesSetup fen text words → RefusesSetup fen' text' words
+refuses_alike fen fen' text text' same alike words (inl refuses) = inl (refuses_start_alike fen fen' words same refuses)
+refuses_alike fen fen' text text' same alike words (inr (starts, tagged)) =
+    let P : Option Text → Type 0 = λ f. (start : Parts) × StartsAt f start in
+    let Q : Option Text → Type 0 = λ t. RefusesValue tagged.2 t words in
+    inr (
+      subst P same starts,
+      (
+        tagged.0,
+        tagged.1,
+        tagged.2,
+        tagged.3,
+        (λ k d lt. let t = slice_index_or tagged.0 k d in (let R : Option Text → Type 0 = λ o. MayHave t o in subst R (alike t) (tagged.4 k d lt))),
+        subst Q (alike tagged.2) tagged.5,
+      ),
+    )
 
 value_one : (tag : Tag) (text : Option Text) (a b : List ℕ) → HasValue tag text a → HasValue tag text b → a ≡ b
 value_one tag None a b x y = x ∙ sym y

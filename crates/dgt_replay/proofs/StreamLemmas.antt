@@ -7,9 +7,10 @@ use Rattle.std.specs.Io.KnownBytes.{Appends, Consumes, IsAtEnd, Keeps}
 use Rattle.dgt_frame.specs.declared.decode.Decoder.{Decoder}
 use Rattle.dgt_frame.specs.Decoding.{Decoded}
 use Rattle.dgt_frame.specs.Streams.{Shows, Timed}
+use Rattle.board_session.specs.Recording.{limit}
 use Rattle.dgt_replay.specs.declared.lister.Lister.{Lister}
 use Rattle.dgt_replay.specs.declared.listed.Listed.{Listed}
-use Rattle.dgt_replay.specs.Listing.{Gathers, ListsAll, ListsFirst, ListsFront, ListsRead, last_line, lines_of, listed_text}
+use Rattle.dgt_replay.specs.Listing.{Gathers, ListsAll, ListsFirst, ListsFront, ListsRead, ReadsWithin, last_line, lines_of, listed_text}
 use Rattle.dgt_replay.specs.Reading.{BreaksOff, FinishBreaksOff, Finishes, HasListed, HasTaken, ListsPiece}
 
 pub at_err : {T E : Type 0} (P : Type 0) (r : Result T E) → is_err r ≡ true → OnErr r P → P
@@ -120,14 +121,14 @@ front_past_limit old new lister lister' listed count rest piece dropped input no
     )
 
 -- There are more bytes than may be.
-pub first_at_limit : (old new : Decoder) (lister lister' : Lister) (listed : Listed) (count limit rest : ℕ) (piece dropped : List ℕ) (input now left written so_far after : Option (List ℕ))
+pub first_at_limit : (old new : Decoder) (lister lister' : Lister) (listed : Listed) (count rest : ℕ) (piece dropped : List ℕ) (input now left written so_far after : Option (List ℕ))
     → count + length piece ≡ limit → 0 < length dropped
     → HasListed old lister listed count input now written so_far → Consumes now left (piece ++ dropped) → ListsPiece old lister count piece new lister' so_far after [] → Concludes new rest
-    → ListsFirst listed limit input written after
-first_at_limit old new lister lister' listed count limit rest piece dropped None now left written so_far after long some done read pieces concludes = tt
-first_at_limit old new lister lister' listed count limit rest piece dropped (Some all) None left written so_far after long some done read pieces concludes = absurd done.3
-first_at_limit old new lister lister' listed count limit rest piece dropped (Some all) (Some ahead) None written so_far after long some done read pieces concludes = absurd read
-first_at_limit old new lister lister' listed count limit rest piece dropped (Some all) (Some ahead) (Some left) written so_far after long some done read pieces concludes =
+    → ListsFirst listed input written after
+first_at_limit old new lister lister' listed count rest piece dropped None now left written so_far after long some done read pieces concludes = tt
+first_at_limit old new lister lister' listed count rest piece dropped (Some all) None left written so_far after long some done read pieces concludes = absurd done.3
+first_at_limit old new lister lister' listed count rest piece dropped (Some all) (Some ahead) None written so_far after long some done read pieces concludes = absurd read
+first_at_limit old new lister lister' listed count rest piece dropped (Some all) (Some ahead) (Some left) written so_far after long some done read pieces concludes =
     let bytes = done.0 in
     let given = pieces listed bytes done.1 written done.2 done.4 in
     let events = done.1 ++ given.0 in (
@@ -141,6 +142,16 @@ first_at_limit old new lister lister' listed count limit rest piece dropped (Som
       concludes (bytes ++ piece) events given.1.decoded,
       written_all written after (lines_of listed events) given.1.gathers,
     )
+
+-- How many bytes were read.
+pub reads_within : (decoder : Decoder) (lister : Lister) (listed : Listed) (count : ℕ) (piece : List ℕ) (input now left written so_far : Option (List ℕ)) → count + length piece ≤ limit + 1
+    → HasListed decoder lister listed count input now written so_far → Consumes now left piece → ReadsWithin limit input left
+reads_within decoder lister listed count piece input now left written so_far within done read =
+    (done.0 ++ piece, Consumes-trans input now left done.0 piece done.3 read, omega (arith, length-append done.0 piece, done.2, within))
+
+pub reads_no_more : (decoder : Decoder) (lister : Lister) (listed : Listed) (count : ℕ) (input now left written so_far : Option (List ℕ)) → count ≤ limit
+    → HasListed decoder lister listed count input now written so_far → Keeps now left → ReadsWithin limit input left
+reads_no_more decoder lister listed count input now left written so_far within done kept = (done.0, Consumes-kept input now left done.0 done.3 kept, omega (arith, done.2, within))
 
 -- The input ended, and the last line was written, or a front of it.
 pub front_at_end : {T E : Type 0} (r : Result T E) (decoder : Decoder) (lister : Lister) (listed : Listed) (count : ℕ) (input now left written so_far after : Option (List ℕ))
@@ -182,16 +193,17 @@ front_at_end (Err e) decoder lister listed count input now left written so_far a
       ),
     )
 
-pub all_at_end : (decoder : Decoder) (lister : Lister) (listed : Listed) (count : ℕ) (input now left written so_far after : Option (List ℕ))
+pub all_at_end : (decoder : Decoder) (lister : Lister) (listed : Listed) (count : ℕ) (input now left written so_far after : Option (List ℕ)) → count ≤ limit
     → HasListed decoder lister listed count input now written so_far → Consumes now left [] → IsAtEnd left → Finishes decoder lister so_far after → ListsAll listed input written after
-all_at_end decoder lister listed count None now left written so_far after done read end whole = tt
-all_at_end decoder lister listed count (Some all) None left written so_far after done read end whole = absurd done.3
-all_at_end decoder lister listed count (Some all) (Some ahead) None written so_far after done read end whole = absurd read
-all_at_end decoder lister listed count (Some all) (Some ahead) (Some left) written so_far after done read end whole =
+all_at_end decoder lister listed count None now left written so_far after within done read end whole = tt
+all_at_end decoder lister listed count (Some all) None left written so_far after within done read end whole = absurd done.3
+all_at_end decoder lister listed count (Some all) (Some ahead) None written so_far after within done read end whole = absurd read
+all_at_end decoder lister listed count (Some all) (Some ahead) (Some left) written so_far after within done read end whole =
     let last = whole listed done.0 done.1 done.4.decoded done.4.follows in
     let bytes_are : done.0 ≡ all = sym (done.3 ∙ ap (λ bs. done.0 ++ bs) (read ∙ end) ∙ append-nil done.0) in (
       done.1,
       last.0,
+      omega (arith, done.2, within, ap length bytes_are),
       (let P : List ℕ → Type 0 = λ bs. Shows bs done.1 last.0 in subst P bytes_are last.1),
       Appends-trans written so_far after (lines_of listed done.1) (last_line listed last.0) (written_all written so_far (lines_of listed done.1) done.4.gathers) last.2,
     )

@@ -16,6 +16,7 @@ use Rattle.chess_rules.specs.declared.men.Parts.{Parts}
 use Rattle.pgn_book.specs.declared.values.Tag.{Tag}
 use Rattle.pgn_book.specs.declared.values.Tag.TheVariants.{Event, Site, Date, Round, White, Black}
 use Rattle.board_session.specs.declared.recording.Setup.{Setup}
+use Rattle.dgt_replay.specs.declared.listed.Listed.{Listed}
 use Rattle.dgt_replay.specs.declared.listed.Listed.TheVariants.{Events, Pictures}
 use Rattle.dgt_replay.specs.declared.words.Choice.{Choice}
 use Rattle.dgt_replay.specs.declared.words.Choice.TheVariants.{List as ListOf, Record, Check, Moves}
@@ -23,7 +24,7 @@ use Rattle.dgt_replay.specs.declared.words.Wishes.{Wishes}
 use Rattle.dgt_replay.specs.Command.{replay}
 use Rattle.dgt_replay.specs.Choosing.{Asks, AsksFor, AsksForMoves, AsksForNoMoves, AsksToRecord, AsksToRecordNothing, Chooses, IsCheck, IsMoves, IsPictures, IsRecord, IsRefused, IsShow, is_choice}
 use Rattle.dgt_replay.specs.Recorded.{plain_setup}
-use Rattle.dgt_replay.specs.SettingUp.{HasNoStart, Meets, MeetsNothing, StartsAt, flag_text, given, option_of, side_in}
+use Rattle.dgt_replay.specs.SettingUp.{HasNoStart, Meets, MeetsNothing, StartsAt, Wants, flag_text, given, option_of, side_in}
 use Rattle.dgt_replay.proofs.SettingLemmas.{meets, meets_nothing, sets_up_plainly}
 
 -- a text that was given, or not, is in the rows
@@ -182,32 +183,49 @@ chooses_pictures rotated words choice is asks =
 pub chooses_check : (words : List Text) (choice : Choice) → IsCheck words → AsksFor words choice → choice ≡ Check
 chooses_check words choice is asks = some_choice choice Check ((chosen words (codes "check") (rows_for words) choice (check_asks words is) asks).check refl)
 
--- `record` asks for a recording that is set up as its options say
+pub chooses_list : (words : List Text) (choice : Choice) → IsShow words ⊎ ((rotated : Bool) × IsPictures rotated words) → AsksFor words choice
+    → (listed : Listed) × (choice ≡ ListOf listed)
+chooses_list words choice (inl is) asks = (Events, chooses_show words choice is asks)
+chooses_list words choice (inr (rotated, is)) asks = (Pictures rotated, chooses_pictures rotated words choice is asks)
+
+-- `record` asks for a recording as its options wish
+pub record_chosen : (words : List Text) (rows : List Row) (choice : Choice) → Asks words (codes "record") rows → AsksFor words choice
+    → (wishes : Wishes) × (choice ≡ Record wishes) × Wants rows wishes
+record_chosen words rows choice asks asked =
+    let found = (chosen words (codes "record") rows choice asks asked).record_is refl in
+    (found.0, found.1, found.2)
+
 pub chooses_record : (words : List Text) (setup : Setup) (choice : Choice) → AsksToRecord words setup → AsksFor words choice
     → (wishes : Wishes) × (choice ≡ Record wishes) × Meets wishes setup
 chooses_record words setup choice (rows, asks, sets) asked =
-    let found = (chosen words (codes "record") rows choice asks asked).record_is refl in
+    let found = record_chosen words rows choice asks asked in
     (found.0, found.1, meets rows found.0 setup found.2 sets)
 
 pub chooses_no_setup : (words : List Text) (choice : Choice) → AsksToRecordNothing words → AsksFor words choice
     → (wishes : Wishes) × (choice ≡ Record wishes) × MeetsNothing wishes
 chooses_no_setup words choice (rows, asks, nothing) asked =
-    let found = (chosen words (codes "record") rows choice asks asked).record_is refl in
+    let found = record_chosen words rows choice asks asked in
     (found.0, found.1, meets_nothing rows found.0 found.2 nothing)
 
 -- `moves` asks for those of the position that its option says
+pub moves_chosen : (words : List Text) (rows : List Row) (choice : Choice) → Asks words (codes "moves") rows → AsksFor words choice
+    → (fen : Option (Bor Text)) × (choice ≡ Moves fen) × (given fen ≡ first_of (codes "fen") rows)
+moves_chosen words rows choice asks asked =
+    let found = (chosen words (codes "moves") rows choice asks asked).moves refl in
+    (found.0, some_choice choice (Moves found.0) found.1, found.2)
+
 pub chooses_moves : (words : List Text) (start : Parts) (choice : Choice) → AsksForMoves words start → AsksFor words choice
     → (fen : Option (Bor Text)) × (choice ≡ Moves fen) × StartsAt (given fen) start
 chooses_moves words start choice (rows, asks, starts) asked =
-    let found = (chosen words (codes "moves") rows choice asks asked).moves refl in
+    let found = moves_chosen words rows choice asks asked in
     let P : Option Text → Type 0 = λ fen. StartsAt fen start in
-    (found.0, some_choice choice (Moves found.0) found.1, subst P (sym found.2) starts)
+    (found.0, found.1, subst P (sym found.2) starts)
 
 pub chooses_no_moves : (words : List Text) (choice : Choice) → AsksForNoMoves words → AsksFor words choice
     → (fen : Option (Bor Text)) × (choice ≡ Moves fen) × HasNoStart (given fen)
 chooses_no_moves words choice (rows, asks, none) asked =
-    let found = (chosen words (codes "moves") rows choice asks asked).moves refl in
-    (found.0, some_choice choice (Moves found.0) found.1, subst HasNoStart (sym found.2) none)
+    let found = moves_chosen words rows choice asks asked in
+    (found.0, found.1, subst HasNoStart (sym found.2) none)
 
 -- None of them is refused.
 pub show_unrefused : (words : List Text) → IsShow words → IsRefused words → ⊥
@@ -215,6 +233,10 @@ show_unrefused words is = unrefused words (codes "show") (rows_for words) (show_
 
 pub pictures_unrefused : (rotated : Bool) (words : List Text) → IsPictures rotated words → IsRefused words → ⊥
 pictures_unrefused rotated words is = unrefused words (codes "pictures") (rows_for words) (pictures_asks rotated words is).0
+
+pub lists_unrefused : (words : List Text) → IsShow words ⊎ ((rotated : Bool) × IsPictures rotated words) → IsRefused words → ⊥
+lists_unrefused words (inl is) = show_unrefused words is
+lists_unrefused words (inr (rotated, is)) = pictures_unrefused rotated words is
 
 pub check_unrefused : (words : List Text) → IsCheck words → IsRefused words → ⊥
 check_unrefused words is = unrefused words (codes "check") (rows_for words) (check_asks words is)

@@ -10,3 +10,4 @@ pub mod Reading
 pub mod Recorded
 pub mod SettingUp
 pub mod Status
+pub mod Telling

@@ -1,9 +1,10 @@
 -- What `show` and `pictures` list of a stream.
-use Rattle.std.specs.Prelude.{◌≡◌, ◌<◌, ◌⊎◌, ℕ, List, [], ◌∷◌, ◌++◌, length, reverse, Option, IfSome, Bool, true, false, Contains}
+use Rattle.std.specs.Prelude.{◌≡◌, ◌<◌, ◌≤◌, ◌+◌, ◌⊎◌, ℕ, List, [], ◌∷◌, ◌++◌, length, reverse, Option, IfSome, Bool, true, false, Contains}
 use Rattle.std.specs.List.{flat_map}
 use Rattle.std.specs.Io.KnownBytes.{Appends, Consumes, Keeps}
 use Rattle.dgt_frame.specs.Streams.{Shows, Timed}
 use Rattle.board_session.specs.Asking.{past_of}
+use Rattle.board_session.specs.Recording.{limit}
 use Rattle.board_session.specs.Viewing.{pictures}
 use Rattle.dgt_replay.specs.declared.listed.Listed.{Listed}
 use Rattle.dgt_replay.specs.declared.listed.Listed.TheVariants.{Events, Pictures}
@@ -24,14 +25,14 @@ last_line (Pictures rotated) rest = []
 abbrev pub listed_text : Listed → List Timed → ℕ → List ℕ
 listed_text listed events rest = lines_of listed events ++ last_line listed rest
 
--- All of the input was read, and the text of what it shows was written.
+-- All of the input was read, which is within the limit, and the text of what it shows was written.
 abbrev pub ListsAll : Listed → Option (List ℕ) → Option (List ℕ) → Option (List ℕ) → Type 0
-ListsAll listed input written written' = IfSome input (λ bytes. (events : List Timed) × (rest : ℕ)
+ListsAll listed input written written' = IfSome input (λ bytes. (events : List Timed) × (rest : ℕ) × (length bytes ≤ limit)
     × Shows bytes events rest × Appends written written' (listed_text listed events rest))
 
--- The input is longer than this, and the lines of its first bytes, so many, were written.
-abbrev pub ListsFirst : Listed → ℕ → Option (List ℕ) → Option (List ℕ) → Option (List ℕ) → Type 0
-ListsFirst listed limit input written written' = IfSome input (λ bytes. (first more : List ℕ) × (events : List Timed) × (rest : ℕ)
+-- The input is longer than the limit, and the lines of its first bytes, so many, were written.
+abbrev pub ListsFirst : Listed → Option (List ℕ) → Option (List ℕ) → Option (List ℕ) → Type 0
+ListsFirst listed input written written' = IfSome input (λ bytes. (first more : List ℕ) × (events : List Timed) × (rest : ℕ)
     × (bytes ≡ first ++ more) × (length first ≡ limit) × (0 < length more)
     × Shows first events rest × Appends written written' (lines_of listed events))
 
@@ -53,16 +54,21 @@ abbrev pub ListsFront : Listed → Option (List ℕ) → Option (List ℕ) → O
 ListsFront listed input input' written written' = (bytes after : List ℕ) × (events : List Timed) × (rest : ℕ)
     × Consumes input input' (bytes ++ after) × Shows bytes events rest × WritesFront written written' (listed_text listed events rest)
 
+-- At most one byte past the limit was read.
+abbrev pub ReadsWithin : ℕ → Option (List ℕ) → Option (List ℕ) → Type 0
+ReadsWithin most input input' = (bytes : List ℕ) × Consumes input input' bytes × (length bytes ≤ most + 1)
+
 -- How a listing ends, by its status.
 pub record ListingEnds (listed : Listed) (status : ℕ) (input input' written written' : Option (List ℕ)) (reader_failed out_failed : Bool) : Type 0 where
   -- all was written
   pub done : status ≡ 0 → ListsAll listed input written written'
   -- the stream is past its limit
-  pub long : status ≡ 1 → ListsFirst listed 67108864 input written written'
+  pub long : status ≡ 1 → ListsFirst listed input written written'
   -- a stream has failed: where it isn't the reader, a front of the text stands
   pub fault : status ≡ 3 → ((reader_failed ≡ true) × ListsRead listed input input' written written')
       ⊎ ((out_failed ≡ true) × ListsFront listed input input' written written')
   -- for want of memory nothing was read or written
   pub memory : status ≡ 4 → Keeps input input' × Keeps written written'
   pub known : Contains (0 ∷ 1 ∷ 3 ∷ 4 ∷ []) status
+  pub bounded : ReadsWithin limit input input'
   pub whole : status ≡ 0 → (reader_failed ≡ false) × (out_failed ≡ false)

@@ -8,7 +8,8 @@ use Rattle.board_session.specs.declared.recording.RecordError.{RecordError}
 use Rattle.board_session.specs.declared.recording.RecordError.TheVariants.{Read, Board, Write}
 use Rattle.board_session.specs.declared.recording.Report.{Report}
 use Rattle.board_session.specs.declared.recording.Setup.{Setup}
-use Rattle.board_session.specs.Recording.{Leaves, RecordsAll}
+use Rattle.board_session.specs.Recording.{AppendsPart, Leaves, RecordsAll}
+use Rattle.dgt_replay.specs.Telling.{Says, end_words}
 
 -- the line about a recording, which begins a new line after the bytes for the board
 abbrev pub report_line : Report → List ℕ
@@ -24,21 +25,23 @@ abbrev pub RecordsAndTells : Setup → Option (List ℕ) → Option (List ℕ) �
 RecordsAndTells setup input sent sent' written written' = (report : Report) × (asked : Option (List ℕ))
     × RecordsAll setup report input sent asked written written' × Appends asked sent' (report_line report)
 
--- The recording has ended for this reason, and left what it leaves then: bytes read, bytes for the board, and a text.
-abbrev pub EndsFor : RecordError → Setup → Option (List ℕ) → Option (List ℕ) → Option (List ℕ) → Option (List ℕ) → Option (List ℕ) → Type 0
-EndsFor reason setup input input' sent written written' = (asked : Option (List ℕ)) × Leaves setup (Err reason) input input' sent asked written written'
+-- The recording has ended for this reason, and left what it leaves then: bytes read, bytes for the board and the reason, and a text.
+abbrev pub EndsFor : RecordError → Setup → Option (List ℕ) → Option (List ℕ) → Option (List ℕ) → Option (List ℕ) → Bool → Option (List ℕ) → Option (List ℕ) → Type 0
+EndsFor reason setup input input' sent sent' err_failed written written' = (asked : Option (List ℕ))
+    × Leaves setup (Err reason) input input' sent asked written written' × Says asked sent' err_failed (end_words reason)
 
--- The whole was recorded, and the line about it could not be written.
-abbrev pub RecordsUntold : Setup → Option (List ℕ) → Option (List ℕ) → Option (List ℕ) → Option (List ℕ) → Type 0
-RecordsUntold setup input sent written written' = (report : Report) × (asked : Option (List ℕ)) × RecordsAll setup report input sent asked written written'
+-- The whole was recorded, and the line about it could not be written to its end.
+abbrev pub RecordsUntold : Setup → Option (List ℕ) → Option (List ℕ) → Option (List ℕ) → Option (List ℕ) → Option (List ℕ) → Type 0
+RecordsUntold setup input sent sent' written written' = (report : Report) × (asked : Option (List ℕ))
+    × RecordsAll setup report input sent asked written written' × AppendsPart asked sent' (report_line report)
 
 -- A stream has failed: the reader, the output, or standard error, on which the board is sent its bytes.
-abbrev pub Fails : Setup → Option (List ℕ) → Option (List ℕ) → Option (List ℕ) → Option (List ℕ) → Option (List ℕ) → Bool → Bool → Bool → Type 0
-Fails setup input input' sent written written' reader_failed out_failed err_failed =
-    ((reader_failed ≡ true) × EndsFor Read setup input input' sent written written')
-    ⊎ (((out_failed ≡ true) × EndsFor Write setup input input' sent written written')
-    ⊎ ((err_failed ≡ true) × (EndsFor Board setup input input' sent written written' ⊎ RecordsUntold setup input sent written written')))
+abbrev pub Fails : Setup → Option (List ℕ) → Option (List ℕ) → Option (List ℕ) → Option (List ℕ) → Option (List ℕ) → Option (List ℕ) → Bool → Bool → Bool → Type 0
+Fails setup input input' sent sent' written written' reader_failed out_failed err_failed =
+    ((reader_failed ≡ true) × EndsFor Read setup input input' sent sent' err_failed written written')
+    ⊎ (((out_failed ≡ true) × EndsFor Write setup input input' sent sent' err_failed written written')
+    ⊎ ((err_failed ≡ true) × (EndsFor Board setup input input' sent sent' err_failed written written' ⊎ RecordsUntold setup input sent sent' written written')))
 
--- Nothing was read, and nothing written.
+-- Nothing was read, and nothing written to the output.
 abbrev pub Untouched : Option (List ℕ) → Option (List ℕ) → Option (List ℕ) → Option (List ℕ) → Type 0
 Untouched input input' written written' = Keeps input input' × Keeps written written'

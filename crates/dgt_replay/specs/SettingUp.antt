@@ -1,22 +1,25 @@
 -- What the options of `record` and of `moves` mean.
-use Rattle.std.specs.Prelude.{◌≡◌, ◌⊎◌, Bool, List, ℕ, codes, Option, Some, None, option_map, true, false, if◌then◌else◌, ⊤}
+use Rattle.std.specs.Prelude.{◌≡◌, ◌≢◌, ◌⊎◌, Bool, List, [], ◌∷◌, ◌++◌, All, ℕ, codes, Option, Some, None, MatchOption, option_map, true, false, if◌then◌else◌, ⊤}
 use Rattle.std.specs.Borrow.{Bor}
 use Rattle.std.specs.Str.{bytes_eq}
 use Rattle.clap.specs.Walk.{Row, Text, first_of, one_of}
 use Rattle.chess_rules.specs.declared.men.Parts.{Parts}
 use Rattle.chess_rules.specs.Initial.{initial}
 use Rattle.chess_rules.specs.Valid.{Valid}
-use Rattle.chess_text.specs.Fen.{Tells}
+use Rattle.chess_text.specs.declared.fen.FenError.{FenError}
+use Rattle.chess_text.specs.Fen.{RefusedFirst, Tells}
 use Rattle.dgt_frame.specs.declared.time.First.{First}
 use Rattle.dgt_frame.specs.declared.time.First.TheVariants as first
 use Rattle.pgn_book.specs.declared.values.Tag.{Tag}
 use Rattle.pgn_book.specs.declared.values.Tag.TheVariants.{Event, Site, Date, Round, White, Black}
+use Rattle.pgn_book.specs.declared.values.TagError.{TagError}
 use Rattle.pgn_book.specs.declared.values.TagError.TheVariants.{Memory}
-use Rattle.pgn_book.specs.Values.{IsValue, TagValues, unknown_of, value_of, with_value}
+use Rattle.pgn_book.specs.Values.{IsValue, Refuses, TagValues, unknown_of, value_of, with_value}
 use Rattle.board_session.specs.declared.recording.Setup.{Setup}
 use Rattle.dgt_replay.specs.declared.recording.Refusal.{Refusal}
 use Rattle.dgt_replay.specs.declared.recording.Refusal.TheVariants.{Fen, Tag as OfTag}
 use Rattle.dgt_replay.specs.declared.words.Wishes.{Wishes}
+use Rattle.dgt_replay.specs.Telling.{fen_words, tag_words}
 
 -- the text of a flag
 abbrev pub flag_text : Bool → Text
@@ -66,6 +69,31 @@ HasNoValue tag text = (value : List ℕ) → HasValue tag text value → ⊥
 abbrev pub SetsUpNothing : List Row → Type 0
 SetsUpNothing rows = HasNoStart (first_of (codes "fen") rows) ⊎ ((tag : Tag) × HasNoValue tag (first_of (option_of tag) rows))
 
+-- Why a FEN is refused, in words.
+abbrev pub RefusesStart : Option Text → List ℕ → Type 0
+RefusesStart fen words = MatchOption fen ⊥ (λ text. (error : FenError) × RefusedFirst text error × (words ≡ fen_words error))
+
+-- Why the value of a tag is refused, in words.
+abbrev pub RefusesValue : Tag → Option Text → List ℕ → Type 0
+RefusesValue tag text words = MatchOption text ⊥ (λ value. (error : TagError) × (error ≢ Memory) × Refuses tag value error × (words ≡ tag_words tag error))
+
+-- The tag may have the text, where one is given.
+abbrev pub MayHave : Tag → Option Text → Type 0
+MayHave tag None = ⊤
+MayHave tag (Some text) = IsValue tag text
+
+abbrev pub tags : List Tag
+tags = Event ∷ Site ∷ Date ∷ Round ∷ White ∷ Black ∷ []
+
+-- Why texts for tags are refused: the first that a tag may not have, in the order of the tags.
+abbrev pub RefusesTags : (Tag → Option Text) → List ℕ → Type 0
+RefusesTags text words = (before after : List Tag) × (tag : Tag) × (tags ≡ before ++ tag ∷ after)
+    × All (λ t. MayHave t (text t)) before × RefusesValue tag (text tag) words
+
+-- Why the options set nothing up, in words: the FEN is refused, or, where it isn't, a tag.
+abbrev pub RefusesSetup : Option Text → (Tag → Option Text) → List ℕ → Type 0
+RefusesSetup fen text words = RefusesStart fen words ⊎ (((start : Parts) × StartsAt fen start) × RefusesTags text words)
+
 -- the text that is given, where one is
 abbrev pub given : Option (Bor Text) → Option Text
 given = option_map (λ text. text.now)
@@ -106,12 +134,23 @@ abbrev pub with_given : Tag → Option Text → TagValues → TagValues
 with_given tag None values = values
 with_given tag (Some text) values = with_value tag text values
 
--- The tag may have the text, where one is given.
-abbrev pub MayHave : Tag → Option Text → Type 0
-MayHave tag None = ⊤
-MayHave tag (Some text) = IsValue tag text
-
 -- The refusal is for want of memory.
 abbrev pub ForMemory : Refusal → Type 0
 ForMemory (Fen error) = ⊥
 ForMemory (OfTag tag error) = error ≡ Memory
+
+-- The refusal is that of a tag whose text is refused, and the tags before it may have theirs.
+abbrev pub OfFirstTag : (Tag → Option Text) → Refusal → Type 0
+OfFirstTag text (Fen error) = ⊥
+OfFirstTag text (OfTag tag error) = (before after : List Tag) × (tags ≡ before ++ tag ∷ after)
+    × All (λ t. MayHave t (text t)) before × MatchOption (text tag) ⊥ (λ value. Refuses tag value error)
+
+-- The refusal is the first one.
+abbrev pub IsFirst : Wishes → Refusal → Type 0
+IsFirst wishes (Fen error) = MatchOption (given wishes.fen) ⊥ (λ text. RefusedFirst text error)
+IsFirst wishes (OfTag tag error) = ((start : Parts) × StartsAt (given wishes.fen) start) × OfFirstTag (wished wishes) (OfTag tag error)
+
+-- the words of a refusal
+abbrev pub refusal_words : Refusal → List ℕ
+refusal_words (Fen error) = fen_words error
+refusal_words (OfTag tag error) = tag_words tag error

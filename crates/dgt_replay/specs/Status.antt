@@ -1,5 +1,5 @@
--- The exit statuses.
-use Rattle.std.specs.Prelude.{ℕ}
+-- What is said of a listing that gave up.
+use Rattle.std.specs.Prelude.{ℕ, List, codes}
 use Rattle.dgt_replay.specs.declared.listing.ListError.{ListError}
 use Rattle.dgt_replay.specs.declared.listing.ListError.TheVariants.{Read, Write, TooLong}
 
@@ -8,3 +8,9 @@ abbrev pub status_of : ListError → ℕ
 status_of Read = 3
 status_of Write = 3
 status_of TooLong = 1
+
+-- the words about it
+abbrev pub words_of : ListError → List ℕ
+words_of Read = codes "read fault\n"
+words_of Write = codes "write fault\n"
+words_of TooLong = codes "input: too long\n"

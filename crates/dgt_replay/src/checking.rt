@@ -3,9 +3,11 @@ ghost use Rattle.std.specs.Prelude.{◌≡◌, ◌≢◌, ◌<◌, ◌≤◌, �
 ghost use Rattle.std.specs.Io.KnownBytes.{Keeps};
 ghost use Rattle.dgt_frame.specs.Watched.{inner_of, has_failed};
 ghost use Rattle.dgt_replay.specs.Checked.{ChecksGame, RefusesText};
+ghost use Rattle.dgt_replay.specs.Listing.{ReadsWithin};
+ghost use Rattle.dgt_replay.specs.Telling.{Tells};
 
 use crate::lines::{Lines, add_summary};
-use crate::saying::refused;
+use crate::saying::{refused, refused_run};
 use dgt_frame::Watch;
 use pgn_book::{PgnError, put, read_pgn};
 use std::alloc::Global;
@@ -27,8 +29,10 @@ enum TextError {
 fn read_text<R: Read>(alloc: Global, reader: &mut Watch<R>) -> Result<Vec<u8>, TextError>
     requires { has_failed reader.old ≡ false }
     ensures whole { IfOk result (λ text. IfSome (R.remaining (inner_of reader.old)) (λ bytes. text.items ≡ bytes)) }
+    ensures within { IfOk result (λ text. length text.items ≤ TEXT_LIMIT) }
+    ensures bounded { ReadsWithin TEXT_LIMIT (R.remaining (inner_of reader.old)) (R.remaining (inner_of reader.new)) }
     ensures read { result ≡ Err TextError.Read → has_failed reader.new ≡ true }
-    ensures long { result ≡ Err TextError.TooLong → IfSome (R.remaining (inner_of reader.old)) (λ bytes. 268435456 < length bytes) }
+    ensures long { result ≡ Err TextError.TooLong → IfSome (R.remaining (inner_of reader.old)) (λ bytes. TEXT_LIMIT < length bytes) }
 {
     let mut text = Vec::new(alloc);
     let mut buffer = [0u8; PIECE];
@@ -60,22 +64,23 @@ pub fn check<R: Read, O: Write, E: Write>(
     requires reading { has_failed reader.old ≡ false }
     requires working { has_failed out.old ≡ false }
     ensures passes { result ≡ 0 → ChecksGame (R.remaining (inner_of reader.old)) (O.contents (inner_of out.old)) (O.contents (inner_of out.new)) }
-    ensures refuses { result ≡ 1 → RefusesText (R.remaining (inner_of reader.old)) }
-    ensures fails { result ≡ 3 → (has_failed reader.new ≡ true) ⊎ (has_failed out.new ≡ true) }
+    ensures tells { Tells result (RefusesText (R.remaining (inner_of reader.old))) (E.contents (inner_of err.old)) (E.contents (inner_of err.new))
+        (has_failed reader.new) (has_failed out.new) (has_failed err.new) }
+    ensures bounded { ReadsWithin TEXT_LIMIT (R.remaining (inner_of reader.old)) (R.remaining (inner_of reader.new)) }
     ensures silent { (result ≡ 1) ⊎ (result ≡ 4) → Keeps (O.contents (inner_of out.old)) (O.contents (inner_of out.new)) }
     ensures known { result ≤ 4 }
     ensures status { result ≢ 2 }
 {
     let text = match read_text(alloc, reader) {
         Ok(text) => text,
-        Err(TextError::Memory) => return refused(err, b"memory\n", 4),
-        Err(TextError::Read) => return refused(err, b"read fault\n", 3),
-        Err(TextError::TooLong) => return refused(err, b"input: too long\n", 1),
+        Err(TextError::Memory) => return refused_run(out, err, b"memory\n", 4),
+        Err(TextError::Read) => return refused_run(out, err, b"read fault\n", 3),
+        Err(TextError::TooLong) => return refused_run(out, err, b"input: too long\n", 1),
     };
     let game = match read_pgn(alloc, text.as_slice()) {
         Ok(game) => game,
-        Err(PgnError::Memory) => return refused(err, b"memory\n", 4),
-        Err(PgnError::NotExport) => return refused(err, b"pgn: not export\n", 1),
+        Err(PgnError::Memory) => return refused_run(out, err, b"memory\n", 4),
+        Err(PgnError::NotExport) => return refused_run(out, err, b"pgn: not export\n", 1),
     };
     let mut lines = Lines::new();
     add_summary(&mut lines, game.plies().len() as u64, game.result());

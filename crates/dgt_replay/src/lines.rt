@@ -29,7 +29,8 @@ pub const LONGEST: usize = 96;
 /// Lines that wait to be written.
 pub type Lines = ArrayVec<u8, GATHERED>;
 
-fn add(lines: &mut Lines, text: &[u8])
+/// Adds a text, for which there is room.
+pub fn add(lines: &mut Lines, text: &[u8])
     requires { array_vec_len lines.old + length text.now ≤ GATHERED }
     ensures items { lines.new.items ≡ lines.old.items ++ text.now }
     ensures len { array_vec_len lines.new ≡ array_vec_len lines.old + length text.now }

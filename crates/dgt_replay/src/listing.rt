@@ -2,9 +2,9 @@
 ghost use Rattle.std.specs.Prelude.{◌≡◌, ◌<◌, ◌≤◌, ◌+◌, ◌^◌, [], length, OnOk, OnErr, Err, true, false};
 ghost use Rattle.dgt_frame.specs.Streams.{HasFrame};
 ghost use Rattle.dgt_frame.specs.Watched.{inner_of, has_failed};
-ghost use Rattle.dgt_replay.specs.Listing.{ListsAll, ListsFirst, ListsFront, ListsRead};
+ghost use Rattle.dgt_replay.specs.Listing.{ListsAll, ListsFirst, ListsFront, ListsRead, ReadsWithin};
 ghost use Rattle.dgt_replay.specs.Reading.{BreaksLines, BreaksOff, FinishBreaksOff, Finishes, GathersEvent, HasTaken, ListsPiece};
-ghost use Rattle.dgt_replay.specs.Status.{status_of};
+ghost use Rattle.dgt_replay.specs.Status.{status_of, words_of};
 
 use crate::lines::{GATHERED, LONGEST, Lines};
 use crate::listed::Listed;
@@ -31,7 +31,9 @@ pub enum ListError {
 
 impl ListError {
     /// What the program says of it.
-    pub fn line(self) -> &'static [u8] {
+    pub fn line(self) -> &'static [u8]
+        ensures { result.now ≡ words_of self }
+    {
         match self {
             ListError::Read => b"read fault\n",
             ListError::Write => b"write fault\n",
@@ -132,6 +134,7 @@ pub fn list_stream<R: Read, O: Write>(
     ensures reading { result ≡ Err ListError.Read → has_failed reader.new ≡ true }
     ensures working { result ≡ Err ListError.Write → has_failed out.new ≡ true }
     ensures whole { OnOk result ((has_failed reader.new ≡ false) × (has_failed out.new ≡ false)) }
+    ensures bounded { ReadsWithin LIMIT (R.remaining (inner_of reader.old)) (R.remaining (inner_of reader.new)) }
 
     // What stands after each refusal, and that nothing but a front of the text is ever written.
     ensures read { result ≡ Err ListError.Read → ListsRead listed
@@ -139,7 +142,7 @@ pub fn list_stream<R: Read, O: Write>(
         (O.contents (inner_of out.old)) (O.contents (inner_of out.new)) }
     ensures front { ListsFront listed (R.remaining (inner_of reader.old)) (R.remaining (inner_of reader.new))
         (O.contents (inner_of out.old)) (O.contents (inner_of out.new)) }
-    ensures long { result ≡ Err ListError.TooLong → ListsFirst listed LIMIT (R.remaining (inner_of reader.old))
+    ensures long { result ≡ Err ListError.TooLong → ListsFirst listed (R.remaining (inner_of reader.old))
         (O.contents (inner_of out.old)) (O.contents (inner_of out.new)) }
 {
     let mut decoder = Decoder::new();

@@ -5,10 +5,11 @@ ghost use Rattle.chess_rules.specs.declared.men.Parts.{Parts as PartsOf};
 ghost use Rattle.chess_rules.specs.Legal.{Legal};
 ghost use Rattle.dgt_frame.specs.Watched.{inner_of, has_failed};
 ghost use Rattle.dgt_replay.specs.Printed.{PrintsMoves, TellsMoves};
-ghost use Rattle.dgt_replay.specs.SettingUp.{HasNoStart, StartsAt, given};
+ghost use Rattle.dgt_replay.specs.SettingUp.{HasNoStart, RefusesStart, StartsAt, given};
+ghost use Rattle.dgt_replay.specs.Telling.{Tells};
 
 use crate::lines::{GATHERED, LONGEST, Lines, add_san};
-use crate::saying::{refused, refused_fen};
+use crate::saying::{refused, refused_fen, refused_run};
 use crate::starting::start_of;
 use chess_rules::{Move, Position};
 use chess_text::write_san;
@@ -51,7 +52,7 @@ pub fn moves<O: Write, E: Write>(
     ensures prints { (start : PartsOf) → StartsAt (given fen.entry) start → result ≡ 0 → PrintsMoves start (O.contents (inner_of out.old)) (O.contents (inner_of out.new)) }
     ensures accepts { (start : PartsOf) → StartsAt (given fen.entry) start → result ≢ 1 }
     ensures refuses { HasNoStart (given fen.entry) → (result ≡ 1) × Keeps (O.contents (inner_of out.old)) (O.contents (inner_of out.new)) }
-    ensures fails { result ≡ 3 → has_failed out.new ≡ true }
+    ensures tells { Tells result (RefusesStart (given fen.entry)) (E.contents (inner_of err.old)) (E.contents (inner_of err.new)) false (has_failed out.new) (has_failed err.new) }
     ensures silent { result ≡ 4 → Keeps (O.contents (inner_of out.old)) (O.contents (inner_of out.new)) }
     ensures known { result ≤ 4 }
     ensures status { result ≢ 2 }
@@ -61,7 +62,7 @@ pub fn moves<O: Write, E: Write>(
         Err(error) => return refused_fen(err, error),
     };
     let Ok(moves) = position.legal_moves(alloc) else {
-        return refused(err, b"memory\n", 4);
+        return refused_run(out, err, b"memory\n", 4);
     };
     if put_moves(&position, moves.as_slice(), out).is_err() || out.flush().is_err() {
         return refused(err, b"write fault\n", 3);

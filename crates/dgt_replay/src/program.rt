@@ -1,20 +1,22 @@
 //! The program over any streams.
-ghost use Rattle.std.specs.Prelude.{◌≡◌, ◌≢◌, ◌≤◌, ◌⊎◌, Bool, List, ℕ, Option, map, string_bytes, false, true};
+ghost use Rattle.std.specs.Prelude.{◌≡◌, ◌≢◌, ◌≤◌, ◌⊎◌, Bool, List, ℕ, Option, codes, map, string_bytes, false, true};
 ghost use Rattle.std.specs.Borrow.{Bor};
 ghost use Rattle.std.specs.Io.KnownBytes.{Keeps};
 ghost use Rattle.board_session.specs.declared.recording.RecordError.{RecordError};
 ghost use Rattle.board_session.specs.declared.recording.Setup.{Setup};
 ghost use Rattle.chess_rules.specs.declared.men.Parts.{Parts as PartsOf};
 ghost use Rattle.clap.specs.Values.{kind_of};
+ghost use Rattle.clap.specs.Walk.{Row, first_of};
 ghost use Rattle.dgt_frame.specs.Watched.{inner_of, has_failed};
-ghost use Rattle.dgt_replay.specs.Checked.{ChecksGame, RefusesText};
-ghost use Rattle.dgt_replay.specs.Choosing.{AsksForMoves, AsksForNoMoves, AsksToRecord, AsksToRecordNothing, IsCheck, IsPictures, IsRefused, IsShow};
+ghost use Rattle.dgt_replay.specs.Checked.{ChecksGame, RefusesText, text_limit};
+ghost use Rattle.dgt_replay.specs.Choosing.{Asks, AsksForMoves, AsksForNoMoves, AsksToRecord, AsksToRecordNothing, IsCheck, IsPictures, IsRefused, IsShow};
 ghost use Rattle.dgt_replay.specs.declared.listed.Listed.{Listed};
-ghost use Rattle.dgt_replay.specs.Listing.{ListingEnds};
+ghost use Rattle.dgt_replay.specs.Listing.{ListingEnds, ReadsWithin};
 ghost use Rattle.dgt_replay.specs.Printed.{PrintsMoves};
 ghost use Rattle.dgt_replay.specs.declared.words.Wishes.{Wishes};
 ghost use Rattle.dgt_replay.specs.Recorded.{EndsFor, Fails, RecordsAndTells, Untouched};
-ghost use Rattle.dgt_replay.specs.SettingUp.{HasNoStart, Meets, MeetsNothing, StartsAt, given};
+ghost use Rattle.dgt_replay.specs.SettingUp.{HasNoStart, Meets, MeetsNothing, RefusesSetup, RefusesStart, SetsUpNothing, StartsAt, given, option_of, wished};
+ghost use Rattle.dgt_replay.specs.Telling.{IsTooLong, Says, Tells};
 
 use crate::checking::check;
 use crate::listed::Listed;
@@ -39,7 +41,8 @@ fn refused_words<O: Write, E: Write>(
 ) -> u8
     requires working { has_failed out.old ≡ false }
     requires erring { has_failed err.old ≡ false }
-    ensures memory { kind_of error.now ≡ ErrorKind.OutOfMemory → (result ≡ 4) × Keeps (O.contents (inner_of out.old)) (O.contents (inner_of out.new)) }
+    ensures memory { kind_of error.now ≡ ErrorKind.OutOfMemory → (result ≡ 4) × Keeps (O.contents (inner_of out.old)) (O.contents (inner_of out.new))
+        × Says (E.contents (inner_of err.old)) (E.contents (inner_of err.new)) (has_failed err.new) (codes "memory\n") }
     ensures known { result ≤ 4 }
 {
     if matches!(error.kind(), ErrorKind::OutOfMemory) {
@@ -68,6 +71,7 @@ fn list<R: Read, O: Write, E: Write>(
     requires erring { has_failed err.old ≡ false }
     ensures ends { ListingEnds listed result (R.remaining (inner_of reader.old)) (R.remaining (inner_of reader.new))
         (O.contents (inner_of out.old)) (O.contents (inner_of out.new)) (has_failed reader.new) (has_failed out.new) }
+    ensures tells { Tells result IsTooLong (E.contents (inner_of err.old)) (E.contents (inner_of err.new)) (has_failed reader.new) (has_failed out.new) (has_failed err.new) }
     ensures status { (result ≡ 0) ⊎ ((result ≡ 1) ⊎ (result ≡ 3)) }
 {
     let done = list_stream(listed, reader, out);
@@ -94,27 +98,34 @@ fn obey<R: Read, O: Write, E: Write>(
     ensures lists { (listed : Listed) → choice.entry ≡ Choice.List listed → ListingEnds listed result
         (R.remaining (inner_of reader.old)) (R.remaining (inner_of reader.new))
         (O.contents (inner_of out.old)) (O.contents (inner_of out.new)) (has_failed reader.new) (has_failed out.new) }
+    ensures lists_tell { (listed : Listed) → choice.entry ≡ Choice.List listed → Tells result IsTooLong
+        (E.contents (inner_of err.old)) (E.contents (inner_of err.new)) (has_failed reader.new) (has_failed out.new) (has_failed err.new) }
     ensures records { (setup : Setup) (wishes : Wishes) → choice.entry ≡ Choice.Record wishes → Meets wishes setup → result ≡ 0 → RecordsAndTells setup (R.remaining (inner_of reader.old))
         (E.contents (inner_of err.old)) (E.contents (inner_of err.new)) (O.contents (inner_of out.old)) (O.contents (inner_of out.new)) }
     ensures record_long { (setup : Setup) (wishes : Wishes) → choice.entry ≡ Choice.Record wishes → Meets wishes setup → result ≡ 1 → EndsFor RecordError.TooLong setup (R.remaining (inner_of reader.old)) (R.remaining (inner_of reader.new))
-        (E.contents (inner_of err.old)) (O.contents (inner_of out.old)) (O.contents (inner_of out.new)) }
+        (E.contents (inner_of err.old)) (E.contents (inner_of err.new)) (has_failed err.new) (O.contents (inner_of out.old)) (O.contents (inner_of out.new)) }
     ensures record_fails { (setup : Setup) (wishes : Wishes) → choice.entry ≡ Choice.Record wishes → Meets wishes setup → result ≡ 3 → Fails setup (R.remaining (inner_of reader.old)) (R.remaining (inner_of reader.new))
-        (E.contents (inner_of err.old)) (O.contents (inner_of out.old)) (O.contents (inner_of out.new))
+        (E.contents (inner_of err.old)) (E.contents (inner_of err.new)) (O.contents (inner_of out.old)) (O.contents (inner_of out.new))
         (has_failed reader.new) (has_failed out.new) (has_failed err.new) }
     ensures record_memory { (setup : Setup) (wishes : Wishes) → choice.entry ≡ Choice.Record wishes → Meets wishes setup → result ≡ 4 → EndsFor RecordError.Memory setup (R.remaining (inner_of reader.old)) (R.remaining (inner_of reader.new))
-        (E.contents (inner_of err.old)) (O.contents (inner_of out.old)) (O.contents (inner_of out.new))
-        ⊎ Untouched (R.remaining (inner_of reader.old)) (R.remaining (inner_of reader.new)) (O.contents (inner_of out.old)) (O.contents (inner_of out.new)) }
+        (E.contents (inner_of err.old)) (E.contents (inner_of err.new)) (has_failed err.new) (O.contents (inner_of out.old)) (O.contents (inner_of out.new))
+        ⊎ (Untouched (R.remaining (inner_of reader.old)) (R.remaining (inner_of reader.new)) (O.contents (inner_of out.old)) (O.contents (inner_of out.new))
+        × Says (E.contents (inner_of err.old)) (E.contents (inner_of err.new)) (has_failed err.new) (codes "memory\n")) }
     ensures record_refuses { (wishes : Wishes) → choice.entry ≡ Choice.Record wishes → MeetsNothing wishes → ((result ≡ 1) ⊎ (result ≡ 4))
         × Untouched (R.remaining (inner_of reader.old)) (R.remaining (inner_of reader.new)) (O.contents (inner_of out.old)) (O.contents (inner_of out.new)) }
+    ensures refusal_tells { (wishes : Wishes) → choice.entry ≡ Choice.Record wishes → MeetsNothing wishes → Tells result (RefusesSetup (given wishes.fen) (wished wishes))
+        (E.contents (inner_of err.old)) (E.contents (inner_of err.new)) false false (has_failed err.new) }
     ensures checks { choice.entry ≡ Choice.Check → result ≡ 0 → ChecksGame (R.remaining (inner_of reader.old))
         (O.contents (inner_of out.old)) (O.contents (inner_of out.new)) }
-    ensures check_refuses { choice.entry ≡ Choice.Check → result ≡ 1 → RefusesText (R.remaining (inner_of reader.old)) }
-    ensures check_fails { choice.entry ≡ Choice.Check → result ≡ 3 → (has_failed reader.new ≡ true) ⊎ (has_failed out.new ≡ true) }
+    ensures check_tells { choice.entry ≡ Choice.Check → Tells result (RefusesText (R.remaining (inner_of reader.old)))
+        (E.contents (inner_of err.old)) (E.contents (inner_of err.new)) (has_failed reader.new) (has_failed out.new) (has_failed err.new) }
+    ensures check_bounded { choice.entry ≡ Choice.Check → ReadsWithin text_limit (R.remaining (inner_of reader.old)) (R.remaining (inner_of reader.new)) }
     ensures check_silent { choice.entry ≡ Choice.Check → (result ≡ 1) ⊎ (result ≡ 4) → Keeps (O.contents (inner_of out.old)) (O.contents (inner_of out.new)) }
     ensures moves { (fen : Option (Bor (List ℕ))) (start : PartsOf) → choice.entry ≡ Choice.Moves fen → StartsAt (given fen) start → result ≡ 0 → PrintsMoves start (O.contents (inner_of out.old)) (O.contents (inner_of out.new)) }
     ensures moves_accept { (fen : Option (Bor (List ℕ))) (start : PartsOf) → choice.entry ≡ Choice.Moves fen → StartsAt (given fen) start → result ≢ 1 }
     ensures moves_refuse { (fen : Option (Bor (List ℕ))) → choice.entry ≡ Choice.Moves fen → HasNoStart (given fen) → (result ≡ 1) × Keeps (O.contents (inner_of out.old)) (O.contents (inner_of out.new)) }
-    ensures moves_fail { (fen : Option (Bor (List ℕ))) → choice.entry ≡ Choice.Moves fen → result ≡ 3 → has_failed out.new ≡ true }
+    ensures moves_tell { (fen : Option (Bor (List ℕ))) → choice.entry ≡ Choice.Moves fen → Tells result (RefusesStart (given fen))
+        (E.contents (inner_of err.old)) (E.contents (inner_of err.new)) false (has_failed out.new) (has_failed err.new) }
     ensures moves_silent { (fen : Option (Bor (List ℕ))) → choice.entry ≡ Choice.Moves fen → result ≡ 4 → Keeps (O.contents (inner_of out.old)) (O.contents (inner_of out.new)) }
     ensures known { result ≤ 4 }
     ensures status { result ≢ 2 }
@@ -127,8 +138,9 @@ fn obey<R: Read, O: Write, E: Write>(
     }
 }
 
-/// Does what the words ask for, and answers the exit status: 0 where all was done, 1 where the input is refused, 2
-/// where the words are, 3 where a stream has failed, 4 for want of memory.
+/// Does what the words ask for, of which the first is the program's name, and answers the exit status: 0 where all was done
+/// or help was asked for, 1 where the input is refused, 2 where the words are, 3 where a stream has failed, 4 where memory ran
+/// out. Under `record` the bytes for the board go to `err`. No stream may have failed before.
 pub fn run<R: Read, O: Write, E: Write>(
     alloc: Global,
     words: &[String],
@@ -150,42 +162,54 @@ pub fn run<R: Read, O: Write, E: Write>(
         (R.remaining (inner_of reader.old)) (R.remaining (inner_of reader.new))
         (O.contents (inner_of out.old)) (O.contents (inner_of out.new)) (has_failed reader.new) (has_failed out.new) }
 
+    // What they say: nothing where all was done, that the stream is past its limit, which stream has failed, or that memory ran out.
+    ensures lists_tell { IsShow (map string_bytes words.now) ⊎ ((rotated : Bool) × IsPictures rotated (map string_bytes words.now)) → Tells result IsTooLong
+        (E.contents (inner_of err.old)) (E.contents (inner_of err.new)) (has_failed reader.new) (has_failed out.new) (has_failed err.new) }
+
     // `record` with any options: the game, from the start and with the tags that they say.
     ensures record_is { (setup : Setup) → AsksToRecord (map string_bytes words.now) setup → result ≡ 0 → RecordsAndTells setup (R.remaining (inner_of reader.old))
         (E.contents (inner_of err.old)) (E.contents (inner_of err.new)) (O.contents (inner_of out.old)) (O.contents (inner_of out.new)) }
 
     // Its other statuses: the stream is past its limit, and the game of what is within it stands; a stream has failed, and what
-    // stands is what `record` says; memory was refused, at a ply, or before anything was read or written.
+    // stands is what `record` says; memory was refused, at a ply, or before anything was read, or written to the output.
     ensures record_long { (setup : Setup) → AsksToRecord (map string_bytes words.now) setup → result ≡ 1 → EndsFor RecordError.TooLong setup (R.remaining (inner_of reader.old)) (R.remaining (inner_of reader.new))
-        (E.contents (inner_of err.old)) (O.contents (inner_of out.old)) (O.contents (inner_of out.new)) }
+        (E.contents (inner_of err.old)) (E.contents (inner_of err.new)) (has_failed err.new) (O.contents (inner_of out.old)) (O.contents (inner_of out.new)) }
     ensures record_fails { (setup : Setup) → AsksToRecord (map string_bytes words.now) setup → result ≡ 3 → Fails setup (R.remaining (inner_of reader.old)) (R.remaining (inner_of reader.new))
-        (E.contents (inner_of err.old)) (O.contents (inner_of out.old)) (O.contents (inner_of out.new))
+        (E.contents (inner_of err.old)) (E.contents (inner_of err.new)) (O.contents (inner_of out.old)) (O.contents (inner_of out.new))
         (has_failed reader.new) (has_failed out.new) (has_failed err.new) }
     ensures record_memory { (setup : Setup) → AsksToRecord (map string_bytes words.now) setup → result ≡ 4 → EndsFor RecordError.Memory setup (R.remaining (inner_of reader.old)) (R.remaining (inner_of reader.new))
-        (E.contents (inner_of err.old)) (O.contents (inner_of out.old)) (O.contents (inner_of out.new))
-        ⊎ Untouched (R.remaining (inner_of reader.old)) (R.remaining (inner_of reader.new)) (O.contents (inner_of out.old)) (O.contents (inner_of out.new)) }
+        (E.contents (inner_of err.old)) (E.contents (inner_of err.new)) (has_failed err.new) (O.contents (inner_of out.old)) (O.contents (inner_of out.new))
+        ⊎ (Untouched (R.remaining (inner_of reader.old)) (R.remaining (inner_of reader.new)) (O.contents (inner_of out.old)) (O.contents (inner_of out.new))
+        × Says (E.contents (inner_of err.old)) (E.contents (inner_of err.new)) (has_failed err.new) (codes "memory\n")) }
 
-    // Where no position has the FEN, or a tag may not have its text, nothing is read and nothing written.
+    // Where no position has the FEN, or a tag may not have its text, nothing is read, and nothing written to the output; the first
+    // reason is said.
     ensures record_refuses { AsksToRecordNothing (map string_bytes words.now) → ((result ≡ 1) ⊎ (result ≡ 4))
         × Untouched (R.remaining (inner_of reader.old)) (R.remaining (inner_of reader.new)) (O.contents (inner_of out.old)) (O.contents (inner_of out.new)) }
+
+    ensures refusal_tells { (rows : List Row) → Asks (map string_bytes words.now) (codes "record") rows → SetsUpNothing rows
+        → Tells result (RefusesSetup (first_of (codes "fen") rows) (λ tag. first_of (option_of tag) rows))
+        (E.contents (inner_of err.old)) (E.contents (inner_of err.new)) false false (has_failed err.new) }
 
     // NAME `check`: the input is the export text of a game.
     ensures check { IsCheck (map string_bytes words.now) → result ≡ 0 → ChecksGame (R.remaining (inner_of reader.old))
         (O.contents (inner_of out.old)) (O.contents (inner_of out.new)) }
-    // Its other statuses: it is longer than a text may be, or the export text of no game; a stream has failed; and nothing is
-    // written of a text that is refused, or for want of memory.
-    ensures check_refuses { IsCheck (map string_bytes words.now) → result ≡ 1 → RefusesText (R.remaining (inner_of reader.old)) }
-    ensures check_fails { IsCheck (map string_bytes words.now) → result ≡ 3 → (has_failed reader.new ≡ true) ⊎ (has_failed out.new ≡ true) }
+    // What it says, by its status; it reads at most one byte past its limit, and writes nothing of a text that is refused, or for
+    // want of memory.
+    ensures check_tells { IsCheck (map string_bytes words.now) → Tells result (RefusesText (R.remaining (inner_of reader.old)))
+        (E.contents (inner_of err.old)) (E.contents (inner_of err.new)) (has_failed reader.new) (has_failed out.new) (has_failed err.new) }
+    ensures check_bounded { IsCheck (map string_bytes words.now) → ReadsWithin text_limit (R.remaining (inner_of reader.old)) (R.remaining (inner_of reader.new)) }
     ensures check_silent { IsCheck (map string_bytes words.now) → (result ≡ 1) ⊎ (result ≡ 4) → Keeps (O.contents (inner_of out.old)) (O.contents (inner_of out.new)) }
 
     // `moves` with any options: the legal moves of the position that they say.
     ensures moves { (start : PartsOf) → AsksForMoves (map string_bytes words.now) start → result ≡ 0 → PrintsMoves start (O.contents (inner_of out.old)) (O.contents (inner_of out.new)) }
-    // Its other statuses: no position has the FEN; the output has failed; and nothing is written of a FEN that is refused, or for
-    // want of memory.
+    // Status 1 comes where no position has the FEN, and never else; nothing is written of a FEN that is refused, or for want of
+    // memory. What it says, by its status.
     ensures moves_accept { (start : PartsOf) → AsksForMoves (map string_bytes words.now) start → result ≢ 1 }
     ensures moves_refuse { AsksForNoMoves (map string_bytes words.now) → ((result ≡ 1) ⊎ (result ≡ 4)) × Keeps (O.contents (inner_of out.old)) (O.contents (inner_of out.new)) }
-    ensures moves_fail { (start : PartsOf) → AsksForMoves (map string_bytes words.now) start → result ≡ 3 → has_failed out.new ≡ true }
     ensures moves_silent { (start : PartsOf) → AsksForMoves (map string_bytes words.now) start → result ≡ 4 → Keeps (O.contents (inner_of out.old)) (O.contents (inner_of out.new)) }
+    ensures moves_tell { (rows : List Row) → Asks (map string_bytes words.now) (codes "moves") rows → Tells result (RefusesStart (first_of (codes "fen") rows))
+        (E.contents (inner_of err.old)) (E.contents (inner_of err.new)) false (has_failed out.new) (has_failed err.new) }
 
     // There is no other status, and 2 is for words that are refused.
     ensures known { result ≤ 4 }

@@ -1,10 +1,12 @@
 //! The subcommand `record`.
-ghost use Rattle.std.specs.Prelude.{◌≡◌, ◌≢◌, ◌≤◌, ◌⊎◌, false, IfErr, OnOk, MatchResult};
+ghost use Rattle.std.specs.Prelude.{◌≡◌, ◌≢◌, ◌≤◌, ◌⊎◌, codes, false, IfErr, OnOk, MatchOption, MatchResult};
 ghost use Rattle.board_session.specs.declared.recording.Setup.{Setup as SetupOf};
-ghost use Rattle.pgn_book.specs.declared.values.Tag.{Tag as TagOf};
+ghost use Rattle.pgn_book.specs.declared.values.TagError.{TagError as ErrorOf};
 ghost use Rattle.dgt_frame.specs.Watched.{inner_of, has_failed};
+ghost use Rattle.pgn_book.specs.Values.{Refuses};
+ghost use Rattle.dgt_replay.specs.Telling.{Says, Tells};
 ghost use Rattle.dgt_replay.specs.Recorded.{EndsFor, Fails, RecordsAndTells, Untouched};
-ghost use Rattle.dgt_replay.specs.SettingUp.{ForMemory, HasNoValue, HasValues, MayHave, Meets, MeetsNothing, given, wished, with_given};
+ghost use Rattle.dgt_replay.specs.SettingUp.{ForMemory, HasValues, IsFirst, MayHave, Meets, MeetsNothing, OfFirstTag, RefusesSetup, given, refusal_words, wished, with_given};
 
 use crate::lines::{Lines, add_report};
 use crate::saying::{refused, refused_fen, refused_tag};
@@ -28,7 +30,8 @@ enum Refusal {
 fn set(tags: &mut Tags, tag: Tag, value: Option<&str>) -> Result<(), Refusal>
     ensures set { OnOk result (tags.new ≡ with_given tag (given value.entry) tags.old) }
     ensures may { OnOk result (MayHave tag (given value.entry)) }
-    ensures refused { IfErr result (λ refusal. ForMemory refusal ⊎ HasNoValue tag (given value.entry)) }
+    ensures refused { IfErr result (λ refusal. (error : ErrorOf) × (refusal ≡ Refusal.Tag tag error)
+        × MatchOption (given value.entry) ⊥ (λ value. Refuses tag value error)) }
 {
     match value {
         None => Ok(()),
@@ -40,8 +43,7 @@ fn set(tags: &mut Tags, tag: Tag, value: Option<&str>) -> Result<(), Refusal>
 }
 
 fn tags_of(alloc: Global, wishes: &Wishes<'_>) -> Result<Tags, Refusal>
-    ensures { MatchResult result (HasValues wishes.now)
-        (λ refusal. ForMemory refusal ⊎ ((tag : TagOf) × HasNoValue tag (wished wishes.now tag))) }
+    ensures { MatchResult result (HasValues wishes.now) (OfFirstTag (wished wishes.now)) }
 {
     let mut tags = Tags::new(alloc);
     set(&mut tags, Tag::Event, wishes.event)?;
@@ -54,7 +56,8 @@ fn tags_of(alloc: Global, wishes: &Wishes<'_>) -> Result<Tags, Refusal>
 }
 
 fn setup_of(alloc: Global, wishes: &Wishes<'_>) -> Result<Setup, Refusal>
-    ensures { MatchResult result (Meets wishes.now) (λ refusal. ForMemory refusal ⊎ MeetsNothing wishes.now) }
+    ensures meets { MatchResult result (Meets wishes.now) (λ refusal. ForMemory refusal ⊎ MeetsNothing wishes.now) }
+    ensures first { IfErr result (IsFirst wishes.now) }
 {
     let start = match start_of(wishes.fen) {
         Ok(start) => start,
@@ -74,8 +77,9 @@ fn setup_of(alloc: Global, wishes: &Wishes<'_>) -> Result<Setup, Refusal>
 
 // Says why a recording can't be set up, and answers the status.
 fn refused_setup<E: Write>(err: &mut Watch<E>, refusal: Refusal) -> u8
-    ensures status { (result ≡ 1) ⊎ (result ≡ 4) }
     ensures memory { ForMemory refusal → result ≡ 4 }
+    ensures refused { ¬ ForMemory refusal → result ≡ 1 }
+    ensures says { Says (E.contents (inner_of err.old)) (E.contents (inner_of err.new)) (has_failed err.new) (refusal_words refusal) }
 {
     match refusal {
         Refusal::Fen(error) => refused_fen(err, error),
@@ -97,12 +101,12 @@ fn record_as<R: Read, O: Write, E: Write>(
     ensures all { result ≡ 0 → RecordsAndTells setup (R.remaining (inner_of reader.old))
         (E.contents (inner_of err.old)) (E.contents (inner_of err.new)) (O.contents (inner_of out.old)) (O.contents (inner_of out.new)) }
     ensures long { result ≡ 1 → EndsFor RecordError.TooLong setup (R.remaining (inner_of reader.old)) (R.remaining (inner_of reader.new))
-        (E.contents (inner_of err.old)) (O.contents (inner_of out.old)) (O.contents (inner_of out.new)) }
+        (E.contents (inner_of err.old)) (E.contents (inner_of err.new)) (has_failed err.new) (O.contents (inner_of out.old)) (O.contents (inner_of out.new)) }
     ensures fails { result ≡ 3 → Fails setup (R.remaining (inner_of reader.old)) (R.remaining (inner_of reader.new))
-        (E.contents (inner_of err.old)) (O.contents (inner_of out.old)) (O.contents (inner_of out.new))
+        (E.contents (inner_of err.old)) (E.contents (inner_of err.new)) (O.contents (inner_of out.old)) (O.contents (inner_of out.new))
         (has_failed reader.new) (has_failed out.new) (has_failed err.new) }
     ensures memory { result ≡ 4 → EndsFor RecordError.Memory setup (R.remaining (inner_of reader.old)) (R.remaining (inner_of reader.new))
-        (E.contents (inner_of err.old)) (O.contents (inner_of out.old)) (O.contents (inner_of out.new)) }
+        (E.contents (inner_of err.old)) (E.contents (inner_of err.new)) (has_failed err.new) (O.contents (inner_of out.old)) (O.contents (inner_of out.new)) }
     ensures known { result ≤ 4 }
     ensures status { result ≢ 2 }
 {
@@ -138,15 +142,18 @@ pub fn record_game<R: Read, O: Write, E: Write>(
     ensures all { (setup : SetupOf) → Meets wishes.now setup → result ≡ 0 → RecordsAndTells setup (R.remaining (inner_of reader.old))
         (E.contents (inner_of err.old)) (E.contents (inner_of err.new)) (O.contents (inner_of out.old)) (O.contents (inner_of out.new)) }
     ensures long { (setup : SetupOf) → Meets wishes.now setup → result ≡ 1 → EndsFor RecordError.TooLong setup (R.remaining (inner_of reader.old)) (R.remaining (inner_of reader.new))
-        (E.contents (inner_of err.old)) (O.contents (inner_of out.old)) (O.contents (inner_of out.new)) }
+        (E.contents (inner_of err.old)) (E.contents (inner_of err.new)) (has_failed err.new) (O.contents (inner_of out.old)) (O.contents (inner_of out.new)) }
     ensures fails { (setup : SetupOf) → Meets wishes.now setup → result ≡ 3 → Fails setup (R.remaining (inner_of reader.old)) (R.remaining (inner_of reader.new))
-        (E.contents (inner_of err.old)) (O.contents (inner_of out.old)) (O.contents (inner_of out.new))
+        (E.contents (inner_of err.old)) (E.contents (inner_of err.new)) (O.contents (inner_of out.old)) (O.contents (inner_of out.new))
         (has_failed reader.new) (has_failed out.new) (has_failed err.new) }
     ensures memory { (setup : SetupOf) → Meets wishes.now setup → result ≡ 4 → EndsFor RecordError.Memory setup (R.remaining (inner_of reader.old)) (R.remaining (inner_of reader.new))
-        (E.contents (inner_of err.old)) (O.contents (inner_of out.old)) (O.contents (inner_of out.new))
-        ⊎ Untouched (R.remaining (inner_of reader.old)) (R.remaining (inner_of reader.new)) (O.contents (inner_of out.old)) (O.contents (inner_of out.new)) }
+        (E.contents (inner_of err.old)) (E.contents (inner_of err.new)) (has_failed err.new) (O.contents (inner_of out.old)) (O.contents (inner_of out.new))
+        ⊎ (Untouched (R.remaining (inner_of reader.old)) (R.remaining (inner_of reader.new)) (O.contents (inner_of out.old)) (O.contents (inner_of out.new))
+        × Says (E.contents (inner_of err.old)) (E.contents (inner_of err.new)) (has_failed err.new) (codes "memory\n")) }
     ensures refuses { MeetsNothing wishes.now → ((result ≡ 1) ⊎ (result ≡ 4))
         × Untouched (R.remaining (inner_of reader.old)) (R.remaining (inner_of reader.new)) (O.contents (inner_of out.old)) (O.contents (inner_of out.new)) }
+    ensures tells { MeetsNothing wishes.now → Tells result (RefusesSetup (given wishes.now.fen) (wished wishes.now))
+        (E.contents (inner_of err.old)) (E.contents (inner_of err.new)) false false (has_failed err.new) }
     ensures known { result ≤ 4 }
     ensures status { result ≢ 2 }
 {

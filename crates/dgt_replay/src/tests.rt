@@ -923,6 +923,14 @@ fn outputs_fail(rt: HostRuntime) -> Result<(), Fail> {
         }
     }
 
+    // a text that is refused or can't be read, and a flush that fails
+    for source in [whole(&capture, 0), failing(&capture)] {
+        let out = Sink::new(2048, false);
+        let left = run_over(rt.alloc(), &["check"], source, out, good_sink())?;
+        assert_eq!(rt; left.err.get(), b"write fault\n".as_slice());
+        assert_eq!(rt; left.status, 3);
+    }
+
     // help that can't be written
     let left = run_over(
         rt.alloc(),

@@ -229,7 +229,7 @@ fn choice_of<'a>(matches: &ArgMatches<'a>) -> Option<Choice<'a>>
 }
 
 /// Reads the words, of which the first is the program's name. An `Err` has the text of `clap`: help that was asked
-/// for, or why the words are refused, or that memory is wanting.
+/// for, or why the words are refused, or that memory ran out.
 pub fn read_words<'a>(alloc: Global, words: &'a [String]) -> Result<Choice<'a>, Error>
     ensures chooses { IfOk result (λ choice. AsksFor (map string_bytes words.entry.now) choice) }
     ensures refused { IfErr result (λ error. (kind_of error ≡ ErrorKind.OutOfMemory) ⊎ IsRefused (map string_bytes words.entry.now)) }

@@ -1,12 +1,15 @@
-use Rattle.std.proofs.Common.{◌≡◌, List, ℕ, length, refl, subst, sym, ◌∙◌, ◌++◌}
+use Rattle.std.proofs.Common.{◌≡◌, List, ℕ, length, codes, inr, refl, subst, sym, true, ◌∙◌, ◌++◌}
 use Rattle.std.proofs.KnownBytes.{Appends-kept}
 use Rattle.std.specs.Io.KnownBytes.{Appends}
-use Rattle.dgt_frame.specs.Watched.{inner_of}
-use Rattle.dgt_replay.specs.Checked.{summary_line}
+use Rattle.dgt_frame.specs.Watched.{inner_of, has_failed}
+use Rattle.dgt_replay.specs.Checked.{RefusesText, summary_line}
 use Rattle.dgt_replay.proofs.CheckLemmas.{checked, no_game}
 use Rattle.pgn_book.specs.Pgn.{Pgn}
-use Rattle.dgt_replay.proofs.StreamLemmas.{at_ok}
+use Rattle.dgt_replay.proofs.EndLemmas.{true_or}
+use Rattle.dgt_replay.proofs.SayingLemmas.{tells_fault, tells_or_fault, tells_refused}
+use Rattle.dgt_replay.proofs.StreamLemmas.{at_err, at_ok}
 use Rattle.dgt_replay.proofs.checking.check.Goals as goal
+use Rattle.dgt_replay.proofs.checking.check.Goals.{then-is_err-via-then-is_err, then-is_err-via-else-is_err+then-is_err-2}
 
 pub returns-clause-passes : goal.returns-clause-passes
 returns-clause-passes g c done =
@@ -20,14 +23,26 @@ returns-clause-passes g c done =
     let same : c.new-lines.result.items ++ summary_line (length c.plies.result.now) c.result.result ≡ summary_line (length game.plies) game.result =
     rw (c.new-lines.ensures, c.plies.ensures.plies, c.result.ensures) refl in
     let lines_are : lines ≡ summary_line (length game.plies) game.result = c.add_summary.ensures ∙ same in
-    checked input written after c.in-Ok.text.items game c.in-Ok.ensures.whole (rw c.as_slice.ensures.value at c.in-Ok-read_pgn.ensures.found)
+    checked input written after c.in-Ok.text.items game c.in-Ok.ensures.whole (rw c.as_slice.ensures.value at c.in-Ok-read_pgn.ensures.found) c.in-Ok.ensures.within
     (let P : List ℕ → Type 0 = λ bs. Appends written after bs in subst P lines_are (Appends-kept written (g.O.Write.contents (inner_of c.put.new.out)) after lines said c.flush.ensures.bytes))
 
-pub returns-in-Err-NotExport-clause-refuses : goal.returns-in-Err-NotExport-clause-refuses
-returns-in-Err-NotExport-clause-refuses g c one =
-    no_game (g.R.Read.remaining (inner_of c.args.reader.now)) c.in-Ok.text.items c.in-Ok.ensures.whole
+pub returns-in-Err-NotExport-clause-tells : goal.returns-in-Err-NotExport-clause-tells
+returns-in-Err-NotExport-clause-tells g c =
+    let input = g.R.Read.remaining (inner_of c.args.reader.now) in
+    let none = no_game input c.in-Ok.text.items c.in-Ok.ensures.whole
     (λ game pgn.
     let P : List ℕ → Type 0 = λ bs. Pgn game bs in
     let memory = c.in-Err-NotExport.ensures.only game (subst P (sym c.as_slice.ensures.value) pgn) in
     let not_export = c.in-Err-NotExport.field-0-is in
-    absurd (cc))
+    absurd (cc)) in
+    tells_or_fault c.refused_run-in-Err-NotExport.result 1 (RefusesText input) _ _ _ _ _ _ c.refused_run-in-Err-NotExport.ensures.ended
+    (λ one says. tells_refused c.refused_run-in-Err-NotExport.result (RefusesText input) _ _ _ _ _ (codes "pgn: not export\n") one (inr (none, refl)) says)
+
+pub returns-then-is_err-clause-tells : goal.returns-then-is_err-clause-tells
+returns-then-is_err-clause-tells g c =
+    let failed : has_failed c.then-is_err.out ≡ true = elim c.then-is_err.branch [
+      | then-is_err-via-then-is_err w ↦ rw w.out-is (at_err _ c.put.result (sym c.is_err.ensures.value ∙ w.if-is_err.true) c.put.ensures.failed)
+      | then-is_err-via-else-is_err+then-is_err-2 w ↦ rw w.out-is (w.flush.ensures.failed ∙ true_or _ _ (sym w.is_err-else-is_err.ensures.value ∙ w.if-is_err-2.true))
+    ] in
+    tells_fault c.refused.result (RefusesText (g.R.Read.remaining (inner_of c.args.reader.now))) _ _ _ _ _ c.refused.ensures.status
+    (inr (failed, c.refused.ensures.says))

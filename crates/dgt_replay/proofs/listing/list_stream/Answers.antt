@@ -2,7 +2,7 @@ use Rattle.std.proofs.Common.{◌≡◌, ◌+◌, ◌-◌, ◌≤◌, [], length
 use Rattle.std.proofs.lemmas.List.{length-take-le}
 use Rattle.dgt_frame.specs.Watched.{inner_of}
 use Rattle.dgt_replay.specs.Reading.{BreaksOff, HasListed, ListsPiece}
-use Rattle.dgt_replay.proofs.StreamLemmas.{at_err, at_ok, cut_within, first_at_limit, front_at_end, front_at_piece, front_of_read, front_past_limit, left_over, listed_more, read_so_far}
+use Rattle.dgt_replay.proofs.StreamLemmas.{at_err, at_ok, cut_within, first_at_limit, front_at_end, front_at_piece, front_of_read, front_past_limit, left_over, listed_more, read_so_far, reads_within}
 use Rattle.dgt_replay.proofs.listing.list_stream.Goals as goal
 
 pub returns-in_default-clause-front : goal.returns-in_default-clause-front
@@ -57,7 +57,7 @@ returns-then-within-n-clause-long g c same =
     let piece = take c.min-within.result c.read.new.buf in
     let inside : c.min-within.result ≤ c.in-Ok.n = omega arith in
     let fits : c.min-within.result ≤ length c.read.new.buf = omega (arith, c.in-Ok.ensures.bound.0) in
-    first_at_limit c.pieces.decoder c.list_piece.new.decoder c.pieces.lister c.list_piece.new.lister c.args.listed c.pieces.total 67108864 c.pending-then-within-n.result piece
+    first_at_limit c.pieces.decoder c.list_piece.new.decoder c.pieces.lister c.list_piece.new.lister c.args.listed c.pieces.total c.pending-then-within-n.result piece
     (take (c.in-Ok.n - c.min-within.result) (drop c.min-within.result c.read.new.buf))
     (g.R.Read.remaining (inner_of c.args.reader.now)) (g.R.Read.remaining (inner_of c.pieces.reader)) (g.R.Read.remaining (inner_of c.read.new.self))
     (g.O.Write.contents (inner_of c.args.out.now)) so_far after (omega (arith, length-take-le c.min-within.result c.read.new.buf fits))
@@ -89,3 +89,17 @@ pieces-preserved g c =
       working = at_ok _ c.list_piece.result (sym c.is_err.ensures.value ∙ c.if-is_err.false) c.list_piece.ensures.working;
       done = rw piece_long at more;
     }
+
+pub returns-then-is_err-clause-bounded : goal.returns-then-is_err-clause-bounded
+returns-then-is_err-clause-bounded g c =
+    reads_within c.pieces.decoder c.pieces.lister c.args.listed c.pieces.total (take c.in-Ok.n c.read.new.buf)
+    (g.R.Read.remaining (inner_of c.args.reader.now)) (g.R.Read.remaining (inner_of c.pieces.reader)) (g.R.Read.remaining (inner_of c.read.new.self))
+    (g.O.Write.contents (inner_of c.args.out.now)) (g.O.Write.contents (inner_of c.pieces.out)) (let fits : c.in-Ok.n ≤ 67108865 - c.pieces.total = search rules in omega (arith, length-take-le c.in-Ok.n c.read.new.buf c.in-Ok.ensures.bound.0))
+    c.pieces.invariant.done c.in-Ok.ensures.bytes.0
+
+pub returns-then-within-n-clause-bounded : goal.returns-then-within-n-clause-bounded
+returns-then-within-n-clause-bounded g c =
+    reads_within c.pieces.decoder c.pieces.lister c.args.listed c.pieces.total (take c.in-Ok.n c.read.new.buf)
+    (g.R.Read.remaining (inner_of c.args.reader.now)) (g.R.Read.remaining (inner_of c.pieces.reader)) (g.R.Read.remaining (inner_of c.read.new.self))
+    (g.O.Write.contents (inner_of c.args.out.now)) (g.O.Write.contents (inner_of c.pieces.out)) (let fits : c.in-Ok.n ≤ 67108865 - c.pieces.total = search rules in omega (arith, length-take-le c.in-Ok.n c.read.new.buf c.in-Ok.ensures.bound.0))
+    c.pieces.invariant.done c.in-Ok.ensures.bytes.0

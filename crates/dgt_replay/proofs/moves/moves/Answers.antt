@@ -1,13 +1,21 @@
-use Rattle.std.proofs.Common.{List, get_or, subst}
+use Rattle.std.proofs.Common.{◌≡◌, List, get_or, inr, sym, ◌∙◌, subst, true}
 use Rattle.std.specs.List.{Contains}
 use Rattle.std.proofs.lemmas.List.Elements.{Contains-get_or}
 use Rattle.chess_rules.specs.declared.men.Move.{Move}
+use Rattle.dgt_replay.specs.SettingUp.{RefusesStart, given}
+use Rattle.dgt_replay.specs.Telling.{fen_words}
+use Rattle.dgt_replay.proofs.SayingLemmas.{tells_fault, tells_refused}
+use Rattle.dgt_frame.specs.Watched.{has_failed}
+use Rattle.dgt_replay.proofs.EndLemmas.{true_or}
+use Rattle.dgt_replay.proofs.SettingLemmas.{start_refused}
+use Rattle.dgt_replay.proofs.StreamLemmas.{at_err}
 use Rattle.dgt_replay.proofs.moves.moves.Goals as goal
+use Rattle.dgt_replay.proofs.moves.moves.Goals.{then-is_err-via-then-is_err, then-is_err-via-else-is_err+then-is_err-2}
 
 pub put_moves-requires-clause-legal : goal.put_moves-requires-clause-legal
 put_moves-requires-clause-legal g c k d inside =
     let P : List Move → Type 0 = λ moves. Contains moves (get_or c.as_slice.result.now k d) in
-    let listed = c.in-Ok-legal_moves.ensures.each (get_or c.as_slice.result.now k d) in
+    let listed = c.in-Ok-legal_moves.ensures.listed.each (get_or c.as_slice.result.now k d) in
     listed.0 (subst P c.as_slice.ensures.value (Contains-get_or c.as_slice.result.now k d inside))
 
 pub returns-in_default-clause-refuses : goal.returns-in_default-clause-refuses
@@ -18,3 +26,16 @@ returns-then-is_err-clause-refuses g c none = absurd (none c.in-Ok.position ((c.
 
 pub returns-clause-refuses : goal.returns-clause-refuses
 returns-clause-refuses g c none = absurd (none c.in-Ok.position ((c.start_of.ensures.start c.in-Ok.position).0 c.in-Ok.is))
+
+pub returns-in-Err-clause-tells : goal.returns-in-Err-clause-tells
+returns-in-Err-clause-tells g c =
+    tells_refused c.refused_fen.result (RefusesStart (given c.args.fen)) _ _ _ _ _ (fen_words c.in-Err.error) c.refused_fen.ensures.status
+    (start_refused (given c.args.fen) c.in-Err.error c.in-Err.ensures.refusal (λ start starts. let bad = sym c.in-Err.is ∙ (c.start_of.ensures.start start).1 starts in cc)) c.refused_fen.ensures.says
+
+pub returns-then-is_err-clause-tells : goal.returns-then-is_err-clause-tells
+returns-then-is_err-clause-tells g c =
+    let failed : has_failed c.then-is_err.out ≡ true = elim c.then-is_err.branch [
+      | then-is_err-via-then-is_err w ↦ rw w.out-is (at_err _ c.put_moves.result (sym c.is_err.ensures.value ∙ w.if-is_err.true) c.put_moves.ensures.failed)
+      | then-is_err-via-else-is_err+then-is_err-2 w ↦ rw w.out-is (w.flush.ensures.failed ∙ true_or _ _ (sym w.is_err-else-is_err.ensures.value ∙ w.if-is_err-2.true))
+    ] in
+    tells_fault c.refused.result (RefusesStart (given c.args.fen)) _ _ _ _ _ c.refused.ensures.status (inr (failed, c.refused.ensures.says))

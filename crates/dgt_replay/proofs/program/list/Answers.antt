@@ -12,7 +12,7 @@ returns-then-failed-clause-ends g c =
     let written = g.O.Write.contents (inner_of c.args.out.now) in
     let so_far = g.O.Write.contents (inner_of c.list_stream-done.new.out) in
     let after = g.O.Write.contents (inner_of c.then-failed.out) in
-    ends_in_fault c.args.listed c.refused.result input left written after (has_failed c.list_stream-done.new.reader) (has_failed c.then-failed.out) c.refused.ensures
+    ends_in_fault c.args.listed c.refused.result input left written after (has_failed c.list_stream-done.new.reader) (has_failed c.then-failed.out) c.refused.ensures.status c.list_stream-done.ensures.bounded
     (elim c.then-failed.branch [
       | then-failed-via-then-failed w ↦ inr (rw w.out-is (sym c.failed.ensures ∙ w.if-failed.true), rw w.out-is c.list_stream-done.ensures.front)
       | then-failed-via-else-failed+then-is_err w ↦ inr (
@@ -27,5 +27,5 @@ returns-in-Err-clause-ends g c =
     let is : c.list_stream-done.result ≡ Err c.in-Err.error = c.in-Err.is in
     ends_refused c.args.listed c.in-Err.error c.refused-in-Err.result (g.R.Read.remaining (inner_of c.args.reader.now)) (g.R.Read.remaining (inner_of c.list_stream-done.new.reader))
     (g.O.Write.contents (inner_of c.args.out.now)) (g.O.Write.contents (inner_of c.list_stream-done.new.out)) (g.O.Write.contents (inner_of c.flush.new.self))
-    (has_failed c.list_stream-done.new.reader) (has_failed c.flush.new.self) (c.refused-in-Err.ensures ∙ c.status.ensures)
-    (λ e. done.reading (is ∙ ap Err e)) (λ e. c.flush.ensures.failed ∙ ap (λ failed. failed || is_err c.flush.result) (done.working (is ∙ ap Err e))) (λ e. done.read (is ∙ ap Err e)) done.front (λ e. done.long (is ∙ ap Err e)) c.flush.ensures.bytes
+    (has_failed c.list_stream-done.new.reader) (has_failed c.flush.new.self) (c.refused-in-Err.ensures.status ∙ c.status.ensures)
+    (λ e. done.reading (is ∙ ap Err e)) (λ e. c.flush.ensures.failed ∙ ap (λ failed. failed || is_err c.flush.result) (done.working (is ∙ ap Err e))) (λ e. done.read (is ∙ ap Err e)) done.front (λ e. done.long (is ∙ ap Err e)) done.bounded c.flush.ensures.bytes

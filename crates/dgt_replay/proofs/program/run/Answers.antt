@@ -1,9 +1,16 @@
-use Rattle.std.proofs.Common.{map, string_bytes, inl, inr, arith}
+use Rattle.std.proofs.Common.{ℕ, List, Option, codes, map, string_bytes, inl, inr, arith}
+use Rattle.clap.specs.Walk.{first_of}
 use Rattle.std.proofs.KnownBytes.{Keeps-refl}
 use Rattle.dgt_frame.specs.Watched.{inner_of, has_failed}
 use Rattle.dgt_replay.specs.declared.listed.Listed.TheVariants.{Events, Pictures}
+use Rattle.pgn_book.specs.declared.values.Tag.{Tag}
+use Rattle.dgt_replay.specs.Checked.{RefusesText}
+use Rattle.dgt_replay.specs.SettingUp.{RefusesSetup, RefusesStart, given, option_of, wished}
+use Rattle.dgt_replay.specs.Telling.{IsTooLong}
 use Rattle.dgt_replay.proofs.EndLemmas.{ends_for_memory}
-use Rattle.dgt_replay.proofs.WordLemmas.{check_unrefused, chooses_check, chooses_moves, chooses_no_moves, chooses_no_setup, chooses_pictures, chooses_record, chooses_show, moves_unrefused, no_moves_unrefused, no_setup_unrefused, or_refused, pictures_unrefused, record_unrefused, show_unrefused}
+use Rattle.dgt_replay.proofs.SayingLemmas.{tells_alike, tells_memory}
+use Rattle.dgt_replay.proofs.SettingLemmas.{meets_nothing, refuses_alike, refuses_start_alike}
+use Rattle.dgt_replay.proofs.WordLemmas.{check_unrefused, chooses_check, chooses_list, chooses_moves, chooses_no_moves, chooses_no_setup, chooses_pictures, chooses_record, chooses_show, lists_unrefused, moves_chosen, moves_unrefused, no_moves_unrefused, no_setup_unrefused, or_refused, pictures_unrefused, record_chosen, record_unrefused, show_unrefused, unrefused}
 use Rattle.dgt_replay.proofs.program.run.Goals as goal
 
 pub returns-in-Err-clause-show : goal.returns-in-Err-clause-show
@@ -41,24 +48,8 @@ returns-in-Err-clause-check g c is done =
 pub returns-in-Ok-clause-check : goal.returns-in-Ok-clause-check
 returns-in-Ok-clause-check g c is = c.obey.ensures.checks (chooses_check (map string_bytes c.args.words.now) c.in-Ok.choice is c.in-Ok.ensures.chooses)
 
-pub returns-in-Err-clause-check_refuses : goal.returns-in-Err-clause-check_refuses
-returns-in-Err-clause-check_refuses g c is refuses =
-    let four = (c.refused_words.ensures.memory (or_refused c.in-Err.ensures.refused (check_unrefused (map string_bytes c.args.words.now) is))).0 in
-    absurd (omega arith)
-
-pub returns-in-Ok-clause-check_refuses : goal.returns-in-Ok-clause-check_refuses
-returns-in-Ok-clause-check_refuses g c is = c.obey.ensures.check_refuses (chooses_check (map string_bytes c.args.words.now) c.in-Ok.choice is c.in-Ok.ensures.chooses)
-
-pub returns-in-Err-clause-check_fails : goal.returns-in-Err-clause-check_fails
-returns-in-Err-clause-check_fails g c is fails =
-    let four = (c.refused_words.ensures.memory (or_refused c.in-Err.ensures.refused (check_unrefused (map string_bytes c.args.words.now) is))).0 in
-    absurd (omega arith)
-
 pub returns-in-Err-clause-check_silent : goal.returns-in-Err-clause-check_silent
 returns-in-Err-clause-check_silent g c is silent = (c.refused_words.ensures.memory (or_refused c.in-Err.ensures.refused (check_unrefused (map string_bytes c.args.words.now) is))).1
-
-pub returns-in-Ok-clause-check_fails : goal.returns-in-Ok-clause-check_fails
-returns-in-Ok-clause-check_fails g c is = c.obey.ensures.check_fails (chooses_check (map string_bytes c.args.words.now) c.in-Ok.choice is c.in-Ok.ensures.chooses)
 
 pub returns-in-Ok-clause-check_silent : goal.returns-in-Ok-clause-check_silent
 returns-in-Ok-clause-check_silent g c is = c.obey.ensures.check_silent (chooses_check (map string_bytes c.args.words.now) c.in-Ok.choice is c.in-Ok.ensures.chooses)
@@ -81,7 +72,7 @@ returns-in-Err-clause-record_fails g c setup asks status =
 pub returns-in-Err-clause-record_memory : goal.returns-in-Err-clause-record_memory
 returns-in-Err-clause-record_memory g c setup asks memory =
     let ended = c.refused_words.ensures.memory (or_refused c.in-Err.ensures.refused (record_unrefused (map string_bytes c.args.words.now) setup asks)) in
-    inr (Keeps-refl (g.R.Read.remaining (inner_of c.args.reader.now)), ended.1)
+    inr ((Keeps-refl (g.R.Read.remaining (inner_of c.args.reader.now)), ended.1), ended.2)
 
 pub returns-in-Err-clause-record_refuses : goal.returns-in-Err-clause-record_refuses
 returns-in-Err-clause-record_refuses g c asks =
@@ -118,11 +109,6 @@ returns-in-Err-clause-moves g c start asks status =
     let four = (c.refused_words.ensures.memory (or_refused c.in-Err.ensures.refused (moves_unrefused (map string_bytes c.args.words.now) start asks))).0 in
     absurd (omega arith)
 
-pub returns-in-Err-clause-moves_fail : goal.returns-in-Err-clause-moves_fail
-returns-in-Err-clause-moves_fail g c start asks status =
-    let four = (c.refused_words.ensures.memory (or_refused c.in-Err.ensures.refused (moves_unrefused (map string_bytes c.args.words.now) start asks))).0 in
-    absurd (omega arith)
-
 pub returns-in-Err-clause-moves_accept : goal.returns-in-Err-clause-moves_accept
 returns-in-Err-clause-moves_accept g c start asks one =
     let four = (c.refused_words.ensures.memory (or_refused c.in-Err.ensures.refused (moves_unrefused (map string_bytes c.args.words.now) start asks))).0 in
@@ -153,12 +139,54 @@ returns-in-Ok-clause-moves_refuse g c asks =
     let refused = c.obey.ensures.moves_refuse chosen.0 chosen.1 chosen.2 in
     (inl refused.0, refused.1)
 
-pub returns-in-Ok-clause-moves_fail : goal.returns-in-Ok-clause-moves_fail
-returns-in-Ok-clause-moves_fail g c start asks =
-    let chosen = chooses_moves (map string_bytes c.args.words.now) start c.in-Ok.choice asks c.in-Ok.ensures.chooses in
-    c.obey.ensures.moves_fail chosen.0 chosen.1
-
 pub returns-in-Ok-clause-moves_silent : goal.returns-in-Ok-clause-moves_silent
 returns-in-Ok-clause-moves_silent g c start asks =
     let chosen = chooses_moves (map string_bytes c.args.words.now) start c.in-Ok.choice asks c.in-Ok.ensures.chooses in
     c.obey.ensures.moves_silent chosen.0 chosen.1
+
+pub returns-in-Err-clause-lists_tell : goal.returns-in-Err-clause-lists_tell
+returns-in-Err-clause-lists_tell g c asks =
+    let ended = c.refused_words.ensures.memory (or_refused c.in-Err.ensures.refused (lists_unrefused (map string_bytes c.args.words.now) asks)) in
+    tells_memory c.refused_words.result IsTooLong _ _ _ _ _ ended.0 ended.2
+
+pub returns-in-Err-clause-check_tells : goal.returns-in-Err-clause-check_tells
+returns-in-Err-clause-check_tells g c is =
+    let ended = c.refused_words.ensures.memory (or_refused c.in-Err.ensures.refused (check_unrefused (map string_bytes c.args.words.now) is)) in
+    tells_memory c.refused_words.result (RefusesText (g.R.Read.remaining (inner_of c.args.reader.now))) _ _ _ _ _ ended.0 ended.2
+
+pub returns-in-Err-clause-moves_tell : goal.returns-in-Err-clause-moves_tell
+returns-in-Err-clause-moves_tell g c rows asks =
+    let ended = c.refused_words.ensures.memory (or_refused c.in-Err.ensures.refused (unrefused (map string_bytes c.args.words.now) (codes "moves") rows asks)) in
+    tells_memory c.refused_words.result (RefusesStart (first_of (codes "fen") rows)) _ _ _ _ _ ended.0 ended.2
+
+pub returns-in-Err-clause-refusal_tells : goal.returns-in-Err-clause-refusal_tells
+returns-in-Err-clause-refusal_tells g c rows asks nothing =
+    let ended = c.refused_words.ensures.memory (or_refused c.in-Err.ensures.refused (unrefused (map string_bytes c.args.words.now) (codes "record") rows asks)) in
+    tells_memory c.refused_words.result (RefusesSetup (first_of (codes "fen") rows) (λ tag. first_of (option_of tag) rows)) _ _ _ _ _ ended.0 ended.2
+
+pub returns-in-Ok-clause-lists_tell : goal.returns-in-Ok-clause-lists_tell
+returns-in-Ok-clause-lists_tell g c asks =
+    let chosen = chooses_list (map string_bytes c.args.words.now) c.in-Ok.choice asks c.in-Ok.ensures.chooses in
+    c.obey.ensures.lists_tell chosen.0 chosen.1
+
+pub returns-in-Ok-clause-check_tells : goal.returns-in-Ok-clause-check_tells
+returns-in-Ok-clause-check_tells g c is = c.obey.ensures.check_tells (chooses_check (map string_bytes c.args.words.now) c.in-Ok.choice is c.in-Ok.ensures.chooses)
+
+pub returns-in-Ok-clause-check_bounded : goal.returns-in-Ok-clause-check_bounded
+returns-in-Ok-clause-check_bounded g c is = c.obey.ensures.check_bounded (chooses_check (map string_bytes c.args.words.now) c.in-Ok.choice is c.in-Ok.ensures.chooses)
+
+pub returns-in-Ok-clause-moves_tell : goal.returns-in-Ok-clause-moves_tell
+returns-in-Ok-clause-moves_tell g c rows asks =
+    let chosen = moves_chosen (map string_bytes c.args.words.now) rows c.in-Ok.choice asks c.in-Ok.ensures.chooses in
+    tells_alike c.obey.result (RefusesStart (given chosen.0)) (RefusesStart (first_of (codes "fen") rows)) _ _ _ _ _
+    (λ words refuses. refuses_start_alike (given chosen.0) (first_of (codes "fen") rows) words chosen.2 refuses) (c.obey.ensures.moves_tell chosen.0 chosen.1)
+
+pub returns-in-Ok-clause-refusal_tells : goal.returns-in-Ok-clause-refusal_tells
+returns-in-Ok-clause-refusal_tells g c rows asks nothing =
+    let chosen = record_chosen (map string_bytes c.args.words.now) rows c.in-Ok.choice asks c.in-Ok.ensures.chooses in
+    let wishes = chosen.0 in
+    let wants = chosen.2 in
+    let text : Tag → Option (List ℕ) = λ tag. first_of (option_of tag) rows in
+    tells_alike c.obey.result (RefusesSetup (given wishes.fen) (wished wishes)) (RefusesSetup (first_of (codes "fen") rows) text) _ _ _ _ _
+    (λ words refuses. refuses_alike (given wishes.fen) (first_of (codes "fen") rows) (wished wishes) text wants.fen wants.tags words refuses)
+    (c.obey.ensures.refusal_tells wishes chosen.1 (meets_nothing rows wishes wants nothing))

@@ -1,0 +1,14 @@
+use Rattle.std.proofs.Common.{◌≡◌, false, subst}
+use Rattle.dgt_frame.specs.Watched.{inner_of, has_failed}
+use Rattle.dgt_replay.specs.declared.words.Wishes.{Wishes}
+use Rattle.dgt_replay.specs.SettingUp.{MeetsNothing, RefusesSetup, given, wished}
+use Rattle.dgt_replay.specs.Telling.{Tells}
+use Rattle.dgt_replay.proofs.program.obey.Goals as goal
+
+pub returns-in-Record-clause-refusal_tells : goal.returns-in-Record-clause-refusal_tells
+returns-in-Record-clause-refusal_tells g c wishes is nothing =
+    let chosen = c.in-Record.is in
+    let same : c.in-Record.wishes ≡ wishes = cc in
+    let P : Wishes → Type 0 = λ w. MeetsNothing w → Tells c.record_game.result (RefusesSetup (given w.fen) (wished w))
+    (g.E.Write.contents (inner_of c.args.err.now)) (g.E.Write.contents (inner_of c.record_game.new.err)) false false (has_failed c.record_game.new.err) in
+    subst P same c.record_game.ensures.tells nothing

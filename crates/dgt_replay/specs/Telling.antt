@@ -1,0 +1,62 @@
+-- What the program says on standard error.
+use Rattle.std.specs.Prelude.{◌≡◌, ◌⊎◌, ℕ, List, [], ◌++◌, codes, Bool, true, false, Option}
+use Rattle.std.specs.Io.KnownBytes.{Appends, Keeps}
+use Rattle.chess_text.specs.declared.fen.FenError.{FenError}
+use Rattle.chess_text.specs.declared.fen.FenError.TheVariants.{Form, Counters, Placement, Kings, Pawns, Rights, EnPassant, Check}
+use Rattle.pgn_book.specs.declared.values.Tag.{Tag}
+use Rattle.pgn_book.specs.declared.values.Tag.TheVariants.{Event, Site, Date, Round, White, Black}
+use Rattle.pgn_book.specs.declared.values.TagError.{TagError}
+use Rattle.pgn_book.specs.declared.values.TagError.TheVariants.{Text, Long, Date as NoDate, Memory}
+use Rattle.board_session.specs.declared.recording.RecordError.{RecordError}
+use Rattle.board_session.specs.declared.recording.RecordError.TheVariants as record_error
+use Rattle.board_session.specs.Recording.{AppendsPart}
+
+-- These words and no other were said, or a front of them where the stream has failed.
+abbrev pub Says : Option (List ℕ) → Option (List ℕ) → Bool → List ℕ → Type 0
+Says said said' failed words = AppendsPart said said' words × (failed ≡ false → Appends said said' words)
+
+-- why a FEN is refused
+abbrev pub fen_words : FenError → List ℕ
+fen_words Form = codes "fen: form\n"
+fen_words Counters = codes "fen: counters\n"
+fen_words Placement = codes "fen: placement\n"
+fen_words Kings = codes "fen: kings\n"
+fen_words Pawns = codes "fen: pawns\n"
+fen_words Rights = codes "fen: rights\n"
+fen_words EnPassant = codes "fen: en passant\n"
+fen_words Check = codes "fen: check\n"
+
+abbrev pub tag_name : Tag → List ℕ
+tag_name Event = codes "Event"
+tag_name Site = codes "Site"
+tag_name Date = codes "Date"
+tag_name Round = codes "Round"
+tag_name White = codes "White"
+tag_name Black = codes "Black"
+
+-- why the value of a tag is refused
+abbrev pub tag_words : Tag → TagError → List ℕ
+tag_words tag Text = codes "tag " ++ tag_name tag ++ codes ": text\n"
+tag_words tag Long = codes "tag " ++ tag_name tag ++ codes ": long\n"
+tag_words tag NoDate = codes "tag " ++ tag_name tag ++ codes ": date\n"
+tag_words tag Memory = codes "memory\n"
+
+-- why a recording has ended, on a line after the bytes for the board; nothing where their stream has failed
+abbrev pub end_words : RecordError → List ℕ
+end_words record_error.Memory = codes "\nmemory\n"
+end_words record_error.Read = codes "\nread fault\n"
+end_words record_error.Board = []
+end_words record_error.Write = codes "\nwrite fault\n"
+end_words record_error.TooLong = codes "\ninput: too long\n"
+
+-- the words about a stream past its limit
+abbrev pub IsTooLong : List ℕ → Type 0
+IsTooLong words = words ≡ codes "input: too long\n"
+
+-- What a subcommand says, by its status; it may refuse its input with these words.
+pub record Tells (status : ℕ) (May : List ℕ → Type 0) (said said' : Option (List ℕ)) (reader_failed out_failed err_failed : Bool) : Type 0 where
+  pub done : status ≡ 0 → Keeps said said'
+  pub refused : status ≡ 1 → (words : List ℕ) × May words × Says said said' err_failed words
+  pub fault : status ≡ 3 → ((reader_failed ≡ true) × Says said said' err_failed (codes "read fault\n"))
+      ⊎ ((out_failed ≡ true) × Says said said' err_failed (codes "write fault\n"))
+  pub memory : status ≡ 4 → Says said said' err_failed (codes "memory\n")
