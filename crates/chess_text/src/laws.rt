@@ -1,4 +1,4 @@
-// What holds of all texts, each law as the contract of a function that does nothing.
+//! What holds of all texts, each law as the contract of a function that does nothing.
 ghost use Rattle.chess_text.specs.Laws.{PlacementsReadBack, TextsTellPositions, OneRefusal, FensArePlain, TextsTellMoves, MovesTellTexts, TextsArePlain};
 
 /// Read square by square, the placement of a board gives the board back, and no two digits of a placement stand side by

@@ -1,4 +1,4 @@
-// The texts of chess: positions as FEN, moves as SAN, pictures as placements.
+//! The texts of chess: positions as FEN, moves as SAN, pictures as placements.
 #![tactic(auto)]
 
 mod aim;

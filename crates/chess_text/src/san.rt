@@ -39,6 +39,7 @@ pub enum Line {
     Rank,
 }
 
+/// The letter of a kind of man.
 pub fn letter(kind: Kind) -> u8
     ensures value { result ≡ letter_of kind }
     ensures ascii { result < 128 }

@@ -4,6 +4,7 @@ ghost use Rattle.chess_text.specs.Squares.{file_byte as file_byte_lem, rank_byte
 
 use chess_rules::Square;
 
+/// The square of a number that is known to be one.
 pub fn square_at(number: u8) -> Square
     requires { number < 64 }
     ensures { result ≡ number }
@@ -14,6 +15,7 @@ pub fn square_at(number: u8) -> Square
     square
 }
 
+/// The letter of its file, `a` to `h`.
 pub fn file_byte(square: Square) -> u8
     ensures value { result ≡ file_byte_lem square }
     ensures ascii { result < 128 }
@@ -21,6 +23,7 @@ pub fn file_byte(square: Square) -> u8
     b'a' + square.number() % 8
 }
 
+/// The digit of its rank, `1` to `8`.
 pub fn rank_byte(square: Square) -> u8
     ensures value { result ≡ rank_byte_lem square }
     ensures ascii { result < 128 }

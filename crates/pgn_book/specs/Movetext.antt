@@ -49,6 +49,7 @@ two_digits n = (48 + n / 10) ∷ (48 + n % 10) ∷ []
 abbrev pub clock_text : Hms → List ℕ
 clock_text time = codes "{[%clk " ++ ((48 + time.hours) ∷ 58 ∷ [] ++ (two_digits time.minutes ++ (58 ∷ two_digits time.seconds ++ codes "]}")))
 
+-- one comment behind a move whose clock's time is known, else none
 abbrev pub clock_tokens : Option Hms → List (List ℕ)
 clock_tokens None = []
 clock_tokens (Some time) = clock_text time ∷ []

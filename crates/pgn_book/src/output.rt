@@ -14,7 +14,11 @@ pub struct WriteFault {
     pub written: u64,
 }
 
-/// Writes all the bytes, by as many calls of `write` as it takes. It doesn't flush.
+/// Writes all the bytes, by as many calls of `write` as it takes. It doesn't flush. The stream must not have failed before.
+///
+/// # Errors
+///
+/// Where a write fails or takes no byte; the bytes that the error counts were written, and no other.
 pub fn put<W: Write>(out: &mut Watch<W>, bytes: &[u8]) -> Result<(), WriteFault>
     requires { has_failed out.old ≡ false }
     ensures ok { OnOk result (Appends (W.contents (inner_of out.old)) (W.contents (inner_of out.new)) bytes.now) }

@@ -151,6 +151,7 @@ pub fn read_result(bytes: &[u8]) -> Option<Outcome>
     }
 }
 
+/// Whether a set-up part stands at the front.
 #[tactic(auto, unfolding(crate::specs::Parse::has_fen))]
 pub fn has_fen(bytes: &[u8]) -> bool
     ensures { result ≡ has_fen_lem bytes.now }

@@ -249,7 +249,12 @@ fn put_game<W: Write>(out: &mut Watch<W>, at: &mut Place, game: &Game)
     put_movetext(out, at, game);
 }
 
-/// Writes the export text of a game (PGN standard, sections 3.2 and 8). It doesn't flush. It fails only where the stream does.
+/// Writes the export text of a game (PGN standard, sections 3.2 and 8). It doesn't flush. The stream must not have failed
+/// before.
+///
+/// # Errors
+///
+/// Where a write fails or takes no byte; the bytes that the error counts were written, and no other.
 pub fn write_pgn<W: Write>(game: &Game, out: &mut Watch<W>) -> Result<(), WriteFault>
     requires { has_failed out.old ≡ false }
     ensures ok { OnOk result ((text : List ℕ) × Pgn game.now text
