@@ -17,11 +17,14 @@ abbrev pub asks : List Event → List ℕ
 asks [] = 0x42 ∷ 0x4B ∷ []
 asks (event ∷ past) = asks past ++ asked event
 
+-- all that is sent to the board over these events, in the order of the events
 abbrev pub commands : List Timed → List ℕ
 commands events = asks (past_of events)
 
+-- Every event that is no fault is counted as a message.
 abbrev pub messages_in : List Timed → ℕ
 messages_in events = count_by (λ t. not (is_fault t.event)) events
 
+-- Every fault is counted as one.
 abbrev pub faults_in : List Timed → ℕ
 faults_in events = count_by (λ t. is_fault t.event) events

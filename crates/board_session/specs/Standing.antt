@@ -10,6 +10,7 @@ use Rattle.board_session.specs.States.{State}
 use Rattle.board_session.specs.Looking.{is_fault, is_trusted, picture_of, reading_at}
 use Rattle.board_session.specs.Entering.{Idle, is_entry, entries}
 
+-- What the settler is given: the entries of these events, read with the first side and the turning of the setting.
 abbrev pub entries_in : Setting → List Event → List Entry
 entries_in setting past = entries setting.first setting.rotated past
 

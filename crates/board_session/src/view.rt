@@ -33,7 +33,8 @@ impl View {
         }
     }
 
-    /// Takes the next event, and answers the picture that it shows where this differs from the one before it.
+    /// Takes the next event, and answers the picture that it shows where this differs from the one before it. Codes are at
+    /// most 15 and fields at most 63, as the decoder gives them.
     pub fn take(&mut self, event: Event) -> Option<[u8; 64]>
         requires { IsInRange event }
         ensures views { (rotated : Bool) (past : List Event) → Views self.old rotated past → Views self.new rotated (event ∷ past) }
