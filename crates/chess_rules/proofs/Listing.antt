@@ -1,5 +1,5 @@
 -- Listing the legal moves in order.
-use Rattle.std.proofs.Common.{◌≡◌, ℕ, ◌+◌, ◌<◌, ◌≤◌, inl, inr, List, [], ◌∷◌, ◌++◌, Option, Some, None, Contains, get_or, length, refl, sym, ap, subst, ◌∙◌, arith, length-append}
+use Rattle.std.proofs.Common.{◌≡◌, ℕ, ◌+◌, ◌<◌, ◌≤◌, inl, inr, List, [], ◌∷◌, ◌++◌, Option, Some, None, Contains, Result, Ok, Err, OnErr, get_or, length, refl, sym, ap, subst, ◌∙◌, arith, length-append}
 use Rattle.std.proofs.lemmas.Bool.{cases_eq, cases_lt}
 use Rattle.std.proofs.lemmas.List.{get_or_append_left, get_or_push}
 use Rattle.std.proofs.lemmas.List.Elements.{Contains-append_left, Contains-push, Contains-push_cases, Contains-get_or}
@@ -207,3 +207,8 @@ none_one p m e small nope q l low high =
 -- all places
 pub none_all : (p : Parts) → length p.board ≡ 64 → HasNone p 0 20480 → (m : Move) → ¬ Legal p m
 none_all p e none m l = let s : IsSmall m = is_small p m e l in none m l (omega arith) (omega arith)
+
+-- a fact that stands in any case stands at an error
+pub on_err : {T E : Type 0} (P : Type 0) (r : Result T E) → P → OnErr r P
+on_err P (Ok value) p = tt
+on_err P (Err error) p = p

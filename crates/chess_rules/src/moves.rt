@@ -1,5 +1,5 @@
 // The legal moves of a position: every man of the mover, every square that it may reach.
-ghost use Rattle.std.specs.Prelude.{◌≡◌, ◌≢◌, ◌<◌, ◌+◌, IfSome, IfNone, IfOk, OnOk, IsTrue, ◌↔◌};
+ghost use Rattle.std.specs.Prelude.{◌≡◌, ◌≢◌, ◌<◌, ◌+◌, IfSome, IfNone, IfOk, OnOk, OnErr, IsTrue, ◌↔◌};
 ghost use Rattle.chess_rules.specs.Board.{on, man, file, row};
 ghost use Rattle.chess_rules.specs.Attack.{gap};
 ghost use Rattle.chess_rules.specs.Valid.{Valid};
@@ -101,8 +101,9 @@ fn push_legal(
     requires valid { Valid parts.now }
     requires named { promotion_place promotion < 5 }
     requires below { ListsBelow parts.now moves.old.items (first_place from to + promotion_place promotion) }
-    ensures { OnOk result
+    ensures listed { OnOk result
         (ListsBelow parts.now moves.new.items (first_place from to + promotion_place promotion + 1)) }
+    ensures memory { OnErr result ((m : Move) × Legal parts.now m) }
 {
     let _numbers = (from.number(), to.number());
     let m = Move {
@@ -127,7 +128,8 @@ fn push_moves_to(
     requires valid { Valid parts.now }
     requires stands { on parts.now.board from ≡ man parts.now.side kind }
     requires below { ListsBelow parts.now moves.old.items (first_place from to) }
-    ensures { OnOk result (ListsBelow parts.now moves.new.items (first_place from to + 5)) }
+    ensures listed { OnOk result (ListsBelow parts.now moves.new.items (first_place from to + 5)) }
+    ensures memory { OnErr result ((m : Move) × Legal parts.now m) }
 {
     if !may_go(parts, kind, from, to) {
         return Ok(());
@@ -146,7 +148,8 @@ fn push_moves_to(
 fn push_moves_from(moves: &mut Vec<Move>, parts: &Parts, from: Square) -> Result<(), AllocError>
     requires valid { Valid parts.now }
     requires below { ListsBelow parts.now moves.old.items (first_place from 0) }
-    ensures { OnOk result (ListsBelow parts.now moves.new.items (first_place (from + 1) 0)) }
+    ensures listed { OnOk result (ListsBelow parts.now moves.new.items (first_place (from + 1) 0)) }
+    ensures memory { OnErr result ((m : Move) × Legal parts.now m) }
 {
     let Some(kind) = kind_at(parts, from) else {
         return Ok(());
@@ -160,7 +163,8 @@ fn push_moves_from(moves: &mut Vec<Move>, parts: &Parts, from: Square) -> Result
 /// The legal moves, in order.
 pub fn legal_moves_in(alloc: Global, parts: &Parts) -> Result<Vec<Move>, AllocError>
     requires { Valid parts.now }
-    ensures { IfOk result (λ moves. ListsLegal parts.now moves.items) }
+    ensures listed { IfOk result (λ moves. ListsLegal parts.now moves.items) }
+    ensures memory { OnErr result ((m : Move) × Legal parts.now m) }
 {
     let mut moves = Vec::new(alloc);
     for from in 0..64u8 {

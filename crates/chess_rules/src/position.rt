@@ -1,5 +1,5 @@
 // Valid positions.
-ghost use Rattle.std.specs.Prelude.{◌≡◌, ◌<◌, ◌↔◌, All, IsTrue, IsOk, IfOk, IfErr, length};
+ghost use Rattle.std.specs.Prelude.{◌≡◌, ◌<◌, ◌↔◌, All, IsTrue, IsOk, IfOk, IfErr, OnErr, length};
 ghost use Rattle.chess_rules.specs.Board.{on, other};
 ghost use Rattle.chess_rules.specs.Attack.{InCheck};
 ghost use Rattle.chess_rules.specs.After.{after, has_right};
@@ -273,10 +273,14 @@ impl Position {
     }
 
     /// The legal moves, each once, by the square that they leave, then by the square of arrival, then by the promotion in
-    /// the order none, queen, rook, bishop, knight. The only call of this crate that takes memory, and `AllocError` comes
-    /// only where none is left.
+    /// the order none, queen, rook, bishop, knight. The only call of this crate that takes memory.
+    ///
+    /// # Errors
+    ///
+    /// Where the memory for a move was refused; a position with no legal move needs none.
     pub fn legal_moves(&self, alloc: Global) -> Result<Vec<Move>, AllocError>
-        ensures { IfOk result (λ moves. ListsLegal self.now moves.items) }
+        ensures listed { IfOk result (λ moves. ListsLegal self.now moves.items) }
+        ensures memory { OnErr result ((m : Move) × Legal self.now m) }
     {
         legal_moves_in(alloc, &self.parts)
     }
