@@ -1,16 +1,15 @@
 -- What holds of all positions and moves: the laws, for the crates that stand on them.
-use Rattle.std.proofs.Common.{◌≡◌, ◌≢◌, ◌⊎◌, ℕ, ◌<◌, inl, inr, List, [], ◌∷◌, Option, None, false, map, set, unwrap_or, refl, sym, ap, subst, ◌∙◌}
+use Rattle.std.proofs.Common.{◌≡◌, ◌≢◌, ◌⊎◌, ◌<◌, inl, inr, [], ◌∷◌, Option, None, false, map, unwrap_or, refl, sym, ap, subst, ◌∙◌}
 use Rattle.std.proofs.lemmas.Bool.{cond-false}
-use Rattle.chess_rules.specs.declared.men.Side.{Side}
 use Rattle.chess_rules.specs.declared.men.Kind.{Kind}
-use Rattle.chess_rules.specs.declared.men.Kind.TheVariants.{Pawn, Rook, Knight, Bishop, King, Queen}
+use Rattle.chess_rules.specs.declared.men.Kind.TheVariants.{Pawn, Rook, King}
 use Rattle.chess_rules.specs.declared.men.Piece.{Piece}
 use Rattle.chess_rules.specs.declared.men.Move.{Move}
 use Rattle.chess_rules.specs.declared.men.Parts.{Parts}
 use Rattle.chess_rules.specs.declared.lines.Wing.{Wing}
 use Rattle.chess_rules.specs.Board.{Board, on, man, other}
 use Rattle.chess_rules.specs.After.{board_after, moved, taken_pawn, is_castling, is_en_passant, king_home, rook_home, castling_target, crossed}
-use Rattle.chess_rules.specs.Legal.{Legal, Goes, step, pawn_step, capture, double_step, en_passant, castling, Captures, TakesEnPassant, Castles, NamesPromotion}
+use Rattle.chess_rules.specs.Legal.{Goes, step, pawn_step, capture, double_step, en_passant, castling, Captures, TakesEnPassant, Castles, NamesPromotion}
 use Rattle.chess_rules.specs.Valid.{Valid, IsTarget, IsAtHome}
 use Rattle.chess_rules.specs.Picture.{code}
 use Rattle.chess_rules.specs.Laws.{MenTellMoves, PicturesTellMoves, MovesStayValid, CodesTellMen, PicturesTellBoards, MovesOneMan, MovesKingAndRook, MovesMoveMen}
