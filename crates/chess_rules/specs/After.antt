@@ -37,32 +37,39 @@ crossed White QueenSide = 59
 crossed Black KingSide = 5
 crossed Black QueenSide = 3
 
+-- whether the side still has the right to castle to this wing (Article 3.8.2.1)
 abbrev pub has_right : Rights → Side → Wing → Bool
 has_right r White KingSide = r.white_king
 has_right r White QueenSide = r.white_queen
 has_right r Black KingSide = r.black_king
 has_right r Black QueenSide = r.black_queen
 
+-- whether the side is White
 abbrev pub is_white : Side → Bool
 is_white White = true
 is_white Black = false
 
+-- whether both are one side
 abbrev pub is_side : Side → Side → Bool
 is_side White side = is_white side
 is_side Black side = not (is_white side)
 
+-- whether men of this kind are pawns
 abbrev pub is_pawn_kind : Kind → Bool
 is_pawn_kind Pawn = true
 is_pawn_kind _ = false
 
+-- whether men of this kind are kings
 abbrev pub is_king_kind : Kind → Bool
 is_king_kind King = true
 is_king_kind _ = false
 
+-- whether a pawn stands there
 abbrev pub is_pawn : Option Piece → Bool
 is_pawn (Some piece) = is_pawn_kind piece.kind
 is_pawn None = false
 
+-- whether a king stands there
 abbrev pub is_king : Option Piece → Bool
 is_king (Some piece) = is_king_kind piece.kind
 is_king None = false

@@ -1,4 +1,4 @@
-// What holds of all positions and moves, each law as the contract of a function that does nothing.
+//! What holds of all positions and moves, each law as the contract of a function that does nothing.
 ghost use Rattle.chess_rules.specs.Laws.{CodesTellMen, MenTellMoves, MovesMoveMen, MovesStayValid, PicturesTellBoards, PicturesTellMoves};
 
 /// The men of the mover after a legal move stand on their squares after another legal move only where both are one.

@@ -9,6 +9,7 @@ use crate::lines::Wing;
 use crate::men::{Kind, Move, Parts, Piece, Rights, Side, Square};
 use crate::walk::{attacks_from, is_attacked};
 
+/// The other side.
 pub fn other_side(side: Side) -> Side
     ensures { result ≡ other side }
 {
@@ -33,6 +34,7 @@ pub fn kind_on(board: &[Option<Piece>; 64], side: Side, square: u8) -> Option<Ki
     }
 }
 
+/// Whether nothing stands on the square.
 pub fn is_empty(board: &[Option<Piece>; 64], square: u8) -> bool
     requires { square < 64 }
     ensures { IsTrue result ↔ (on board.now square ≡ None) }
@@ -52,6 +54,7 @@ fn is_officer(kind: Option<Kind>) -> bool
     }
 }
 
+/// The row on which this side's pawns are promoted.
 pub fn last_row_of(side: Side) -> u8
     ensures { result ≡ last_row side }
 {
@@ -101,6 +104,7 @@ fn is_forward(side: Side, distance: u8, from: u8, to: u8) -> bool
         }
 }
 
+/// Whether a pawn of this side stands on the square.
 pub fn is_pawn_of(board: &[Option<Piece>; 64], side: Side, square: u8) -> bool
     requires { square < 64 }
     ensures { IsTrue result ↔ (on board.now square ≡ man side Kind.Pawn) }
@@ -178,6 +182,7 @@ fn is_en_passant(parts: &Parts, m: &Move) -> bool
         && attacks_from(&parts.board, parts.side, Kind::Pawn, from, to)
 }
 
+/// The square on which this side's king starts.
 pub fn king_home_of(side: Side) -> u8
     ensures { result ≡ king_home side }
 {
@@ -187,6 +192,7 @@ pub fn king_home_of(side: Side) -> u8
     }
 }
 
+/// The square on which this side's rook of this wing starts.
 pub fn rook_home_of(side: Side, wing: Wing) -> u8
     ensures { result ≡ rook_home side wing }
 {
@@ -209,6 +215,7 @@ fn castling_target_of(side: Side, wing: Wing) -> u8
     }
 }
 
+/// The square that the king crosses where it castles.
 pub fn crossed_of(side: Side, wing: Wing) -> u8
     ensures { result ≡ crossed side wing }
 {
@@ -220,6 +227,7 @@ pub fn crossed_of(side: Side, wing: Wing) -> u8
     }
 }
 
+/// Whether the side has the right to castle to this wing.
 pub fn holds_right(rights: Rights, side: Side, wing: Wing) -> bool
     ensures { result ≡ has_right rights side wing }
 {
@@ -300,6 +308,7 @@ fn pawn_goes(parts: &Parts, m: &Move) -> bool
     is_pawn_step(parts, m) || is_double_step(parts, m) || is_en_passant(parts, m)
 }
 
+/// Whether the man goes so, whether or not its own king is then attacked.
 pub fn goes(parts: &Parts, m: &Move) -> bool
     ensures { IsTrue result ↔ Goes parts.now m.now }
 {
@@ -315,6 +324,7 @@ pub fn goes(parts: &Parts, m: &Move) -> bool
     castles(parts, m)
 }
 
+/// Whether a king of this side stands on the square.
 pub fn is_king_of(board: &[Option<Piece>; 64], side: Side, square: u8) -> bool
     requires { square < 64 }
     ensures { IsTrue result ↔ (on board.now square ≡ man side Kind.King) }
@@ -338,6 +348,7 @@ pub fn is_in_check(board: &[Option<Piece>; 64], side: Side) -> bool
     false
 }
 
+/// Whether a rook of this side stands on the square.
 pub fn is_rook_of(board: &[Option<Piece>; 64], side: Side, square: u8) -> bool
     requires { square < 64 }
     ensures { IsTrue result ↔ (on board.now square ≡ man side Kind.Rook) }
