@@ -30,6 +30,7 @@ abbrev pub is_group : List ℕ → ℕ → Bool
 is_group times start = nat_lt (units (slice_index times start)) 10
     && are_digits (slice_index times (start + 1)) && are_digits (slice_index times (start + 2))
 
+-- both groups are times
 abbrev pub has_digits : List ℕ → Bool
 has_digits times = is_group times 0 && is_group times 3
 
