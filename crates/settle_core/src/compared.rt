@@ -30,6 +30,7 @@ fn changed(mask: u64, picture: &[u8; 64], at: u8, code: u8) -> u64
 }
 
 impl Compared {
+    /// A position beside this picture.
     pub fn new(position: Position, seen: &[u8; 64]) -> Compared
         ensures position { result.position ≡ position }
         ensures compared { IsCompared result seen.now }

@@ -1,4 +1,4 @@
-// What holds of all games, each law as the contract of a function that does nothing; and how a move is read off two pictures.
+//! What holds of all games, each law as the contract of a function that does nothing; and how a move is read off two pictures.
 ghost use Rattle.std.specs.Prelude.{◌≡◌, ◌≢◌, ◌<◌, ℕ, IfSome, IfNone, Some, None, true, false, slice_index};
 ghost use Rattle.std.specs.Int.{bit_at};
 ghost use Rattle.chess_rules.specs.declared.men.Move.{Move as MoveOf};
@@ -13,7 +13,7 @@ ghost use Rattle.settle_core.specs.Candidate.{is_king_code, side_number, lands a
 use chess_rules::{Kind, Move, Square};
 use std::simd::prelude::*;
 
-/// Honest play is recorded: the pictures that show a line of moves, one after the other, fold to this line.
+/// Honest play folds to its moves: the pictures that show a line of moves, one after the other, give this line.
 pub fn honest_play_folds()
     ensures { HonestPlayFolds }
 {}
@@ -48,8 +48,8 @@ pub fn signs_settle_nothing()
     ensures { SignsSettleNothing }
 {}
 
-/// A picture that settles a move of the position reached settles none in the place of the last one: it is no matter which of both is
-/// tested first.
+/// A picture that settles a move of the position reached settles none in the place of the last one: it does not matter
+/// which of the two is tested first.
 pub fn replies_replace_nothing()
     ensures { RepliesReplaceNothing }
 {}

@@ -1,4 +1,4 @@
-// Settling: which moves the pictures of a board show.
+//! Settling: which moves the pictures of a board show.
 #![tactic(auto)]
 
 mod compared;

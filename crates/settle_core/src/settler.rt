@@ -109,8 +109,11 @@ impl Settler {
         }
     }
 
-    /// Takes a picture, with the clocks' reading at which it was seen. Memory is taken only where a ply is appended; where
-    /// that is refused, nothing has changed.
+    /// Takes a picture, 64 codes of at most 15 by square number, with the clocks' reading at which it was seen.
+    ///
+    /// # Errors
+    ///
+    /// Memory is taken only where a ply is appended; where that is refused, nothing has changed.
     pub fn see(&mut self, picture: &[u8; 64], clock: Option<Reading>) -> Result<Seen, AllocError>
         requires { All (λ code. code < 16) picture.now }
         ensures stands { (start : PartsOf) (past : List Entry) → StandsFor self.old start past
@@ -139,7 +142,12 @@ impl Settler {
         }
     }
 
-    /// Takes the last picture, in which now this square shows this code. Changes one square, and one bit of each mask.
+    /// Takes the last picture with this code, at most 15, on this square; one must have been seen. Changes one square, and
+    /// one bit of each mask.
+    ///
+    /// # Errors
+    ///
+    /// As `see`.
     pub fn see_field(
         &mut self,
         square: Square,
