@@ -25,6 +25,13 @@ struct Case<'a> {
     err: &'a str,
 }
 
+/// A recording, and what `check` says of its output.
+#[derive(Clone, Copy)]
+struct Recorded<'a> {
+    case: Case<'a>,
+    checked: &'a str,
+}
+
 /// What the program left.
 #[derive(Drop)]
 struct Run {
@@ -62,6 +69,10 @@ fn run_over(
     })
 }
 
+/// The text of a game without moves.
+const NO_MOVE: &str =
+    "[Event \"?\"]\n[Site \"?\"]\n[Date \"????.??.??\"]\n[Round \"?\"]\n[White \"?\"]\n[Black \"?\"]\n[Result \"*\"]\n\n*\n\n";
+
 /// Events, one a line, and the rest.
 const SHOW: &[Case<'static>] = &[
     Case {
@@ -86,6 +97,19 @@ const SHOW: &[Case<'static>] = &[
         input: &[Lift("e2"), Raw(&[0x93, 0x00, 0x05, 0x01, 0x08])],
         status: 0,
         out: "4 update 52 0\n9 other 93 5\nrest 0\n",
+        err: "",
+    },
+    Case {
+        name: "another message between a lift and a put",
+        words: &["show"],
+        input: &[
+            Dump(INITIAL),
+            Lift("e2"),
+            Raw(&[0x93, 0x00, 0x05, 0x01, 0x08]),
+            Put("e4", "P"),
+        ],
+        status: 0,
+        out: "66 dump 89acba9877777777000000000000000000000000000000001111111123465432\n71 update 52 0\n76 other 93 5\n81 update 36 1\nrest 0\n",
         err: "",
     },
     Case {
@@ -240,6 +264,34 @@ const PICTURES: &[Case<'static>] = &[
         err: "",
     },
     Case {
+        name: "a dump is trusted after a fault",
+        words: &["pictures"],
+        input: &[
+            Dump(INITIAL),
+            Raw(&[0x8E, 0x00, 0x05, 0x34]),
+            Dump("rnbqkbnr/pppppppp/8/8/4P3/8/PPPP1PPP/RNBQKBNR"),
+        ],
+        status: 0,
+        out: "rnbqkbnr/pppppppp/8/8/8/8/PPPPPPPP/RNBQKBNR\nrnbqkbnr/pppppppp/8/8/4P3/8/PPPP1PPP/RNBQKBNR\n",
+        err: "",
+    },
+    Case {
+        name: "faults alone show no picture",
+        words: &["pictures"],
+        input: &[Raw(&[0x05, 0x34, 0x00, 0x8E, 0x00, 0x06, 0x8E, 0x00, 0x05, 0x40])],
+        status: 0,
+        out: "",
+        err: "",
+    },
+    Case {
+        name: "a turned board that isn't said to be so",
+        words: &["pictures"],
+        input: &[TurnedDump(INITIAL), TurnedLift("e2"), TurnedPut("e4", "P")],
+        status: 0,
+        out: "RNBKQBNR/PPPPPPPP/8/8/8/8/pppppppp/rnbkqbnr\nRNBKQBNR/PPP1PPPP/8/8/8/8/pppppppp/rnbkqbnr\nRNBKQBNR/PPP1PPPP/8/3P4/8/8/pppppppp/rnbkqbnr\n",
+        err: "",
+    },
+    Case {
         name: "a turned board",
         words: &["pictures", "--rotated"],
         input: &[TurnedDump(INITIAL), TurnedLift("e2"), TurnedPut("e4", "P")],
@@ -250,65 +302,117 @@ const PICTURES: &[Case<'static>] = &[
 ];
 
 /// The game on the output, and the report after the bytes for the board.
-const RECORD: &[Case<'static>] = &[
-    Case {
-        name: "an empty capture",
-        words: &["record"],
-        input: &[],
-        status: 0,
-        out: "[Event \"?\"]\n[Site \"?\"]\n[Date \"????.??.??\"]\n[Round \"?\"]\n[White \"?\"]\n[Black \"?\"]\n[Result \"*\"]\n\n*\n\n",
-        err: "BK\nmessages 0, faults 0, moves 0, rest 0\n",
+const RECORD: &[Recorded<'static>] = &[
+    Recorded {
+        case: Case {
+            name: "an empty capture",
+            words: &["record"],
+            input: &[],
+            status: 0,
+            out: "[Event \"?\"]\n[Site \"?\"]\n[Date \"????.??.??\"]\n[Round \"?\"]\n[White \"?\"]\n[Black \"?\"]\n[Result \"*\"]\n\n*\n\n",
+            err: "BK\nmessages 0, faults 0, moves 0, rest 0\n",
+        },
+        checked: "moves 0, result *\n",
     },
-    Case {
-        name: "a move",
-        words: &["record"],
-        input: &[Dump(INITIAL), Lift("e2"), Put("e4", "P")],
-        status: 0,
-        out: "[Event \"?\"]\n[Site \"?\"]\n[Date \"????.??.??\"]\n[Round \"?\"]\n[White \"?\"]\n[Black \"?\"]\n[Result \"*\"]\n\n1. e4 *\n\n",
-        err: "BK\nmessages 3, faults 0, moves 1, rest 0\n",
+    Recorded {
+        case: Case {
+            name: "a move",
+            words: &["record"],
+            input: &[Dump(INITIAL), Lift("e2"), Put("e4", "P")],
+            status: 0,
+            out: "[Event \"?\"]\n[Site \"?\"]\n[Date \"????.??.??\"]\n[Round \"?\"]\n[White \"?\"]\n[Black \"?\"]\n[Result \"*\"]\n\n1. e4 *\n\n",
+            err: "BK\nmessages 3, faults 0, moves 1, rest 0\n",
+        },
+        checked: "moves 1, result *\n",
     },
-    Case {
-        name: "a turned board",
-        words: &["record", "--rotated"],
-        input: &[TurnedDump(INITIAL), TurnedLift("e2"), TurnedPut("e4", "P")],
-        status: 0,
-        out: "[Event \"?\"]\n[Site \"?\"]\n[Date \"????.??.??\"]\n[Round \"?\"]\n[White \"?\"]\n[Black \"?\"]\n[Result \"*\"]\n\n1. e4 *\n\n",
-        err: "BK\nmessages 3, faults 0, moves 1, rest 0\n",
+    Recorded {
+        case: Case {
+            name: "a turned board",
+            words: &["record", "--rotated"],
+            input: &[TurnedDump(INITIAL), TurnedLift("e2"), TurnedPut("e4", "P")],
+            status: 0,
+            out: "[Event \"?\"]\n[Site \"?\"]\n[Date \"????.??.??\"]\n[Round \"?\"]\n[White \"?\"]\n[Black \"?\"]\n[Result \"*\"]\n\n1. e4 *\n\n",
+            err: "BK\nmessages 3, faults 0, moves 1, rest 0\n",
+        },
+        checked: "moves 1, result *\n",
     },
-    Case {
-        name: "the first group is Black's",
-        words: &["record", "--first", "black"],
-        input: &[
-            Dump(INITIAL),
-            Time([0x01, 0x30, 0x00, 0x01, 0x29, 0x59, 0x00]),
-            Lift("e2"),
-            Put("e4", "P"),
-        ],
-        status: 0,
-        out: "[Event \"?\"]\n[Site \"?\"]\n[Date \"????.??.??\"]\n[Round \"?\"]\n[White \"?\"]\n[Black \"?\"]\n[Result \"*\"]\n\n1. e4 {[%clk 1:29:59]} *\n\n",
-        err: "BK\nmessages 4, faults 0, moves 1, rest 0\n",
+    Recorded {
+        case: Case {
+            name: "the first group is Black's",
+            words: &["record", "--first", "black"],
+            input: &[
+                Dump(INITIAL),
+                Time([0x01, 0x30, 0x00, 0x01, 0x29, 0x59, 0x00]),
+                Lift("e2"),
+                Put("e4", "P"),
+            ],
+            status: 0,
+            out: "[Event \"?\"]\n[Site \"?\"]\n[Date \"????.??.??\"]\n[Round \"?\"]\n[White \"?\"]\n[Black \"?\"]\n[Result \"*\"]\n\n1. e4 {[%clk 1:29:59]} *\n\n",
+            err: "BK\nmessages 4, faults 0, moves 1, rest 0\n",
+        },
+        checked: "moves 1, result *\n",
     },
-    Case {
-        name: "a position of four fields",
-        words: &["record", "--fen", "4k3/8/8/8/8/8/8/4K2R w K -"],
-        input: &[
-            Dump("4k3/8/8/8/8/8/8/4K2R"),
-            Lift("e1"),
-            Put("g1", "K"),
-            Lift("h1"),
-            Put("f1", "R"),
-        ],
-        status: 0,
-        out: "[Event \"?\"]\n[Site \"?\"]\n[Date \"????.??.??\"]\n[Round \"?\"]\n[White \"?\"]\n[Black \"?\"]\n[Result \"*\"]\n[FEN \"4k3/8/8/8/8/8/8/4K2R w K - 0 1\"]\n[SetUp \"1\"]\n\n1. O-O *\n\n",
-        err: "BK\nmessages 5, faults 0, moves 1, rest 0\n",
+    Recorded {
+        case: Case {
+            name: "a position of four fields",
+            words: &["record", "--fen", "4k3/8/8/8/8/8/8/4K2R w K -"],
+            input: &[
+                Dump("4k3/8/8/8/8/8/8/4K2R"),
+                Lift("e1"),
+                Put("g1", "K"),
+                Lift("h1"),
+                Put("f1", "R"),
+            ],
+            status: 0,
+            out: "[Event \"?\"]\n[Site \"?\"]\n[Date \"????.??.??\"]\n[Round \"?\"]\n[White \"?\"]\n[Black \"?\"]\n[Result \"*\"]\n[FEN \"4k3/8/8/8/8/8/8/4K2R w K - 0 1\"]\n[SetUp \"1\"]\n\n1. O-O *\n\n",
+            err: "BK\nmessages 5, faults 0, moves 1, rest 0\n",
+        },
+        checked: "moves 1, result *\n",
     },
-    Case {
-        name: "a tag",
-        words: &["record", "--white", "Anna"],
-        input: &[],
-        status: 0,
-        out: "[Event \"?\"]\n[Site \"?\"]\n[Date \"????.??.??\"]\n[Round \"?\"]\n[White \"Anna\"]\n[Black \"?\"]\n[Result \"*\"]\n\n*\n\n",
-        err: "BK\nmessages 0, faults 0, moves 0, rest 0\n",
+    Recorded {
+        case: Case {
+            name: "a tag",
+            words: &["record", "--white", "Anna"],
+            input: &[],
+            status: 0,
+            out: "[Event \"?\"]\n[Site \"?\"]\n[Date \"????.??.??\"]\n[Round \"?\"]\n[White \"Anna\"]\n[Black \"?\"]\n[Result \"*\"]\n\n*\n\n",
+            err: "BK\nmessages 0, faults 0, moves 0, rest 0\n",
+        },
+        checked: "moves 0, result *\n",
+    },
+    Recorded {
+        case: Case {
+            name: "kings on dark squares: Black wins",
+            words: &["record"],
+            input: &[
+                Dump(INITIAL),
+                Lift("e1"),
+                Lift("e8"),
+                Put("d4", "K"),
+                Put("e5", "k"),
+            ],
+            status: 0,
+            out: "[Event \"?\"]\n[Site \"?\"]\n[Date \"????.??.??\"]\n[Round \"?\"]\n[White \"?\"]\n[Black \"?\"]\n[Result \"0-1\"]\n\n0-1\n\n",
+            err: "BK\nmessages 5, faults 0, moves 0, rest 0\n",
+        },
+        checked: "moves 0, result 0-1\n",
+    },
+    Recorded {
+        case: Case {
+            name: "kings on squares of both colours: a draw",
+            words: &["record"],
+            input: &[
+                Dump(INITIAL),
+                Lift("e1"),
+                Lift("e8"),
+                Put("e4", "K"),
+                Put("e5", "k"),
+            ],
+            status: 0,
+            out: "[Event \"?\"]\n[Site \"?\"]\n[Date \"????.??.??\"]\n[Round \"?\"]\n[White \"?\"]\n[Black \"?\"]\n[Result \"1/2-1/2\"]\n\n1/2-1/2\n\n",
+            err: "BK\nmessages 5, faults 0, moves 0, rest 0\n",
+        },
+        checked: "moves 0, result 1/2-1/2\n",
     },
 ];
 
@@ -504,21 +608,54 @@ const MOVES: &[Case<'static>] = &[
     },
 ];
 
+fn case_holds(rt: &impl Abort, case: &Case<'_>, left: &Run) {
+    assert_eq!(rt; left.status, case.status, "{}", case.name);
+    assert!(rt;
+        left.out.get() == case.out.as_bytes(),
+        "{}: the output",
+        case.name
+    );
+    assert!(rt;
+        left.status == 2 || left.err.get() == case.err.as_bytes(),
+        "{}: the errors",
+        case.name
+    );
+}
+
 fn cases_hold(rt: &impl Abort, alloc: Global, cases: &[Case<'_>]) -> Result<(), AllocError> {
     for case in cases {
         let bytes = bytes_of(case.input);
         let left = run_over(alloc, case.words, bytes.get(), 512, 512)?;
-        assert_eq!(rt; left.status, case.status, "{}", case.name);
-        assert!(rt;
-            left.out.get() == case.out.as_bytes(),
-            "{}: the output",
-            case.name
-        );
-        assert!(rt;
-            left.status == 2 || left.err.get() == case.err.as_bytes(),
-            "{}: the errors",
-            case.name
-        );
+        case_holds(rt, case, &left);
+    }
+    Ok(())
+}
+
+/// `check` says this of a text.
+fn text_checks(
+    rt: &impl Abort,
+    alloc: Global,
+    name: &str,
+    text: &[u8],
+    checked: &str,
+) -> Result<(), AllocError> {
+    let left = run_over(alloc, &["check"], text, 512, 512)?;
+    assert_eq!(rt; left.status, 0, "{name}: checked");
+    assert!(rt; left.out.get() == checked.as_bytes(), "{name}: checked");
+    assert!(rt; left.err.get().is_empty(), "{name}: checked");
+    Ok(())
+}
+
+fn recordings_hold(
+    rt: &impl Abort,
+    alloc: Global,
+    cases: &[Recorded<'_>],
+) -> Result<(), AllocError> {
+    for Recorded { case, checked } in cases {
+        let bytes = bytes_of(case.input);
+        let left = run_over(alloc, case.words, bytes.get(), 512, 512)?;
+        case_holds(rt, case, &left);
+        text_checks(rt, alloc, case.name, left.out.get(), checked)?;
     }
     Ok(())
 }
@@ -535,7 +672,7 @@ fn pictures_cases<'a>() -> &'a [Case<'a>] {
     PICTURES
 }
 
-fn record_cases<'a>() -> &'a [Case<'a>] {
+fn record_cases<'a>() -> &'a [Recorded<'a>] {
     RECORD
 }
 
@@ -575,7 +712,7 @@ fn pictures_lists_placements(rt: HostRuntime) -> Result<(), Fail> {
 
 #[test]
 fn record_writes_the_game(rt: HostRuntime) -> Result<(), Fail> {
-    cases_hold(&rt, rt.alloc(), record_cases())?;
+    recordings_hold(&rt, rt.alloc(), record_cases())?;
     Ok(())
 }
 
@@ -631,6 +768,7 @@ fn check_refuses_each_cut_text(rt: HostRuntime) -> Result<(), Fail> {
     for len in 0..text.len() {
         let left = run_over(rt.alloc(), &["check"], text.front(len), 512, 512)?;
         assert_eq!(rt; left.status, 1, "cut to {len}");
+        assert!(rt; left.out.get().is_empty(), "cut to {len}");
         assert!(rt;
             left.err.get() == b"pgn: not export\n".as_slice(),
             "cut to {len}"
@@ -654,6 +792,11 @@ fn failed_streams_have_status_3(rt: HostRuntime) -> Result<(), Fail> {
     assert_eq!(rt; left.status, 3);
     assert!(rt; left.out.get() == text.get());
     assert!(rt; left.err.get() == b"BK".as_slice());
+    // The error stream takes nothing, not even the bytes for the board.
+    let left = run_over(rt.alloc(), &["record"], bytes.get(), 512, 0)?;
+    assert_eq!(rt; left.status, 3);
+    assert!(rt; left.out.get() == NO_MOVE.as_bytes());
+    assert!(rt; left.err.get().is_empty());
     // A read fails after all bytes.
     let words = words_of(rt.alloc(), &["record"])?;
     let mut reader = Watch::new(Source::new(bytes.get(), 4096, 1));
@@ -683,42 +826,93 @@ fn the_longest_frame_is_shown(rt: HostRuntime) -> Result<(), Fail> {
         bytes.push(0)?;
     }
     let left = run_over(rt.alloc(), &["show"], bytes.as_slice(), 512, 512)?;
+    assert_eq!(rt; left.status, 0);
     assert!(rt; left.out.get() == b"rest 16382\n".as_slice());
+    assert!(rt; left.err.get().is_empty());
     bytes.push(0)?;
     let left = run_over(rt.alloc(), &["show"], bytes.as_slice(), 512, 512)?;
+    assert_eq!(rt; left.status, 0);
     assert!(rt; left.out.get() == b"16382 other 93 16383\nrest 0\n".as_slice());
+    assert!(rt; left.err.get().is_empty());
     Ok(())
 }
 
-/// Runs over so many like bytes.
-fn run_alike(alloc: Global, word: &str, byte: u8, left: u32) -> Result<Run, AllocError> {
+/// Runs over so many like bytes, and counts those that aren't read.
+fn run_alike(alloc: Global, word: &str, byte: u8, left: u32) -> Result<(Run, u32), AllocError> {
     let words = words_of(alloc, &[word])?;
     let mut reader = Watch::new(Alike { byte, left });
     let mut out = Watch::new(Sink::new(512, ALWAYS));
     let mut err = Watch::new(Sink::new(512, ALWAYS));
     let status = run(alloc, words.as_slice(), &mut reader, &mut out, &mut err);
-    Ok(Run {
+    let left = Run {
         status,
         out: Bytes::of(&[out.inner().shown()]),
         err: Bytes::of(&[err.inner().held()]),
-    })
+    };
+    Ok((left, reader.inner().left))
+}
+
+/// Words and how many zeros come; the status, the output, the errors, and how many zeros aren't read.
+const LIMITS: &[(&str, u32, u8, &str, &str, u32)] = &[
+    (
+        "show",
+        67_108_865,
+        1,
+        "0 fault stray\n",
+        "input: too long\n",
+        0,
+    ),
+    (
+        "show",
+        67_108_870,
+        1,
+        "0 fault stray\n",
+        "input: too long\n",
+        5,
+    ),
+    ("pictures", 67_108_865, 1, "", "input: too long\n", 0),
+    (
+        "record",
+        67_108_864,
+        0,
+        NO_MOVE,
+        "BKB\nmessages 0, faults 1, moves 0, rest 0\n",
+        0,
+    ),
+    (
+        "record",
+        67_108_865,
+        1,
+        NO_MOVE,
+        "BKB\ninput: too long\n",
+        0,
+    ),
+];
+
+fn limits<'a>() -> &'a [(&'a str, u32, u8, &'a str, &'a str, u32)] {
+    LIMITS
 }
 
 #[test]
-fn a_listed_stream_has_a_limit(rt: HostRuntime) -> Result<(), Fail> {
-    let left = run_alike(rt.alloc(), "show", 0, 67_108_865)?;
-    assert_eq!(rt; left.status, 1);
-    assert!(rt; left.out.get() == b"0 fault stray\n".as_slice());
-    assert!(rt; left.err.get() == b"input: too long\n".as_slice());
+fn streams_have_at_most_67_108_864_bytes(rt: HostRuntime) -> Result<(), Fail> {
+    for (word, count, status, out, errors, unread) in limits() {
+        let (left, rest) = run_alike(rt.alloc(), word, 0, *count)?;
+        assert_eq!(rt; left.status, *status, "{word} of {count}");
+        assert!(rt; left.out.get() == out.as_bytes(), "{word} of {count}");
+        assert!(rt; left.err.get() == errors.as_bytes(), "{word} of {count}");
+        assert_eq!(rt; rest, *unread, "{word} of {count}");
+    }
     Ok(())
 }
 
 /// Spaces without end are no PGN, and are not read without end.
 #[test]
 fn a_text_has_at_most_268_435_456_bytes(rt: HostRuntime) -> Result<(), Fail> {
-    let left = run_alike(rt.alloc(), "check", 0x20, 4_294_967_295)?;
+    let (left, rest) = run_alike(rt.alloc(), "check", 0x20, 4_294_967_295)?;
     assert_eq!(rt; left.status, 1);
     assert!(rt; left.out.get().is_empty());
     assert!(rt; left.err.get() == b"input: too long\n".as_slice());
+    // 268,435,457 were read.
+    assert_eq!(rt; rest, 4_026_531_838);
     Ok(())
 }
