@@ -360,6 +360,13 @@ const CLOCKS: &[Row<'static>] = &[
         ..PLAIN
     },
     Row {
+        name: "a ply has the time of its own picture, not of the lift",
+        capture: &[Dump(INITIAL), TIME, Lift("e2"), LATER, Put("e4", "P")],
+        movetext: "1. e4 {[%clk 1:29:50]} *",
+        report: (5, 0, 1, 0),
+        ..PLAIN
+    },
+    Row {
         name: "a time with all bits set is no clock",
         capture: &[
             Dump(INITIAL),
@@ -389,6 +396,34 @@ const RESULTS: &[Row<'static>] = &[
         ],
         result: "1-0",
         movetext: "1-0",
+        report: (5, 0, 0, 0),
+        ..PLAIN
+    },
+    Row {
+        name: "kings on dark squares: Black wins",
+        capture: &[
+            Dump(INITIAL),
+            Lift("e1"),
+            Lift("e8"),
+            Put("d4", "K"),
+            Put("e5", "k"),
+        ],
+        result: "0-1",
+        movetext: "0-1",
+        report: (5, 0, 0, 0),
+        ..PLAIN
+    },
+    Row {
+        name: "kings on squares of both colours: a draw",
+        capture: &[
+            Dump(INITIAL),
+            Lift("e1"),
+            Lift("e8"),
+            Put("e4", "K"),
+            Put("e5", "k"),
+        ],
+        result: "1/2-1/2",
+        movetext: "1/2-1/2",
         report: (5, 0, 0, 0),
         ..PLAIN
     },
