@@ -1,6 +1,6 @@
 //! Streams that fail at each call in turn: what was taken before stands, and the answer says which stream it was.
 
-use crate::recording::{recorded, recorded_over, report_of, setup_of};
+use crate::recording::{recorded_over, report_of, setup_of};
 use crate::rows::{Row, commands, cut_and_dump, kings_pawn_opening, text_of};
 use crate::streams::{ALWAYS, Alike, Sink, Source};
 use board_session::{RecordError, record};
@@ -35,15 +35,17 @@ fn each_read_fails_in_turn(rt: HostRuntime) -> Result<(), Fail> {
             Sink::new(ROOM, ALWAYS),
         )?;
         assert_eq!(rt; got.answer, Err(RecordError::Read), "after {calls} reads");
-        let read = bytes.front((calls as usize).saturating_mul(piece).min(bytes.len()));
-        let until = recorded(rt.alloc(), &row, read, ROOM)?;
-        assert!(rt; until.answer.is_ok(), "after {calls} reads");
+        let read = (calls as usize).saturating_mul(piece).min(bytes.len());
+        // The fault stands at the byte with offset 71, and the move at that with offset 137.
+        let faults = if read > 71 { 1 } else { 0 };
+        let text = if read > 137 {
+            row.text()
+        } else {
+            text_of("", "*", "*")
+        };
+        assert!(rt; got.text_shown.get() == text.get(), "after {calls} reads");
         assert!(rt;
-            got.text_shown.get() == until.text_shown.get(),
-            "after {calls} reads"
-        );
-        assert!(rt;
-            got.board_shown.get() == until.board_shown.get(),
+            got.board_shown.get() == commands(faults).get(),
             "after {calls} reads"
         );
         calls = calls.saturating_add(1);
@@ -139,20 +141,27 @@ fn an_output_that_fills_has_the_front_of_the_text(rt: HostRuntime) -> Result<(),
     let row = cut_and_dump();
     let bytes = row.bytes();
     let text = row.text();
-    for room in 0..text.len() {
-        let source = Source::new(bytes.get(), ROOM, ALWAYS);
-        let got = recorded_over(
-            rt.alloc(),
-            &row,
-            source,
-            Sink::new(ROOM, ALWAYS),
-            Sink::new(room, ALWAYS),
-        )?;
-        assert_eq!(rt; got.answer, Err(RecordError::Write), "with room for {room}");
-        assert!(rt;
-            got.text_held.get() == text.front(room),
-            "with room for {room}"
-        );
+    // The second read fails, or none does.
+    for reads in [1, ALWAYS] {
+        for room in 0..text.len() {
+            let source = Source::new(bytes.get(), ROOM, reads);
+            let got = recorded_over(
+                rt.alloc(),
+                &row,
+                source,
+                Sink::new(ROOM, ALWAYS),
+                Sink::new(room, ALWAYS),
+            )?;
+            assert_eq!(rt;
+                got.answer,
+                Err(RecordError::Write),
+                "{reads} reads, room for {room}"
+            );
+            assert!(rt;
+                got.text_held.get() == text.front(room),
+                "{reads} reads, room for {room}"
+            );
+        }
     }
     let ten = kings_pawn_opening();
     let bytes = ten.bytes();
@@ -164,6 +173,7 @@ fn an_output_that_fills_has_the_front_of_the_text(rt: HostRuntime) -> Result<(),
         Sink::new(ROOM, ALWAYS),
         Sink::new(10, ALWAYS),
     )?;
+    assert_eq!(rt; got.answer, Err(RecordError::Write));
     assert!(rt; got.text_held.get() == b"[Event \"?\"".as_slice());
     Ok(())
 }
