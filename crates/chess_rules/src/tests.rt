@@ -92,7 +92,7 @@ const KINGS: &[u8; 64] = b"....k................................................
 const ONE_KING: &[u8; 64] = b"............................................................K...";
 
 #[test]
-fn squares(rt: HostRuntime) -> Result<(), Fail> {
+fn squares_are_0_to_63(rt: HostRuntime) -> Result<(), Fail> {
     let last = Square::new(63).ok_or("h1")?;
     assert_eq!(rt; (last.number(), last.file(), last.rank()), (63, 7, 1));
     let first = Square::new(0).ok_or("a8")?;
@@ -102,7 +102,7 @@ fn squares(rt: HostRuntime) -> Result<(), Fail> {
 }
 
 #[test]
-fn counters(rt: HostRuntime) {
+fn counters_have_a_range(rt: HostRuntime) {
     for (halfmove, fullmove) in [(10000, 1), (0, 0), (0, 10000)] {
         let parts = with_counters(KINGS, Side::White, halfmove, fullmove);
         assert_eq!(rt; Position::new(parts).err(), Some(Invalid::Counters));
@@ -112,7 +112,7 @@ fn counters(rt: HostRuntime) {
 }
 
 #[test]
-fn refusals(rt: HostRuntime) {
+fn the_first_broken_condition_is_answered(rt: HostRuntime) {
     assert!(rt; Position::new(parts_of(KINGS, Side::White)).is_ok());
     let kings = Position::new(parts_of(ONE_KING, Side::White));
     assert_eq!(rt; kings.err(), Some(Invalid::Kings));
@@ -143,7 +143,7 @@ fn castles_long(men: &[u8; 64]) -> Result<bool, Fail> {
 }
 
 #[test]
-fn castling(rt: HostRuntime) -> Result<(), Fail> {
+fn an_attacked_b1_is_no_bar_to_castling(rt: HostRuntime) -> Result<(), Fail> {
     let b1_attacked = b"....k............................................r......R...K...";
     assert!(rt; castles_long(b1_attacked)?);
     let d1_attacked = b"....k..............................................r....R...K...";
@@ -152,7 +152,7 @@ fn castling(rt: HostRuntime) -> Result<(), Fail> {
 }
 
 #[test]
-fn opens(rt: HostRuntime) -> Result<(), Fail> {
+fn a_double_step_sets_the_target(rt: HostRuntime) -> Result<(), Fail> {
     let initial = Position::initial();
     let opening = step(at(b'e', 2), at(b'e', 4))?;
     let next = played(&initial, &opening).ok_or("e4")?;
@@ -214,9 +214,12 @@ fn lists_moves(rt: HostRuntime) -> Result<(), Fail> {
 }
 
 #[test]
-fn ends(rt: HostRuntime) -> Result<(), Fail> {
+fn checkmate_and_stalemate_end_a_game(rt: HostRuntime) -> Result<(), Fail> {
     let mate = b"rnb.kbnrpppp.ppp............p.........Pq.....P..PPPPP..PRNBQKBNR";
-    let mated = Position::new(parts_of(mate, Side::White))?;
+    let initial = Position::initial();
+    let mut parts = with_counters(mate, Side::White, 1, 3);
+    parts.rights = initial.parts().rights;
+    let mated = Position::new(parts)?;
     assert_eq!(rt; mated.status(), Status::Checkmate);
     assert!(rt; mated.in_check());
     assert_eq!(rt; mated.legal_moves(rt.alloc())?.len(), 0);
@@ -225,6 +228,6 @@ fn ends(rt: HostRuntime) -> Result<(), Fail> {
     let stuck = Position::new(parts_of(stale, Side::Black))?;
     assert_eq!(rt; stuck.status(), Status::Stalemate);
     assert!(rt; !stuck.in_check());
-    assert_eq!(rt; Position::initial().status(), Status::Running);
+    assert_eq!(rt; initial.status(), Status::Running);
     Ok(())
 }
