@@ -341,27 +341,35 @@ fn values_are_escaped(rt: HostRuntime) -> Result<(), Fail> {
     Ok(())
 }
 
-/// How often a byte stands in a text.
-fn count_of(text: &[u8], wanted: u8) -> usize {
-    let mut count: usize = 0;
-    for byte in text {
-        if *byte == wanted {
-            count = count.saturating_add(1);
-        }
+/// The export text without a move, White's name being so many quotation marks.
+fn export_of_marks(alloc: Global, count: usize) -> Result<String, AllocError> {
+    let mut text = String::from_str(
+        alloc,
+        "[Event \"?\"]\n[Site \"?\"]\n[Date \"????.??.??\"]\n[Round \"?\"]\n[White \"",
+    )?;
+    for _ in 0..count {
+        text.push_str("\\\"")?;
     }
-    count
+    text.push_str("\"]\n[Black \"?\"]\n[Result \"*\"]\n\n*\n\n")?;
+    Ok(text)
+}
+
+/// The text of a game without a move, White having this name.
+fn text_of_name(rt: &(impl AllocGlobal + Abort), name: &str) -> Result<Vec<u8>, Fail> {
+    let mut tags = Tags::new(rt.alloc());
+    tags.set(Tag::White, name)?;
+    text_of(
+        rt,
+        &Game::new(tags, Position::initial(), Vec::new(rt.alloc()), None),
+    )
 }
 
 #[test]
 fn a_hundred_quotation_marks_come_back(rt: HostRuntime) -> Result<(), Fail> {
     let marks = repeated(rt.alloc(), '"', 100)?;
-    let mut tags = Tags::new(rt.alloc());
-    tags.set(Tag::White, marks.as_str())?;
-    let game = Game::new(tags, Position::initial(), Vec::new(rt.alloc()), None);
-    let text = text_of(&rt, &game)?;
-    // Each has a backslash, and the values of the seven tags have two marks each around them.
-    assert_eq!(rt; count_of(&text, b'\\'), 100);
-    assert_eq!(rt; count_of(&text, b'"'), 114);
+    let text = text_of_name(&rt, marks.as_str())?;
+    let wanted = export_of_marks(rt.alloc(), 100)?;
+    assert_eq!(rt; text.as_slice(), wanted.as_bytes());
     let read = read_pgn(rt.alloc(), &text)?;
     assert_eq!(rt; read.tags().get(Tag::White), marks.as_str());
     Ok(())
@@ -371,34 +379,29 @@ fn refuses(alloc: Global, text: &[u8]) -> bool {
     matches!(read_pgn(alloc, text), Err(PgnError::NotExport))
 }
 
-/// The text of 1. e4.
-fn one_move(rt: &(impl AllocGlobal + Abort)) -> Result<Vec<u8>, Fail> {
-    let game = game(rt, Position::initial(), "e4", &[], None)?;
-    text_of(rt, &game)
-}
-
 #[test]
 fn a_part_is_refused(rt: HostRuntime) -> Result<(), Fail> {
-    let text = one_move(&rt)?;
-    for n in 0..text.len() {
-        assert!(rt; refuses(rt.alloc(), &text[..n]), "cut at {n}");
+    let text = export(&rt, "*", "", "1. e4 *")?;
+    let bytes = text.as_bytes();
+    for n in 0..bytes.len() {
+        assert!(rt; refuses(rt.alloc(), &bytes[..n]), "cut at {n}");
     }
     Ok(())
 }
 
 #[test]
 fn other_ends_of_lines_are_refused(rt: HostRuntime) -> Result<(), Fail> {
-    let mut text = one_move(&rt)?;
+    let mut text = export(&rt, "*", "", "1. e4 *")?;
     let mut crlf = Vec::new(rt.alloc());
-    for byte in &text {
+    for byte in text.as_bytes() {
         if *byte == b'\n' {
             crlf.push(b'\r')?;
         }
         crlf.push(*byte)?;
     }
     assert!(rt; refuses(rt.alloc(), &crlf));
-    text.push(b'\n')?;
-    assert!(rt; refuses(rt.alloc(), &text));
+    text.push_str("\n")?;
+    assert!(rt; refuses(rt.alloc(), text.as_bytes()));
     Ok(())
 }
 
