@@ -637,7 +637,7 @@ fn the_last_move_stays_open(rt: HostRuntime) -> Result<(), Fail> {
 }
 
 #[test]
-fn a_mate(rt: HostRuntime) -> Result<(), Fail> {
+fn a_mate_takes_a_sign_and_can_be_replaced(rt: HostRuntime) -> Result<(), Fail> {
     let start = Position::initial();
     let mates = [
         (53, 0),
@@ -714,7 +714,7 @@ fn last_clock(settler: &Settler) -> Option<(u8, u8, u8)> {
 }
 
 #[test]
-fn clocks(rt: HostRuntime) -> Result<(), Fail> {
+fn a_repeat_leaves_the_clock_and_a_replacement_takes_its_own(rt: HostRuntime) -> Result<(), Fail> {
     let first: Option<Reading> = read_time(&[1, 0x30, 0, 1, 0x29, 0x59, 0], First::White, None);
     let later: Option<Reading> = read_time(&[1, 0x29, 0x50, 1, 0x29, 0x59, 0], First::White, first);
     let mut settler = Settler::new(rt.alloc(), Position::initial());
@@ -742,7 +742,7 @@ fn candidate_way(before: &[u8; 64], after: &[u8; 64]) -> Option<Way> {
 }
 
 #[test]
-fn candidates(rt: HostRuntime) {
+fn two_squares_show_a_step_and_four_castling(rt: HostRuntime) {
     let start = before_castling(&rt);
     let before = start.picture();
     let lifted = with(&rt, &before, 63, 0);
