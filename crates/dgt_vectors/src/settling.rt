@@ -1,12 +1,15 @@
-//! Recordings against a slow settler, which tries every origin, target and promotion for each picture.
+//! Recordings and sessions against a slow settler, which tries every origin, target and promotion for each picture.
+ghost use Rattle.board_session.specs.Looking.{IsInRange};
 
 use crate::recording::{recorded, start_of};
 use crate::rows::{Row, rows_by_subject};
 use crate::slow::last_event;
+use board_session::{Session, Taken};
 use chess_rules::{Kind, Move, Position, Side, Square, Status};
-use dgt_frame::{Event, Message};
-use pgn_book::{Game, read_pgn};
-use settle_core::Outcome;
+use chess_text::FenError;
+use dgt_frame::{Event, First, Hms, Message, Reading, read_time};
+use pgn_book::read_pgn;
+use settle_core::{Outcome, Ply, Seen};
 use std::alloc::{AllocError, Global};
 use std::process::Abort;
 use std::test::Fail;
@@ -18,9 +21,20 @@ struct Board {
     /// A dump has come since the start and since the last fault.
     trusted: bool,
     rotated: bool,
+    first: First,
+    reading: Option<Reading>,
 }
 
 impl Board {
+    /// What the clocks show.
+    fn times(&self) -> Option<Times> {
+        let reading = self.reading?;
+        Some(Times {
+            white: seconds_of(reading.white),
+            black: seconds_of(reading.black),
+        })
+    }
+
     /// The picture that an event shows, if it shows one.
     fn take(&mut self, event: Event) -> Option<[u8; 64]> {
         match event {
@@ -41,6 +55,10 @@ impl Board {
                 *self.picture.get_mut(square as usize)? = code;
                 Some(self.picture)
             }
+            Event::Message(Message::Time(times)) => {
+                self.reading = read_time(&times, self.first, self.reading);
+                None
+            }
             Event::Message(_) => None,
             Event::Fault(_) => {
                 self.trusted = false;
@@ -50,11 +68,32 @@ impl Board {
     }
 }
 
-/// A move and the position after it.
+/// The seconds that White and Black have.
+#[derive(Clone, Copy)]
+struct Times {
+    white: u32,
+    black: u32,
+}
+
+fn seconds_of(time: Hms) -> u32 {
+    time.hours as u32 * 3600 + time.minutes as u32 * 60 + time.seconds as u32
+}
+
+/// A move, the mover's seconds with its picture, and the position after it.
 #[derive(Clone, Copy)]
 struct Step {
     mv: Move,
+    clock: Option<u32>,
     after: Position,
+}
+
+/// The seconds of the side to move.
+fn time_of(position: &Position, times: &Option<Times>) -> Option<u32> {
+    let times = (*times)?;
+    Some(match position.parts().side {
+        Side::White => times.white,
+        Side::Black => times.black,
+    })
 }
 
 const PROMOTIONS: [Option<Kind>; 5] = [
@@ -66,21 +105,27 @@ const PROMOTIONS: [Option<Kind>; 5] = [
 ];
 
 /// The move as a step, where it is legal and gives the picture.
-fn step_giving(position: &Position, mv: Move, picture: &[u8; 64]) -> Option<Step> {
+fn step_giving(
+    position: &Position,
+    mv: Move,
+    picture: &[u8; 64],
+    clock: Option<u32>,
+) -> Option<Step> {
     let (asked, played) = (mv, mv);
     if !position.is_legal(asked) {
         return None;
     }
     let after = position.play(played);
     if after.picture() == *picture {
-        Some(Step { mv, after })
+        Some(Step { mv, clock, after })
     } else {
         None
     }
 }
 
 /// The only legal move that gives the picture.
-fn only_step(position: &Position, picture: &[u8; 64]) -> Option<Step> {
+fn only_step(position: &Position, picture: &[u8; 64], times: &Option<Times>) -> Option<Step> {
+    let clock = time_of(position, times);
     let mut only = None;
     for from in 0..64u8 {
         for to in 0..64u8 {
@@ -91,7 +136,7 @@ fn only_step(position: &Position, picture: &[u8; 64]) -> Option<Step> {
                     to,
                     promotion,
                 };
-                if let Some(step) = step_giving(position, mv, picture) {
+                if let Some(step) = step_giving(position, mv, picture, clock) {
                     if only.is_some() {
                         return None;
                     }
@@ -142,6 +187,16 @@ fn sign_of(position: &Position, picture: &[u8; 64]) -> Option<Outcome> {
     })
 }
 
+/// The cases of an answer.
+#[derive(Clone, Copy)]
+enum Case {
+    Same,
+    Moved,
+    Sign,
+    Replaced,
+    Waits,
+}
+
 /// The game that pictures tell.
 #[derive(Drop)]
 struct Told {
@@ -174,30 +229,45 @@ impl Told {
     }
 
     /// The step in the place of the last one.
-    fn other_step(&self, picture: &[u8; 64]) -> Option<Step> {
+    fn other_step(&self, picture: &[u8; 64], times: &Option<Times>) -> Option<Step> {
         let last = self.steps.last()?;
         let before = self.position_after(self.steps.len().saturating_sub(1));
-        let step = only_step(&before, picture)?;
+        let step = only_step(&before, picture, times)?;
         if step.mv == last.mv { None } else { Some(step) }
     }
 
-    fn see(&mut self, picture: &[u8; 64]) -> Result<(), AllocError> {
+    fn see(&mut self, picture: &[u8; 64], times: &Option<Times>) -> Result<Case, AllocError> {
         if self.last == Some(*picture) {
-            return Ok(());
+            return Ok(Case::Same);
         }
         self.last = Some(*picture);
         let position = self.position();
-        if let Some(step) = only_step(&position, picture) {
+        let mut case = Case::Waits;
+        if let Some(step) = only_step(&position, picture, times) {
             self.steps.push(step)?;
             self.sign = None;
+            case = Case::Moved;
         } else if let Some(outcome) = sign_of(&position, picture) {
             self.sign = Some(outcome);
-        } else if let Some(step) = self.other_step(picture) {
+            case = Case::Sign;
+        } else if let Some(step) = self.other_step(picture, times) {
             let _last = self.steps.pop();
             self.steps.push(step)?;
             self.sign = None;
+            case = Case::Replaced;
         }
-        Ok(())
+        Ok(case)
+    }
+
+    /// The answer to the picture that was seen last, of this case.
+    fn answer(&self, case: Case) -> Option<Seen> {
+        match case {
+            Case::Same => Some(Seen::Same),
+            Case::Moved => Some(Seen::Moved(self.steps.last()?.mv)),
+            Case::Sign => Some(Seen::Sign(self.sign?)),
+            Case::Replaced => Some(Seen::Replaced(self.steps.last()?.mv)),
+            Case::Waits => Some(Seen::Waits),
+        }
     }
 
     /// Checkmate and stalemate say the result, or else the sign.
@@ -211,39 +281,112 @@ impl Told {
         }
     }
 
-    /// Whether a game has this start, these moves and this result.
-    fn is(&self, game: &Game) -> bool {
-        *game.start() == self.start
-            && game.plies().len() == self.steps.len()
-            && game
-                .plies()
-                .iter()
-                .zip(&self.steps)
-                .all(|(ply, step)| ply.mv == step.mv)
-            && game.result() == self.result()
+    /// Whether plies have these moves and times.
+    fn has(&self, plies: &[Ply]) -> bool {
+        plies.len() == self.steps.len()
+            && plies.iter().zip(&self.steps).all(|(ply, step)| ply.mv == step.mv
+                && clock_of(ply) == step.clock)
     }
 }
 
-/// After each event of a capture the recorded game is the one that its pictures tell.
+fn clock_of(ply: &Ply) -> Option<u32> {
+    Some(seconds_of(ply.clock?))
+}
+
+/// The event, whose codes and field are those that there are.
+fn checked(rt: &impl Abort, event: Event) -> Event
+    ensures { IsInRange result }
+{
+    match event {
+        Event::Message(Message::Dump(codes)) => {
+            assert!(rt; codes.iter().all(|code| *code < 16));
+            Event::Message(Message::Dump(codes))
+        }
+        Event::Message(Message::Update { field, code }) => {
+            assert!(rt; field < 64);
+            assert!(rt; code < 16);
+            Event::Message(Message::Update { field, code })
+        }
+        Event::Message(Message::Time(times)) => Event::Message(Message::Time(times)),
+        Event::Message(Message::Other { id, size }) => Event::Message(Message::Other { id, size }),
+        Event::Fault(kind) => Event::Fault(kind),
+    }
+}
+
+/// A session, and what the messages that it takes tell.
+#[derive(Drop)]
+struct Beside {
+    session: Session,
+    board: Board,
+    told: Told,
+}
+
+impl Beside {
+    fn new(alloc: Global, row: &Row<'_>) -> Result<Beside, FenError> {
+        let start = start_of(row)?;
+        Ok(Beside {
+            session: Session::new(alloc, start, row.first, row.rotated),
+            board: Board {
+                picture: [0; 64],
+                trusted: false,
+                rotated: row.rotated,
+                first: row.first,
+                reading: None,
+            },
+            told: Told::new(alloc, start),
+        })
+    }
+
+    /// Whether the session says of the event what is told, and then has the moves, times and sign that are told.
+    fn take(&mut self, event: Event) -> Result<bool, AllocError>
+        requires { IsInRange event }
+    {
+        let taken = self.session.take(event)?;
+        let asks_dump = matches!(event, Event::Fault(_));
+        let mut seen = None;
+        if let Some(picture) = self.board.take(event) {
+            let times = self.board.times();
+            let case = self.told.see(&picture, &times)?;
+            seen = self.told.answer(case);
+        }
+        let settler = self.session.settler();
+        Ok(
+            taken == Taken { asks_dump, seen }
+                && self.told.has(settler.moves())
+                && settler.sign() == self.told.sign,
+        )
+    }
+}
+
+/// The game that is recorded of these bytes is the one that is told.
+fn is_recorded(
+    rt: &impl Abort,
+    alloc: Global,
+    row: &Row<'_>,
+    bytes: &[u8],
+    told: &Told,
+) -> Result<(), Fail> {
+    let got = recorded(alloc, row, bytes, 4096)?;
+    let game = read_pgn(alloc, got.text_shown.get())?;
+    let len = bytes.len();
+    assert!(rt; *game.start() == told.start, "{} cut to {len}", row.name);
+    assert!(rt; told.has(game.plies()), "{} cut to {len}", row.name);
+    assert!(rt; game.result() == told.result(), "{} cut to {len}", row.name);
+    Ok(())
+}
+
+/// After each event of a capture the session and the recorded game are as its pictures tell.
 pub fn settles_as_told(rt: &impl Abort, alloc: Global, row: &Row<'_>) -> Result<(), Fail> {
     let bytes = row.bytes();
-    let mut told = Told::new(alloc, start_of(row)?);
-    let mut board = Board {
-        picture: [0; 64],
-        trusted: false,
-        rotated: row.rotated,
-    };
+    let mut beside = Beside::new(alloc, row)?;
     for len in 1..bytes.len().saturating_add(1) {
         let front = bytes.front(len);
         let (Some(event), _) = last_event(front) else {
             continue;
         };
-        if let Some(picture) = board.take(event) {
-            told.see(&picture)?;
-        }
-        let got = recorded(alloc, row, front, 4096)?;
-        let game = read_pgn(alloc, got.text_shown.get())?;
-        assert!(rt; told.is(&game), "{} cut to {len}", row.name);
+        let agrees = beside.take(checked(rt, event))?;
+        assert!(rt; agrees, "{} cut to {len}", row.name);
+        is_recorded(rt, alloc, row, front, &beside.told)?;
     }
     Ok(())
 }
