@@ -87,27 +87,6 @@ impl Read for Source<'_> {
     }
 }
 
-/// So many zeros.
-#[derive(Drop)]
-struct Zeros {
-    left: u32,
-}
-
-impl Read for Zeros {
-    fn read(&mut self, buf: &mut [u8]) -> io::Result<usize> {
-        let mut count = 0;
-        for place in buf.iter_mut() {
-            if self.left == 0 {
-                break;
-            }
-            *place = 0;
-            self.left -= 1;
-            count += 1;
-        }
-        Ok(count)
-    }
-}
-
 /// Takes so many bytes and then fails. What isn't flushed doesn't show.
 #[derive(Drop)]
 struct Sink {
@@ -227,10 +206,10 @@ fn standard(alloc: Global) -> Setup {
 }
 
 /// What is answered, and whether the board's stream and the output then show exactly these bytes.
-fn run<R: Read + Drop>(
+fn run(
     alloc: Global,
     setup: Setup,
-    source: R,
+    source: Source<'_>,
     sinks: (Sink, Sink),
     sent: &[u8],
     text: &[u8],
@@ -533,34 +512,6 @@ fn a_part_of_the_text_stands_after_a_fault(rt: HostRuntime) {
                 None => assert!(rt; false, "{room} bytes"),
             }
         }
-    }
-}
-
-#[test]
-fn a_stream_has_a_limit(rt: HostRuntime) {
-    let no_move = text(b"*", b"*");
-    let report = Report {
-        messages: 0,
-        faults: 1,
-        moves: 0,
-        rest: 0,
-    };
-    for (left, wanted) in [
-        (67_108_864, Ok(report)),
-        (67_108_865, Err(RecordError::TooLong)),
-    ] {
-        let setup = standard(rt.alloc());
-        let sinks = (Sink::new(512), Sink::new(512));
-        let (answer, sends, writes) = run(
-            rt.alloc(),
-            setup,
-            Zeros { left },
-            sinks,
-            &[0x42, 0x4B, 0x42],
-            no_move.get(),
-        );
-        assert_eq!(rt; answer, wanted, "{left} bytes");
-        assert!(rt; sends && writes, "{left} bytes");
     }
 }
 
