@@ -1,139 +1,119 @@
-//! The calls on moves, settlers, tags, games and sessions. Each is made again where it was refused.
-ghost use Rattle.std.specs.Prelude.{◌<◌, All};
-ghost use Rattle.board_session.specs.Looking.{IsInRange};
+//! The calls on positions, tags and games. Each is made again where it was refused.
 
 use crate::Outcome;
-use board_session::Session;
-use chess_rules::{Position, Square};
-use chess_text::read_fen;
-use dgt_frame::{Event, First, Message};
-use dgt_vectors::rows::kings_pawn_opening;
-use pgn_book::{PgnError, Tag, TagError, Tags, read_pgn};
-use settle_core::{Seen, Settler};
+use crate::settling::is_opening;
+use chess_rules::{Move, Position};
+use pgn_book::{Game, PgnError, Tag, TagError, Tags, read_pgn};
 use std::alloc::Global;
+
+/// The origin and the target of each move of the initial position: two for each pawn, from a2 to h2, two for each knight.
+const FIRST_MOVES: [(u8, u8); 20] = [
+    (48, 32),
+    (48, 40),
+    (49, 33),
+    (49, 41),
+    (50, 34),
+    (50, 42),
+    (51, 35),
+    (51, 43),
+    (52, 36),
+    (52, 44),
+    (53, 37),
+    (53, 45),
+    (54, 38),
+    (54, 46),
+    (55, 39),
+    (55, 47),
+    (57, 40),
+    (57, 42),
+    (62, 45),
+    (62, 47),
+];
+
+fn are_first_moves(moves: &[Move]) -> bool {
+    for (mv, (from, to)) in moves.iter().zip(&FIRST_MOVES) {
+        if mv.from.number() != *from || mv.to.number() != *to || mv.promotion.is_some() {
+            return false;
+        }
+    }
+    moves.len() == 20
+}
 
 /// The initial position has 20 moves.
 pub fn legal_moves(alloc: Global) -> Outcome {
     let position = Position::initial();
     if let Ok(moves) = position.legal_moves(alloc) {
-        return Outcome::granted(moves.len() == 20);
+        return Outcome::granted(are_first_moves(moves.as_slice()));
     }
     match position.legal_moves(alloc) {
-        Ok(moves) => Outcome::refused(moves.len() == 20),
+        Ok(moves) => Outcome::refused(are_first_moves(moves.as_slice())),
         Err(_) => Outcome::Broken,
     }
 }
 
-/// After 1. e4.
-fn kings_pawn() -> Position {
-    match read_fen(b"rnbqkbnr/pppppppp/8/8/4P3/8/PPPP1PPP/RNBQKBNR b KQkq e3 0 1") {
-        Ok(position) => position,
-        Err(_) => Position::initial(),
-    }
+/// The values of White and Black; the other tags are unknown.
+fn has_values(tags: &Tags, white: &str, black: &str) -> bool {
+    tags.get(Tag::White) == white
+        && tags.get(Tag::Black) == black
+        && tags.get(Tag::Event) == "?"
+        && tags.get(Tag::Site) == "?"
+        && tags.get(Tag::Date) == "????.??.??"
+        && tags.get(Tag::Round) == "?"
 }
 
-fn has_moved(seen: Seen) -> bool {
-    match seen {
-        Seen::Moved(_) => true,
-        _ => false,
-    }
-}
+/// A tag and its new value, and the values of White and Black before it and after it.
+type Setting<'a> = (Tag, &'a str, (&'a str, &'a str), (&'a str, &'a str));
 
-/// A refused ply leaves the settler before the picture, so that it is seen again.
-pub fn see(alloc: Global) -> Outcome {
-    let picture = kings_pawn().picture();
-    let mut settler = Settler::new(alloc, Position::initial());
-    if let Ok(seen) = settler.see(&picture, None) {
-        return Outcome::granted(has_moved(seen) && settler.moves().len() == 1);
-    }
-    if !settler.moves().is_empty() {
-        return Outcome::Broken;
-    }
-    match settler.see(&picture, None) {
-        Ok(seen) => Outcome::refused(has_moved(seen) && settler.moves().len() == 1),
-        Err(_) => Outcome::Broken,
-    }
-}
+const SETTINGS: &[Setting<'static>] = &[
+    (Tag::White, "Berta", ("?", "?"), ("Berta", "?")),
+    (Tag::Black, "Clara", ("Berta", "?"), ("Berta", "Clara")),
+    (Tag::White, "Anna", ("Berta", "Clara"), ("Anna", "Clara")),
+];
 
-/// A refused ply leaves the settler before the field's update.
-pub fn see_field(alloc: Global) -> Outcome {
-    let (Some(from), Some(to)) = (Square::new(52), Square::new(36)) else {
-        return Outcome::Broken;
-    };
-    let mut settler = Settler::new(alloc, Position::initial());
-    // These pictures wait, and take no memory.
-    let Ok(_) = settler.see(&Position::initial().picture(), None) else {
-        return Outcome::Broken;
-    };
-    let Ok(_) = settler.see_field(from, 0, None) else {
-        return Outcome::Broken;
-    };
-    if let Ok(seen) = settler.see_field(to, 1, None) {
-        return Outcome::granted(has_moved(seen) && settler.moves().len() == 1);
-    }
-    if !settler.moves().is_empty() {
-        return Outcome::Broken;
-    }
-    match settler.see_field(to, 1, None) {
-        Ok(seen) => Outcome::refused(has_moved(seen) && settler.moves().len() == 1),
-        Err(_) => Outcome::Broken,
-    }
-}
-
-/// A refused value leaves the tag unknown.
-pub fn set(alloc: Global) -> Outcome {
-    let mut tags = Tags::new(alloc);
-    match tags.set(Tag::White, "Anna") {
-        Ok(()) => return Outcome::granted(tags.get(Tag::White) == "Anna"),
+/// A refused value leaves all as it was.
+fn sets(tags: &mut Tags, setting: &Setting<'_>) -> Outcome {
+    let (tag, value, before, after) = *setting;
+    match tags.set(tag, value) {
+        Ok(()) => return Outcome::granted(has_values(tags, after.0, after.1)),
         Err(TagError::Memory) => {}
         Err(_) => return Outcome::Broken,
     }
-    if tags.get(Tag::White) != "?" {
+    if !has_values(tags, before.0, before.1) {
         return Outcome::Broken;
     }
-    let again = tags.set(Tag::White, "Anna").is_ok();
-    Outcome::refused(again && tags.get(Tag::White) == "Anna")
+    let again = tags.set(tag, value).is_ok();
+    Outcome::refused(again && has_values(tags, after.0, after.1))
+}
+
+/// Values are set one after another.
+pub fn set(alloc: Global) -> Outcome {
+    let mut tags = Tags::new(alloc);
+    let mut outcome = Outcome::Granted;
+    for setting in SETTINGS {
+        outcome = outcome.and(sets(&mut tags, setting));
+    }
+    outcome
+}
+
+const GAME: &[u8] =
+    b"[Event \"?\"]\n[Site \"?\"]\n[Date \"????.??.??\"]\n[Round \"?\"]\n[White \"Anna\"]\n[Black \"Clara\"]\n[Result \"1-0\"]\n\n1. e4 {[%clk 1:30:00]} 1-0\n\n";
+
+fn is_game(game: &Game) -> bool {
+    *game.start() == Position::initial()
+        && is_opening(game.plies())
+        && game.result() == Some(settle_core::Outcome::WhiteWins)
+        && has_values(game.tags(), "Anna", "Clara")
 }
 
 /// Want of memory is no fault of the text.
 pub fn reads_game(alloc: Global) -> Outcome {
-    let text = kings_pawn_opening().text();
-    match read_pgn(alloc, text.get()) {
-        Ok(game) => return Outcome::granted(game.plies().len() == 1),
+    match read_pgn(alloc, GAME) {
+        Ok(game) => return Outcome::granted(is_game(&game)),
         Err(PgnError::Memory) => {}
         Err(_) => return Outcome::Broken,
     }
-    match read_pgn(alloc, text.get()) {
-        Ok(game) => Outcome::refused(game.plies().len() == 1),
+    match read_pgn(alloc, GAME) {
+        Ok(game) => Outcome::refused(is_game(&game)),
         Err(_) => Outcome::Broken,
     }
-}
-
-/// The dump of the initial position.
-fn dump() -> Event
-    ensures { IsInRange result }
-{
-    Event::Message(Message::Dump(Position::initial().picture()))
-}
-
-/// A refused ply leaves the session before the event.
-pub fn take(alloc: Global) -> Outcome {
-    let mut session = Session::new(alloc, Position::initial(), First::White, false);
-    let e2 = Event::Message(Message::Update { field: 52, code: 0 });
-    let e4 = Event::Message(Message::Update { field: 36, code: 1 });
-    // These events append no move, and take no memory.
-    let Ok(_) = session.take(dump()) else {
-        return Outcome::Broken;
-    };
-    let Ok(_) = session.take(e2) else {
-        return Outcome::Broken;
-    };
-    if session.take(e4).is_ok() {
-        return Outcome::granted(session.settler().moves().len() == 1);
-    }
-    if !session.settler().moves().is_empty() || !session.trusted() {
-        return Outcome::Broken;
-    }
-    let again = session.take(e4).is_ok();
-    Outcome::refused(again && session.settler().moves().len() == 1)
 }

@@ -4,8 +4,11 @@
 
 mod calls;
 mod recordings;
+mod runs;
+mod settling;
 
-use std::io;
+use runs::Case;
+use std::io::{self, Read};
 
 /// How a call went.
 #[derive(Clone, Copy)]
@@ -35,6 +38,16 @@ impl Outcome {
         }
     }
 
+    /// How both calls went.
+    fn and(self, other: Outcome) -> Outcome {
+        match (self, other) {
+            (Outcome::Granted, Outcome::Granted) => Outcome::Granted,
+            (Outcome::Broken, _) => Outcome::Broken,
+            (_, Outcome::Broken) => Outcome::Broken,
+            _ => Outcome::Refused,
+        }
+    }
+
     fn word(self) -> &'static str {
         match self {
             Outcome::Granted => "granted",
@@ -44,19 +57,46 @@ impl Outcome {
     }
 }
 
-fn main(rt: HostRuntime) -> io::Result<()> {
+/// The calls, each with few growths, and the program's first case.
+fn make_calls(rt: &HostRuntime) -> io::Result<()> {
     let alloc = rt.alloc();
     println!(rt; "legal_moves {}", calls::legal_moves(alloc).word())?;
-    println!(rt; "see {}", calls::see(alloc).word())?;
-    println!(rt; "see_field {}", calls::see_field(alloc).word())?;
+    println!(rt; "see {}", settling::see(alloc).word())?;
+    println!(rt; "see_field {}", settling::see_field(alloc).word())?;
     println!(rt; "set {}", calls::set(alloc).word())?;
     println!(rt; "read_pgn {}", calls::reads_game(alloc).word())?;
-    println!(rt; "take {}", calls::take(alloc).word())?;
-    println!(rt; "record {}", recordings::records(alloc).word())?;
+    println!(rt; "take {}", settling::take(alloc).word())?;
+    for (row, fronts) in &recordings::captures() {
+        let outcome = recordings::records(alloc, row, fronts);
+        println!(rt; "record, {} {}", row.name, outcome.word())?;
+    }
     println!(rt;
         "record without a move {}",
         recordings::takes_no_memory(alloc).word()
     )?;
-    println!(rt; "run {}", recordings::runs(alloc).word())?;
+    run_case(rt, &runs::record())
+}
+
+fn run_case(rt: &HostRuntime, case: &Case<'_>) -> io::Result<()> {
+    println!(rt; "run {} {}", case.name, runs::runs(rt.alloc(), case).word())
+}
+
+/// The other case of the program that has this name.
+fn run_named(rt: &HostRuntime, name: &[u8]) -> io::Result<()> {
+    for case in runs::others() {
+        if case.name.as_bytes() == name {
+            run_case(rt, case)?;
+        }
+    }
     Ok(())
+}
+
+/// Where standard input is empty all calls are made. Else it names another case of the program, and that is run alone.
+fn main(rt: HostRuntime) -> io::Result<()> {
+    let mut buffer = [0u8; 32];
+    let count = rt.stdin().read(&mut buffer)?;
+    match buffer.get(..count) {
+        Some(name) if !name.is_empty() => run_named(&rt, name),
+        _ => make_calls(&rt),
+    }
 }

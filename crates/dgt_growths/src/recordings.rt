@@ -1,113 +1,154 @@
-//! Whole recordings and the program. Each is run again where it was refused.
+//! Whole recordings. Each is made again where a ply was refused.
 
 use crate::Outcome;
 use board_session::RecordError;
-use dgt_frame::Watch;
-use dgt_replay::run;
-use dgt_vectors::bytes::Bytes;
+use dgt_vectors::captures::INITIAL;
+use dgt_vectors::captures::Signal::{self, Dump, Lift, Put};
 use dgt_vectors::recording::{Recording, recorded, report_of};
-use dgt_vectors::rows::{Row, commands, kings_pawn_opening, text_of, unknown_code};
-use dgt_vectors::streams::{ALWAYS, Sink, Source};
-use std::alloc::{AllocError, Global};
+use dgt_vectors::rows::{Row, commands, kings_pawn_opening, rows_by_subject, text_of};
+use std::alloc::Global;
 
-/// All is recorded, or want of memory is answered at the ply, and the text is that of no move.
-fn is_due(got: &Recording, row: &Row<'_>) -> bool {
-    if got.board_shown.get() != commands(0).get() {
+const ROOK_FIRST: &[Signal<'static>] = &[
+    Dump("4k3/8/8/8/8/8/8/4K2R"),
+    Lift("h1"),
+    Put("f1", "R"),
+    Lift("e1"),
+    Put("g1", "K"),
+];
+
+/// The rook's move is a ply; castling takes its place, and no memory.
+fn rook_first<'a>() -> Row<'a> {
+    Row {
+        name: "castling, rook first",
+        start: "4k3/8/8/8/8/8/8/4K2R w K - 0 1",
+        capture: ROOK_FIRST,
+        movetext: "1. O-O *",
+        report: (5, 0, 1, 0),
+        ..kings_pawn_opening()
+    }
+}
+
+const NINE_PLIES: &[Signal<'static>] = &[
+    Dump(INITIAL),
+    Lift("e2"),
+    Put("e4", "P"),
+    Lift("e7"),
+    Put("e5", "p"),
+    Lift("g1"),
+    Put("f3", "N"),
+    Lift("b8"),
+    Put("c6", "n"),
+    Lift("f1"),
+    Put("b5", "B"),
+    Lift("a7"),
+    Put("a6", "p"),
+    Lift("b5"),
+    Put("a4", "B"),
+    Lift("g8"),
+    Put("f6", "n"),
+    Lift("d2"),
+    Put("d3", "P"),
+];
+
+fn nine_plies<'a>() -> Row<'a> {
+    Row {
+        name: "nine plies",
+        capture: NINE_PLIES,
+        movetext: "1. e4 e5 2. Nf3 Nc6 3. Bb5 a6 4. Ba4 Nf6 5. d3 *",
+        report: (19, 0, 9, 0),
+        ..kings_pawn_opening()
+    }
+}
+
+/// The first ply was refused.
+const NO_PLY: &[&str] = &["*"];
+
+/// One of the nine plies was refused.
+const FRONTS: &[&str] = &[
+    "*",
+    "1. e4 *",
+    "1. e4 e5 *",
+    "1. e4 e5 2. Nf3 *",
+    "1. e4 e5 2. Nf3 Nc6 *",
+    "1. e4 e5 2. Nf3 Nc6 3. Bb5 *",
+    "1. e4 e5 2. Nf3 Nc6 3. Bb5 a6 *",
+    "1. e4 e5 2. Nf3 Nc6 3. Bb5 a6 4. Ba4 *",
+    "1. e4 e5 2. Nf3 Nc6 3. Bb5 a6 4. Ba4 Nf6 *",
+];
+
+/// Captures with a ply, each with the movetexts that may stand where a ply was refused.
+pub fn captures<'a>() -> [(Row<'a>, &'a [&'a str]); 3] {
+    [
+        (kings_pawn_opening(), NO_PLY),
+        (rook_first(), NO_PLY),
+        (nine_plies(), FRONTS),
+    ]
+}
+
+fn is_whole(got: &Recording, row: &Row<'_>) -> bool {
+    got.answer == Ok(report_of(row.report))
+        && got.board_shown.get() == row.sent().get()
+        && got.text_shown.get() == row.text().get()
+}
+
+/// Want of memory is answered at a ply, and the text is that of the plies before it.
+fn is_front(got: &Recording, row: &Row<'_>, fronts: &[&str]) -> bool {
+    if got.answer != Err(RecordError::Memory) || got.board_shown.get() != commands(0).get() {
         return false;
     }
-    match got.answer {
-        Ok(report) => report == report_of(row.report) && got.text_shown.get() == row.text().get(),
-        Err(RecordError::Memory) => got.text_shown.get() == text_of("", "*", "*").get(),
-        Err(_) => false,
+    for front in fronts {
+        if got.text_shown.get() == text_of(row.start, "*", front).get() {
+            return true;
+        }
+    }
+    false
+}
+
+/// Records the row's capture.
+fn recording(alloc: Global, row: &Row<'_>) -> Option<Recording> {
+    recorded(alloc, row, row.bytes().get(), 4096).ok()
+}
+
+/// Whether the whole capture is recorded.
+fn records_whole(alloc: Global, row: &Row<'_>) -> bool {
+    match recording(alloc, row) {
+        Some(got) => is_whole(&got, row),
+        None => false,
     }
 }
 
 /// A refused ply ends the recording; made again it records all.
-pub fn records(alloc: Global) -> Outcome {
-    let row = kings_pawn_opening();
-    let bytes = row.bytes();
-    let Ok(first) = recorded(alloc, &row, bytes.get(), 4096) else {
+pub fn records(alloc: Global, row: &Row<'_>, fronts: &[&str]) -> Outcome {
+    let Some(got) = recording(alloc, row) else {
         return Outcome::Broken;
     };
-    if !is_due(&first, &row) {
-        return Outcome::Broken;
-    }
-    if first.answer.is_ok() {
+    if is_whole(&got, row) {
         return Outcome::Granted;
     }
-    match recorded(alloc, &row, bytes.get(), 4096) {
-        Ok(again) => Outcome::refused(again.answer.is_ok() && is_due(&again, &row)),
-        Err(_) => Outcome::Broken,
-    }
+    Outcome::refused(is_front(&got, row, fronts) && records_whole(alloc, row))
+}
+
+fn is_without_move(row: &Row<'_>) -> bool {
+    let (_, _, moves, _) = row.report;
+    moves == 0
 }
 
 /// Where no move is appended no growth can be refused.
+fn rows_take_no_memory(alloc: Global, rows: &[Row<'_>]) -> bool {
+    for row in rows {
+        if is_without_move(row) && !records_whole(alloc, row) {
+            return false;
+        }
+    }
+    true
+}
+
+/// Each capture without a move is recorded whole.
 pub fn takes_no_memory(alloc: Global) -> Outcome {
-    let row = unknown_code();
-    match recorded(alloc, &row, row.bytes().get(), 4096) {
-        Ok(got) => Outcome::granted(
-            got.answer == Ok(report_of(row.report)) && got.text_shown.get() == row.text().get(),
-        ),
-        Err(_) => Outcome::Broken,
+    for rows in rows_by_subject() {
+        if !rows_take_no_memory(alloc, rows) {
+            return Outcome::Broken;
+        }
     }
-}
-
-/// What the program left: its status, the output and the errors.
-#[derive(Drop)]
-struct Run {
-    status: u8,
-    out: Bytes,
-    err: Bytes,
-}
-
-fn program_run(words: &[String], alloc: Global, bytes: &Bytes) -> Run {
-    let mut reader = Watch::new(Source::new(bytes.get(), 4096, ALWAYS));
-    let mut out = Watch::new(Sink::new(512, ALWAYS));
-    let mut err = Watch::new(Sink::new(512, ALWAYS));
-    let status = run(alloc, words, &mut reader, &mut out, &mut err);
-    Run {
-        status,
-        out: Bytes::of(&[out.inner().held()]),
-        err: Bytes::of(&[err.inner().held()]),
-    }
-}
-
-fn words_of(alloc: Global) -> Result<Vec<String>, AllocError> {
-    let mut words = Vec::new(alloc);
-    words.push(String::from_str(alloc, "dgt_replay")?)?;
-    words.push(String::from_str(alloc, "record")?)?;
-    Ok(words)
-}
-
-fn is_done(run: &Run) -> bool {
-    run.status == 0
-        && run.out.get() == kings_pawn_opening().text().get()
-        && run.err.get() == b"BK\nmessages 3, faults 0, moves 1, rest 0\n".as_slice()
-}
-
-/// Nothing was recorded, or no move was: the growth came before the recording or in it.
-fn is_refused(run: &Run) -> bool {
-    if run.status != 4 {
-        return false;
-    }
-    if run.out.get().is_empty() {
-        return run.err.get() == b"memory\n".as_slice();
-    }
-    run.out.get() == text_of("", "*", "*").get() && run.err.get() == b"BK\nmemory\n".as_slice()
-}
-
-/// Want of memory has a status and a text of its own; run again the program does all. The words themselves can be refused too.
-pub fn runs(alloc: Global) -> Outcome {
-    let bytes = kings_pawn_opening().bytes();
-    let Ok(words) = words_of(alloc) else {
-        return match words_of(alloc) {
-            Ok(words) => Outcome::refused(is_done(&program_run(words.as_slice(), alloc, &bytes))),
-            Err(_) => Outcome::Broken,
-        };
-    };
-    let first = program_run(words.as_slice(), alloc, &bytes);
-    if is_done(&first) {
-        return Outcome::Granted;
-    }
-    Outcome::refused(is_refused(&first) && is_done(&program_run(words.as_slice(), alloc, &bytes)))
+    Outcome::Granted
 }

@@ -1,0 +1,148 @@
+//! The program. It is run again where it was refused.
+
+use crate::Outcome;
+use dgt_frame::Watch;
+use dgt_replay::run;
+use dgt_vectors::bytes::Bytes;
+use dgt_vectors::captures::Signal::{self, Dump, Lift, Put, Text};
+use dgt_vectors::captures::{INITIAL, bytes_of};
+use dgt_vectors::streams::{ALWAYS, Sink, Source};
+use std::alloc::{AllocError, Global};
+
+/// Words after the program's name, an input, and what is left of them.
+#[derive(Clone, Copy)]
+pub struct Case<'a> {
+    pub name: &'a str,
+    words: &'a [&'a str],
+    input: &'a [Signal<'a>],
+    out: &'a str,
+    err: &'a str,
+    /// The output where the first ply was refused; empty where none is made.
+    without_ply: &'a str,
+}
+
+const RECORD: Case<'static> = Case {
+    name: "record",
+    words: &["record"],
+    input: &[Dump(INITIAL), Lift("e2"), Put("e4", "P")],
+    out: "[Event \"?\"]\n[Site \"?\"]\n[Date \"????.??.??\"]\n[Round \"?\"]\n[White \"?\"]\n[Black \"?\"]\n[Result \"*\"]\n\n1. e4 *\n\n",
+    err: "BK\nmessages 3, faults 0, moves 1, rest 0\n",
+    without_ply: "[Event \"?\"]\n[Site \"?\"]\n[Date \"????.??.??\"]\n[Round \"?\"]\n[White \"?\"]\n[Black \"?\"]\n[Result \"*\"]\n\n*\n\n",
+};
+
+const OTHERS: &[Case<'static>] = &[
+    Case {
+        name: "record with options",
+        words: &[
+            "record",
+            "--fen",
+            "4k3/8/8/8/8/8/8/4K2R w K -",
+            "--white",
+            "Anna",
+        ],
+        input: &[Dump("4k3/8/8/8/8/8/8/4K2R"), Lift("e1"), Put("e2", "K")],
+        out: "[Event \"?\"]\n[Site \"?\"]\n[Date \"????.??.??\"]\n[Round \"?\"]\n[White \"Anna\"]\n[Black \"?\"]\n[Result \"*\"]\n[FEN \"4k3/8/8/8/8/8/8/4K2R w K - 0 1\"]\n[SetUp \"1\"]\n\n1. Ke2 *\n\n",
+        err: "BK\nmessages 3, faults 0, moves 1, rest 0\n",
+        without_ply: "[Event \"?\"]\n[Site \"?\"]\n[Date \"????.??.??\"]\n[Round \"?\"]\n[White \"Anna\"]\n[Black \"?\"]\n[Result \"*\"]\n[FEN \"4k3/8/8/8/8/8/8/4K2R w K - 0 1\"]\n[SetUp \"1\"]\n\n*\n\n",
+    },
+    Case {
+        name: "check",
+        words: &["check"],
+        input: &[Text(
+            "[Event \"?\"]\n[Site \"?\"]\n[Date \"????.??.??\"]\n[Round \"?\"]\n[White \"?\"]\n[Black \"?\"]\n[Result \"*\"]\n\n1. e4 *\n\n",
+        )],
+        out: "moves 1, result *\n",
+        err: "",
+        without_ply: "",
+    },
+    Case {
+        name: "moves",
+        words: &["moves"],
+        input: &[],
+        out: "a4\na3\nb4\nb3\nc4\nc3\nd4\nd3\ne4\ne3\nf4\nf3\ng4\ng3\nh4\nh3\nNa3\nNc3\nNf3\nNh3\n",
+        err: "",
+        without_ply: "",
+    },
+];
+
+pub fn record<'a>() -> Case<'a> {
+    RECORD
+}
+
+pub fn others<'a>() -> &'a [Case<'a>] {
+    OTHERS
+}
+
+/// What the program left: its status, the output and the errors.
+#[derive(Drop)]
+struct Run {
+    status: u8,
+    out: Bytes,
+    err: Bytes,
+}
+
+fn words_of(alloc: Global, line: &[&str]) -> Result<Vec<String>, AllocError> {
+    let mut words = Vec::new(alloc);
+    words.push(String::from_str(alloc, "dgt_replay")?)?;
+    for word in line {
+        words.push(String::from_str(alloc, word)?)?;
+    }
+    Ok(words)
+}
+
+/// Runs the program with these words over these bytes.
+fn run_over(alloc: Global, words: &[String], bytes: &Bytes) -> Run {
+    let mut reader = Watch::new(Source::new(bytes.get(), 4096, ALWAYS));
+    let mut out = Watch::new(Sink::new(512, ALWAYS));
+    let mut err = Watch::new(Sink::new(512, ALWAYS));
+    let status = run(alloc, words, &mut reader, &mut out, &mut err);
+    Run {
+        status,
+        out: Bytes::of(&[out.inner().held()]),
+        err: Bytes::of(&[err.inner().held()]),
+    }
+}
+
+/// Runs a case, where there is memory for its words.
+fn run_of(alloc: Global, case: &Case<'_>) -> Option<Run> {
+    match words_of(alloc, case.words) {
+        Ok(words) => Some(run_over(alloc, words.as_slice(), &bytes_of(case.input))),
+        Err(_) => None,
+    }
+}
+
+fn is_done(case: &Case<'_>, left: &Run) -> bool {
+    left.status == 0
+        && left.out.get() == case.out.as_bytes()
+        && left.err.get() == case.err.as_bytes()
+}
+
+/// Nothing was written, or the game without a ply: the growth came before the recording or in it.
+fn is_refused(case: &Case<'_>, left: &Run) -> bool {
+    if left.status != 4 {
+        return false;
+    }
+    if left.out.get().is_empty() {
+        return left.err.get() == b"memory\n".as_slice();
+    }
+    left.out.get() == case.without_ply.as_bytes() && left.err.get() == b"BK\nmemory\n".as_slice()
+}
+
+/// Whether the program does all.
+fn runs_whole(alloc: Global, case: &Case<'_>) -> bool {
+    match run_of(alloc, case) {
+        Some(left) => is_done(case, &left),
+        None => false,
+    }
+}
+
+/// Want of memory has a status and a text of its own; run again the program does all. The words themselves can be refused too.
+pub fn runs(alloc: Global, case: &Case<'_>) -> Outcome {
+    let Some(left) = run_of(alloc, case) else {
+        return Outcome::refused(runs_whole(alloc, case));
+    };
+    if is_done(case, &left) {
+        return Outcome::Granted;
+    }
+    Outcome::refused(is_refused(case, &left) && runs_whole(alloc, case))
+}
