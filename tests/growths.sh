@@ -1,73 +1,56 @@
 #!/bin/sh
-# Refuses each growth of the calls in crates/dgt_growths in turn, counting up until a run meets no refusal; and then, in other
-# cases of the program, the growths after it has read its words, and the one before them. A refused call must leave all as it
-# was, and be granted when it is made again. The runtime has no growths of its own, so in each run one call is refused.
+# Refuses each growth of the calls in crates/dgt_growths in turn. The program is built once, so that its 1,000th growth is
+# refused, and run once for each number: run n spends 1,000 less n growths first, so that the calls' nth is the one. Each run
+# must say that one call was refused, left all as it was and was granted when made again, up to a run that meets no refusal;
+# and none after it may meet one.
 #
-# usage: tests/growths.sh [FIRST]    begins at that growth (1)
-#
-# Prints each run that is broken, and last 'N passed, M failed': the growths whose refusal one call reported as it must, and
-# the broken runs. The status is 0 where none failed and the end was reached.
+# Prints each run that is broken, and last how many growths were refused well, and how many runs are broken:
+# 'N passed, M failed'. The status is 0 where none is broken.
 set -eu
 
 cd "$(dirname "$0")/../crates/dgt_growths"
+calls=14
+runs=400
+folder=$(mktemp -d)
+trap 'rm -rf "$folder"' EXIT
 
-calls=11
-growth=${1:-1}
-passed=0
-failed=0
-
-# Makes the calls, or runs the case of this name, with this growth refused. The run is judged by the lines that it prints.
-try() {
-    output=$(printf '%s' "$1" | rt try --fail-alloc "$2" 2>&1) || true
-    granted=$(printf '%s\n' "$output" | grep -c ' granted$' || true)
-    refused=$(printf '%s\n' "$output" | grep -c ' refused$' || true)
-    allocations=$(printf '%s\n' "$output" | sed -n 's/^allocations: //p' | head -n 1)
-    if [ -z "$allocations" ]; then
-        printf 'growth %s %s: no number of allocations\n%s\n' "$2" "$1" "$output"
-        exit 1
-    fi
-}
-
-# Counts the last run, of so many calls, as one with so many of them refused.
-count() {
-    if [ "$refused" -eq "$4" ] && [ $((granted + refused)) -eq "$3" ]; then
-        passed=$((passed + $4))
-    else
-        failed=$((failed + 1))
-        printf 'growth %s %s:\n%s\n' "$2" "$1" "$output"
-    fi
-}
-
-# Refuses so many growths of a case, the last ones.
-try_last() {
-    try "$1" 2000
-    count "$1" 2000 1 0
-    end=$allocations
-    growth=$((end - $2 + 1))
-    while [ "$growth" -le "$end" ]; do
-        try "$1" "$growth"
-        count "$1" "$growth" 1 1
-        growth=$((growth + 1))
-    done
-}
-
-while :; do
-    try '' "$growth"
-    if [ "$growth" -gt "$allocations" ]; then
-        count '' "$growth" "$calls" 0
-        break
-    fi
-    count '' "$growth" "$calls" 1
-    growth=$((growth + 1))
-    if [ "$growth" -gt 2000 ]; then
-        printf 'no end after %s growths\n' "$growth"
-        failed=$((failed + 1))
-        break
-    fi
+mkdir "$folder/runs"
+run=1
+while [ "$run" -le "$runs" ]; do
+    printf '%s' $((1000 - run)) > "$folder/runs/$(printf '%03d' "$run")"
+    run=$((run + 1))
 done
-# A tag and a ply; the text, and what read_pgn takes; the moves.
-try_last 'record with options' 3
-try_last check 14
-try_last moves 5
-printf '%s passed, %s failed\n' "$passed" "$failed"
-[ "$failed" -eq 0 ]
+
+# One step of the interpreter, which is slow here: the program as it is compiled with checks answers alone.
+rt try --steps 1 --fail-alloc 1000 --cases "$folder/runs" > "$folder/log" 2>&1 || true
+
+awk -v calls="$calls" -v runs="$runs" '
+    { text = text $0 "\n" }
+    / granted$/ { granted++ }
+    / refused$/ { refused++ }
+    /^case=/ {
+        seen++
+        all = granted + refused == calls && / run=ended status=0 /
+        if (all && refused == 1 && !ended) {
+            passed++
+        } else if (all && refused == 0) {
+            ended = 1
+        } else {
+            failed++
+            printf "%s", text
+        }
+        granted = refused = 0
+        text = ""
+    }
+    END {
+        if (seen != runs) {
+            failed++
+            printf "%d runs of %d were made\n%s", seen, runs, text
+        } else if (!ended) {
+            failed++
+            printf "no end after %d growths\n", runs
+        }
+        printf "%d passed, %d failed\n", passed, failed
+        exit failed > 0
+    }
+' "$folder/log"

@@ -7,7 +7,7 @@ mod recordings;
 mod runs;
 mod settling;
 
-use runs::Case;
+use std::alloc::Global;
 use std::io::{self, Read};
 
 /// How a call went.
@@ -57,7 +57,14 @@ impl Outcome {
     }
 }
 
-/// The calls, each with few growths, and the program's first case.
+/// Takes so many growths, and gives them back.
+fn spend(alloc: Global, count: u32) {
+    for _ in 0..count {
+        let mut spent = Vec::new(alloc);
+        let _ = spent.push(0u8);
+    }
+}
+
 fn make_calls(rt: &HostRuntime) -> io::Result<()> {
     let alloc = rt.alloc();
     println!(rt; "legal_moves {}", calls::legal_moves(alloc).word())?;
@@ -74,29 +81,30 @@ fn make_calls(rt: &HostRuntime) -> io::Result<()> {
         "record without a move {}",
         recordings::takes_no_memory(alloc).word()
     )?;
-    run_case(rt, &runs::record())
-}
-
-fn run_case(rt: &HostRuntime, case: &Case<'_>) -> io::Result<()> {
-    println!(rt; "run {} {}", case.name, runs::runs(rt.alloc(), case).word())
-}
-
-/// The other case of the program that has this name.
-fn run_named(rt: &HostRuntime, name: &[u8]) -> io::Result<()> {
-    for case in runs::others() {
-        if case.name.as_bytes() == name {
-            run_case(rt, case)?;
-        }
+    for case in runs::cases() {
+        println!(rt; "run {} {}", case.name, runs::runs(alloc, case).word())?;
     }
     Ok(())
 }
 
-/// Where standard input is empty all calls are made. Else it names another case of the program, and that is run alone.
-fn main(rt: HostRuntime) -> io::Result<()> {
-    let mut buffer = [0u8; 32];
-    let count = rt.stdin().read(&mut buffer)?;
-    match buffer.get(..count) {
-        Some(name) if !name.is_empty() => run_named(&rt, name),
-        _ => make_calls(&rt),
+/// The decimal number in a text, of which other bytes are passed over.
+fn number_in(text: &[u8]) -> u32 {
+    let mut number: u32 = 0;
+    for byte in text {
+        if byte.is_ascii_digit() {
+            number = number
+                .saturating_mul(10)
+                .saturating_add(u32::from(*byte - b'0'));
+        }
     }
+    number
+}
+
+/// Standard input has a number, or nothing: so many growths are spent before the calls. So where the 1,000th growth is refused,
+/// and 1,000 less n are spent, the calls' nth is the one.
+fn main(rt: HostRuntime) -> io::Result<()> {
+    let mut buffer = [0u8; 16];
+    let count = rt.stdin().read(&mut buffer)?;
+    spend(rt.alloc(), number_in(buffer.get(..count).unwrap_or(&[])));
+    make_calls(&rt)
 }

@@ -21,16 +21,15 @@ pub struct Case<'a> {
     without_ply: &'a str,
 }
 
-const RECORD: Case<'static> = Case {
-    name: "record",
-    words: &["record"],
-    input: &[Dump(INITIAL), Lift("e2"), Put("e4", "P")],
-    out: "[Event \"?\"]\n[Site \"?\"]\n[Date \"????.??.??\"]\n[Round \"?\"]\n[White \"?\"]\n[Black \"?\"]\n[Result \"*\"]\n\n1. e4 *\n\n",
-    err: "BK\nmessages 3, faults 0, moves 1, rest 0\n",
-    without_ply: "[Event \"?\"]\n[Site \"?\"]\n[Date \"????.??.??\"]\n[Round \"?\"]\n[White \"?\"]\n[Black \"?\"]\n[Result \"*\"]\n\n*\n\n",
-};
-
-const OTHERS: &[Case<'static>] = &[
+const CASES: &[Case<'static>] = &[
+    Case {
+        name: "record",
+        words: &["record"],
+        input: &[Dump(INITIAL), Lift("e2"), Put("e4", "P")],
+        out: "[Event \"?\"]\n[Site \"?\"]\n[Date \"????.??.??\"]\n[Round \"?\"]\n[White \"?\"]\n[Black \"?\"]\n[Result \"*\"]\n\n1. e4 *\n\n",
+        err: "BK\nmessages 3, faults 0, moves 1, rest 0\n",
+        without_ply: "[Event \"?\"]\n[Site \"?\"]\n[Date \"????.??.??\"]\n[Round \"?\"]\n[White \"?\"]\n[Black \"?\"]\n[Result \"*\"]\n\n*\n\n",
+    },
     Case {
         name: "record with options",
         words: &[
@@ -65,12 +64,8 @@ const OTHERS: &[Case<'static>] = &[
     },
 ];
 
-pub fn record<'a>() -> Case<'a> {
-    RECORD
-}
-
-pub fn others<'a>() -> &'a [Case<'a>] {
-    OTHERS
+pub fn cases<'a>() -> &'a [Case<'a>] {
+    CASES
 }
 
 /// What the program left: its status, the output and the errors.
