@@ -15,13 +15,13 @@ append_apart (x ∷ y ∷ ys) b bs n h k = (h.0, append_apart (y ∷ ys) b bs n 
 letter_high : (c : ℕ) → 47 < letter c → 58 ≤ letter c
 letter_high c h = grind (arith, tests)
 
-letter_other : (c : ℕ) → IsDigit (letter c) → ⊥
+pub letter_other : (c : ℕ) → IsDigit (letter c) → ⊥
 letter_other c d = let high = letter_high c d.0 in omega (arith, high, d.1)
 
 run_apart : (n : ℕ) → HasDigitsApart (run_text n)
 run_apart n = elim (eqb n 0) as (λ t. HasDigitsApart (cond t [] ((48 + n) ∷ []))) [ true ↦ tt | false ↦ tt ]
 
-rank_apart : (n : ℕ) (cs : List ℕ) → HasDigitsApart (rank_text n cs)
+pub rank_apart : (n : ℕ) (cs : List ℕ) → HasDigitsApart (rank_text n cs)
 rank_apart n [] = run_apart n
 rank_apart n (c ∷ cs) =
     elim (eqb c 0) as (λ t. HasDigitsApart (cond t (rank_text (n + 1) cs) (run_text n ++ letter c ∷ rank_text 0 cs))) [

@@ -16,3 +16,4 @@ pub mod FenAnswers
 pub mod FenPlain
 pub mod Refusals
 pub mod DigitsApart
+pub mod RankTexts

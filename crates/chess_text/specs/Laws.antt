@@ -1,11 +1,11 @@
 -- What holds of all texts of positions and moves.
-use Rattle.std.specs.Prelude.{◌≡◌, ◌≢◌, ℕ, ◌<◌, ◌≤◌, List, length, All}
+use Rattle.std.specs.Prelude.{◌≡◌, ◌≢◌, ℕ, ◌<◌, ◌≤◌, ◌↔◌, List, length, All}
 use Rattle.chess_rules.specs.declared.men.Move.{Move}
 use Rattle.chess_rules.specs.declared.men.Parts.{Parts}
 use Rattle.chess_rules.specs.Legal.{Legal}
 use Rattle.chess_rules.specs.Valid.{Valid}
 use Rattle.chess_text.specs.declared.fen.FenError.{FenError}
-use Rattle.chess_text.specs.Placement.{placement, IsBoardPicture, squares, HasDigitsApart}
+use Rattle.chess_text.specs.Placement.{placement, IsBoardPicture, squares, HasDigitsApart, IsPlacement}
 use Rattle.chess_text.specs.Fen.{fen, Tells, RefusedFirst}
 use Rattle.chess_text.specs.San.{San}
 
@@ -22,6 +22,10 @@ TextsTellPositions =
 -- A text meets one refusal at most.
 abbrev pub OneRefusal : Type 0
 OneRefusal = (text : List ℕ) (a b : FenError) → RefusedFirst text a → RefusedFirst text b → a ≡ b
+
+-- A picture has one text by the rule of placements, and `placement` is that text.
+abbrev pub PlacementsAreThese : Type 0
+PlacementsAreThese = (picture text : List ℕ) → IsPlacement picture text ↔ (text ≡ placement picture)
 
 -- The squares of a board's placement are those of the board, and no two digits of a placement stand side by side.
 pub record PlacementsReadBack : Type 0 where
