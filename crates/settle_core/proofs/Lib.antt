@@ -15,3 +15,4 @@ pub mod Repeats
 pub mod Steps
 pub mod Growing
 pub mod Once
+pub mod Tipping

@@ -1,5 +1,5 @@
 -- What holds of all games.
-use Rattle.std.specs.Prelude.{◌≡◌, ℕ, ◌≤◌, ◌+◌, ◌↔◌, IsTrue, List, ◌∷◌, ◌++◌, None, length, reverse}
+use Rattle.std.specs.Prelude.{◌≡◌, ℕ, ◌≤◌, ◌+◌, ◌↔◌, IsTrue, List, ◌∷◌, ◌++◌, None, length, map, reverse}
 use Rattle.std.specs.List.{flat_map}
 use Rattle.chess_rules.specs.declared.men.Move.{Move}
 use Rattle.chess_rules.specs.declared.men.Parts.{Parts}
@@ -53,6 +53,16 @@ RepeatsCountOnce =
 abbrev pub FoldsOnce : Type 0
 FoldsOnce =
     (start : Parts) (past : List Entry) (a b : Score) → Valid start → Folds start past a → Folds start past b → a ≡ b
+
+-- From this start, entries with these pictures, in their order, fold to some score, whatever the readings.
+abbrev pub FoldsSome : Parts → List (List ℕ) → Type 0
+FoldsSome start pictures =
+    (entries : List Entry) → map (λ entry. entry.picture) entries ≡ pictures → (score : Score) × Folds start (reverse entries) score
+
+-- So do those that are left where repeated pictures are taken out.
+abbrev pub GivesSome : Parts → List (List ℕ) → Type 0
+GivesSome start pictures =
+    (entries : List Entry) → map (λ entry. entry.picture) entries ≡ pictures → (score : Score) × GivesScore start entries score
 
 -- The score of a settler is the one to which its entries fold.
 abbrev pub SettlersTellTheScore : Type 0

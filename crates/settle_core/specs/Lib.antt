@@ -9,3 +9,4 @@ pub mod Masks
 pub mod Candidate
 pub mod Standing
 pub mod Kept
+pub mod Tips

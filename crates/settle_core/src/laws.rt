@@ -1,16 +1,17 @@
-//! What holds of all games, each law as the contract of a function that does nothing; and how a move is read off two pictures.
+//! What holds of all games, each law as the contract of a function; and how a move is read off two pictures.
 ghost use Rattle.std.specs.Prelude.{◌≡◌, ◌≢◌, ◌<◌, ℕ, IfSome, IfNone, Some, None, true, false, slice_index};
 ghost use Rattle.std.specs.Int.{bit_at};
 ghost use Rattle.chess_rules.specs.declared.men.Move.{Move as MoveOf};
 ghost use Rattle.chess_rules.specs.declared.men.Parts.{Parts as PartsOf};
 ghost use Rattle.chess_rules.specs.Valid.{Valid};
 ghost use Rattle.chess_rules.specs.Picture.{picture};
-ghost use Rattle.settle_core.specs.Laws.{FoldsOnce, HonestPlayFolds, HonestPlayIsKept, NoEntryGivesTwo, RepeatsCountOnce, RepliesReplaceNothing, SettlersTellTheScore, SignsSettleNothing};
+ghost use Rattle.settle_core.specs.Laws.{FoldsOnce, FoldsSome, GivesSome, HonestPlayFolds, HonestPlayIsKept, NoEntryGivesTwo, RepeatsCountOnce, RepliesReplaceNothing, SettlersTellTheScore, SignsSettleNothing};
 ghost use Rattle.settle_core.specs.Settling.{Settles};
 ghost use Rattle.settle_core.specs.Masks.{IsDiff, IsNoMove};
 ghost use Rattle.settle_core.specs.Candidate.{is_king_code, side_number, lands as lands_test, leaves as leaves_test, officer_of, promotion_between};
 
-use chess_rules::{Kind, Move, Square};
+use crate::tips::{Tip, repeats_at};
+use chess_rules::{Kind, Move, Position, Square};
 use std::simd::prelude::*;
 
 /// Honest play folds to its moves: the pictures that show a line of moves, one after the other, give this line.
@@ -32,6 +33,22 @@ pub fn repeats_count_once()
 pub fn folds_once()
     ensures { FoldsOnce }
 {}
+
+/// From any start, entries with whatever pictures and readings fold to some score: all of them, and also those that are left
+/// where repeated pictures are taken out. Takes no memory.
+pub fn folds_some(start: Position, pictures: &[[u8; 64]])
+    ensures all { FoldsSome start pictures.now }
+    ensures without_repeats { GivesSome start pictures.now }
+{
+    let mut all = Tip::new(start);
+    let mut changes = Tip::new(start);
+    for i in 0..pictures.len() {
+        all = all.with(&pictures[i]);
+        if !repeats_at(pictures, i) {
+            changes = changes.with(&pictures[i]);
+        }
+    }
+}
 
 /// The score of a settler is the one to which its entries fold.
 pub fn settlers_tell_the_score()

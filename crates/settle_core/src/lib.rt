@@ -8,6 +8,7 @@ mod settler;
 mod signs;
 #[cfg(test)]
 mod tests;
+mod tips;
 
 pub use game::{Outcome, Ply, Seen};
 pub use settler::Settler;

@@ -54,7 +54,7 @@ fn time_of(side: Side, reading: Option<Reading>) -> Option<Hms>
     }
 }
 
-fn same_move(a: &Move, b: &Move) -> bool
+pub fn same_move(a: &Move, b: &Move) -> bool
     ensures { IsTrue result ↔ (a.now ≡ b.now) }
 {
     *a == *b
