@@ -11,6 +11,3 @@ mod view;
 pub use recording::{RecordError, Report, Setup, record};
 pub use session::{Session, Taken};
 pub use view::View;
-
-#[cfg(test)]
-mod tests;

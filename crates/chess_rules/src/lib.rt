@@ -11,8 +11,6 @@ mod moves;
 mod picture;
 mod position;
 mod rules;
-#[cfg(test)]
-mod tests;
 mod walk;
 
 pub use lines::Wing;

@@ -17,6 +17,3 @@ pub use fen::{FenError, read_fen, write_fen};
 pub use placement::write_placement;
 pub use reading::{SanError, read_san};
 pub use san::write_san;
-
-#[cfg(test)]
-mod tests;

@@ -6,8 +6,6 @@ pub mod decode;
 pub mod encoding;
 pub mod events;
 pub mod laws;
-#[cfg(test)]
-mod tests;
 pub mod time;
 pub mod watched;
 

@@ -1,5 +1,5 @@
 -- What `check` has said of a text.
-use Rattle.std.proofs.Common.{◌≡◌, ℕ, ◌+◌, ◌≤◌, List, ◌++◌, length, length-append, Option, Some, None, IfSome, ap, subst, arith}
+use Rattle.std.proofs.Common.{◌≡◌, ℕ, ◌+◌, ◌<◌, ◌≤◌, List, ◌++◌, length, length-append, Option, Some, None, IfSome, ap, subst, arith}
 use Rattle.std.proofs.KnownBytes.{Consumes-trans}
 use Rattle.std.specs.Io.KnownBytes.{Appends, Consumes}
 use Rattle.pgn_book.specs.Games.{Content}
@@ -20,3 +20,12 @@ no_game (Some bytes) text text_is none = let P : List ℕ → Type 0 = λ bs. (g
 -- At most so many bytes were read.
 pub read_more : (limit : ℕ) (input now left : Option (List ℕ)) (text piece : List ℕ) → Consumes input now text → Consumes now left piece → length text + length piece ≤ limit + 1 → ReadsWithin limit input left
 read_more limit input now left text piece before more within = (text ++ piece, Consumes-trans input now left text piece before more, omega (arith, length-append text piece, within))
+
+-- More bytes than the limit were read.
+pub too_long : (limit : ℕ) (input now left : Option (List ℕ)) (text piece : List ℕ) → Consumes input now text → Consumes now left piece → limit < length text + length piece
+    → IfSome input (λ bytes. limit < length bytes)
+too_long limit None now left text piece before more past = tt
+too_long limit (Some bytes) None left text piece before more past = absurd before
+too_long limit (Some bytes) (Some rest) None text piece before more past = absurd more
+too_long limit (Some bytes) (Some rest) (Some last) text piece before more past =
+    omega (arith, ap length before, ap length more, length-append text rest, length-append piece last, past)

@@ -1,5 +1,6 @@
 -- Commands that are built step by step.
 use Rattle.std.proofs.Common.{◌≡◌, ◌||◌, Bool, false, Result, Ok, Err, IfOk, refl, ap, ap₂, ◌∙◌}
+use Rattle.std.specs.Result.{IsErr}
 use Rattle.std.specs.declared.alloc.AllocError.{AllocError}
 use Rattle.clap.specs.Walk.{Rule, rule_of}
 use Rattle.clap.specs.Built.{AddsArg, AddsSubcommand}
@@ -32,3 +33,8 @@ pub adds_last : (old sub : Command) (app sub_app : App) (result : Result Command
     → IfOk result (λ command. app_of command ≡ with_subcommand app sub_app.top)
 adds_last old sub app sub_app (Err e) adds is sub_is = tt
 adds_last old sub app sub_app (Ok new) adds is sub_is = let added = adds_subcommand old sub new app sub_app adds is sub_is in added.app_is
+
+-- of an error nothing is said
+pub not_ok : (result : Result Command AllocError) (P : Command → Type 0) → IsErr result → IfOk result P
+not_ok (Err e) P is = tt
+not_ok (Ok new) P is = absurd (cc)

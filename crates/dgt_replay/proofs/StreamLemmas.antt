@@ -1,6 +1,6 @@
 -- What stands when a stream has been listed, wholly or in part.
 use Rattle.std.proofs.Common.{◌≡◌, ℕ, ◌+◌, ◌-◌, ◌<◌, ◌≤◌, List, [], ◌++◌, length, take, drop, Option, Some, None, Result, Ok, Err, OnErr, OnOk, true, false, refl, sym, ◌∙◌, ap, subst, append_assoc, append-nil, length-append, length-drop, take-add, arith}
-use Rattle.std.specs.Prelude.{is_err}
+use Rattle.std.specs.Prelude.{if◌then◌else◌, is_err, is_ok}
 use Rattle.std.proofs.KnownBytes.{Appends-trans, Consumes-kept, Consumes-trans}
 use Rattle.std.proofs.lemmas.List.{length-take-le}
 use Rattle.std.specs.Io.KnownBytes.{Appends, Consumes, IsAtEnd, Keeps}
@@ -20,6 +20,10 @@ at_err P (Err e) h p = p
 pub at_ok : {T E : Type 0} (P : Type 0) (r : Result T E) → is_err r ≡ false → OnOk r P → P
 at_ok P (Ok v) h p = p
 at_ok P (Err e) h p = absurd (cc)
+
+pub if_ok : {T E : Type 0} (r : Result T E) (xs ys : List ℕ) → is_err r ≡ false → (if is_ok r then xs else ys) ≡ xs
+if_ok (Ok v) xs ys h = refl
+if_ok (Err e) xs ys h = absurd (cc)
 
 -- the bytes that were read, in two parts
 pub cut_within : (buffer : List ℕ) (within n : ℕ) → within ≤ n → take n buffer ≡ take within buffer ++ take (n - within) (drop within buffer)

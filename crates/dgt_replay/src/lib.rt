@@ -12,8 +12,6 @@ mod program;
 mod recording;
 mod saying;
 mod starting;
-#[cfg(test)]
-mod tests;
 mod words;
 
 pub use program::run;

@@ -167,15 +167,23 @@ fn command<'a>(alloc: Global) -> Result<Command<'a>, AllocError>
     .subcommand(moves(alloc)?)
 }
 
+fn side_named(name: &str) -> Option<First>
+    ensures { result ≡ side_in (Some name.now) }
+{
+    match name {
+        "white" => Some(First::White),
+        "black" => Some(First::Black),
+        _ => None,
+    }
+}
+
 // The side that the text names, or White.
 fn side_of(text: Option<&str>) -> Option<First>
     ensures { result ≡ side_in (option_map (λ text. text.now) text.entry) }
 {
     match text {
         None => Some(First::White),
-        Some("white") => Some(First::White),
-        Some("black") => Some(First::Black),
-        Some(_) => None,
+        Some(name) => side_named(name),
     }
 }
 

@@ -1,14 +1,13 @@
 //! Captures that are cut or damaged: nothing is refused, and only what the damage hits is lost.
 
-use crate::recording::{recorded, report_of};
-use crate::rows::{Row, commands, kings_pawn_opening, rows_by_subject, text_of};
+use crate::bytes::Bytes;
+use crate::recording::recorded;
+use crate::recordings::are_recorded;
+use crate::rows::{Row, kings_pawn_opening, rows_by_subject};
 use crate::streams::{ALWAYS, Sink};
-use chess_text::FenError;
 use dgt_frame::Watch;
 use pgn_book::{Game, read_pgn, write_pgn};
 use std::alloc::Global;
-use std::process::Abort;
-use std::test::Fail;
 
 /// Damage to the 77 bytes of a dump, e2 lifted and e4 put down.
 #[derive(Clone, Copy)]
@@ -19,58 +18,81 @@ enum Damage {
     Other(usize, u8),
 }
 
-#[test]
-fn damage_costs_what_it_hits(rt: HostRuntime) -> Result<(), Fail> {
-    let cases = [
-        (
-            "the dump lacks its last byte",
-            Damage::Cut(66),
-            (0, 0, 0, 66),
-        ),
-        (
-            "the first update lacks its last byte",
-            Damage::Cut(71),
-            (1, 0, 0, 4),
-        ),
-        (
-            "the second update lacks its last byte",
-            Damage::Cut(76),
-            (2, 0, 0, 4),
-        ),
-        (
-            "the dump's identifier is stray",
-            Damage::Other(0, 0x06),
-            (2, 1, 0, 0),
-        ),
-        (
-            "another frame begins in the dump",
-            Damage::Other(10, 0x88),
-            (2, 2, 0, 0),
-        ),
-        (
-            "another frame begins in an update",
-            Damage::Other(70, 0xB4),
-            (2, 2, 0, 0),
-        ),
-    ];
-    let row = kings_pawn_opening();
-    for (name, damage, numbers) in &cases {
-        let mut bytes = row.bytes();
-        let mut len = bytes.len();
-        match *damage {
-            Damage::Cut(left) => len = left,
-            Damage::Other(at, byte) => bytes.set(at, byte),
+impl Damage {
+    /// These bytes, damaged.
+    fn of(self, bytes: &Bytes) -> Bytes {
+        let mut damaged = Bytes::of(&[bytes.get()]);
+        match self {
+            Damage::Cut(len) => damaged = Bytes::of(&[bytes.front(len)]),
+            Damage::Other(at, byte) => damaged.set(at, byte),
         }
-        let (_, faults, _, _) = *numbers;
-        let got = recorded(rt.alloc(), &row, bytes.front(len), 4096)?;
-        assert_eq!(rt; got.answer, Ok(report_of(*numbers)), "{name}");
-        assert!(rt; got.board_shown.get() == commands(faults).get(), "{name}");
-        assert!(rt;
-            got.text_shown.get() == text_of("", "*", "*").get(),
-            "{name}"
-        );
+        damaged
     }
-    Ok(())
+}
+
+/// What is damaged, the damage, and what is then reported: messages, faults, moves and rest.
+type Case<'a> = (&'a str, Damage, (u32, u32, u32, u16));
+
+const DAMAGES: &[Case<'static>] = &[
+    (
+        "the dump lacks its last byte",
+        Damage::Cut(66),
+        (0, 0, 0, 66),
+    ),
+    (
+        "the first update lacks its last byte",
+        Damage::Cut(71),
+        (1, 0, 0, 4),
+    ),
+    (
+        "the second update lacks its last byte",
+        Damage::Cut(76),
+        (2, 0, 0, 4),
+    ),
+    (
+        "the dump's identifier is stray",
+        Damage::Other(0, 0x06),
+        (2, 1, 0, 0),
+    ),
+    (
+        "another frame begins in the dump",
+        Damage::Other(10, 0x88),
+        (2, 2, 0, 0),
+    ),
+    (
+        "another frame begins in an update",
+        Damage::Other(70, 0xB4),
+        (2, 2, 0, 0),
+    ),
+];
+
+fn damages<'a>() -> &'a [Case<'a>] {
+    DAMAGES
+}
+
+/// So damaged, the capture of 1. e4 gives this report, a request for each fault, and the text without a move.
+fn costs(alloc: Global, damage: Damage, report: (u32, u32, u32, u16)) -> bool {
+    let row = Row {
+        movetext: "*",
+        report,
+        ..kings_pawn_opening()
+    };
+    are_recorded(alloc, &row, damage.of(&row.bytes()).get(), 4096)
+}
+
+/// The name of the first damage that costs something else.
+fn first_other_cost<'a>(alloc: Global, cases: &[Case<'a>]) -> Option<&'a str> {
+    for (name, damage, report) in cases {
+        if !costs(alloc, *damage, *report) {
+            return Some(*name);
+        }
+    }
+    None
+}
+
+#[test]
+fn damage_costs_what_it_hits(rt: HostRuntime) {
+    assert_eq!(rt; first_other_cost(rt.alloc(), damages()), None);
 }
 
 /// Whether the game's plies but the last are the first of the other game's plies.
@@ -88,83 +110,99 @@ fn is_written_as(game: &Game, text: &[u8]) -> bool {
     write_pgn(game, &mut out).is_ok() && out.inner().held() == text
 }
 
-/// Each cut of a capture is recorded, and its game is the front of the whole game, the last move aside.
-fn cuts_hold(rt: &impl Abort, alloc: Global, row: &Row<'_>) -> Result<(), FenError> {
+/// Whether this text is that of a game, and the game is the front of the whole one, the last move aside.
+fn is_front_text(alloc: Global, text: &[u8], whole: &Game) -> bool {
+    match read_pgn(alloc, text) {
+        Ok(game) => is_front_of(&game, whole) && is_written_as(&game, text),
+        Err(_) => false,
+    }
+}
+
+/// This cut of a capture is recorded, and its game is the front of the whole game, the last move aside.
+fn cut_holds(alloc: Global, row: &Row<'_>, front: &[u8], whole: &Game) -> bool {
+    match recorded(alloc, row, front, 4096) {
+        Ok(got) => got.answer.is_ok() && is_front_text(alloc, got.text_shown.get(), whole),
+        Err(_) => false,
+    }
+}
+
+/// The least length at which a cut of the capture doesn't hold.
+fn first_cut(alloc: Global, row: &Row<'_>, whole: &Game) -> Option<usize> {
     let bytes = row.bytes();
-    let Ok(whole) = read_pgn(alloc, row.text().get()) else {
-        assert!(rt; false, "{}: its text isn't read", row.name);
-        return Ok(());
-    };
     for len in 0..bytes.len() {
-        let got = recorded(alloc, row, bytes.front(len), 4096)?;
-        assert!(rt; got.answer.is_ok(), "{} cut to {len}", row.name);
-        match read_pgn(alloc, got.text_shown.get()) {
-            Ok(game) => {
-                assert!(rt; is_front_of(&game, &whole), "{} cut to {len}", row.name);
-                assert!(rt;
-                    is_written_as(&game, got.text_shown.get()),
-                    "{} cut to {len}",
-                    row.name
-                );
-            }
-            Err(_) => assert!(rt; false, "{} cut to {len}: its text isn't read", row.name),
+        if !cut_holds(alloc, row, bytes.front(len), whole) {
+            return Some(len);
         }
     }
-    Ok(())
+    None
 }
 
-/// A capture with any one top bit turned is recorded, and its text reads back.
-fn turned_bits_hold(rt: &impl Abort, alloc: Global, row: &Row<'_>) -> Result<(), FenError> {
-    let bytes = row.bytes();
-    for at in 0..bytes.len() {
-        let mut turned = row.bytes();
-        turned.turn(at, 0x80);
-        let got = recorded(alloc, row, turned.get(), 4096)?;
-        assert!(rt; got.answer.is_ok(), "{} with byte {at} turned", row.name);
-        match read_pgn(alloc, got.text_shown.get()) {
-            Ok(game) => {
-                assert!(rt;
-                    is_written_as(&game, got.text_shown.get()),
-                    "{} with byte {at} turned",
-                    row.name
-                );
-            }
-            Err(_) => assert!(rt;
-                false,
-                "{} with byte {at} turned: its text isn't read",
-                row.name
-            ),
+/// The least length at which a cut doesn't hold; the whole length where the row's own text isn't read.
+fn cut_failing(alloc: Global, row: &Row<'_>) -> Option<usize> {
+    match read_pgn(alloc, row.text().get()) {
+        Ok(whole) => first_cut(alloc, row, &whole),
+        Err(_) => Some(row.bytes().len()),
+    }
+}
+
+/// The name of the first row with a cut that doesn't hold, and the cut's length.
+fn first_cut_failing<'a>(alloc: Global, rows: &[Row<'a>]) -> Option<(&'a str, usize)> {
+    for row in rows {
+        if let Some(len) = cut_failing(alloc, row) {
+            return Some((row.name, len));
         }
     }
-    Ok(())
-}
-
-fn all_cuts_hold(rt: &impl Abort, alloc: Global, rows: &[Row<'_>]) -> Result<(), FenError> {
-    for row in rows {
-        cuts_hold(rt, alloc, row)?;
-    }
-    Ok(())
-}
-
-fn all_turned_bits_hold(rt: &impl Abort, alloc: Global, rows: &[Row<'_>]) -> Result<(), FenError> {
-    for row in rows {
-        turned_bits_hold(rt, alloc, row)?;
-    }
-    Ok(())
+    None
 }
 
 #[test]
-fn a_cut_capture_has_the_front_of_the_game(rt: HostRuntime) -> Result<(), Fail> {
+fn a_cut_capture_has_the_front_of_the_game(rt: HostRuntime) {
     for rows in rows_by_subject() {
-        all_cuts_hold(&rt, rt.alloc(), rows)?;
+        assert_eq!(rt; first_cut_failing(rt.alloc(), rows), None);
     }
-    Ok(())
+}
+
+/// Whether this text reads back as a game of which it is the text.
+fn reads_back(alloc: Global, text: &[u8]) -> bool {
+    match read_pgn(alloc, text) {
+        Ok(game) => is_written_as(&game, text),
+        Err(_) => false,
+    }
+}
+
+/// A capture with one top bit turned is recorded, and its text reads back.
+fn turned_bit_holds(alloc: Global, row: &Row<'_>, at: usize) -> bool {
+    let mut turned = row.bytes();
+    turned.turn(at, 0x80);
+    match recorded(alloc, row, turned.get(), 4096) {
+        Ok(got) => got.answer.is_ok() && reads_back(alloc, got.text_shown.get()),
+        Err(_) => false,
+    }
+}
+
+/// The first byte of the capture whose top bit can't be turned.
+fn turned_bit_failing(alloc: Global, row: &Row<'_>) -> Option<usize> {
+    for at in 0..row.bytes().len() {
+        if !turned_bit_holds(alloc, row, at) {
+            return Some(at);
+        }
+    }
+    None
+}
+
+/// The name of the first row with a turned bit that doesn't hold, and its byte.
+fn first_turned_bit_failing<'a>(alloc: Global, rows: &[Row<'a>]) -> Option<(&'a str, usize)> {
+    for row in rows {
+        if let Some(at) = turned_bit_failing(alloc, row) {
+            return Some((row.name, at));
+        }
+    }
+    None
 }
 
 #[test]
-fn a_turned_bit_refuses_nothing(rt: HostRuntime) -> Result<(), Fail> {
+fn a_turned_bit_refuses_nothing(rt: HostRuntime) {
     for rows in rows_by_subject() {
-        all_turned_bits_hold(&rt, rt.alloc(), rows)?;
+        assert_eq!(rt; first_turned_bit_failing(rt.alloc(), rows), None);
     }
-    Ok(())
 }

@@ -20,5 +20,6 @@ mod refusals;
 pub mod rows;
 #[cfg(test)]
 mod settling;
-pub mod slow;
+#[cfg(test)]
+mod slow;
 pub mod streams;

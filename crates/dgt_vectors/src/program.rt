@@ -10,8 +10,6 @@ use crate::streams::{ALWAYS, Alike, Sink, Source};
 use dgt_frame::Watch;
 use dgt_replay::run;
 use std::alloc::{AllocError, Global};
-use std::process::Abort;
-use std::test::Fail;
 
 /// Words after the program's name, an input, and what is expected.
 #[derive(Clone, Copy)]
@@ -49,24 +47,30 @@ fn words_of(alloc: Global, line: &[&str]) -> Result<Vec<String>, AllocError> {
     Ok(words)
 }
 
-/// Runs the program with these words after its name, over these bytes.
-fn run_over(
-    alloc: Global,
-    line: &[&str],
-    bytes: &[u8],
-    room: usize,
-    errors: usize,
-) -> Result<Run, AllocError> {
-    let words = words_of(alloc, line)?;
+/// Runs the program with these words, its name among them, over these bytes.
+fn run_with(alloc: Global, words: &[String], bytes: &[u8], room: usize, errors: usize) -> Run {
     let mut reader = Watch::new(Source::new(bytes, 4096, ALWAYS));
     let mut out = Watch::new(Sink::new(room, ALWAYS));
     let mut err = Watch::new(Sink::new(errors, ALWAYS));
-    let status = run(alloc, words.as_slice(), &mut reader, &mut out, &mut err);
-    Ok(Run {
+    let status = run(alloc, words, &mut reader, &mut out, &mut err);
+    Run {
         status,
         out: Bytes::of(&[out.inner().held()]),
         err: Bytes::of(&[err.inner().held()]),
-    })
+    }
+}
+
+/// Runs the program with these words after its name, where there is memory for them.
+fn run_over(alloc: Global, line: &[&str], bytes: &[u8], room: usize, errors: usize) -> Option<Run> {
+    match words_of(alloc, line) {
+        Ok(words) => Some(run_with(alloc, words.as_slice(), bytes, room, errors)),
+        Err(_) => None,
+    }
+}
+
+/// The program, so run, leaves this status, this output and these errors.
+fn leaves(left: &Run, status: u8, out: &[u8], err: &[u8]) -> bool {
+    left.status == status && left.out.get() == out && left.err.get() == err
 }
 
 /// The text of a game without moves.
@@ -608,56 +612,56 @@ const MOVES: &[Case<'static>] = &[
     },
 ];
 
-fn case_holds(rt: &impl Abort, case: &Case<'_>, left: &Run) {
-    assert_eq!(rt; left.status, case.status, "{}", case.name);
-    assert!(rt;
-        left.out.get() == case.out.as_bytes(),
-        "{}: the output",
-        case.name
-    );
-    assert!(rt;
-        left.status == 2 || left.err.get() == case.err.as_bytes(),
-        "{}: the errors",
-        case.name
-    );
+fn case_holds(case: &Case<'_>, left: &Run) -> bool {
+    left.status == case.status
+        && left.out.get() == case.out.as_bytes()
+        && (left.status == 2 || left.err.get() == case.err.as_bytes())
 }
 
-fn cases_hold(rt: &impl Abort, alloc: Global, cases: &[Case<'_>]) -> Result<(), AllocError> {
-    for case in cases {
-        let bytes = bytes_of(case.input);
-        let left = run_over(alloc, case.words, bytes.get(), 512, 512)?;
-        case_holds(rt, case, &left);
+fn is_done(alloc: Global, case: &Case<'_>) -> bool {
+    let bytes = bytes_of(case.input);
+    match run_over(alloc, case.words, bytes.get(), 512, 512) {
+        Some(left) => case_holds(case, &left),
+        None => false,
     }
-    Ok(())
+}
+
+/// The name of the first case that doesn't hold.
+fn first_failing<'a>(alloc: Global, cases: &[Case<'a>]) -> Option<&'a str> {
+    for case in cases {
+        if !is_done(alloc, case) {
+            return Some(case.name);
+        }
+    }
+    None
 }
 
 /// `check` says this of a text.
-fn text_checks(
-    rt: &impl Abort,
-    alloc: Global,
-    name: &str,
-    text: &[u8],
-    checked: &str,
-) -> Result<(), AllocError> {
-    let left = run_over(alloc, &["check"], text, 512, 512)?;
-    assert_eq!(rt; left.status, 0, "{name}: checked");
-    assert!(rt; left.out.get() == checked.as_bytes(), "{name}: checked");
-    assert!(rt; left.err.get().is_empty(), "{name}: checked");
-    Ok(())
+fn text_checks(alloc: Global, text: &[u8], checked: &str) -> bool {
+    match run_over(alloc, &["check"], text, 512, 512) {
+        Some(left) => leaves(&left, 0, checked.as_bytes(), b""),
+        None => false,
+    }
 }
 
-fn recordings_hold(
-    rt: &impl Abort,
-    alloc: Global,
-    cases: &[Recorded<'_>],
-) -> Result<(), AllocError> {
-    for Recorded { case, checked } in cases {
-        let bytes = bytes_of(case.input);
-        let left = run_over(alloc, case.words, bytes.get(), 512, 512)?;
-        case_holds(rt, case, &left);
-        text_checks(rt, alloc, case.name, left.out.get(), checked)?;
+fn is_recorded(alloc: Global, recorded: &Recorded<'_>) -> bool {
+    let case = recorded.case;
+    let bytes = bytes_of(case.input);
+    match run_over(alloc, case.words, bytes.get(), 512, 512) {
+        Some(left) => case_holds(&case, &left)
+            && text_checks(alloc, left.out.get(), recorded.checked),
+        None => false,
     }
-    Ok(())
+}
+
+/// The name of the first recording that doesn't hold.
+fn first_not_recorded<'a>(alloc: Global, cases: &[Recorded<'a>]) -> Option<&'a str> {
+    for recorded in cases {
+        if !is_recorded(alloc, recorded) {
+            return Some(recorded.case.name);
+        }
+    }
+    None
 }
 
 fn show_cases<'a>() -> &'a [Case<'a>] {
@@ -693,226 +697,284 @@ fn moves_cases<'a>() -> &'a [Case<'a>] {
 }
 
 #[test]
-fn show_lists_events(rt: HostRuntime) -> Result<(), Fail> {
-    cases_hold(&rt, rt.alloc(), show_cases())?;
-    Ok(())
+fn show_lists_events(rt: HostRuntime) {
+    assert_eq!(rt; first_failing(rt.alloc(), show_cases()), None);
 }
 
 #[test]
-fn show_knows_frames(rt: HostRuntime) -> Result<(), Fail> {
-    cases_hold(&rt, rt.alloc(), frames_cases())?;
-    Ok(())
+fn show_knows_frames(rt: HostRuntime) {
+    assert_eq!(rt; first_failing(rt.alloc(), frames_cases()), None);
 }
 
 #[test]
-fn pictures_lists_placements(rt: HostRuntime) -> Result<(), Fail> {
-    cases_hold(&rt, rt.alloc(), pictures_cases())?;
-    Ok(())
+fn pictures_lists_placements(rt: HostRuntime) {
+    assert_eq!(rt; first_failing(rt.alloc(), pictures_cases()), None);
 }
 
 #[test]
-fn record_writes_the_game(rt: HostRuntime) -> Result<(), Fail> {
-    recordings_hold(&rt, rt.alloc(), record_cases())?;
-    Ok(())
+fn record_writes_the_game(rt: HostRuntime) {
+    assert_eq!(rt; first_not_recorded(rt.alloc(), record_cases()), None);
 }
 
 #[test]
-fn refusals_come_first(rt: HostRuntime) -> Result<(), Fail> {
-    cases_hold(&rt, rt.alloc(), refused_cases())?;
-    Ok(())
+fn refusals_come_first(rt: HostRuntime) {
+    assert_eq!(rt; first_failing(rt.alloc(), refused_cases()), None);
 }
 
 #[test]
-fn check_reads_export_texts(rt: HostRuntime) -> Result<(), Fail> {
-    cases_hold(&rt, rt.alloc(), check_cases())?;
-    Ok(())
+fn check_reads_export_texts(rt: HostRuntime) {
+    assert_eq!(rt; first_failing(rt.alloc(), check_cases()), None);
 }
 
 #[test]
-fn check_refuses_what_is_near(rt: HostRuntime) -> Result<(), Fail> {
-    cases_hold(&rt, rt.alloc(), not_export_cases())?;
-    Ok(())
+fn check_refuses_what_is_near(rt: HostRuntime) {
+    assert_eq!(rt; first_failing(rt.alloc(), not_export_cases()), None);
 }
 
 #[test]
-fn moves_lists_legal_moves(rt: HostRuntime) -> Result<(), Fail> {
-    cases_hold(&rt, rt.alloc(), moves_cases())?;
-    Ok(())
+fn moves_lists_legal_moves(rt: HostRuntime) {
+    assert_eq!(rt; first_failing(rt.alloc(), moves_cases()), None);
 }
 
-#[test]
-fn moves_lists_as_many_as_there_are(rt: HostRuntime) -> Result<(), Fail> {
-    for (start, moves) in [
-        (
-            "r3k2r/p1ppqpb1/bn2pnp1/3PN3/1p2P3/2N2Q1p/PPPBBPPP/R3K2R w KQkq - 0 1",
-            48,
-        ),
-        ("8/2p5/3p4/KP5r/1R3p1k/8/4P1P1/8 w - - 0 1", 14),
-    ] {
-        let left = run_over(rt.alloc(), &["moves", "--fen", start], &[], 512, 512)?;
-        let mut lines: u32 = 0;
-        for byte in left.out.get() {
-            if *byte == b'\n' {
-                lines = lines.saturating_add(1);
-            }
+fn lines_in(text: &[u8]) -> u32 {
+    let mut lines: u32 = 0;
+    for byte in text {
+        if *byte == b'\n' {
+            lines = lines.saturating_add(1);
         }
-        assert_eq!(rt; left.status, 0, "{start}");
-        assert_eq!(rt; lines, moves, "{start}");
     }
-    Ok(())
+    lines
+}
+
+/// How many moves are listed from this start, with status 0.
+fn moves_listed(alloc: Global, start: &str) -> Option<u32> {
+    match run_over(alloc, &["moves", "--fen", start], &[], 512, 512) {
+        Some(left) if left.status == 0 => Some(lines_in(left.out.get())),
+        _ => None,
+    }
 }
 
 #[test]
-fn check_refuses_each_cut_text(rt: HostRuntime) -> Result<(), Fail> {
-    let text = kings_pawn_opening().text();
+fn moves_lists_as_many_as_there_are(rt: HostRuntime) {
+    let castling = "r3k2r/p1ppqpb1/bn2pnp1/3PN3/1p2P3/2N2Q1p/PPPBBPPP/R3K2R w KQkq - 0 1";
+    assert_eq!(rt; moves_listed(rt.alloc(), castling), Some(48));
+    let pawns = "8/2p5/3p4/KP5r/1R3p1k/8/4P1P1/8 w - - 0 1";
+    assert_eq!(rt; moves_listed(rt.alloc(), pawns), Some(14));
+}
+
+fn is_not_export(alloc: Global, text: &[u8]) -> bool {
+    match run_over(alloc, &["check"], text, 512, 512) {
+        Some(left) => leaves(&left, 1, b"", b"pgn: not export\n"),
+        None => false,
+    }
+}
+
+/// The least length at which a cut of this text isn't refused.
+fn first_cut_not_refused(alloc: Global, text: &Bytes) -> Option<usize> {
     for len in 0..text.len() {
-        let left = run_over(rt.alloc(), &["check"], text.front(len), 512, 512)?;
-        assert_eq!(rt; left.status, 1, "cut to {len}");
-        assert!(rt; left.out.get().is_empty(), "cut to {len}");
-        assert!(rt;
-            left.err.get() == b"pgn: not export\n".as_slice(),
-            "cut to {len}"
-        );
+        if !is_not_export(alloc, text.front(len)) {
+            return Some(len);
+        }
     }
-    Ok(())
+    None
 }
 
 #[test]
-fn failed_streams_have_status_3(rt: HostRuntime) -> Result<(), Fail> {
+fn check_refuses_each_cut_text(rt: HostRuntime) {
+    let text = kings_pawn_opening().text();
+    assert_eq!(rt; first_cut_not_refused(rt.alloc(), &text), None);
+}
+
+/// A recording of 1. e4, whose output and errors have so much room, has status 3 and leaves these.
+fn fills(alloc: Global, room: usize, errors: usize, out: &[u8], err: &[u8]) -> bool {
+    let bytes = kings_pawn_opening().bytes();
+    match run_over(alloc, &["record"], bytes.get(), room, errors) {
+        Some(left) => leaves(&left, 3, out, err),
+        None => false,
+    }
+}
+
+/// A recording of 1. e4 with these words, where the second read fails, has status 3, the game and the fault.
+fn tells_failed_read(alloc: Global, words: &[String]) -> bool {
     let row = kings_pawn_opening();
     let bytes = row.bytes();
-    let text = row.text();
-    // The output fills.
-    let left = run_over(rt.alloc(), &["record"], bytes.get(), 10, 512)?;
-    assert_eq!(rt; left.status, 3);
-    assert!(rt; left.out.get() == text.front(10));
-    assert!(rt; left.err.get() == b"BK\nwrite fault\n".as_slice());
-    // The error stream fills after the bytes for the board: the game stands.
-    let left = run_over(rt.alloc(), &["record"], bytes.get(), 512, 2)?;
-    assert_eq!(rt; left.status, 3);
-    assert!(rt; left.out.get() == text.get());
-    assert!(rt; left.err.get() == b"BK".as_slice());
-    // The error stream takes nothing, not even the bytes for the board.
-    let left = run_over(rt.alloc(), &["record"], bytes.get(), 512, 0)?;
-    assert_eq!(rt; left.status, 3);
-    assert!(rt; left.out.get() == NO_MOVE.as_bytes());
-    assert!(rt; left.err.get().is_empty());
-    // A read fails after all bytes.
-    let words = words_of(rt.alloc(), &["record"])?;
     let mut reader = Watch::new(Source::new(bytes.get(), 4096, 1));
     let mut out = Watch::new(Sink::new(512, ALWAYS));
     let mut err = Watch::new(Sink::new(512, ALWAYS));
-    let status = run(
-        rt.alloc(),
-        words.as_slice(),
-        &mut reader,
-        &mut out,
-        &mut err,
-    );
-    assert_eq!(rt; status, 3);
-    assert!(rt; out.inner().shown() == text.get());
-    assert!(rt; err.inner().held() == b"BK\nread fault\n".as_slice());
-    Ok(())
+    let status = run(alloc, words, &mut reader, &mut out, &mut err);
+    status == 3
+        && out.inner().shown() == row.text().get()
+        && err.inner().held() == b"BK\nread fault\n".as_slice()
+}
+
+/// A read fails after all bytes.
+fn fails_after_all(alloc: Global) -> bool {
+    match words_of(alloc, &["record"]) {
+        Ok(words) => tells_failed_read(alloc, words.as_slice()),
+        Err(_) => false,
+    }
+}
+
+#[test]
+fn failed_streams_have_status_3(rt: HostRuntime) {
+    let text = kings_pawn_opening().text();
+    // The output fills.
+    assert!(rt; fills(rt.alloc(), 10, 512, text.front(10), b"BK\nwrite fault\n"));
+    // The error stream fills after the bytes for the board: the game stands.
+    assert!(rt; fills(rt.alloc(), 512, 2, text.get(), b"BK"));
+    // The error stream takes nothing, not even the bytes for the board.
+    assert!(rt; fills(rt.alloc(), 512, 0, NO_MOVE.as_bytes(), b""));
+    assert!(rt; fails_after_all(rt.alloc()));
+}
+
+/// The longest frame's first three bytes and so many more.
+fn long_frame(alloc: Global, data: u32) -> Result<Vec<u8>, AllocError> {
+    let mut bytes = Vec::new(alloc);
+    for byte in [0x93u8, 0x7F, 0x7F] {
+        bytes.push(byte)?;
+    }
+    for _ in 0..data {
+        bytes.push(0)?;
+    }
+    Ok(bytes)
+}
+
+/// `show` says this of these bytes.
+fn is_shown(alloc: Global, bytes: &[u8], out: &[u8]) -> bool {
+    match run_over(alloc, &["show"], bytes, 512, 512) {
+        Some(left) => leaves(&left, 0, out, b""),
+        None => false,
+    }
+}
+
+fn long_frame_is_shown(alloc: Global, data: u32, out: &[u8]) -> bool {
+    match long_frame(alloc, data) {
+        Ok(bytes) => is_shown(alloc, bytes.as_slice(), out),
+        Err(_) => false,
+    }
 }
 
 /// A frame has at most 16,383 bytes; until its last one they are the rest.
 #[test]
-fn the_longest_frame_is_shown(rt: HostRuntime) -> Result<(), Fail> {
-    let mut bytes = Vec::new(rt.alloc());
-    for byte in [0x93u8, 0x7F, 0x7F] {
-        bytes.push(byte)?;
-    }
-    for _ in 0..16_379u32 {
-        bytes.push(0)?;
-    }
-    let left = run_over(rt.alloc(), &["show"], bytes.as_slice(), 512, 512)?;
-    assert_eq!(rt; left.status, 0);
-    assert!(rt; left.out.get() == b"rest 16382\n".as_slice());
-    assert!(rt; left.err.get().is_empty());
-    bytes.push(0)?;
-    let left = run_over(rt.alloc(), &["show"], bytes.as_slice(), 512, 512)?;
-    assert_eq!(rt; left.status, 0);
-    assert!(rt; left.out.get() == b"16382 other 93 16383\nrest 0\n".as_slice());
-    assert!(rt; left.err.get().is_empty());
-    Ok(())
+fn the_longest_frame_is_shown(rt: HostRuntime) {
+    assert!(rt; long_frame_is_shown(rt.alloc(), 16_379, b"rest 16382\n"));
+    assert!(rt; long_frame_is_shown(rt.alloc(), 16_380, b"16382 other 93 16383\nrest 0\n"));
 }
 
-/// Runs over so many like bytes, and counts those that aren't read.
-fn run_alike(alloc: Global, word: &str, byte: u8, left: u32) -> Result<(Run, u32), AllocError> {
-    let words = words_of(alloc, &[word])?;
-    let mut reader = Watch::new(Alike { byte, left });
-    let mut out = Watch::new(Sink::new(512, ALWAYS));
-    let mut err = Watch::new(Sink::new(512, ALWAYS));
-    let status = run(alloc, words.as_slice(), &mut reader, &mut out, &mut err);
-    let left = Run {
-        status,
-        out: Bytes::of(&[out.inner().shown()]),
-        err: Bytes::of(&[err.inner().held()]),
-    };
-    Ok((left, reader.inner().left))
+/// A subcommand, so many like bytes, and what is left of them.
+#[derive(Clone, Copy)]
+struct Limit<'a> {
+    word: &'a str,
+    byte: u8,
+    count: u32,
+    status: u8,
+    out: &'a str,
+    err: &'a str,
+    /// So many of the bytes aren't read.
+    unread: u32,
 }
 
-/// Words and how many zeros come; the status, the output, the errors, and how many zeros aren't read.
-const LIMITS: &[(&str, u32, u8, &str, &str, u32)] = &[
-    (
-        "show",
-        67_108_865,
-        1,
-        "0 fault stray\n",
-        "input: too long\n",
-        0,
-    ),
-    (
-        "show",
-        67_108_870,
-        1,
-        "0 fault stray\n",
-        "input: too long\n",
-        5,
-    ),
-    ("pictures", 67_108_865, 1, "", "input: too long\n", 0),
-    (
-        "record",
-        67_108_864,
-        0,
-        NO_MOVE,
-        "BKB\nmessages 0, faults 1, moves 0, rest 0\n",
-        0,
-    ),
-    (
-        "record",
-        67_108_865,
-        1,
-        NO_MOVE,
-        "BKB\ninput: too long\n",
-        0,
-    ),
+const LIMITS: &[Limit<'static>] = &[
+    Limit {
+        word: "show",
+        byte: 0,
+        count: 67_108_865,
+        status: 1,
+        out: "0 fault stray\n",
+        err: "input: too long\n",
+        unread: 0,
+    },
+    Limit {
+        word: "show",
+        byte: 0,
+        count: 67_108_870,
+        status: 1,
+        out: "0 fault stray\n",
+        err: "input: too long\n",
+        unread: 5,
+    },
+    Limit {
+        word: "pictures",
+        byte: 0,
+        count: 67_108_865,
+        status: 1,
+        out: "",
+        err: "input: too long\n",
+        unread: 0,
+    },
+    Limit {
+        word: "record",
+        byte: 0,
+        count: 67_108_864,
+        status: 0,
+        out: NO_MOVE,
+        err: "BKB\nmessages 0, faults 1, moves 0, rest 0\n",
+        unread: 0,
+    },
+    Limit {
+        word: "record",
+        byte: 0,
+        count: 67_108_865,
+        status: 1,
+        out: NO_MOVE,
+        err: "BKB\ninput: too long\n",
+        unread: 0,
+    },
 ];
 
-fn limits<'a>() -> &'a [(&'a str, u32, u8, &'a str, &'a str, u32)] {
+fn limits<'a>() -> &'a [Limit<'a>] {
     LIMITS
 }
 
-#[test]
-fn streams_have_at_most_67_108_864_bytes(rt: HostRuntime) -> Result<(), Fail> {
-    for (word, count, status, out, errors, unread) in limits() {
-        let (left, rest) = run_alike(rt.alloc(), word, 0, *count)?;
-        assert_eq!(rt; left.status, *status, "{word} of {count}");
-        assert!(rt; left.out.get() == out.as_bytes(), "{word} of {count}");
-        assert!(rt; left.err.get() == errors.as_bytes(), "{word} of {count}");
-        assert_eq!(rt; rest, *unread, "{word} of {count}");
-    }
-    Ok(())
+/// With these words the program leaves what the limit says.
+fn stops_at(alloc: Global, words: &[String], limit: &Limit<'_>) -> bool {
+    let mut reader = Watch::new(Alike {
+        byte: limit.byte,
+        left: limit.count,
+    });
+    let mut out = Watch::new(Sink::new(512, ALWAYS));
+    let mut err = Watch::new(Sink::new(512, ALWAYS));
+    let status = run(alloc, words, &mut reader, &mut out, &mut err);
+    status == limit.status
+        && out.inner().shown() == limit.out.as_bytes()
+        && err.inner().held() == limit.err.as_bytes()
+        && reader.inner().left == limit.unread
 }
 
-/// Spaces without end are no PGN, and are not read without end.
+fn limit_holds(alloc: Global, limit: &Limit<'_>) -> bool {
+    match words_of(alloc, &[limit.word]) {
+        Ok(words) => stops_at(alloc, words.as_slice(), limit),
+        Err(_) => false,
+    }
+}
+
+/// The subcommand and the number of bytes of the first limit that doesn't hold.
+fn first_limit_failing<'a>(alloc: Global, limits: &[Limit<'a>]) -> Option<(&'a str, u32)> {
+    for limit in limits {
+        if !limit_holds(alloc, limit) {
+            return Some((limit.word, limit.count));
+        }
+    }
+    None
+}
+
 #[test]
-fn a_text_has_at_most_268_435_456_bytes(rt: HostRuntime) -> Result<(), Fail> {
-    let (left, rest) = run_alike(rt.alloc(), "check", 0x20, 4_294_967_295)?;
-    assert_eq!(rt; left.status, 1);
-    assert!(rt; left.out.get().is_empty());
-    assert!(rt; left.err.get() == b"input: too long\n".as_slice());
-    // 268,435,457 were read.
-    assert_eq!(rt; rest, 4_026_531_838);
-    Ok(())
+fn streams_have_at_most_67_108_864_bytes(rt: HostRuntime) {
+    assert_eq!(rt; first_limit_failing(rt.alloc(), limits()), None);
+}
+
+/// Spaces without end are no PGN, and are not read without end: 268,435,457 were read.
+const SPACES: Limit<'static> = Limit {
+    word: "check",
+    byte: 0x20,
+    count: 4_294_967_295,
+    status: 1,
+    out: "",
+    err: "input: too long\n",
+    unread: 4_026_531_838,
+};
+
+#[test]
+fn a_text_has_at_most_268_435_456_bytes(rt: HostRuntime) {
+    assert!(rt; limit_holds(rt.alloc(), &SPACES));
 }

@@ -1,13 +1,50 @@
 //! Streams that fail at each call in turn: what was taken before stands, and the answer says which stream it was.
 
-use crate::recording::{recorded_over, report_of, setup_of};
+use crate::recording::{Recording, recorded_over, setup_of};
+use crate::recordings::is_told;
 use crate::rows::{Row, commands, cut_and_dump, kings_pawn_opening, text_of};
 use crate::streams::{ALWAYS, Alike, Sink, Source};
-use board_session::{RecordError, record};
+use board_session::{RecordError, Report, record};
 use dgt_frame::Watch;
-use std::test::Fail;
+use std::alloc::Global;
 
 const ROOM: usize = 512;
+
+/// How far the streams of a recording work.
+#[derive(Clone, Copy)]
+struct Streams {
+    /// So many bytes come with a read.
+    piece: usize,
+    /// So many reads are answered.
+    reads: u32,
+    /// So many bytes find room in the board's stream, and so many calls on it are answered.
+    board_room: usize,
+    board_calls: u32,
+    /// The same of the output.
+    out_room: usize,
+    out_calls: u32,
+}
+
+const WORKING: Streams = Streams {
+    piece: ROOM,
+    reads: ALWAYS,
+    board_room: ROOM,
+    board_calls: ALWAYS,
+    out_room: ROOM,
+    out_calls: ALWAYS,
+};
+
+/// Records a row's capture over these streams. None is for a start that isn't read.
+fn recording(alloc: Global, row: &Row<'_>, streams: Streams) -> Option<Recording> {
+    let bytes = row.bytes();
+    let source = Source::new(bytes.get(), streams.piece, streams.reads);
+    let board = Sink::new(streams.board_room, streams.board_calls);
+    let out = Sink::new(streams.out_room, streams.out_calls);
+    match recorded_over(alloc, row, source, board, out) {
+        Ok(got) => Some(got),
+        Err(_) => None,
+    }
+}
 
 fn is_front(front: &[u8], whole: &[u8]) -> bool {
     match whole.get(..front.len()) {
@@ -16,248 +53,304 @@ fn is_front(front: &[u8], whole: &[u8]) -> bool {
     }
 }
 
+/// The recording was refused for this, and these bytes show.
+fn shows(got: &Recording, fault: RecordError, board: &[u8], text: &[u8]) -> bool {
+    got.answer == Err(fault) && got.board_shown.get() == board && got.text_shown.get() == text
+}
+
+/// As many bytes as each read gives where reads fail.
+const PIECE: usize = 7;
+
+/// The reads of 138 bytes: those that give bytes, and one that gives none.
+const READS: u32 = 21;
+
+/// A recording whose read fails after so many has the text and the commands of the bytes before it.
+fn stops_at_read(alloc: Global, row: &Row<'_>, reads: u32) -> bool {
+    let streams = Streams {
+        piece: PIECE,
+        reads,
+        ..WORKING
+    };
+    let read = (reads as usize).saturating_mul(PIECE);
+    // The fault stands at the byte with offset 71, and the move at that with offset 137.
+    let faults = if read > 71 { 1 } else { 0 };
+    let text = if read > 137 {
+        row.text()
+    } else {
+        text_of("", "*", "*")
+    };
+    match recording(alloc, row, streams) {
+        Some(got) => shows(&got, RecordError::Read, commands(faults).get(), text.get()),
+        None => false,
+    }
+}
+
+/// The number of reads after which one fails and it isn't told so.
+fn first_read_untold(alloc: Global, row: &Row<'_>) -> Option<u32> {
+    for reads in 0..READS {
+        if !stops_at_read(alloc, row, reads) {
+            return Some(reads);
+        }
+    }
+    None
+}
+
+/// A row is recorded over these streams as it says.
+fn is_recorded(alloc: Global, row: &Row<'_>, streams: Streams) -> bool {
+    match recording(alloc, row, streams) {
+        Some(got) => is_told(&got, row),
+        None => false,
+    }
+}
+
 /// With a read that fails the text is that of the bytes before it.
 #[test]
-fn each_read_fails_in_turn(rt: HostRuntime) -> Result<(), Fail> {
+fn each_read_fails_in_turn(rt: HostRuntime) {
     let row = cut_and_dump();
-    let bytes = row.bytes();
-    let piece = 7;
-    let mut calls: u32 = 0;
-    // The reads that give bytes, and one that gives none.
-    let reads = bytes.len().div_ceil(piece).saturating_add(1);
-    for _ in 0..reads {
-        let source = Source::new(bytes.get(), piece, calls);
-        let got = recorded_over(
-            rt.alloc(),
-            &row,
-            source,
-            Sink::new(ROOM, ALWAYS),
-            Sink::new(ROOM, ALWAYS),
-        )?;
-        assert_eq!(rt; got.answer, Err(RecordError::Read), "after {calls} reads");
-        let read = (calls as usize).saturating_mul(piece).min(bytes.len());
-        // The fault stands at the byte with offset 71, and the move at that with offset 137.
-        let faults = if read > 71 { 1 } else { 0 };
-        let text = if read > 137 {
-            row.text()
-        } else {
-            text_of("", "*", "*")
-        };
-        assert!(rt; got.text_shown.get() == text.get(), "after {calls} reads");
-        assert!(rt;
-            got.board_shown.get() == commands(faults).get(),
-            "after {calls} reads"
-        );
-        calls = calls.saturating_add(1);
+    assert_eq!(rt; row.bytes().len(), 138);
+    assert_eq!(rt; first_read_untold(rt.alloc(), &row), None);
+    let streams = Streams {
+        piece: PIECE,
+        reads: READS,
+        ..WORKING
+    };
+    assert!(rt; is_recorded(rt.alloc(), &row, streams));
+}
+
+/// How many calls on the board's stream are answered, what it then holds, and what of it shows.
+const BOARD_CALLS: [(u32, &[u8], &[u8]); 4] = [
+    (0, &[], &[]),
+    (1, &[0x42, 0x4B], &[]),
+    (2, &[0x42, 0x4B], &[0x42, 0x4B]),
+    (3, &[0x42, 0x4B, 0x42], &[0x42, 0x4B]),
+];
+
+/// A recording whose board fails so leaves the text without a move.
+fn stops_at_board(
+    alloc: Global,
+    row: &Row<'_>,
+    streams: Streams,
+    held: &[u8],
+    shown: &[u8],
+) -> bool {
+    match recording(alloc, row, streams) {
+        Some(got) => got.board_held.get() == held
+            && shows(&got, RecordError::Board, shown, text_of("", "*", "*").get()),
+        None => false,
     }
-    let source = Source::new(bytes.get(), piece, calls);
-    let got = recorded_over(
-        rt.alloc(),
-        &row,
-        source,
-        Sink::new(ROOM, ALWAYS),
-        Sink::new(ROOM, ALWAYS),
-    )?;
-    assert_eq!(rt; got.answer, Ok(report_of(row.report)));
-    Ok(())
+}
+
+/// The number of calls after which one on the board's stream fails and it isn't told so.
+fn first_board_call_untold(alloc: Global, row: &Row<'_>) -> Option<u32> {
+    for (board_calls, held, shown) in BOARD_CALLS {
+        let streams = Streams {
+            board_calls,
+            ..WORKING
+        };
+        if !stops_at_board(alloc, row, streams, held, shown) {
+            return Some(board_calls);
+        }
+    }
+    None
 }
 
 /// The board's stream is written and flushed twice. After a failure nothing more is sent, and the text is that of the events
 /// up to the one that asked.
 #[test]
-fn each_call_on_the_board_fails_in_turn(rt: HostRuntime) -> Result<(), Fail> {
+fn each_call_on_the_board_fails_in_turn(rt: HostRuntime) {
     let row = cut_and_dump();
-    let bytes = row.bytes();
-    let cases: [(u32, &[u8], &[u8]); 4] = [
-        (0, &[], &[]),
-        (1, &[0x42, 0x4B], &[]),
-        (2, &[0x42, 0x4B], &[0x42, 0x4B]),
-        (3, &[0x42, 0x4B, 0x42], &[0x42, 0x4B]),
-    ];
-    for (calls, held, shown) in &cases {
-        let source = Source::new(bytes.get(), ROOM, ALWAYS);
-        let board = Sink::new(ROOM, *calls);
-        let got = recorded_over(rt.alloc(), &row, source, board, Sink::new(ROOM, ALWAYS))?;
-        assert_eq!(rt; got.answer, Err(RecordError::Board), "after {calls} calls");
-        assert!(rt; got.board_held.get() == *held, "after {calls} calls");
-        assert!(rt; got.board_shown.get() == *shown, "after {calls} calls");
-        assert!(rt;
-            got.text_shown.get() == text_of("", "*", "*").get(),
-            "after {calls} calls"
-        );
-    }
-    let source = Source::new(bytes.get(), ROOM, ALWAYS);
-    let got = recorded_over(
-        rt.alloc(),
-        &row,
-        source,
-        Sink::new(ROOM, 4),
-        Sink::new(ROOM, ALWAYS),
-    )?;
-    assert_eq!(rt; got.answer, Ok(report_of(row.report)));
-    assert!(rt; got.board_shown.get() == row.sent().get());
-    Ok(())
+    assert_eq!(rt; first_board_call_untold(rt.alloc(), &row), None);
+    let streams = Streams {
+        board_calls: 4,
+        ..WORKING
+    };
+    assert!(rt; is_recorded(rt.alloc(), &row, streams));
 }
 
-/// The output fails at each write and at the flush: a part of the text stands, and only a flush shows it.
-#[test]
-fn each_call_on_the_output_fails_in_turn(rt: HostRuntime) -> Result<(), Fail> {
-    let row = cut_and_dump();
-    let bytes = row.bytes();
-    let text = row.text();
-    let mut succeeded = false;
-    let mut last_held: usize = 0;
-    for calls in 0..1000 {
-        let source = Source::new(bytes.get(), ROOM, ALWAYS);
-        let got = recorded_over(
-            rt.alloc(),
-            &row,
-            source,
-            Sink::new(ROOM, ALWAYS),
-            Sink::new(ROOM, calls),
-        )?;
-        if got.answer.is_ok() {
-            assert!(rt; got.text_shown.get() == text.get());
-            succeeded = true;
-            break;
+/// What an output leaves that answers so many calls.
+#[derive(Clone, Copy)]
+enum Written {
+    /// All, and it shows.
+    Whole,
+    /// So many bytes, which are the front of the text, and none shows.
+    Front(usize),
+    /// Anything else.
+    Other,
+}
+
+fn written_of(got: &Recording, text: &[u8]) -> Written {
+    if got.answer.is_ok() {
+        if got.text_shown.get() == text {
+            return Written::Whole;
         }
-        assert_eq!(rt; got.answer, Err(RecordError::Write), "after {calls} calls");
-        assert!(rt;
-            is_front(got.text_held.get(), text.get()),
-            "after {calls} calls"
-        );
-        assert!(rt; got.text_shown.get().is_empty(), "after {calls} calls");
-        last_held = got.text_held.len();
+        return Written::Other;
     }
-    assert!(rt; succeeded);
-    // The last call is the flush: all was written before it, and nothing showed.
-    assert_eq!(rt; last_held, text.len());
-    Ok(())
+    let refused = got.answer == Err(RecordError::Write);
+    if refused && is_front(got.text_held.get(), text) && got.text_shown.get().is_empty() {
+        Written::Front(got.text_held.len())
+    } else {
+        Written::Other
+    }
+}
+
+fn written_after(alloc: Global, row: &Row<'_>, out_calls: u32) -> Written {
+    let streams = Streams {
+        out_calls,
+        ..WORKING
+    };
+    match recording(alloc, row, streams) {
+        Some(got) => written_of(&got, row.text().get()),
+        None => Written::Other,
+    }
+}
+
+/// How many bytes are held where the last call fails, each call having failed in turn; or the first number of calls with
+/// another answer.
+fn held_before_last_call(alloc: Global, row: &Row<'_>) -> Result<usize, u32> {
+    let mut held = 0;
+    for calls in 0..1000 {
+        match written_after(alloc, row, calls) {
+            Written::Whole => return Ok(held),
+            Written::Front(len) => held = len,
+            Written::Other => return Err(calls),
+        }
+    }
+    Err(1000)
+}
+
+/// The output fails at each write and at the flush: a part of the text stands, and only a flush shows it. The last call is the
+/// flush: all was written before it, and nothing showed.
+#[test]
+fn each_call_on_the_output_fails_in_turn(rt: HostRuntime) {
+    let row = cut_and_dump();
+    assert_eq!(rt;
+        held_before_last_call(rt.alloc(), &row),
+        Ok(row.text().len())
+    );
+}
+
+/// An output that takes so many bytes has these.
+fn fills(alloc: Global, row: &Row<'_>, reads: u32, out_room: usize) -> bool {
+    let streams = Streams {
+        reads,
+        out_room,
+        ..WORKING
+    };
+    match recording(alloc, row, streams) {
+        Some(got) => got.answer == Err(RecordError::Write)
+            && got.text_held.get() == row.text().front(out_room),
+        None => false,
+    }
+}
+
+/// The room for which an output that fills has something else.
+fn first_room_untold(alloc: Global, row: &Row<'_>, reads: u32) -> Option<usize> {
+    for room in 0..row.text().len() {
+        if !fills(alloc, row, reads, room) {
+            return Some(room);
+        }
+    }
+    None
 }
 
 /// An output that takes so many bytes has these, whether or not the reading ended well.
 #[test]
-fn an_output_that_fills_has_the_front_of_the_text(rt: HostRuntime) -> Result<(), Fail> {
+fn an_output_that_fills_has_the_front_of_the_text(rt: HostRuntime) {
     let row = cut_and_dump();
-    let bytes = row.bytes();
-    let text = row.text();
     // The second read fails, or none does.
-    for reads in [1, ALWAYS] {
-        for room in 0..text.len() {
-            let source = Source::new(bytes.get(), ROOM, reads);
-            let got = recorded_over(
-                rt.alloc(),
-                &row,
-                source,
-                Sink::new(ROOM, ALWAYS),
-                Sink::new(room, ALWAYS),
-            )?;
-            assert_eq!(rt;
-                got.answer,
-                Err(RecordError::Write),
-                "{reads} reads, room for {room}"
-            );
-            assert!(rt;
-                got.text_held.get() == text.front(room),
-                "{reads} reads, room for {room}"
-            );
-        }
-    }
+    assert_eq!(rt; first_room_untold(rt.alloc(), &row, 1), None);
+    assert_eq!(rt; first_room_untold(rt.alloc(), &row, ALWAYS), None);
     let ten = kings_pawn_opening();
-    let bytes = ten.bytes();
-    let source = Source::new(bytes.get(), ROOM, ALWAYS);
-    let got = recorded_over(
-        rt.alloc(),
-        &ten,
-        source,
-        Sink::new(ROOM, ALWAYS),
-        Sink::new(10, ALWAYS),
-    )?;
-    assert_eq!(rt; got.answer, Err(RecordError::Write));
-    assert!(rt; got.text_held.get() == b"[Event \"?\"".as_slice());
-    Ok(())
+    assert!(rt; ten.text().front(10) == b"[Event \"?\"".as_slice());
+    assert!(rt; fills(rt.alloc(), &ten, ALWAYS, 10));
 }
 
 #[test]
-fn a_failed_output_outweighs_a_failed_reading(rt: HostRuntime) -> Result<(), Fail> {
-    let row = cut_and_dump();
-    let bytes = row.bytes();
-    let source = Source::new(bytes.get(), ROOM, 0);
-    let got = recorded_over(
-        rt.alloc(),
-        &row,
-        source,
-        Sink::new(ROOM, ALWAYS),
-        Sink::new(0, ALWAYS),
-    )?;
-    assert_eq!(rt; got.answer, Err(RecordError::Write));
-    assert!(rt; got.text_held.get().is_empty());
-    Ok(())
+fn a_failed_output_outweighs_a_failed_reading(rt: HostRuntime) {
+    assert!(rt; fills(rt.alloc(), &cut_and_dump(), 0, 0));
 }
 
 #[test]
-fn what_was_taken_before_a_failed_read_is_written(rt: HostRuntime) -> Result<(), Fail> {
+fn what_was_taken_before_a_failed_read_is_written(rt: HostRuntime) {
     let row = kings_pawn_opening();
-    let bytes = row.bytes();
-    let source = Source::new(bytes.get(), ROOM, 1);
-    let got = recorded_over(
-        rt.alloc(),
-        &row,
-        source,
-        Sink::new(ROOM, ALWAYS),
-        Sink::new(ROOM, ALWAYS),
-    )?;
-    assert_eq!(rt; got.answer, Err(RecordError::Read));
-    assert!(rt; got.text_shown.get() == row.text().get());
-    Ok(())
+    let streams = Streams {
+        reads: 1,
+        ..WORKING
+    };
+    assert!(rt; stops_with_text(rt.alloc(), &row, streams));
+}
+
+/// A recording whose reading fails has the whole text of the row.
+fn stops_with_text(alloc: Global, row: &Row<'_>, streams: Streams) -> bool {
+    match recording(alloc, row, streams) {
+        Some(got) => got.answer == Err(RecordError::Read)
+            && got.text_shown.get() == row.text().get(),
+        None => false,
+    }
 }
 
 /// A board that takes the two commands at the start, and not the request for a dump.
 #[test]
-fn a_board_that_fills_ends_the_reading(rt: HostRuntime) -> Result<(), Fail> {
+fn a_board_that_fills_ends_the_reading(rt: HostRuntime) {
     let row = cut_and_dump();
-    let bytes = row.bytes();
-    let source = Source::new(bytes.get(), ROOM, ALWAYS);
-    let got = recorded_over(
-        rt.alloc(),
-        &row,
-        source,
-        Sink::new(2, ALWAYS),
-        Sink::new(ROOM, ALWAYS),
-    )?;
-    assert_eq!(rt; got.answer, Err(RecordError::Board));
-    assert!(rt; got.board_held.get() == [0x42, 0x4B].as_slice());
-    assert!(rt; got.text_shown.get() == text_of("", "*", "*").get());
-    Ok(())
+    let streams = Streams {
+        board_room: 2,
+        ..WORKING
+    };
+    let commands = [0x42, 0x4B];
+    assert!(rt; stops_at_board(rt.alloc(), &row, streams, &commands, &commands));
+}
+
+/// What is answered to so many zeros, and how many of them aren't read.
+const LONG_STREAMS: [(u32, Result<Report, RecordError>, u32); 3] = [
+    (
+        67_108_864,
+        Ok(Report {
+            messages: 0,
+            faults: 1,
+            moves: 0,
+            rest: 0,
+        }),
+        0,
+    ),
+    (67_108_865, Err(RecordError::TooLong), 0),
+    (67_108_870, Err(RecordError::TooLong), 5),
+];
+
+/// Of so many zeros this is answered and so many aren't read; one fault is told, and the text without a move.
+fn zeros_are_recorded(
+    alloc: Global,
+    zeros: u32,
+    answer: &Result<Report, RecordError>,
+    unread: u32,
+) -> bool {
+    let Ok(setup) = setup_of(alloc, &kings_pawn_opening()) else {
+        return false;
+    };
+    let mut reader = Watch::new(Alike {
+        byte: 0,
+        left: zeros,
+    });
+    let mut board = Watch::new(Sink::new(ROOM, ALWAYS));
+    let mut out = Watch::new(Sink::new(ROOM, ALWAYS));
+    let got = record(alloc, setup, &mut reader, &mut board, &mut out);
+    got == *answer
+        && reader.inner().left == unread
+        && board.inner().shown() == commands(1).get()
+        && out.inner().shown() == text_of("", "*", "*").get()
+}
+
+/// The number of zeros of which something else is recorded.
+fn first_long_stream_untold(alloc: Global) -> Option<u32> {
+    for (zeros, answer, unread) in &LONG_STREAMS {
+        if !zeros_are_recorded(alloc, *zeros, answer, *unread) {
+            return Some(*zeros);
+        }
+    }
+    None
 }
 
 #[test]
-fn a_stream_has_at_most_67_108_864_bytes(rt: HostRuntime) -> Result<(), Fail> {
-    let row = Row {
-        report: (0, 1, 0, 0),
-        ..kings_pawn_opening()
-    };
-    let cases = [
-        (67_108_864, Ok(report_of(row.report)), 0),
-        (67_108_865, Err(RecordError::TooLong), 0),
-        (67_108_870, Err(RecordError::TooLong), 5),
-    ];
-    for (left, answer, unread) in &cases {
-        let setup = setup_of(rt.alloc(), &row)?;
-        let mut reader = Watch::new(Alike {
-            byte: 0,
-            left: *left,
-        });
-        let mut board = Watch::new(Sink::new(ROOM, ALWAYS));
-        let mut out = Watch::new(Sink::new(ROOM, ALWAYS));
-        let got = record(rt.alloc(), setup, &mut reader, &mut board, &mut out);
-        assert_eq!(rt; got, *answer, "{left} bytes");
-        assert_eq!(rt; reader.inner().left, *unread, "{left} bytes");
-        assert!(rt; board.inner().shown() == commands(1).get(), "{left} bytes");
-        assert!(rt;
-            out.inner().shown() == text_of("", "*", "*").get(),
-            "{left} bytes"
-        );
-    }
-    Ok(())
+fn a_stream_has_at_most_67_108_864_bytes(rt: HostRuntime) {
+    assert_eq!(rt; first_long_stream_untold(rt.alloc()), None);
 }

@@ -1,5 +1,6 @@
 //! Recordings and sessions against a slow settler, which tries every origin, target and promotion for each picture.
 ghost use Rattle.board_session.specs.Looking.{IsInRange};
+ghost use Rattle.std.specs.Prelude.{IfSome};
 
 use crate::recording::{recorded, start_of};
 use crate::rows::{Row, rows_by_subject};
@@ -11,8 +12,6 @@ use dgt_frame::{Event, First, Hms, Message, Reading, read_time};
 use pgn_book::read_pgn;
 use settle_core::{Outcome, Ply, Seen};
 use std::alloc::{AllocError, Global};
-use std::process::Abort;
-use std::test::Fail;
 
 /// What the messages tell of the board.
 #[derive(Drop)]
@@ -293,23 +292,31 @@ fn clock_of(ply: &Ply) -> Option<u32> {
     Some(seconds_of(ply.clock?))
 }
 
-/// The event, whose codes and field are those that there are.
-fn checked(rt: &impl Abort, event: Event) -> Event
-    ensures { IsInRange result }
+/// The event, where its codes and field are those that there are.
+fn in_range(event: Event) -> Option<Event>
+    ensures { IfSome result (λ event. IsInRange event) }
 {
     match event {
         Event::Message(Message::Dump(codes)) => {
-            assert!(rt; codes.iter().all(|code| *code < 16));
-            Event::Message(Message::Dump(codes))
+            if codes.iter().all(|code| *code < 16) {
+                Some(Event::Message(Message::Dump(codes)))
+            } else {
+                None
+            }
         }
         Event::Message(Message::Update { field, code }) => {
-            assert!(rt; field < 64);
-            assert!(rt; code < 16);
-            Event::Message(Message::Update { field, code })
+            if field < 64 && code < 16 {
+                Some(Event::Message(Message::Update { field, code }))
+            } else {
+                None
+            }
         }
-        Event::Message(Message::Time(times)) => Event::Message(Message::Time(times)),
-        Event::Message(Message::Other { id, size }) => Event::Message(Message::Other { id, size }),
-        Event::Fault(kind) => Event::Fault(kind),
+        Event::Message(Message::Time(times)) => Some(Event::Message(Message::Time(times))),
+        Event::Message(Message::Other { id, size }) => Some(Event::Message(Message::Other {
+            id,
+            size,
+        })),
+        Event::Fault(kind) => Some(Event::Fault(kind)),
     }
 }
 
@@ -358,50 +365,71 @@ impl Beside {
     }
 }
 
+/// The game of this text is the one that is told.
+fn tells(alloc: Global, text: &[u8], told: &Told) -> bool {
+    match read_pgn(alloc, text) {
+        Ok(game) => *game.start() == told.start
+            && told.has(game.plies())
+            && game.result() == told.result(),
+        Err(_) => false,
+    }
+}
+
 /// The game that is recorded of these bytes is the one that is told.
-fn is_recorded(
-    rt: &impl Abort,
-    alloc: Global,
-    row: &Row<'_>,
-    bytes: &[u8],
-    told: &Told,
-) -> Result<(), Fail> {
-    let got = recorded(alloc, row, bytes, 4096)?;
-    let game = read_pgn(alloc, got.text_shown.get())?;
-    let len = bytes.len();
-    assert!(rt; *game.start() == told.start, "{} cut to {len}", row.name);
-    assert!(rt; told.has(game.plies()), "{} cut to {len}", row.name);
-    assert!(rt; game.result() == told.result(), "{} cut to {len}", row.name);
-    Ok(())
+fn is_recorded(alloc: Global, row: &Row<'_>, bytes: &[u8], told: &Told) -> bool {
+    match recorded(alloc, row, bytes, 4096) {
+        Ok(got) => tells(alloc, got.text_shown.get(), told),
+        Err(_) => false,
+    }
 }
 
-/// After each event of a capture the session and the recorded game are as its pictures tell.
-pub fn settles_as_told(rt: &impl Abort, alloc: Global, row: &Row<'_>) -> Result<(), Fail> {
+/// Where an event comes at the last of these bytes, the session and the recorded game are then as the pictures tell.
+fn agrees(alloc: Global, row: &Row<'_>, beside: &mut Beside, front: &[u8]) -> bool {
+    let (Some(event), _) = last_event(front) else {
+        return true;
+    };
+    let Some(event) = in_range(event) else {
+        return false;
+    };
+    match beside.take(event) {
+        Ok(true) => is_recorded(alloc, row, front, &beside.told),
+        _ => false,
+    }
+}
+
+/// How many bytes of the capture have come where something else stands than is told.
+fn first_untold(alloc: Global, row: &Row<'_>, beside: &mut Beside) -> Option<usize> {
     let bytes = row.bytes();
-    let mut beside = Beside::new(alloc, row)?;
     for len in 1..bytes.len().saturating_add(1) {
-        let front = bytes.front(len);
-        let (Some(event), _) = last_event(front) else {
-            continue;
-        };
-        let agrees = beside.take(checked(rt, event))?;
-        assert!(rt; agrees, "{} cut to {len}", row.name);
-        is_recorded(rt, alloc, row, front, &beside.told)?;
+        if !agrees(alloc, row, beside, bytes.front(len)) {
+            return Some(len);
+        }
     }
-    Ok(())
+    None
 }
 
-fn rows_settle_as_told(rt: &impl Abort, alloc: Global, rows: &[Row<'_>]) -> Result<(), Fail> {
-    for row in rows {
-        settles_as_told(rt, alloc, row)?;
+/// After each event of a capture the session and the recorded game are as its pictures tell; else how many bytes have come, 0
+/// where the start isn't read.
+pub fn settling_failing(alloc: Global, row: &Row<'_>) -> Option<usize> {
+    match Beside::new(alloc, row) {
+        Ok(mut beside) => first_untold(alloc, row, &mut beside),
+        Err(_) => Some(0),
     }
-    Ok(())
+}
+
+/// The name of the first row that settles otherwise, and how many bytes have then come.
+fn first_failing<'a>(alloc: Global, rows: &[Row<'a>]) -> Option<(&'a str, usize)> {
+    for row in rows {
+        if let Some(len) = settling_failing(alloc, row) {
+            return Some((row.name, len));
+        }
+    }
+    None
 }
 
 #[test]
-fn captures_are_settled_as_told(rt: HostRuntime) -> Result<(), Fail> {
+fn captures_are_settled_as_told(rt: HostRuntime) {
     for rows in rows_by_subject() {
-        rows_settle_as_told(&rt, rt.alloc(), rows)?;
+        assert_eq!(rt; first_failing(rt.alloc(), rows), None);
     }
-    Ok(())
 }

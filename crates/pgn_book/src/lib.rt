@@ -9,8 +9,6 @@ mod place;
 mod reading;
 mod sections;
 mod tags;
-#[cfg(test)]
-mod tests;
 mod values;
 mod words;
 mod writing;

@@ -6,8 +6,6 @@ mod game;
 pub mod laws;
 mod settler;
 mod signs;
-#[cfg(test)]
-mod tests;
 mod tips;
 
 pub use game::{Outcome, Ply, Seen};

@@ -1,4 +1,4 @@
-use Rattle.std.proofs.Common.{◌≡◌, List, ℕ, length, codes, inr, refl, subst, sym, true, ◌∙◌, ◌++◌}
+use Rattle.std.proofs.Common.{◌≡◌, List, ℕ, length, codes, inl, inr, refl, rules, subst, sym, true, ◌∙◌, ◌++◌}
 use Rattle.std.proofs.KnownBytes.{Appends-kept}
 use Rattle.std.specs.Io.KnownBytes.{Appends}
 use Rattle.dgt_frame.specs.Watched.{inner_of, has_failed}
@@ -46,3 +46,10 @@ returns-then-is_err-clause-tells g c =
     ] in
     tells_fault c.refused.result (RefusesText (g.R.Read.remaining (inner_of c.args.reader.now))) _ _ _ _ _ c.refused.ensures.status
     (inr (failed, c.refused.ensures.says))
+
+pub returns-in-Err-Read-clause-tells : goal.returns-in-Err-Read-clause-tells
+returns-in-Err-Read-clause-tells g c =
+    let input = g.R.Read.remaining (inner_of c.args.reader.now) in
+    let failed : has_failed c.read_text.new.reader ≡ true = search rules in
+    tells_or_fault c.refused_run-in-Err-Read.result 3 (RefusesText input) _ _ _ _ _ _ c.refused_run-in-Err-Read.ensures.ended
+    (λ three says. tells_fault c.refused_run-in-Err-Read.result (RefusesText input) _ _ _ _ _ three (inl (failed, says)))

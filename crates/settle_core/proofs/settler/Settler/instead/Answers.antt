@@ -1,4 +1,5 @@
-use Rattle.std.proofs.Common.{◌≡◌, ◌-◌, ℕ, List, Some, true, false, length, reverse, sym, ap, subst, ◌∙◌}
+use Rattle.std.proofs.Common.{◌≡◌, ◌-◌, ℕ, List, Some, length, reverse, sym, ap, subst, ◌∙◌}
+use Rattle.std.proofs.lemmas.Bool.{false≢true}
 use Rattle.std.specs.List.{slice_get}
 use Rattle.settle_core.specs.declared.game.Ply.{Ply}
 use Rattle.settle_core.specs.Folding.{Replaces, moves_of}
@@ -29,4 +30,4 @@ returns-else-same_move-clause-some c picture seen =
     let R : Sheet → Type 0 = λ s. Replaces s.start (moves_of s.score.plies) picture c.in_ok-m.m in
     let Q : List ℕ → Type 0 = λ x. Replaces c.self.inside.start (moves_of (reverse c.self.inside.plies.items)) x c.in_ok-m.m in
     subst R c.self.view_is
-    (subst Q shown (both.0 (λ q. let t : c.same_move.result ≡ true = same.1 q in let f : c.same_move.result ≡ false = c.if-same_move.false in let never : ⊥ = cc in never)))
+    (subst Q shown (both.0 (λ q. false≢true (sym c.if-same_move.false ∙ same.1 q))))

@@ -1,3 +1,5 @@
+use Prim.{search}
+use Rattle.std.proofs.Common.{rules}
 use Rattle.std.proofs.Common.{ap, sym, length, subst, ◌∙◌}
 use Rattle.std.proofs.lemmas.List.{length-reverse}
 use Rattle.settle_core.specs.Settling.{Line}
@@ -16,3 +18,6 @@ pub returns-clause-count : goal.returns-clause-count
 returns-clause-count c start past st =
     moves_within c.args.self start past c.self.inside.plies.items st
     (ap (λ (s : Sheet). length s.score.plies) (sym c.self.view_is) ∙ length-reverse c.self.inside.plies.items)
+
+pub returns-clause-sign : goal.returns-clause-sign
+returns-clause-sign c = search rules

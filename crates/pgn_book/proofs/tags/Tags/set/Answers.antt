@@ -1,0 +1,6 @@
+use Prim.{search}
+use Rattle.std.proofs.Common.{rules}
+use Rattle.pgn_book.proofs.tags.Tags.set.Goals as goal
+
+pub returns-in-Err-clause-kept : goal.returns-in-Err-clause-kept
+returns-in-Err-clause-kept c = search rules

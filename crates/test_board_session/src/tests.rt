@@ -1,0 +1,635 @@
+//! Recordings over streams in memory. The expected texts, reports and board bytes are worked by hand from the formats.
+ghost use Rattle.board_session.specs.Looking.{IsInRange};
+
+use board_session::laws::read_recorded;
+use board_session::{RecordError, Report, Session, Setup, Taken, record};
+use chess_rules::Position;
+use dgt_frame::{Event, FaultKind, First, Message, Watch};
+use pgn_book::Tags;
+use settle_core::Seen;
+use std::alloc::Global;
+use std::io::{self, ErrorKind, Read, Write};
+
+/// Bytes in a fixed array. What finds no room is left out.
+#[derive(Drop)]
+struct Bytes {
+    held: [u8; 512],
+    len: usize,
+}
+
+impl Bytes {
+    fn of(parts: &[&[u8]]) -> Bytes {
+        let mut bytes = Bytes {
+            held: [0; 512],
+            len: 0,
+        };
+        for part in parts {
+            bytes.add(part);
+        }
+        bytes
+    }
+
+    fn add(&mut self, more: &[u8]) {
+        for byte in more {
+            if let Some(place) = self.held.get_mut(self.len) {
+                *place = *byte;
+                self.len = self.len.saturating_add(1);
+            }
+        }
+    }
+
+    fn get(&self) -> &[u8] {
+        self.front(self.len)
+    }
+
+    /// The first so many bytes.
+    fn front(&self, len: usize) -> &[u8] {
+        match self.held.get(..len) {
+            Some(bytes) => bytes,
+            None => &[],
+        }
+    }
+}
+
+/// Gives bytes in pieces, and then fails or ends.
+#[derive(Drop)]
+struct Source<'a> {
+    bytes: &'a [u8],
+    at: usize,
+    piece: usize,
+    fails: bool,
+}
+
+impl<'a> Source<'a> {
+    fn new(bytes: &'a Bytes, piece: usize, fails: bool) -> Source<'a> {
+        Source {
+            bytes: bytes.get(),
+            at: 0,
+            piece,
+            fails,
+        }
+    }
+}
+
+impl Read for Source<'_> {
+    fn read(&mut self, buf: &mut [u8]) -> io::Result<usize> {
+        let mut count = 0;
+        for place in buf.iter_mut() {
+            let Some(byte) = self.bytes.get(self.at) else {
+                break;
+            };
+            if count >= self.piece {
+                break;
+            }
+            *place = *byte;
+            self.at = self.at.saturating_add(1);
+            count += 1;
+        }
+        if count == 0 && self.fails {
+            return Err(io::Error::from(ErrorKind::BrokenPipe));
+        }
+        Ok(count)
+    }
+}
+
+/// Takes so many bytes and then fails. What isn't flushed doesn't show.
+#[derive(Drop)]
+struct Sink {
+    bytes: Bytes,
+    shown: usize,
+    room: usize,
+}
+
+impl Sink {
+    fn new(room: usize) -> Sink {
+        Sink {
+            bytes: Bytes::of(&[]),
+            shown: 0,
+            room,
+        }
+    }
+
+    fn shows(&self, text: &[u8]) -> bool {
+        match self.bytes.held.get(..self.shown) {
+            Some(shown) => shown == text,
+            None => false,
+        }
+    }
+
+    fn holds(&self, text: &[u8]) -> bool {
+        self.bytes.get() == text
+    }
+}
+
+impl Write for Sink {
+    fn write(&mut self, buf: &[u8]) -> io::Result<usize> {
+        let mut count = 0;
+        for byte in buf {
+            if self.room == 0 {
+                break;
+            }
+            self.room -= 1;
+            self.bytes.add(&[*byte]);
+            count += 1;
+        }
+        if count == 0 && !buf.is_empty() {
+            return Err(io::Error::from(ErrorKind::BrokenPipe));
+        }
+        Ok(count)
+    }
+
+    fn flush(&mut self) -> io::Result<()> {
+        self.shown = self.bytes.len;
+        Ok(())
+    }
+}
+
+const INITIAL: [u8; 67] = [
+    0x86, 0x00, 0x43, 8, 9, 10, 12, 11, 10, 9, 8, 7, 7, 7, 7, 7, 7, 7, 7, 0, 0, 0, 0, 0, 0, 0, 0,
+    0, 0, 0, 0, 0, 0, 0, 0, 0, 0, 0, 0, 0, 0, 0, 0, 0, 0, 0, 0, 0, 0, 0, 0, 1, 1, 1, 1, 1, 1, 1, 1,
+    2, 3, 4, 6, 5, 4, 3, 2,
+];
+
+/// The initial position on a rotated board.
+const TURNED: [u8; 67] = [
+    0x86, 0x00, 0x43, 2, 3, 4, 5, 6, 4, 3, 2, 1, 1, 1, 1, 1, 1, 1, 1, 0, 0, 0, 0, 0, 0, 0, 0, 0, 0,
+    0, 0, 0, 0, 0, 0, 0, 0, 0, 0, 0, 0, 0, 0, 0, 0, 0, 0, 0, 0, 0, 0, 7, 7, 7, 7, 7, 7, 7, 7, 8, 9,
+    10, 11, 12, 10, 9, 8,
+];
+
+/// After 1. e4.
+const KINGS_PAWN: [u8; 67] = [
+    0x86, 0x00, 0x43, 8, 9, 10, 12, 11, 10, 9, 8, 7, 7, 7, 7, 7, 7, 7, 7, 0, 0, 0, 0, 0, 0, 0, 0,
+    0, 0, 0, 0, 0, 0, 0, 0, 0, 0, 0, 0, 1, 0, 0, 0, 0, 0, 0, 0, 0, 0, 0, 0, 1, 1, 1, 1, 0, 1, 1, 1,
+    2, 3, 4, 6, 5, 4, 3, 2,
+];
+
+/// After 1. e4 e5.
+const OPEN_GAME: [u8; 67] = [
+    0x86, 0x00, 0x43, 8, 9, 10, 12, 11, 10, 9, 8, 7, 7, 7, 7, 0, 7, 7, 7, 0, 0, 0, 0, 0, 0, 0, 0,
+    0, 0, 0, 0, 7, 0, 0, 0, 0, 0, 0, 0, 1, 0, 0, 0, 0, 0, 0, 0, 0, 0, 0, 0, 1, 1, 1, 1, 0, 1, 1, 1,
+    2, 3, 4, 6, 5, 4, 3, 2,
+];
+
+const E2_EMPTY: [u8; 5] = [0x8E, 0x00, 0x05, 0x34, 0x00];
+
+const E4_PAWN: [u8; 5] = [0x8E, 0x00, 0x05, 0x24, 0x01];
+
+const E7_EMPTY: [u8; 5] = [0x8E, 0x00, 0x05, 0x0C, 0x00];
+
+const E5_PAWN: [u8; 5] = [0x8E, 0x00, 0x05, 0x1C, 0x07];
+
+/// 1:30:00 and 1:29:59.
+const TIME: [u8; 10] = [0x8D, 0x00, 0x0A, 0x01, 0x30, 0x00, 0x01, 0x29, 0x59, 0x00];
+
+const ACKNOWLEDGEMENT: [u8; 10] = [0x8D, 0x00, 0x0A, 0x0A, 0x00, 0x00, 0x0A, 0x00, 0x00, 0x00];
+
+/// 70 minutes.
+const BAD_TIME: [u8; 10] = [0x8D, 0x00, 0x0A, 0x00, 0x70, 0x00, 0x00, 0x30, 0x00, 0x00];
+
+const NO_CLOCK: [u8; 10] = [0x8D, 0x00, 0x0A, 0x01, 0x30, 0x00, 0x01, 0x29, 0x59, 0x20];
+
+const ROSTER: &[u8] =
+    b"[Event \"?\"]\n[Site \"?\"]\n[Date \"????.??.??\"]\n[Round \"?\"]\n[White \"?\"]\n[Black \"?\"]\n[Result \"";
+
+fn text(marker: &[u8], movetext: &[u8]) -> Bytes {
+    Bytes::of(&[ROSTER, marker, b"\"]\n\n", movetext, b"\n\n"])
+}
+
+fn setup(alloc: Global, first: First, rotated: bool) -> Setup {
+    Setup {
+        start: Position::initial(),
+        first,
+        rotated,
+        tags: Tags::new(alloc),
+    }
+}
+
+/// The parts of a capture, how it is recorded, and what is to be recorded of it.
+#[derive(Clone, Copy)]
+struct Row<'a> {
+    name: &'a str,
+    parts: &'a [&'a [u8]],
+    first: First,
+    rotated: bool,
+    /// What the board is sent.
+    sent: &'a [u8],
+    /// The value of the result tag.
+    marker: &'a [u8],
+    movetext: &'a [u8],
+    /// Messages, faults, moves, and the bytes of an unfinished frame.
+    report: (u32, u32, u32, u16),
+}
+
+impl Row<'_> {
+    fn bytes(&self) -> Bytes {
+        Bytes::of(self.parts)
+    }
+
+    fn text(&self) -> Bytes {
+        text(self.marker, self.movetext)
+    }
+
+    fn report(&self) -> Report {
+        let (messages, faults, moves, rest) = self.report;
+        Report {
+            messages,
+            faults,
+            moves,
+            rest,
+        }
+    }
+}
+
+/// How far the streams of a recording work.
+#[derive(Clone, Copy)]
+struct Streams {
+    /// So many bytes come with a read.
+    piece: usize,
+    /// After all bytes a read fails.
+    fails: bool,
+    /// So many bytes find room in the board's stream.
+    board_room: usize,
+    /// So many bytes find room in the output.
+    out_room: usize,
+}
+
+const WORKING: Streams = Streams {
+    piece: 4096,
+    fails: false,
+    board_room: 512,
+    out_room: 512,
+};
+
+/// Over these streams this is answered, and the board's stream and the output then show exactly what the row says.
+fn leaves(
+    alloc: Global,
+    row: &Row<'_>,
+    streams: Streams,
+    answer: Result<Report, RecordError>,
+) -> bool {
+    let bytes = row.bytes();
+    let mut reader = Watch::new(Source::new(&bytes, streams.piece, streams.fails));
+    let mut board = Watch::new(Sink::new(streams.board_room));
+    let mut out = Watch::new(Sink::new(streams.out_room));
+    let setup = setup(alloc, row.first, row.rotated);
+    let got = record(alloc, setup, &mut reader, &mut board, &mut out);
+    got == answer && board.inner().shows(row.sent) && out.inner().shows(row.text().get())
+}
+
+/// With so many bytes a read, what is recorded is what the row says.
+fn holds(alloc: Global, row: &Row<'_>, piece: usize) -> bool {
+    leaves(alloc, row, Streams { piece, ..WORKING }, Ok(row.report()))
+}
+
+const OPENING: &[u8] = &[0x42, 0x4B];
+
+/// No byte from the initial position, White's time first, not rotated.
+const NOTHING: Row<'static> = Row {
+    name: "nothing",
+    parts: &[],
+    first: First::White,
+    rotated: false,
+    sent: OPENING,
+    marker: b"*",
+    movetext: b"*",
+    report: (0, 0, 0, 0),
+};
+
+const KINGS_PAWN_OPENING: Row<'static> = Row {
+    name: "1. e4",
+    parts: &[&INITIAL, &E2_EMPTY, &E4_PAWN],
+    movetext: b"1. e4 *",
+    report: (3, 0, 1, 0),
+    ..NOTHING
+};
+
+/// An update is cut off, and a dump makes up for it.
+const CUT_AND_DUMP: Row<'static> = Row {
+    name: "cut",
+    parts: &[&INITIAL, &[0x8E, 0x00, 0x05, 0x34], &KINGS_PAWN],
+    sent: &[0x42, 0x4B, 0x42],
+    movetext: b"1. e4 *",
+    report: (2, 1, 1, 0),
+    ..NOTHING
+};
+
+/// A good time, an acknowledgement and a bad time come before the moves.
+const CLOCKS: Row<'static> = Row {
+    name: "clocks",
+    parts: &[
+        &INITIAL,
+        &TIME,
+        &ACKNOWLEDGEMENT,
+        &BAD_TIME,
+        &E2_EMPTY,
+        &E4_PAWN,
+        &E7_EMPTY,
+        &E5_PAWN,
+    ],
+    movetext: b"1. e4 {[%clk 1:30:00]} 1... e5 {[%clk 1:29:59]} *",
+    report: (8, 0, 2, 0),
+    ..NOTHING
+};
+
+/// Moves, times and results.
+const GAMES: &[Row<'static>] = &[
+    NOTHING,
+    KINGS_PAWN_OPENING,
+    Row {
+        name: "put down first",
+        parts: &[&INITIAL, &E4_PAWN, &E2_EMPTY],
+        movetext: b"1. e4 *",
+        report: (3, 0, 1, 0),
+        ..NOTHING
+    },
+    Row {
+        name: "lifted twice",
+        parts: &[
+            &INITIAL,
+            &E2_EMPTY,
+            &[0x8E, 0, 5, 0x34, 1],
+            &INITIAL,
+            &E2_EMPTY,
+            &E4_PAWN,
+        ],
+        movetext: b"1. e4 *",
+        report: (6, 0, 1, 0),
+        ..NOTHING
+    },
+    CLOCKS,
+    Row {
+        name: "no clock",
+        parts: &[
+            &INITIAL, &TIME, &E2_EMPTY, &E4_PAWN, &NO_CLOCK, &E7_EMPTY, &E5_PAWN,
+        ],
+        movetext: b"1. e4 {[%clk 1:30:00]} 1... e5 *",
+        report: (7, 0, 2, 0),
+        ..NOTHING
+    },
+    Row {
+        name: "White wins",
+        parts: &[
+            &INITIAL,
+            &[0x8E, 0, 5, 0x3C, 0],
+            &[0x8E, 0, 5, 4, 0],
+            &[0x8E, 0, 5, 0x24, 5],
+            &[0x8E, 0, 5, 0x1B, 11],
+        ],
+        marker: b"1-0",
+        movetext: b"1-0",
+        report: (5, 0, 0, 0),
+        ..NOTHING
+    },
+];
+
+/// Faults, and what isn't understood.
+const FAULTS: &[Row<'static>] = &[
+    CUT_AND_DUMP,
+    Row {
+        name: "two moves at once",
+        parts: &[&INITIAL, &[0x8E, 0x00, 0x05, 0x34], &OPEN_GAME],
+        sent: &[0x42, 0x4B, 0x42],
+        report: (2, 1, 0, 0),
+        ..NOTHING
+    },
+    Row {
+        name: "an ignored message",
+        parts: &[
+            &INITIAL,
+            &E2_EMPTY,
+            &[0x93, 0x00, 0x05, 0x01, 0x08],
+            &E4_PAWN,
+        ],
+        movetext: b"1. e4 *",
+        report: (4, 0, 1, 0),
+        ..NOTHING
+    },
+    Row {
+        name: "three faults",
+        parts: &[&[0x05, 0x34, 0x00, 0x8E, 0x00, 0x06, 0x8E, 0x00, 0x05, 0x40]],
+        sent: &[0x42, 0x4B, 0x42, 0x42, 0x42],
+        report: (0, 3, 0, 0),
+        ..NOTHING
+    },
+    Row {
+        name: "updates after a fault",
+        parts: &[&INITIAL, &[0x05], &E2_EMPTY, &E4_PAWN],
+        sent: &[0x42, 0x4B, 0x42],
+        report: (3, 1, 0, 0),
+        ..NOTHING
+    },
+    Row {
+        name: "no such piece",
+        parts: &[&INITIAL, &[0x8E, 0, 5, 0x34, 13]],
+        report: (2, 0, 0, 0),
+        ..NOTHING
+    },
+    Row {
+        name: "the last byte missing",
+        parts: &[&INITIAL, &E2_EMPTY, &[0x8E, 0x00, 0x05, 0x24]],
+        report: (2, 0, 0, 4),
+        ..NOTHING
+    },
+];
+
+fn games<'a>() -> &'a [Row<'a>] {
+    GAMES
+}
+
+fn faults<'a>() -> &'a [Row<'a>] {
+    FAULTS
+}
+
+/// How many bytes come with a read where the row doesn't hold.
+fn piece_failing(alloc: Global, row: &Row<'_>) -> Option<usize> {
+    for piece in [1, 2, 7, 4096] {
+        if !holds(alloc, row, piece) {
+            return Some(piece);
+        }
+    }
+    None
+}
+
+/// The name of the first row that doesn't hold, and how many bytes then come with a read.
+fn first_failing<'a>(alloc: Global, rows: &[Row<'a>]) -> Option<(&'a str, usize)> {
+    for row in rows {
+        if let Some(piece) = piece_failing(alloc, row) {
+            return Some((row.name, piece));
+        }
+    }
+    None
+}
+
+#[test]
+fn streams_are_recorded(rt: HostRuntime) {
+    assert_eq!(rt; first_failing(rt.alloc(), games()), None);
+    assert_eq!(rt; first_failing(rt.alloc(), faults()), None);
+}
+
+const SETTINGS: &[Row<'static>] = &[
+    Row {
+        name: "rotated",
+        parts: &[
+            &TURNED,
+            &[0x8E, 0x00, 0x05, 0x0B, 0x00],
+            &[0x8E, 0x00, 0x05, 0x1B, 0x01],
+        ],
+        rotated: true,
+        movetext: b"1. e4 *",
+        report: (3, 0, 1, 0),
+        ..NOTHING
+    },
+    Row {
+        name: "not rotated",
+        parts: &[
+            &TURNED,
+            &[0x8E, 0x00, 0x05, 0x0B, 0x00],
+            &[0x8E, 0x00, 0x05, 0x1B, 0x01],
+        ],
+        report: (3, 0, 0, 0),
+        ..NOTHING
+    },
+    Row {
+        name: "black first",
+        first: First::Black,
+        movetext: b"1. e4 {[%clk 1:29:59]} 1... e5 {[%clk 1:30:00]} *",
+        ..CLOCKS
+    },
+];
+
+fn settings<'a>() -> &'a [Row<'a>] {
+    SETTINGS
+}
+
+#[test]
+fn settings_are_kept(rt: HostRuntime) {
+    assert_eq!(rt; first_failing(rt.alloc(), settings()), None);
+}
+
+/// The board takes nothing.
+const UNSENT: Row<'static> = Row {
+    sent: &[],
+    movetext: b"*",
+    ..KINGS_PAWN_OPENING
+};
+
+/// The board takes the two commands at the start, and no request for a dump.
+const UNASKED: Row<'static> = Row {
+    sent: OPENING,
+    movetext: b"*",
+    ..CUT_AND_DUMP
+};
+
+fn stands_after_failed_read(alloc: Global) -> bool {
+    let streams = Streams {
+        fails: true,
+        ..WORKING
+    };
+    leaves(alloc, &KINGS_PAWN_OPENING, streams, Err(RecordError::Read))
+}
+
+/// The board takes so many bytes, and the row says what stands then.
+fn stands_after_failed_board(alloc: Global, row: &Row<'_>, board_room: usize) -> bool {
+    let streams = Streams {
+        board_room,
+        ..WORKING
+    };
+    leaves(alloc, row, streams, Err(RecordError::Board))
+}
+
+#[test]
+fn what_was_taken_stands_after_a_fault(rt: HostRuntime) {
+    assert!(rt; stands_after_failed_read(rt.alloc()));
+    assert!(rt; stands_after_failed_board(rt.alloc(), &UNSENT, 0));
+    assert!(rt; stands_after_failed_board(rt.alloc(), &UNASKED, 2));
+}
+
+/// An output that takes so many bytes of the text of 1. e4 has these.
+fn fills(alloc: Global, fails: bool, room: usize) -> bool {
+    let row = KINGS_PAWN_OPENING;
+    let bytes = row.bytes();
+    let mut reader = Watch::new(Source::new(&bytes, 4096, fails));
+    let mut board = Watch::new(Sink::new(512));
+    let mut out = Watch::new(Sink::new(room));
+    let setup = setup(alloc, row.first, row.rotated);
+    let got = record(alloc, setup, &mut reader, &mut board, &mut out);
+    got == Err(RecordError::Write) && out.inner().holds(row.text().front(room))
+}
+
+/// The least room for which an output has something else, all bytes being read and then a read failing or not.
+fn first_room_failing(alloc: Global, fails: bool) -> Option<usize> {
+    for room in 0..KINGS_PAWN_OPENING.text().len {
+        if !fills(alloc, fails, room) {
+            return Some(room);
+        }
+    }
+    None
+}
+
+#[test]
+fn a_part_of_the_text_stands_after_a_fault(rt: HostRuntime) {
+    assert_eq!(rt; first_room_failing(rt.alloc(), false), None);
+    assert_eq!(rt; first_room_failing(rt.alloc(), true), None);
+}
+
+/// The dump of the initial position.
+fn dump() -> Event
+    ensures { IsInRange result }
+{
+    Event::Message(Message::Dump(Position::initial().picture()))
+}
+
+/// e2 is empty now.
+fn lift() -> Event
+    ensures { IsInRange result }
+{
+    Event::Message(Message::Update { field: 52, code: 0 })
+}
+
+/// Of the event the session says this.
+fn says(session: &mut Session, event: Event, asks_dump: bool, seen: Option<Seen>) -> bool
+    requires { IsInRange event }
+{
+    session.take(event) == Ok(Taken { asks_dump, seen })
+}
+
+/// A new session sees nothing in an update.
+fn trusts_nothing_yet(session: &mut Session) -> bool {
+    !session.trusted() && session.reading().is_none() && says(session, lift(), false, None)
+}
+
+fn trusts_a_dump(session: &mut Session) -> bool {
+    says(session, dump(), false, Some(Seen::Waits))
+        && says(session, lift(), false, Some(Seen::Waits))
+        && session.trusted()
+}
+
+fn trusts_nothing_after_a_fault(session: &mut Session) -> bool {
+    says(session, Event::Fault(FaultKind::Stray), true, None)
+        && says(session, lift(), false, None)
+        && !session.trusted()
+        && session.settler().moves().is_empty()
+}
+
+#[test]
+fn a_session_trusts_from_a_dump_to_a_fault(rt: HostRuntime) {
+    let mut session = Session::new(rt.alloc(), Position::initial(), First::White, false);
+    assert!(rt; trusts_nothing_yet(&mut session));
+    assert!(rt; trusts_a_dump(&mut session));
+    assert!(rt; trusts_nothing_after_a_fault(&mut session));
+}
+
+/// The row's text reads back as a game with its moves.
+fn reads_back(alloc: Global, row: &Row<'_>) -> bool {
+    match read_recorded(alloc, row.text().get()) {
+        Ok(game) => game.plies().len() as u64 == u64::from(row.report().moves),
+        Err(_) => false,
+    }
+}
+
+#[test]
+fn a_recorded_text_reads_back(rt: HostRuntime) {
+    assert!(rt; reads_back(rt.alloc(), &KINGS_PAWN_OPENING));
+    assert!(rt; reads_back(rt.alloc(), &CLOCKS));
+}

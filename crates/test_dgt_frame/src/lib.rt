@@ -1,0 +1,5 @@
+//! Tests of the public calls of `dgt_frame`.
+#![tactic(auto)]
+
+#[cfg(test)]
+mod tests;

@@ -1,0 +1,5 @@
+//! Tests of the public calls of `pgn_book`.
+#![tactic(auto)]
+
+#[cfg(test)]
+mod tests;
