@@ -1,7 +1,10 @@
 -- What holds of all lists of events. Events have the latest first.
-use Rattle.std.specs.Prelude.{◌≡◌, ◌↔◌, ◌≤◌, ◌⊎◌, ◌+◌, ℕ, Bool, List, [], ◌∷◌, ◌++◌, None, length, reverse, ⊤}
+use Rattle.std.specs.Prelude.{◌≡◌, ◌↔◌, ◌≤◌, ◌⊎◌, ◌+◌, ℕ, Bool, List, [], ◌∷◌, ◌++◌, Some, None, length, reverse, ⊤}
 use Rattle.std.specs.List.{AllByRecursion}
 use Rattle.chess_rules.specs.declared.men.Move.{Move}
+use Rattle.chess_rules.specs.After.{after}
+use Rattle.chess_rules.specs.Legal.{Legal}
+use Rattle.chess_rules.specs.Picture.{picture}
 use Rattle.chess_rules.specs.Valid.{Valid}
 use Rattle.dgt_frame.specs.declared.events.FaultKind.{FaultKind}
 use Rattle.dgt_frame.specs.declared.events.Message.TheVariants.{Dump, Update, Time, Other}
@@ -11,14 +14,17 @@ use Rattle.dgt_frame.specs.declared.First.{First}
 use Rattle.settle_core.specs.Entries.{Entry, unstuttered}
 use Rattle.settle_core.specs.Folding.{moves_of}
 use Rattle.settle_core.specs.Laws.{joined}
-use Rattle.settle_core.specs.Settling.{Line}
-use Rattle.settle_core.specs.Showing.{ShownEach}
+use Rattle.settle_core.specs.Settling.{Line, position_after}
+use Rattle.settle_core.specs.Showing.{AllPass, AllRest, HasWhole, ShownEach, shown_plies}
+use Rattle.settle_core.specs.Sign.{IsSign}
+use Rattle.settle_core.specs.declared.game.Outcome.{Outcome}
 use Rattle.pgn_book.specs.Games.{Content, Result}
 use Rattle.pgn_book.specs.Pgn.{Pgn}
 use Rattle.pgn_book.specs.Values.{TagValues}
 use Rattle.board_session.specs.Asking.{asks}
 use Rattle.board_session.specs.Entering.{Idle}
 use Rattle.board_session.specs.Gaming.{IsGameOf}
+use Rattle.board_session.specs.Looking.{picture_of}
 use Rattle.board_session.specs.Settings.{Setting}
 use Rattle.board_session.specs.Standing.{entries_in}
 
@@ -80,3 +86,45 @@ HonestPlayIsRecorded = (setting : Setting) (tags : TagValues) (past : List Event
     → unstuttered (entries_in setting past) ≡ unstuttered (reverse (joined lists))
     → IsGameOf game setting tags past
     → (moves_of game.plies ≡ moves) × Result setting.start game.plies None game.result
+
+-- The ply of each move has its mover's time in the reading of the first entry that shows the whole move.
+abbrev pub HonestClocksAreRecorded : Type 0
+HonestClocksAreRecorded = (setting : Setting) (tags : TagValues) (past : List Event) (game : Content) (moves : List Move) (lists : List (List Entry))
+    → Valid setting.start → Line setting.start moves → ShownEach setting.start moves lists
+    → unstuttered (entries_in setting past) ≡ unstuttered (reverse (joined lists))
+    → IsGameOf game setting tags past
+    → game.plies ≡ shown_plies setting.start moves lists
+
+-- Where the events end between two moves, with men in hand or a king off the board: the game has the plies of the whole moves,
+-- or these and one more, of a legal move that takes no man and that was shown; and its result is that of its last position.
+abbrev pub HonestStopIsRecorded : Type 0
+HonestStopIsRecorded = (setting : Setting) (tags : TagValues) (past : List Event) (game : Content) (moves : List Move) (lists : List (List Entry)) (part : List Entry)
+    → Valid setting.start → Line setting.start moves → ShownEach setting.start moves lists
+    → AllPass (position_after setting.start moves) part
+    → unstuttered (entries_in setting past) ≡ unstuttered (reverse (joined lists ++ part))
+    → IsGameOf game setting tags past
+    → HasWhole setting.start moves lists part game.plies × Result setting.start game.plies None game.result
+
+-- The end by the kings: after honest play the men are taken off, the kings are put into the centre, and the men may be set up
+-- again. The game has the plies of the line, and its result is that of its last position, else the sign's.
+abbrev pub KingsEndIsRecorded : Type 0
+KingsEndIsRecorded = (setting : Setting) (tags : TagValues) (past : List Event) (game : Content) (moves : List Move) (lists : List (List Entry))
+    (clearing later : List Entry) (kings : Entry) (outcome : Outcome)
+    → Valid setting.start → Line setting.start moves → ShownEach setting.start moves lists
+    → AllRest (position_after setting.start moves) clearing
+    → IsSign (position_after setting.start moves) kings.picture outcome
+    → AllRest (position_after setting.start moves) later
+    → unstuttered (entries_in setting past) ≡ unstuttered (reverse (joined lists ++ (clearing ++ kings ∷ later)))
+    → IsGameOf game setting tags past
+    → (game.plies ≡ shown_plies setting.start moves lists) × Result setting.start game.plies (Some outcome) game.result
+
+-- Nothing is guessed where two plies were not seen: an event whose picture is that after a legal move and a legal reply, of which
+-- nothing was seen, leaves the game as it was.
+abbrev pub TwoUnseenAreNotRecorded : Type 0
+TwoUnseenAreNotRecorded = (setting : Setting) (tags : TagValues) (past : List Event) (event : Event) (before game : Content) (m reply : Move)
+    → Valid setting.start → IsGameOf before setting tags past
+    → Legal (position_after setting.start (moves_of before.plies)) m
+    → Legal (after (position_after setting.start (moves_of before.plies)) m) reply
+    → picture_of setting.rotated (event ∷ past) ≡ picture (after (after (position_after setting.start (moves_of before.plies)) m) reply)
+    → IsGameOf game setting tags (event ∷ past)
+    → game ≡ before

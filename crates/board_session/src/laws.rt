@@ -6,7 +6,7 @@ ghost use Rattle.pgn_book.specs.Games.{Content};
 ghost use Rattle.pgn_book.specs.Pgn.{Pgn};
 ghost use Rattle.pgn_book.specs.Values.{TagValues};
 ghost use Rattle.board_session.specs.Gaming.{IsGameOf};
-ghost use Rattle.board_session.specs.Laws.{EventsTellTheGame, FaultsAskOnce, FaultsBeforeDumpsCanGo, HonestPlayIsRecorded, IdleEventsCanGo, NoEventGivesTwo};
+ghost use Rattle.board_session.specs.Laws.{EventsTellTheGame, FaultsAskOnce, FaultsBeforeDumpsCanGo, HonestClocksAreRecorded, HonestPlayIsRecorded, HonestStopIsRecorded, IdleEventsCanGo, KingsEndIsRecorded, NoEventGivesTwo, TwoUnseenAreNotRecorded};
 ghost use Rattle.board_session.specs.Settings.{Setting};
 
 use pgn_book::{Game, PgnError, read_pgn};
@@ -37,6 +37,26 @@ pub fn no_event_gives_two()
 /// Honest play is recorded: where the pictures of the events show a line of moves, their game has exactly these moves.
 pub fn honest_play_is_recorded()
     ensures { HonestPlayIsRecorded }
+{}
+
+/// The ply of each move then has its mover's time in the reading of the first entry that shows the whole move.
+pub fn honest_clocks_are_recorded()
+    ensures { HonestClocksAreRecorded }
+{}
+
+/// Where honest play stops between two moves, the game has the whole moves, and at most one try that takes no man.
+pub fn honest_stop_is_recorded()
+    ensures { HonestStopIsRecorded }
+{}
+
+/// The end by the kings after honest play: the game has the moves and the result.
+pub fn kings_end_is_recorded()
+    ensures { KingsEndIsRecorded }
+{}
+
+/// An event whose picture is that after two plies that were not seen leaves the game as it was.
+pub fn two_unseen_are_not_recorded()
+    ensures { TwoUnseenAreNotRecorded }
 {}
 
 /// Reads the text of the game of some events back. The answer is that game; only want of memory can prevent it.

@@ -103,7 +103,7 @@ en_passant_moves p m v low s =
       no_new_king = uncrown p.side Pawn m names;
       free = λ own e. free (record { kind = own; stands = e });
       captures = none_captured p m target.empty;
-      passes = inr (s, target.pawn (taken_pawn m) q.ahead);
+      passes = inr (s, target.pawn (taken_pawn m) q.ahead, q.ahead);
       apart = r.apart;
       left = r.at_from;
       came = r.at_to;
@@ -111,7 +111,7 @@ en_passant_moves p m v low s =
       others = r.others;
     }
 
-castling_moves : (p : Parts) (m : Move) (wing : Wing) → Valid p → Castles p m wing → MovesKingAndRook p m
+pub castling_moves : (p : Parts) (m : Move) (wing : Wing) → Valid p → Castles p m wing → MovesKingAndRook p m
 castling_moves p m wing v c =
     let h : AreHomes p.side wing (king_home p.side) (castling_target p.side wing) (rook_home p.side wing) (crossed p.side wing) = homes p.side wing in
     let home : IsAtHome p.board p.side wing = v.rights p.side wing c.right in
@@ -124,6 +124,7 @@ castling_moves p m wing v c =
     let tx : m.to ≢ crossed p.side wing = λ e. h.tx (sym c.to ∙ e) in
     record {
       wing = wing;
+      castles = c;
       promotion = c.promotion;
       king = t.stands;
       rook = home.rook;

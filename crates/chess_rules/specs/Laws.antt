@@ -7,9 +7,9 @@ use Rattle.chess_rules.specs.declared.men.Piece.{Piece}
 use Rattle.chess_rules.specs.declared.men.Move.{Move}
 use Rattle.chess_rules.specs.declared.men.Parts.{Parts}
 use Rattle.chess_rules.specs.declared.lines.Wing.{Wing}
-use Rattle.chess_rules.specs.Board.{Board, on, man, other}
+use Rattle.chess_rules.specs.Board.{Board, on, man, other, Ahead, forward}
 use Rattle.chess_rules.specs.After.{after, crossed, rook_home}
-use Rattle.chess_rules.specs.Legal.{Legal, Captures, TakesEnPassant, NamesPromotion}
+use Rattle.chess_rules.specs.Legal.{Legal, Captures, Castles, TakesEnPassant, NamesPromotion}
 use Rattle.chess_rules.specs.Valid.{Valid}
 use Rattle.chess_rules.specs.Picture.{code, picture}
 
@@ -60,7 +60,8 @@ pub record MovesOneMan (p : Parts) (m : Move) : Type 0 where
   pub no_new_king : unwrap_or m.promotion kind ≡ King → kind ≡ King
   pub free : (own : Kind) → on p.board m.to ≢ man p.side own
   pub captures : (victim : Kind) → on p.board m.to ≡ man (other p.side) victim → Captures p m
-  pub passes : (taken ≡ m.from) ⊎ (TakesEnPassant p m × (on p.board taken ≡ man (other p.side) Pawn))
+  pub passes : (taken ≡ m.from) ⊎ (TakesEnPassant p m × (on p.board taken ≡ man (other p.side) Pawn)
+      × Ahead (forward (other p.side)) 1 m.to taken)
   pub apart : m.from ≢ m.to
   pub left : on (after p m).board m.from ≡ None
   pub came : on (after p m).board m.to ≡ man p.side (unwrap_or m.promotion kind)
@@ -70,6 +71,7 @@ pub record MovesOneMan (p : Parts) (m : Move) : Type 0 where
 -- The king and a rook go, each to an empty square. Nothing else changes.
 pub record MovesKingAndRook (p : Parts) (m : Move) : Type 0 where
   pub wing : Wing
+  pub castles : Castles p m wing
   pub promotion : m.promotion ≡ None
   pub king : on p.board m.from ≡ man p.side King
   pub rook : on p.board (rook_home p.side wing) ≡ man p.side Rook

@@ -3,3 +3,4 @@ pub mod StateLemmas
 pub mod StepLemmas
 pub mod StoredLemmas
 pub mod OnceLemmas
+pub mod WholeLemmas

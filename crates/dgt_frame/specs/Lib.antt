@@ -8,3 +8,4 @@ pub mod Stored
 pub mod Streams
 pub mod Times
 pub mod Watched
+pub mod Whole

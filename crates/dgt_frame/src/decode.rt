@@ -7,14 +7,15 @@ ghost use Rattle.dgt_frame.specs.Stored.{message_stored};
 ghost use Rattle.dgt_frame.specs.Layout.{fixed_size, byte_limit, FitsData, FitsSize, IsHeader};
 
 use crate::events::{Event, FaultKind, Message};
+use crate::whole::whole;
 
 const TOP_BIT: u8 = 0x80;
 
-const DUMP: u8 = 0x86;
+pub(crate) const DUMP: u8 = 0x86;
 
-const UPDATE: u8 = 0x8E;
+pub(crate) const UPDATE: u8 = 0x8E;
 
-const TIME: u8 = 0x8D;
+pub(crate) const TIME: u8 = 0x8D;
 
 /// The most data bytes of a frame whose data matters.
 const STORED: u16 = 64;
@@ -111,6 +112,21 @@ impl Decoder {
         ensures taken { IfSome result (λ arrival. (0 < arrival.taken) × (arrival.taken ≤ length bytes.now)) }
         ensures frame { (before : List ℕ) (events : List Timed) → Decoded self.old before events → IfSome result (λ arrival. HasFrame arrival.event) }
     {
+        if self.is_idle() {
+            if let Some(arrival) = whole(bytes) {
+                return Some(arrival);
+            }
+        }
+        self.push_each(bytes)
+    }
+
+    /// The same, byte by byte.
+    fn push_each(&mut self, bytes: &[u8]) -> Option<Arrival>
+        ensures none { IfNone result (TakesAll self.old bytes.now self.new) }
+        ensures some { IfSome result (λ arrival. TakesUpTo self.old bytes.now arrival.taken arrival.event self.new) }
+        ensures taken { IfSome result (λ arrival. (0 < arrival.taken) × (arrival.taken ≤ length bytes.now)) }
+        ensures frame { (before : List ℕ) (events : List Timed) → Decoded self.old before events → IfSome result (λ arrival. HasFrame arrival.event) }
+    {
         for (i, byte) in bytes.iter().enumerate() {
             let taken = i + 1;
             match self.step(*byte) {
@@ -126,6 +142,13 @@ impl Decoder {
             }
         }
         None
+    }
+
+    /// Whether no frame is begun, and no bytes are skipped.
+    fn is_idle(&self) -> bool
+        ensures { IsTrue result ↔ (self.now.state ≡ State.Idle) }
+    {
+        matches!(self.state, State::Idle)
     }
 
     fn step(&mut self, byte: u8) -> Progress

@@ -8,6 +8,7 @@ pub mod events;
 pub mod laws;
 pub mod time;
 pub mod watched;
+mod whole;
 
 pub use decode::{Arrival, Decoder};
 pub use encoding::encode;

@@ -16,7 +16,7 @@ use Rattle.chess_rules.specs.Picture.{code_of_man, picture}
 use Rattle.chess_rules.proofs.LawLemmas.{moves_stay_valid}
 use Rattle.settle_core.specs.declared.game.Outcome.{Outcome}
 use Rattle.settle_core.specs.Sign.{InCentre, IsSign}
-use Rattle.settle_core.specs.Showing.{IsPartial, IsUnderWay}
+use Rattle.settle_core.specs.Showing.{HasKingsApart, IsPartial, IsUnderWay}
 use Rattle.settle_core.proofs.Boards.{other-other, king_no_pawn}
 use Rattle.settle_core.proofs.Men.{on_shown, shown_man, theirs_stood}
 
@@ -101,14 +101,28 @@ codes_differ Black e = omega arith
 pub apart : (seen : List ℕ) (side : Side) (k : BothKings seen side) → k.mine ≢ k.theirs
 apart seen side k e = codes_differ side (sym k.mine_stands ∙ ap (λ s. get_or seen s 0) e ∙ k.theirs_stands)
 
--- the picture of a valid position is no sign
-pub no_sign_valid : (p : Parts) (seen : List ℕ) → Valid p → seen ≡ picture p → (p' : Parts) (outcome : Outcome) → ¬ IsSign p' seen outcome
-no_sign_valid p seen v e p' outcome h =
-    let k : BothKings seen p.side = both_kings p' seen outcome p.side h in
+-- both kings' codes in the centre, from where White's and Black's stand
+both_codes : (seen : List ℕ) (side : Side) (white black : ℕ) → InCentre white → InCentre black
+    → get_or seen white 0 ≡ code_of_man White King → get_or seen black 0 ≡ code_of_man Black King → BothKings seen side
+both_codes seen White white black a b x y =
+    record { mine = white; theirs = black; mine_centre = a; theirs_centre = b; mine_stands = x; theirs_stands = y }
+both_codes seen Black white black a b x y =
+    record { mine = black; theirs = white; mine_centre = b; theirs_centre = a; mine_stands = y; theirs_stands = x }
+
+pub apart_unless : (seen : List ℕ) (side : Side) → ¬ BothKings seen side → HasKingsApart seen
+apart_unless seen side none white black a b x y = none (both_codes seen side white black a b x y)
+
+-- the picture of a valid position has the kings apart
+apart_valid : (p : Parts) (seen : List ℕ) → Valid p → seen ≡ picture p → ¬ BothKings seen p.side
+apart_valid p seen v e k =
     kings_apart p k.mine k.theirs v
     (on_shown p seen k.mine p.side King (rw v.squares (centre_low k.mine k.mine_centre)) e k.mine_stands)
     (on_shown p seen k.theirs (other p.side) King (rw v.squares (centre_low k.theirs k.theirs_centre)) e k.theirs_stands)
     k.mine_centre k.theirs_centre (apart seen p.side k)
+
+-- so it is no sign
+pub no_sign_valid : (p : Parts) (seen : List ℕ) → Valid p → seen ≡ picture p → (p' : Parts) (outcome : Outcome) → ¬ IsSign p' seen outcome
+no_sign_valid p seen v e p' outcome h = apart_valid p seen v e (both_kings p' seen outcome p.side h)
 
 -- the other side's king stands still
 pub their_king :
@@ -120,15 +134,9 @@ their_king p m s v l h =
     let same : s ≡ one.king = old.alone s h ∙ sym (old.alone one.king (theirs_stood p m one.king King v l one.stands)) in
     ap (on (board_after p m)) same ∙ one.stands
 
--- nor is a picture on the way to a move
-pub no_sign_partial :
-    (p : Parts) (m : Move) (seen : List ℕ)
-    → Valid p
-    → Legal p m
-    → IsPartial p m seen
-    → (p' : Parts) (outcome : Outcome) → ¬ IsSign p' seen outcome
-no_sign_partial p m seen v l q p' outcome h =
-    let k : BothKings seen p.side = both_kings p' seen outcome p.side h in
+-- so has a picture on the way to a move
+apart_partial : (p : Parts) (m : Move) (seen : List ℕ) → Valid p → Legal p m → IsPartial p m seen → ¬ BothKings seen p.side
+apart_partial p m seen v l q k =
     let w : Valid (after p m) = moves_stay_valid p m v l in
     let theirs : on p.board k.theirs ≡ man (other p.side) King =
     elim (shown_man p m seen k.theirs (other p.side) King q (centre_low k.theirs k.theirs_centre) k.theirs_stands) [
@@ -147,14 +155,10 @@ no_sign_partial p m seen v l q p' outcome h =
           ]
     ]
 
-pub no_sign_under_way :
-    (p : Parts) (m : Move) (seen : List ℕ)
-    → Valid p
-    → Legal p m
-    → IsUnderWay p m seen
-    → (p' : Parts) (outcome : Outcome) → ¬ IsSign p' seen outcome
-no_sign_under_way p m seen v l way =
+-- and a try, which shows a valid position
+pub kings_apart_under_way : (p : Parts) (m : Move) (seen : List ℕ) → Valid p → Legal p m → IsUnderWay p m seen → HasKingsApart seen
+kings_apart_under_way p m seen v l way =
     elim way.way [
-      | inl q ↦ no_sign_partial p m seen v l q
-      | inr t ↦ no_sign_valid (after p t.tried) seen (moves_stay_valid p t.tried v t.legal) t.shows
+      | inl q ↦ apart_unless seen p.side (apart_partial p m seen v l q)
+      | inr t ↦ apart_unless seen (after p t.tried).side (apart_valid (after p t.tried) seen (moves_stay_valid p t.tried v t.legal) t.shows)
     ]

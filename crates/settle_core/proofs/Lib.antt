@@ -1,6 +1,7 @@
 pub mod Boards
 pub mod Men
 pub mod Apart
+pub mod Hands
 pub mod Stages
 pub mod Lines
 pub mod Lists
@@ -16,3 +17,10 @@ pub mod Steps
 pub mod Growing
 pub mod Once
 pub mod Tipping
+pub mod Fronts
+pub mod Waiting
+pub mod Pawns
+pub mod Unseen
+pub mod Trying
+pub mod Skipping
+pub mod Lacking

@@ -1,17 +1,20 @@
 -- Honest play of a line of moves folds to this line.
-use Rattle.std.proofs.Common.{◌≡◌, List, [], ◌∷◌, ◌++◌, None, reverse, refl, sym, ap, subst, ◌∙◌}
+use Rattle.std.proofs.Common.{◌≡◌, ℕ, inl, inr, List, [], ◌∷◌, ◌++◌, None, false, reverse, refl, sym, ap, subst, ◌∙◌}
 use mathlib.Core.List.{reverse_aux}
 use Rattle.std.proofs.lemmas.List.{reverse-reverse}
 use Rattle.chess_rules.specs.declared.men.Move.{Move}
 use Rattle.chess_rules.specs.declared.men.Parts.{Parts}
+use Rattle.chess_rules.specs.After.{after}
+use Rattle.chess_rules.specs.Legal.{Legal}
+use Rattle.chess_rules.specs.Picture.{picture}
 use Rattle.chess_rules.specs.Valid.{Valid}
 use Rattle.settle_core.specs.declared.game.Ply.{Ply}
-use Rattle.settle_core.specs.Entries.{Entry, unstuttered}
-use Rattle.settle_core.specs.Settling.{reached, Played, Line}
-use Rattle.settle_core.specs.Folding.{Score, Folds, moves_of}
-use Rattle.settle_core.specs.Showing.{Shown, ShownEach}
-use Rattle.settle_core.specs.Laws.{joined, HonestPlayFolds, HonestPlayIsKept}
-use Rattle.settle_core.proofs.Stages.{IsSound, IsOpen, IsDone, Opens, Ends, entry_open, entry_end, opens}
+use Rattle.settle_core.specs.Entries.{Entry, repeats, unstuttered}
+use Rattle.settle_core.specs.Settling.{reached, Line}
+use Rattle.settle_core.specs.Folding.{Score, Folds, moves_of, played, time_of}
+use Rattle.settle_core.specs.Showing.{Shown, ShownEach, last_reading, shown_plies}
+use Rattle.settle_core.specs.Laws.{joined, HonestPlayFolds, HonestPlayIsKept, HonestPlayKeepsClocks}
+use Rattle.settle_core.proofs.Stages.{IsSound, IsOpen, NotYet, Opens, Gives, Ends, now, differ_false, not_repeated, entry_open, entry_end, opens}
 
 -- no sign stands after these entries
 abbrev pub HasNoSign : Parts → List Entry → Type 0
@@ -44,61 +47,89 @@ first_parts start [] rest past here never = here
 first_parts start (x ∷ first) rest past here never = first_parts start first rest (x ∷ past) never.0 never.1
 
 -- a list that shows a move
-pub record MakesMove (start : Parts) (made : List Move) (entries past : List Entry) : Type 0 where
+pub record MakesMove (start : Parts) (made : List Ply) (entries past : List Entry) : Type 0 where
   pub ends : Ends start made (reverse_aux entries past)
   pub never : NeverSigns start entries past
+  pub sound : IsSound start made
+
+-- no sign stands while men are in hand
+pub open_no_sign : (start : Parts) (earlier : List Ply) (Q : List ℕ → Type 0) (score : Score) → IsOpen start earlier Q score → score.sign ≡ None
+open_no_sign start earlier Q score o = elim o [ inl e ↦ ap (λ (s : Score). s.sign) e | inr i ↦ ap (λ (s : Score). s.sign) i.is ]
 
 pub shown_makes :
-    (start : Parts) (earlier : List Move) (m : Move) (entries past : List Entry)
-    → IsSound start earlier m
-    → Opens start earlier m past
-    → Shown (reached start earlier) m entries
-    → MakesMove start (m ∷ earlier) entries past
-shown_makes start earlier m [] past s o h = absurd h
-shown_makes start earlier m (entry ∷ []) past s o h =
-    let e : Ends start (m ∷ earlier) (entry ∷ past) = entry_end start earlier m past entry s h o in
-    record { ends = e; never = (λ score f. let d : IsDone (m ∷ earlier) score = e.score score f in d.sign, tt) }
-shown_makes start earlier m (entry ∷ next ∷ more) past s o h =
-    let o' : Opens start earlier m (entry ∷ past) = entry_open start earlier m past entry s h.0 o in
-    let rest : MakesMove start (m ∷ earlier) (next ∷ more) (entry ∷ past) = shown_makes start earlier m (next ∷ more) (entry ∷ past) s o' h.1 in
-    record { ends = rest.ends; never = (λ score f. let d : IsOpen start earlier m score = o'.score score f in d.sign, rest.never) }
+    (start : Parts) (earlier : List Ply) (m : Move) (entries past : List Entry)
+    → IsSound start earlier
+    → Legal (reached start (moves_of earlier)) m
+    → Opens start earlier (NotYet (reached start (moves_of earlier)) m) past
+    → repeats (picture (after (reached start (moves_of earlier)) m)) past ≡ false
+    → Shown (reached start (moves_of earlier)) m entries
+    → MakesMove start ((played start earlier (last_reading entries) m).plies) entries past
+shown_makes start earlier m [] past s l o n h = absurd h
+shown_makes start earlier m (entry ∷ []) past s l o n h =
+    let e : Gives start (played start earlier entry.reading m) (entry ∷ past) = entry_end start earlier m past entry s l h o n in
+    record { ends = record { score = e; last = h }; never = (λ score f. ap (λ (x : Score). x.sign) (e score f), tt); sound = record { valid = s.valid; played = (l, s.played) } }
+shown_makes start earlier m (entry ∷ next ∷ more) past s l o n h =
+    let p : Parts = reached start (moves_of earlier) in
+    let Q : List ℕ → Type 0 = NotYet p m in
+    let o' : Opens start earlier Q (entry ∷ past) = entry_open start earlier Q past entry s (h.0).0 (h.0).1 o in
+    let n' : repeats (picture (after p m)) (entry ∷ past) ≡ false = differ_false _ _ (λ e. (h.0).1 (sym e)) in
+    let rest : MakesMove start ((played start earlier (last_reading (next ∷ more)) m).plies) (next ∷ more) (entry ∷ past) =
+    shown_makes start earlier m (next ∷ more) (entry ∷ past) s l o' n' h.1 in
+    record { ends = rest.ends; never = (λ score f. open_no_sign start earlier Q score (o' score f), rest.never); sound = rest.sound }
 
 pub line_makes :
-    (start : Parts) (earlier : List Move) (past : List Entry) (moves : List Move) (lists : List (List Entry))
-    → Valid start
-    → Played start earlier
+    (start : Parts) (earlier : List Ply) (past : List Entry) (moves : List Move) (lists : List (List Entry))
+    → IsSound start earlier
     → Ends start earlier past
-    → Line (reached start earlier) moves
-    → ShownEach (reached start earlier) moves lists
-    → MakesMove start (reverse_aux moves earlier) (joined lists) past
-line_makes start earlier past [] [] v p e l h = record { ends = e; never = tt }
-line_makes start earlier past [] (list ∷ lists) v p e l h = absurd h
-line_makes start earlier past (m ∷ moves) [] v p e l h = absurd h
-line_makes start earlier past (m ∷ moves) (list ∷ lists) v p e l h =
-    let s : IsSound start earlier m = record { valid = v; played = p; legal = l.0 } in
-    let one : MakesMove start (m ∷ earlier) list past = shown_makes start earlier m list past s (opens start earlier m past s e) h.0 in
-    let rest : MakesMove start (reverse_aux moves (m ∷ earlier)) (joined lists) (reverse_aux list past) =
-    line_makes start (m ∷ earlier) (reverse_aux list past) moves lists v (l.0, p) one.ends l.1 h.1 in
-    let P : List Entry → Type 0 = λ es. Ends start (reverse_aux moves (m ∷ earlier)) es in
+    → Line (reached start (moves_of earlier)) moves
+    → ShownEach (reached start (moves_of earlier)) moves lists
+    → MakesMove start (reverse_aux (shown_plies (reached start (moves_of earlier)) moves lists) earlier) (joined lists) past
+line_makes start earlier past [] [] s e l h = record { ends = e; never = tt; sound = s }
+line_makes start earlier past [] (list ∷ lists) s e l h = absurd h
+line_makes start earlier past (m ∷ moves) [] s e l h = absurd h
+line_makes start earlier past (m ∷ moves) (list ∷ lists) s e l h =
+    let p : Parts = reached start (moves_of earlier) in
+    let ply : Ply = record { mv = m; clock = time_of p.side (last_reading list) } in
+    let one : MakesMove start (ply ∷ earlier) list past =
+    shown_makes start earlier m list past s l.0 (opens start earlier (NotYet p m) past e) (not_repeated p m past (now start earlier s) l.0 e.last) h.0 in
+    let plies : List Ply = reverse_aux (shown_plies (after p m) moves lists) (ply ∷ earlier) in
+    let rest : MakesMove start plies (joined lists) (reverse_aux list past) =
+    line_makes start (ply ∷ earlier) (reverse_aux list past) moves lists one.sound one.ends l.1 h.1 in
+    let P : List Entry → Type 0 = λ es. Ends start plies es in
     record {
       ends = subst P (sym (reverse_aux-append list (joined lists) past)) rest.ends;
       never = never_signs-append start list (joined lists) past one.never rest.never;
+      sound = rest.sound;
     }
 
 pub begins : (start : Parts) → Ends start [] []
-begins start =
-    record { score = λ score h. record { sign = ap (λ (s : Score). s.sign) h; moves = ap (λ (s : Score). moves_of s.plies) h }; last = tt }
+begins start = record { score = λ score h. h; last = tt }
+
+-- the whole line, from the start
+pub line_ends :
+    (start : Parts) (moves : List Move) (lists : List (List Entry))
+    → Valid start → Line start moves → ShownEach start moves lists
+    → MakesMove start (reverse (shown_plies start moves lists)) (joined lists) []
+line_ends start moves lists v l h = line_makes start [] [] moves lists (record { valid = v; played = tt }) (begins start) l h
 
 pub moves-reverse_aux : (plies onto : List Ply) → moves_of (reverse_aux plies onto) ≡ reverse_aux (moves_of plies) (moves_of onto)
 moves-reverse_aux [] onto = refl
 moves-reverse_aux (ply ∷ plies) onto = moves-reverse_aux plies (ply ∷ onto)
 
+pub moves_shown : (p : Parts) (moves : List Move) (lists : List (List Entry)) → ShownEach p moves lists → moves_of (shown_plies p moves lists) ≡ moves
+moves_shown p [] lists h = refl
+moves_shown p (m ∷ moves) [] h = absurd h
+moves_shown p (m ∷ moves) (list ∷ lists) h = ap (λ (ms : List Move). m ∷ ms) (moves_shown (after p m) moves lists h.1)
+
+pub honest_clocks : HonestPlayKeepsClocks
+honest_clocks start moves lists score v l h f = (line_ends start moves lists v l h).ends.score score f
+
 pub honest_play : HonestPlayFolds
 honest_play start moves lists v l h =
-    let made : MakesMove start (reverse moves) (joined lists) [] = line_makes start [] [] moves lists v tt (begins start) l h in (
+    let made : MakesMove start (reverse (shown_plies start moves lists)) (joined lists) [] = line_ends start moves lists v l h in (
       λ score f.
-          let d : IsDone (reverse moves) score = (made.ends).score score f in
-          moves-reverse_aux score.plies [] ∙ ap reverse d.moves ∙ reverse-reverse moves,
+          ap (λ (s : Score). moves_of (reverse s.plies)) ((made.ends).score score f)
+          ∙ ap moves_of (reverse-reverse (shown_plies start moves lists)) ∙ moves_shown start moves lists h,
       λ first rest score e f.
           let P : List Entry → Type 0 = λ es. NeverSigns start es [] in
           let none : HasNoSign start [] = λ s g. ap (λ (x : Score). x.sign) g in

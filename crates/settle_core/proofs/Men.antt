@@ -15,10 +15,10 @@ use Rattle.chess_rules.specs.Legal.{Legal, NamesPromotion, Captures, TakesEnPass
 use Rattle.chess_rules.specs.Valid.{Valid}
 use Rattle.chess_rules.specs.Picture.{code, code_of_man, picture}
 use Rattle.chess_rules.specs.Laws.{MovesOneMan}
-use Rattle.chess_rules.proofs.LawLemmas.{codes_tell_men, men_tell_moves, moves_move_men, moves_stay_valid}
+use Rattle.chess_rules.proofs.LawLemmas.{codes_tell_men, men_tell_moves, moves_move_men, moves_stay_valid, pictures_tell_moves}
 use Rattle.settle_core.proofs.Boards.{Own, on_board, same_unless, side_of, kind_of, sides_differ, other-other, none_man, one_kept, one_theirs, castled_theirs, castled_quiet}
 use Rattle.settle_core.specs.Settling.{Settles}
-use Rattle.settle_core.specs.Showing.{IsPartial, IsUnderWay}
+use Rattle.settle_core.specs.Showing.{Takes, IsPartial, IsUnderWay}
 
 -- a man of the side to move, and one of the other side
 abbrev pub Mine : Parts → Board → ℕ → Kind → Type 0
@@ -279,14 +279,25 @@ settled_plain p m k seen v l one q h =
           ]
     ])
 
--- What a picture under way settles takes no man, and is not the move itself.
-pub record IsTaken (p : Parts) (m k : Move) : Type 0 where
-  pub quiet : IsQuiet p k
-  pub another : k ≢ m
+-- men on a square are equal or not
+pub man_or_not : (a b : Option Piece) → (a ≡ b) ⊎ (a ≢ b)
+man_or_not a b = elim (cases_eq (code a) (code b)) [ inl e ↦ inl (same_code a b e) | inr ne ↦ inr (λ e. ne (ap code e)) ]
 
-pub settled_under_way :
-    (p : Parts) (m k : Move) (seen : List ℕ) → Valid p → Legal p m → IsUnderWay p m seen → Settles p seen k → IsTaken p m k
-settled_under_way p m k seen v l way h =
+-- a move that takes no man leaves the other side's men
+pub quiet_unless : (p : Parts) (m : Move) → ¬ Takes p m → IsQuiet p m
+quiet_unless p m none s k h =
+    elim (man_or_not (on (board_after p m) s) (man (other p.side) k)) [
+      | inl stays ↦ stays
+      | inr gone ↦ absurd (none (record { square = s; kind = k; stood = h; gone = gone }))
+    ]
+
+pub takes_unless : (p : Parts) (m : Move) → IsQuiet p m → ¬ Takes p m
+takes_unless p m quiet t = t.gone (quiet t.square t.kind t.stood)
+
+-- a picture on the way that is that after another move takes no man
+pub quiet_under_way :
+    (p : Parts) (m k : Move) (seen : List ℕ) → Valid p → Legal p m → IsUnderWay p m seen → Settles p seen k → IsQuiet p k
+quiet_under_way p m k seen v l way h =
     let another : k ≢ m = λ e. way.not_yet (h.shows ∙ ap (λ (x : Move). picture (after p x)) e) in
     elim way.way [
       | inl q ↦
@@ -294,17 +305,20 @@ settled_under_way p m k seen v l way h =
             | inl one ↦ absurd (another (settled_plain p m k seen v l one q h))
             | inr c ↦
                 let w : Valid (after p k) = moves_stay_valid p k v h.legal in
-                record {
-                  another = another;
-                  quiet = λ s kind g.
-                      let low : s < 64 = rw (← v.squares) (on_board p.board s (other p.side) kind g) in
-                      let still : on (board_after p m) s ≡ man (other p.side) kind = castled_quiet p m c s kind g in
-                      on_shown (after p k) seen s (other p.side) kind (rw w.squares low) h.shows
-                      (shown_still p m seen s (other p.side) kind q low g still);
-                }
+                λ s kind g.
+                let low : s < 64 = rw (← v.squares) (on_board p.board s (other p.side) kind g) in
+                let still : on (board_after p m) s ≡ man (other p.side) kind = castled_quiet p m c s kind g in
+                on_shown (after p k) seen s (other p.side) kind (rw w.squares low) h.shows
+                (shown_still p m seen s (other p.side) kind q low g still)
           ]
       | inr t ↦
           let same : t.tried ≡ k = h.alone t.tried t.legal t.shows in
           let P : Move → Type 0 = λ x. IsQuiet p x in
-          record { another = another; quiet = subst P same (quiet_move p t.tried v t.legal t.no_capture t.no_en_passant) }
+          subst P same (quiet_move p t.tried v t.legal t.no_capture t.no_en_passant)
     ]
+
+-- the picture after m settles m
+pub settles_end :
+    (p : Parts) (m : Move) (seen : List ℕ) → Valid p → Legal p m → seen ≡ picture (after p m) → Settles p seen m
+settles_end p m seen v l e =
+    record { legal = l; shows = e; alone = λ n ln en. pictures_tell_moves p n m v ln l (sym en ∙ e) }

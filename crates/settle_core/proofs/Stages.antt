@@ -1,5 +1,5 @@
--- How honest play of one move folds: nothing is made, then another move of the same man may stand for it, then the move.
-use Rattle.std.proofs.Common.{◌≡◌, ◌≢◌, ℕ, ◌⊎◌, inl, inr, List, [], ◌∷◌, Option, None, false, drop, refl, sym, ap, subst, ◌∙◌}
+-- How honest play of one move folds: nothing is made, then another move may stand in its place, then the move.
+use Rattle.std.proofs.Common.{◌≡◌, ◌≢◌, ℕ, ◌⊎◌, inl, inr, List, [], ◌∷◌, Option, None, false, refl, sym, ap, subst, ◌∙◌}
 use Rattle.std.specs.Str.{bytes_eq}
 use Rattle.std.proofs.lemmas.Slice.Eq.{bytes_eq-Decides}
 use Rattle.std.proofs.lemmas.Bool.{cases_Bool, cond-true, cond-false, false_from_ne_true}
@@ -10,48 +10,47 @@ use Rattle.chess_rules.specs.After.{after}
 use Rattle.chess_rules.specs.Legal.{Legal}
 use Rattle.chess_rules.specs.Valid.{Valid}
 use Rattle.chess_rules.specs.Picture.{picture}
-use Rattle.chess_rules.proofs.LawLemmas.{moves_stay_valid, pictures_tell_moves}
+use Rattle.chess_rules.proofs.LawLemmas.{moves_stay_valid}
 use Rattle.settle_core.specs.declared.game.Ply.{Ply}
 use Rattle.settle_core.specs.declared.game.Seen.{Seen}
 use Rattle.settle_core.specs.declared.game.Seen.TheVariants.{Same, Moved, Sign, Replaced, Waits}
 use Rattle.settle_core.specs.Entries.{Entry, repeats, unstuttered}
 use Rattle.settle_core.specs.Settling.{Settles, reached, Played}
-use Rattle.settle_core.specs.Folding.{Score, moves_of, Replaces, Shows, score_after, Folds}
-use Rattle.settle_core.specs.Showing.{IsUnderWay}
-use Rattle.settle_core.proofs.Men.{ShowsNoNew, IsQuiet, IsTaken, no_new_under_way, no_new_after, settled_under_way, no_reply, no_earlier, picture_moves}
-use Rattle.settle_core.proofs.Apart.{no_sign_valid, no_sign_under_way}
+use Rattle.settle_core.specs.Folding.{Score, moves_of, played, Replaces, Shows, score_after, Folds}
+use Rattle.settle_core.specs.Showing.{Takes, IsInHand, LacksKing, MayPass}
+use Rattle.settle_core.proofs.Men.{ShowsNoNew, quiet_unless, no_new_after, no_reply, no_earlier, picture_moves, settles_end}
+use Rattle.settle_core.proofs.Apart.{no_sign_valid}
+use Rattle.settle_core.proofs.Hands.{no_sign_apart, in_hand_quiet, in_hand_no_new, lacking_settles, lacking_no_sign}
 
--- another move stands for m, which is to be made after the earlier ones
-pub record StandsIn (start : Parts) (earlier : List Move) (m : Move) (moves : List Move) : Type 0 where
-  pub instead : Move
-  pub is : moves ≡ instead ∷ earlier
-  pub legal : Legal (reached start earlier) instead
-  pub quiet : IsQuiet (reached start earlier) instead
-  pub another : instead ≢ m
+-- a score of these plies, the latest first, without a sign
+abbrev pub bare : List Ply → Score
+bare plies = record { plies = plies; sign = None }
 
--- what the score may be while m is under way, and where it was made
-pub record IsOpen (start : Parts) (earlier : List Move) (m : Move) (score : Score) : Type 0 where
-  pub sign : score.sign ≡ None
-  pub moves : (moves_of score.plies ≡ earlier) ⊎ StandsIn start earlier m (moves_of score.plies)
+-- A ply stands where the next one is to come. Its move takes no man, and its picture is one of those that were seen.
+pub record StandsIn (start : Parts) (earlier : List Ply) (Q : List ℕ → Type 0) (score : Score) : Type 0 where
+  pub ply : Ply
+  pub is : score ≡ bare (ply ∷ earlier)
+  pub legal : Legal (reached start (moves_of earlier)) ply.mv
+  pub no_capture : ¬ Takes (reached start (moves_of earlier)) ply.mv
+  pub shown : Q (picture (after (reached start (moves_of earlier)) ply.mv))
 
-pub record IsDone (made : List Move) (score : Score) : Type 0 where
-  pub sign : score.sign ≡ None
-  pub moves : moves_of score.plies ≡ made
+-- what the score may be while men are in hand
+abbrev pub IsOpen : Parts → List Ply → (List ℕ → Type 0) → Score → Type 0
+IsOpen start earlier Q score = (score ≡ bare earlier) ⊎ StandsIn start earlier Q score
 
 -- what is known of the game so far
-pub record IsSound (start : Parts) (earlier : List Move) (m : Move) : Type 0 where
+pub record IsSound (start : Parts) (earlier : List Ply) : Type 0 where
   pub valid : Valid start
-  pub played : Played start earlier
-  pub legal : Legal (reached start earlier) m
+  pub played : Played start (moves_of earlier)
 
 pub valid_reached : (start : Parts) (moves : List Move) → Valid start → Played start moves → Valid (reached start moves)
 valid_reached start [] v l = v
 valid_reached start (m ∷ earlier) v l = moves_stay_valid (reached start earlier) m (valid_reached start earlier v l.1) l.0
 
-pub now : (start : Parts) (earlier : List Move) (m : Move) → IsSound start earlier m → Valid (reached start earlier)
-now start earlier m s = valid_reached start earlier s.valid s.played
+pub now : (start : Parts) (earlier : List Ply) → IsSound start earlier → Valid (reached start (moves_of earlier))
+now start earlier s = valid_reached start (moves_of earlier) s.valid s.played
 
--- no move is settled in the place of the last one before m
+-- no move is settled in the place of the last one before
 pub no_replace :
     (start : Parts) (earlier : List Move) (k : Move) (seen : List ℕ)
     → Valid start
@@ -62,127 +61,201 @@ no_replace start [] k seen v l new h = h
 no_replace start (last ∷ before) k seen v l new h =
     h.1 (no_earlier (reached start before) last k seen (valid_reached start before v l.1) l.0 new h.0)
 
-pub moves-drop : (plies : List Ply) (instead : Move) (earlier : List Move) → moves_of plies ≡ instead ∷ earlier → moves_of (drop 1 plies) ≡ earlier
-moves-drop [] instead earlier e = cc
-moves-drop (ply ∷ plies) instead earlier e = ap (drop 1) e
+-- what a picture shows, where the score is this one
+pub shows_at :
+    (start : Parts) (score score' : Score) (seen : List ℕ) (shown : Seen)
+    → score ≡ score' → Shows start (moves_of score.plies) seen shown → Shows start (moves_of score'.plies) seen shown
+shows_at start score score' seen shown e h = let P : Score → Type 0 = λ s. Shows start (moves_of s.plies) seen shown in subst P e h
 
--- the place of the last move is that of m
-pub replaces_last :
-    (start : Parts) (moves : List Move) (instead : Move) (earlier : List Move) (seen : List ℕ) (k : Move)
-    → moves ≡ instead ∷ earlier
-    → Replaces start moves seen k
-    → Settles (reached start earlier) seen k × k ≢ instead
-replaces_last start moves instead earlier seen k e h =
-    let P : List Move → Type 0 = λ ms. Replaces start ms seen k in subst P e h
+-- the move that a picture in hand settles stands in the place of the next one
+stands_in :
+    (start : Parts) (earlier : List Ply) (Q : List ℕ → Type 0) (seen : List ℕ) (reading : Option Reading) (k : Move)
+    → IsInHand (reached start (moves_of earlier)) seen
+    → Q seen
+    → Settles (reached start (moves_of earlier)) seen k
+    → StandsIn start earlier Q (played start earlier reading k)
+stands_in start earlier Q seen reading k hand q h =
+    record { ply = _; is = refl; legal = h.legal; no_capture = in_hand_quiet (reached start (moves_of earlier)) k seen hand h; shown = subst Q h.shows q }
 
-pub settles_here :
-    (start : Parts) (moves moves' : List Move) (seen : List ℕ) (k : Move)
-    → moves ≡ moves'
-    → Settles (reached start moves) seen k
-    → Settles (reached start moves') seen k
-settles_here start moves moves' seen k e h =
-    let P : List Move → Type 0 = λ ms. Settles (reached start ms) seen k in subst P e h
+-- where no other move stands there
+step_first :
+    (start : Parts) (earlier : List Ply) (Q : List ℕ → Type 0) (seen : List ℕ) (reading : Option Reading) (shown : Seen)
+    → IsSound start earlier
+    → IsInHand (reached start (moves_of earlier)) seen
+    → Q seen
+    → Shows start (moves_of earlier) seen shown
+    → IsOpen start earlier Q (score_after start (bare earlier) reading shown)
+step_first start earlier Q seen reading Same s hand q h = absurd h
+step_first start earlier Q seen reading Waits s hand q h = inl refl
+step_first start earlier Q seen reading (Sign outcome) s hand q h = absurd (no_sign_apart seen hand.kings _ outcome h)
+step_first start earlier Q seen reading (Moved k) s hand q h = inr (stands_in start earlier Q seen reading k hand q h)
+step_first start earlier Q seen reading (Replaced k) s hand q h =
+    absurd (no_replace start (moves_of earlier) k seen s.valid s.played (in_hand_no_new (reached start (moves_of earlier)) seen hand) h.2)
 
--- a picture under way
+-- and where one does
+step_again :
+    (start : Parts) (earlier : List Ply) (Q : List ℕ → Type 0) (ply : Ply) (seen : List ℕ) (reading : Option Reading) (shown : Seen)
+    → IsSound start earlier
+    → StandsIn start earlier Q (bare (ply ∷ earlier))
+    → Legal (reached start (moves_of earlier)) ply.mv
+    → ¬ Takes (reached start (moves_of earlier)) ply.mv
+    → IsInHand (reached start (moves_of earlier)) seen
+    → Q seen
+    → Shows start (ply.mv ∷ moves_of earlier) seen shown
+    → IsOpen start earlier Q (score_after start (bare (ply ∷ earlier)) reading shown)
+step_again start earlier Q ply seen reading Same s i l t hand q h = absurd h
+step_again start earlier Q ply seen reading Waits s i l t hand q h = inr i
+step_again start earlier Q ply seen reading (Sign outcome) s i l t hand q h = absurd (no_sign_apart seen hand.kings _ outcome h)
+step_again start earlier Q ply seen reading (Moved k) s i l t hand q h =
+    let p : Parts = reached start (moves_of earlier) in
+    absurd (no_reply p ply.mv k seen (now start earlier s) l (quiet_unless p ply.mv t) (in_hand_no_new p seen hand) h)
+step_again start earlier Q ply seen reading (Replaced k) s i l t hand q h = inr (stands_in start earlier Q seen reading k hand q (h.2).0)
+
+-- a picture with men in hand
+step_hand :
+    (start : Parts) (earlier : List Ply) (Q : List ℕ → Type 0) (score : Score) (seen : List ℕ) (reading : Option Reading) (shown : Seen)
+    → IsSound start earlier
+    → IsInHand (reached start (moves_of earlier)) seen
+    → Q seen
+    → IsOpen start earlier Q score
+    → Shows start (moves_of score.plies) seen shown
+    → IsOpen start earlier Q (score_after start score reading shown)
+step_hand start earlier Q score seen reading shown s hand q o h =
+    let P : Score → Type 0 = λ x. IsOpen start earlier Q (score_after start x reading shown) in
+    elim o [
+      | inl e ↦ subst P (sym e) (step_first start earlier Q seen reading shown s hand q (shows_at start score (bare earlier) seen shown e h))
+      | inr i ↦
+          let S : Score → Type 0 = λ x. StandsIn start earlier Q x in
+          subst P (sym i.is)
+          (step_again start earlier Q i.ply seen reading shown s (subst S i.is i) i.legal i.no_capture hand q
+          (shows_at start score (bare (i.ply ∷ earlier)) seen shown i.is h))
+    ]
+
+-- the moves that were made are legal in their turn
+open_played :
+    (start : Parts) (earlier : List Ply) (Q : List ℕ → Type 0) (score : Score)
+    → IsSound start earlier → IsOpen start earlier Q score → Played start (moves_of score.plies)
+open_played start earlier Q score s o =
+    let P : Score → Type 0 = λ x. Played start (moves_of x.plies) in
+    elim o [ inl e ↦ subst P (sym e) s.played | inr i ↦ subst P (sym i.is) (i.legal, s.played) ]
+
+-- a picture without a king replaces nothing
+pub lacking_replaces : (start : Parts) (moves : List Move) (seen : List ℕ) (k : Move) → Valid start → Played start moves → LacksKing seen → ¬ Replaces start moves seen k
+lacking_replaces start [] seen k v l lacks h = h
+lacking_replaces start (last ∷ before) seen k v l lacks h = lacking_settles (reached start before) seen k (valid_reached start before v l.1) lacks h.0
+
+-- a picture without a king changes no score
+pub lacking_step :
+    (start : Parts) (score : Score) (seen : List ℕ) (reading : Option Reading) (shown : Seen)
+    → Valid start
+    → Played start (moves_of score.plies)
+    → LacksKing seen
+    → Shows start (moves_of score.plies) seen shown
+    → score_after start score reading shown ≡ score
+lacking_step start score seen reading Same v l lacks h = absurd h
+lacking_step start score seen reading Waits v l lacks h = refl
+lacking_step start score seen reading (Sign outcome) v l lacks h = absurd (lacking_no_sign _ seen outcome lacks h)
+lacking_step start score seen reading (Moved k) v l lacks h = absurd (lacking_settles (reached start (moves_of score.plies)) seen k (valid_reached start (moves_of score.plies) v l) lacks h)
+lacking_step start score seen reading (Replaced k) v l lacks h = absurd (lacking_replaces start (moves_of score.plies) seen k v l lacks h.2)
+
+-- a picture between two moves
 pub step_open :
-    (start : Parts) (earlier : List Move) (m : Move) (score : Score) (picture : List ℕ) (reading : Option Reading) (seen : Seen)
-    → IsSound start earlier m
-    → IsUnderWay (reached start earlier) m picture
-    → IsOpen start earlier m score
-    → Shows start (moves_of score.plies) picture seen
-    → IsOpen start earlier m (score_after start score reading seen)
-step_open start earlier m score picture reading Same s way o h = absurd h
-step_open start earlier m score picture reading Waits s way o h = o
-step_open start earlier m score picture reading (Sign outcome) s way o h =
-    absurd (no_sign_under_way (reached start earlier) m picture (now start earlier m s) s.legal way _ outcome h)
-step_open start earlier m score picture reading (Moved k) s way o h =
-    elim o.moves [
-      | inl e ↦
-          let h' : Settles (reached start earlier) picture k = settles_here start (moves_of score.plies) earlier picture k e h in
-          let t : IsTaken (reached start earlier) m k = settled_under_way (reached start earlier) m k picture (now start earlier m s) s.legal way h' in
-          record { sign = refl; moves = inr (record { instead = k; is = ap (λ ms. k ∷ ms) e; legal = h'.legal; quiet = t.quiet; another = t.another }) }
-      | inr i ↦
-          let h' : Settles (after (reached start earlier) i.instead) picture k = settles_here start (moves_of score.plies) (i.instead ∷ earlier) picture k i.is h in
-          absurd (no_reply (reached start earlier) i.instead k picture (now start earlier m s) i.legal i.quiet
-          (no_new_under_way (reached start earlier) m picture (now start earlier m s) s.legal way) h')
-    ]
-step_open start earlier m score picture reading (Replaced k) s way o h =
-    elim o.moves [
-      | inl e ↦
-          let r : Replaces start earlier picture k = let P : List Move → Type 0 = λ ms. Replaces start ms picture k in subst P e h.2 in
-          absurd (no_replace start earlier k picture s.valid s.played
-          (no_new_under_way (reached start earlier) m picture (now start earlier m s) s.legal way) r)
-      | inr i ↦
-          let r : Settles (reached start earlier) picture k × k ≢ i.instead = replaces_last start (moves_of score.plies) i.instead earlier picture k i.is h.2 in
-          let t : IsTaken (reached start earlier) m k = settled_under_way (reached start earlier) m k picture (now start earlier m s) s.legal way r.0 in
-          record {
-            sign = refl;
-            moves = inr (record { instead = k; is = ap (λ ms. k ∷ ms) (moves-drop score.plies i.instead earlier i.is); legal = (r.0).legal; quiet = t.quiet; another = t.another });
-          }
-    ]
+    (start : Parts) (earlier : List Ply) (Q : List ℕ → Type 0) (score : Score) (seen : List ℕ) (reading : Option Reading) (shown : Seen)
+    → IsSound start earlier
+    → MayPass (reached start (moves_of earlier)) seen
+    → Q seen
+    → IsOpen start earlier Q score
+    → Shows start (moves_of score.plies) seen shown
+    → IsOpen start earlier Q (score_after start score reading shown)
+step_open start earlier Q score seen reading shown s (inl hand) q o h = step_hand start earlier Q score seen reading shown s hand q o h
+step_open start earlier Q score seen reading shown s (inr lacks) q o h =
+    let P : Score → Type 0 = λ x. IsOpen start earlier Q x in
+    subst P (sym (lacking_step start score seen reading shown s.valid (open_played start earlier Q score s o) lacks h)) o
 
--- the picture after m settles m
-pub settles_end :
-    (p : Parts) (m : Move) (seen : List ℕ) → Valid p → Legal p m → seen ≡ picture (after p m) → Settles p seen m
-settles_end p m seen v l e =
-    record { legal = l; shows = e; alone = λ n ln en. pictures_tell_moves p n m v ln l (sym en ∙ e) }
+-- no picture of those seen was the one after m
+abbrev pub NotYet : Parts → Move → List ℕ → Type 0
+NotYet p m seen = seen ≢ picture (after p m)
+
+-- the picture after m, where no other move stands in its place
+end_first :
+    (start : Parts) (earlier : List Ply) (m : Move) (seen : List ℕ) (reading : Option Reading) (shown : Seen)
+    → IsSound start earlier
+    → Legal (reached start (moves_of earlier)) m
+    → seen ≡ picture (after (reached start (moves_of earlier)) m)
+    → Shows start (moves_of earlier) seen shown
+    → score_after start (bare earlier) reading shown ≡ played start earlier reading m
+end_first start earlier m seen reading Same s l e h = absurd h
+end_first start earlier m seen reading (Sign outcome) s l e h =
+    let p : Parts = reached start (moves_of earlier) in
+    absurd (no_sign_valid (after p m) seen (moves_stay_valid p m (now start earlier s) l) e _ outcome h)
+end_first start earlier m seen reading (Moved k) s l e h = ap (λ (x : Move). played start earlier reading x) (sym (h.alone m l e))
+end_first start earlier m seen reading (Replaced k) s l e h =
+    let p : Parts = reached start (moves_of earlier) in
+    absurd (no_replace start (moves_of earlier) k seen s.valid s.played (no_new_after p m seen (now start earlier s) l e) h.2)
+end_first start earlier m seen reading Waits s l e h =
+    absurd (h.0 m (settles_end (reached start (moves_of earlier)) m seen (now start earlier s) l e))
+
+-- and where one does
+end_again :
+    (start : Parts) (earlier : List Ply) (ply : Ply) (m : Move) (seen : List ℕ) (reading : Option Reading) (shown : Seen)
+    → IsSound start earlier
+    → Legal (reached start (moves_of earlier)) ply.mv
+    → ¬ Takes (reached start (moves_of earlier)) ply.mv
+    → ply.mv ≢ m
+    → Legal (reached start (moves_of earlier)) m
+    → seen ≡ picture (after (reached start (moves_of earlier)) m)
+    → Shows start (ply.mv ∷ moves_of earlier) seen shown
+    → score_after start (bare (ply ∷ earlier)) reading shown ≡ played start earlier reading m
+end_again start earlier ply m seen reading Same s lp t ne l e h = absurd h
+end_again start earlier ply m seen reading (Sign outcome) s lp t ne l e h =
+    let p : Parts = reached start (moves_of earlier) in
+    absurd (no_sign_valid (after p m) seen (moves_stay_valid p m (now start earlier s) l) e _ outcome h)
+end_again start earlier ply m seen reading (Moved k) s lp t ne l e h =
+    let p : Parts = reached start (moves_of earlier) in
+    absurd (no_reply p ply.mv k seen (now start earlier s) lp (quiet_unless p ply.mv t) (no_new_after p m seen (now start earlier s) l e) h)
+end_again start earlier ply m seen reading (Replaced k) s lp t ne l e h =
+    ap (λ (x : Move). played start earlier reading x) (sym (((h.2).0).alone m l e))
+end_again start earlier ply m seen reading Waits s lp t ne l e h =
+    absurd (h.2 m (settles_end (reached start (moves_of earlier)) m seen (now start earlier s) l e, λ same. ne (sym same)))
 
 -- the picture after m
 pub step_end :
-    (start : Parts) (earlier : List Move) (m : Move) (score : Score) (seen : List ℕ) (reading : Option Reading) (shown : Seen)
-    → IsSound start earlier m
-    → seen ≡ picture (after (reached start earlier) m)
-    → IsOpen start earlier m score
+    (start : Parts) (earlier : List Ply) (m : Move) (score : Score) (seen : List ℕ) (reading : Option Reading) (shown : Seen)
+    → IsSound start earlier
+    → Legal (reached start (moves_of earlier)) m
+    → seen ≡ picture (after (reached start (moves_of earlier)) m)
+    → IsOpen start earlier (NotYet (reached start (moves_of earlier)) m) score
     → Shows start (moves_of score.plies) seen shown
-    → IsDone (m ∷ earlier) (score_after start score reading shown)
-step_end start earlier m score seen reading Same s e o h = absurd h
-step_end start earlier m score seen reading (Sign outcome) s e o h =
-    absurd (no_sign_valid (after (reached start earlier) m) seen (moves_stay_valid (reached start earlier) m (now start earlier m s) s.legal) e _ outcome h)
-step_end start earlier m score seen reading (Moved k) s e o h =
-    elim o.moves [
-      | inl q ↦
-          let h' : Settles (reached start earlier) seen k = settles_here start (moves_of score.plies) earlier seen k q h in
-          let same : m ≡ k = h'.alone m s.legal e in
-          record { sign = refl; moves = ap (λ ms. k ∷ ms) q ∙ ap (λ (x : Move). x ∷ earlier) (sym same) }
+    → score_after start score reading shown ≡ played start earlier reading m
+step_end start earlier m score seen reading shown s l e o h =
+    let p : Parts = reached start (moves_of earlier) in
+    let P : Score → Type 0 = λ x. score_after start x reading shown ≡ played start earlier reading m in
+    elim o [
+      | inl q ↦ subst P (sym q) (end_first start earlier m seen reading shown s l e (shows_at start score (bare earlier) seen shown q h))
       | inr i ↦
-          let h' : Settles (after (reached start earlier) i.instead) seen k = settles_here start (moves_of score.plies) (i.instead ∷ earlier) seen k i.is h in
-          absurd (no_reply (reached start earlier) i.instead k seen (now start earlier m s) i.legal i.quiet
-          (no_new_after (reached start earlier) m seen (now start earlier m s) s.legal e) h')
-    ]
-step_end start earlier m score seen reading (Replaced k) s e o h =
-    elim o.moves [
-      | inl q ↦
-          let r : Replaces start earlier seen k = let P : List Move → Type 0 = λ ms. Replaces start ms seen k in subst P q h.2 in
-          absurd (no_replace start earlier k seen s.valid s.played
-          (no_new_after (reached start earlier) m seen (now start earlier m s) s.legal e) r)
-      | inr i ↦
-          let r : Settles (reached start earlier) seen k × k ≢ i.instead = replaces_last start (moves_of score.plies) i.instead earlier seen k i.is h.2 in
-          let same : m ≡ k = (r.0).alone m s.legal e in
-          record { sign = refl; moves = ap (λ ms. k ∷ ms) (moves-drop score.plies i.instead earlier i.is) ∙ ap (λ (x : Move). x ∷ earlier) (sym same) }
-    ]
-step_end start earlier m score seen reading Waits s e o h =
-    let end : Settles (reached start earlier) seen m = settles_end (reached start earlier) m seen (now start earlier m s) s.legal e in
-    elim o.moves [
-      | inl q ↦ absurd (h.0 m (settles_here start earlier (moves_of score.plies) seen m (sym q) end))
-      | inr i ↦
-          let r : Replaces start (i.instead ∷ earlier) seen m = (end, λ same. i.another (sym same)) in
-          absurd (h.2 m (let P : List Move → Type 0 = λ ms. Replaces start ms seen m in subst P (sym i.is) r))
+          subst P (sym i.is)
+          (end_again start earlier i.ply m seen reading shown s i.legal i.no_capture
+          (λ same. i.shown (ap (λ (x : Move). picture (after p x)) same)) l e
+          (shows_at start score (bare (i.ply ∷ earlier)) seen shown i.is h))
     ]
 
--- the game so far, over entries of the past: m is under way, and its end was not the last picture
-pub record Opens (start : Parts) (earlier : List Move) (m : Move) (past : List Entry) : Type 0 where
-  pub score : (score : Score) → Folds start (unstuttered past) score → IsOpen start earlier m score
-  pub not_yet : repeats (picture (after (reached start earlier) m)) past ≡ false
+-- the game so far, over entries of the past: no picture since the last move was other than those with Q
+abbrev pub Opens : Parts → List Ply → (List ℕ → Type 0) → List Entry → Type 0
+Opens start earlier Q past = (score : Score) → Folds start (unstuttered past) score → IsOpen start earlier Q score
 
 -- the last picture, if any, is that of this position
 abbrev pub EndsAt : Parts → List Entry → Type 0
 EndsAt p [] = Unit {0}
 EndsAt p (entry ∷ past) = entry.picture ≡ picture p
 
--- exactly these moves were made
-pub record Ends (start : Parts) (made : List Move) (past : List Entry) : Type 0 where
-  pub score : (score : Score) → Folds start (unstuttered past) score → IsDone made score
-  pub last : EndsAt (reached start made) past
+-- the entries have this score and no other
+abbrev pub Gives : Parts → Score → List Entry → Type 0
+Gives start final past = (score : Score) → Folds start (unstuttered past) score → score ≡ final
+
+-- exactly these plies were made
+pub record Ends (start : Parts) (made : List Ply) (past : List Entry) : Type 0 where
+  pub score : Gives start (bare made) past
+  pub last : EndsAt (reached start (moves_of made)) past
 
 pub differ_false : (xs ys : List ℕ) → xs ≢ ys → bytes_eq xs ys ≡ false
 differ_false xs ys ne = false_from_ne_true (bytes_eq xs ys) (λ e. let d = bytes_eq-Decides xs ys in ne (d.0 e))
@@ -220,42 +293,33 @@ fold_new start past entry P Q new before step score h =
     subst Q (sym f.4) (step f.0 f.1 (before f.0 f.2) f.3)
 
 pub entry_open :
-    (start : Parts) (earlier : List Move) (m : Move) (past : List Entry) (entry : Entry)
-    → IsSound start earlier m
-    → IsUnderWay (reached start earlier) m entry.picture
-    → Opens start earlier m past
-    → Opens start earlier m (entry ∷ past)
-entry_open start earlier m past entry s way o =
-    record {
-      score =
-          fold_keeps start past entry (IsOpen start earlier m) (IsOpen start earlier m) o.score (λ score g. g)
-          (λ score seen g h. step_open start earlier m score entry.picture entry.reading seen s way g h);
-      not_yet = differ_false _ _ (λ e. way.not_yet (sym e));
-    }
+    (start : Parts) (earlier : List Ply) (Q : List ℕ → Type 0) (past : List Entry) (entry : Entry)
+    → IsSound start earlier
+    → MayPass (reached start (moves_of earlier)) entry.picture
+    → Q entry.picture
+    → Opens start earlier Q past
+    → Opens start earlier Q (entry ∷ past)
+entry_open start earlier Q past entry s pass q o =
+    fold_keeps start past entry (IsOpen start earlier Q) (IsOpen start earlier Q) o (λ score g. g)
+    (λ score seen g h. step_open start earlier Q score entry.picture entry.reading seen s pass q g h)
 
 pub entry_end :
-    (start : Parts) (earlier : List Move) (m : Move) (past : List Entry) (entry : Entry)
-    → IsSound start earlier m
-    → entry.picture ≡ picture (after (reached start earlier) m)
-    → Opens start earlier m past
-    → Ends start (m ∷ earlier) (entry ∷ past)
-entry_end start earlier m past entry s e o =
-    record {
-      score =
-          fold_new start past entry (IsOpen start earlier m) (IsDone (m ∷ earlier)) (ap (λ q. repeats q past) e ∙ o.not_yet) o.score
-          (λ score seen g h. step_end start earlier m score entry.picture entry.reading seen s e g h);
-      last = e;
-    }
+    (start : Parts) (earlier : List Ply) (m : Move) (past : List Entry) (entry : Entry)
+    → IsSound start earlier
+    → Legal (reached start (moves_of earlier)) m
+    → entry.picture ≡ picture (after (reached start (moves_of earlier)) m)
+    → Opens start earlier (NotYet (reached start (moves_of earlier)) m) past
+    → repeats (picture (after (reached start (moves_of earlier)) m)) past ≡ false
+    → Gives start (played start earlier entry.reading m) (entry ∷ past)
+entry_end start earlier m past entry s l e o not_yet =
+    fold_new start past entry (IsOpen start earlier (NotYet (reached start (moves_of earlier)) m)) (λ score. score ≡ played start earlier entry.reading m)
+    (ap (λ q. repeats q past) e ∙ not_yet) o
+    (λ score seen g h. step_end start earlier m score entry.picture entry.reading seen s l e g h)
 
 pub not_repeated :
     (p : Parts) (m : Move) (past : List Entry) → Valid p → Legal p m → EndsAt p past → repeats (picture (after p m)) past ≡ false
 not_repeated p m [] v l h = refl
 not_repeated p m (entry ∷ past) v l h = differ_false _ _ (λ e. picture_moves p m v l (e ∙ h))
 
-pub opens :
-    (start : Parts) (earlier : List Move) (m : Move) (past : List Entry) → IsSound start earlier m → Ends start earlier past → Opens start earlier m past
-opens start earlier m past s o =
-    record {
-      score = λ score h. let d : IsDone earlier score = o.score score h in record { sign = d.sign; moves = inl d.moves };
-      not_yet = not_repeated (reached start earlier) m past (now start earlier m s) s.legal o.last;
-    }
+pub opens : (start : Parts) (earlier : List Ply) (Q : List ℕ → Type 0) (past : List Entry) → Ends start earlier past → Opens start earlier Q past
+opens start earlier Q past o = λ score h. inl (o.score score h)

@@ -1,5 +1,5 @@
 -- What one picture makes of a settler.
-use Rattle.std.proofs.Common.{◌≡◌, ◌≢◌, ℕ, ◌<◌, ◌+◌, ◌-◌, List, [], ◌∷◌, ◌++◌, Option, Some, None, Bool, true, false, drop, reverse, length, length-append, get_or, slice_set, is_some, arith, refl, sym, ap, subst, ◌∙◌}
+use Rattle.std.proofs.Common.{◌≡◌, ◌≢◌, ℕ, ◌<◌, ◌+◌, ◌-◌, List, [], ◌∷◌, ◌++◌, Option, Some, None, IfSome, IfNone, Bool, true, false, drop, reverse, length, length-append, get_or, slice_set, is_some, arith, refl, sym, ap, subst, ◌∙◌}
 use Rattle.std.specs.Str.{bytes_eq}
 use Rattle.std.specs.List.{slice_get}
 use Rattle.std.proofs.lemmas.Slice.Eq.{bytes_eq-Decides}
@@ -60,23 +60,28 @@ seen_is true kept picture e = refl
 seen_is false kept picture e = absurd (none_some e)
 
 -- the last move, and the position before it
-pub replaces_from :
-    (start : Parts) (before : Option Compared) (b : Compared) (k : Move) (seen : List ℕ) (turned : List Ply) (last : Ply)
+pub replaces_but :
+    (start : Parts) (before : Option Compared) (b : Compared) (seen : List ℕ) (turned : List Ply) (last : Ply)
     → position_in before ≡ before_last start (moves_of turned)
     → before ≡ Some b
-    → Settles b.position seen k
     → ((earlier : List Ply) (other : Ply) → turned ≡ other ∷ earlier → last ≡ other)
-    → (k ≢ last.mv → Replaces start (moves_of turned) seen k)
-    × (k ≡ last.mv → (m : Move) → ¬ Replaces start (moves_of turned) seen m)
-replaces_from start before b k seen [] last s h e l = absurd (none_some (sym s ∙ ap position_in h))
-replaces_from start before b k seen (other ∷ earlier) last s h e l =
+    → ((k : Move) → Settles b.position seen k × k ≢ last.mv → Replaces start (moves_of turned) seen k)
+    × (((k : Move) → Settles b.position seen k → k ≡ last.mv) → (m : Move) → ¬ Replaces start (moves_of turned) seen m)
+replaces_but start before b seen [] last s h l = absurd (none_some (sym s ∙ ap position_in h))
+replaces_but start before b seen (other ∷ earlier) last s h l =
     let at : b.position ≡ reached start (moves_of earlier) = some_same (sym (ap position_in h) ∙ s) in
-    let same : last ≡ other = l earlier other refl in
-    let S : Parts → Type 0 = λ x. Settles x seen k in
-    let e' : Settles (reached start (moves_of earlier)) seen k = subst S at e in (
-      λ ne. (e', λ q. ne (q ∙ ap (λ (x : Ply). x.mv) (sym same))),
-      λ q m r. r.1 (e'.alone m (r.0).legal (r.0).shows ∙ q ∙ ap (λ (x : Ply). x.mv) same),
+    let same : last ≡ other = l earlier other refl in (
+      λ k t. (let S : Parts → Type 0 = λ x. Settles x seen k in subst S at t.0, λ q. t.1 (q ∙ ap (λ (x : Ply). x.mv) (sym same))),
+      λ alone m r. r.1 (alone m (let S : Parts → Type 0 = λ x. Settles x seen m in subst S (sym at) r.0) ∙ ap (λ (x : Ply). x.mv) same),
     )
+
+pub some_map : {X : Type 0} {P Q : X → Type 0} (o : Option X) → ((x : X) → P x → Q x) → IfSome o P → IfSome o Q
+some_map None f h = h
+some_map (Some x) f h = f x h
+
+pub none_map : {X P Q : Type 0} (o : Option X) → (P → Q) → IfNone o P → IfNone o Q
+none_map None f h = f h
+none_map (Some x) f h = h
 
 get_at_end : {X : Type 0} (xs : List X) (x d : X) → get_or (xs ++ x ∷ []) (length xs) d ≡ x
 get_at_end [] x d = refl

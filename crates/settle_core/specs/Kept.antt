@@ -1,6 +1,6 @@
 -- What a settler keeps: the line, and each position of its end beside the last picture. The code's own words: the public
 -- contracts do not cite them.
-use Rattle.std.specs.Prelude.{◌≡◌, ℕ, Bool, List, [], ◌∷◌, Option, Some, None, reverse, if◌then◌else◌}
+use Rattle.std.specs.Prelude.{◌≡◌, ◌<◌, ℕ, Bool, false, List, [], ◌∷◌, Option, Some, None, reverse, slice_index, if◌then◌else◌}
 use Rattle.chess_rules.specs.declared.men.Move.{Move}
 use Rattle.chess_rules.specs.declared.men.Parts.{Parts}
 use Rattle.chess_rules.specs.Legal.{Legal}
@@ -8,6 +8,7 @@ use Rattle.chess_rules.specs.Picture.{picture}
 use Rattle.settle_core.specs.declared.compared.Compared.{Compared}
 use Rattle.settle_core.specs.declared.game.Outcome.{Outcome}
 use Rattle.settle_core.specs.declared.game.Ply.{Ply}
+use Rattle.settle_core.specs.Candidate.{lands}
 use Rattle.settle_core.specs.Settling.{reached, Played}
 use Rattle.settle_core.specs.Folding.{score_of}
 use Rattle.settle_core.specs.Masks.{IsDiff}
@@ -17,6 +18,10 @@ use Rattle.settle_core.specs.Standing.{Sheet}
 pub record IsCompared (compared : Compared) (seen : List ℕ) : Type 0 where
   pub picture : compared.picture ≡ picture compared.position
   pub mask : IsDiff compared.mask compared.picture seen
+
+-- The second picture shows no man but where the first one shows the same.
+abbrev pub OnlyLacks : List ℕ → List ℕ → Type 0
+OnlyLacks before seen = (s : ℕ) → s < 64 → lands false (slice_index before s) (slice_index seen s) ≡ false
 
 -- the position before the last of these moves, of which the latest comes first
 abbrev pub before_last : Parts → List Move → Option Parts

@@ -1,16 +1,21 @@
 -- What holds of all games.
-use Rattle.std.specs.Prelude.{◌≡◌, ℕ, ◌≤◌, ◌+◌, ◌↔◌, IsTrue, List, ◌∷◌, ◌++◌, None, length, map, reverse}
+use Rattle.std.specs.Prelude.{◌≡◌, ◌⊎◌, ℕ, ◌≤◌, ◌+◌, ◌↔◌, IsTrue, List, ◌∷◌, ◌++◌, Some, None, length, map, reverse}
 use Rattle.std.specs.List.{flat_map}
 use Rattle.chess_rules.specs.declared.men.Move.{Move}
 use Rattle.chess_rules.specs.declared.men.Parts.{Parts}
+use Rattle.chess_rules.specs.declared.lines.Wing.{Wing}
+use Rattle.chess_rules.specs.After.{after, rook_home}
+use Rattle.chess_rules.specs.Legal.{Legal, Castles}
+use Rattle.chess_rules.specs.Picture.{picture}
 use Rattle.chess_rules.specs.Valid.{Valid}
 use Rattle.settle_core.specs.Entries.{Entry, repeats, unstuttered}
 use Rattle.settle_core.specs.declared.game.Outcome.{Outcome}
-use Rattle.settle_core.specs.Settling.{Settles, Line, Played, reached}
+use Rattle.settle_core.specs.declared.game.Seen.TheVariants.{Waits}
+use Rattle.settle_core.specs.Settling.{Settles, Line, Played, position_after, reached}
 use Rattle.settle_core.specs.Sign.{IsSign}
-use Rattle.settle_core.specs.Folding.{Score, Folds, Replaces, moves_of}
+use Rattle.settle_core.specs.Folding.{Score, Folds, Replaces, Shows, moves_of, score_of}
 use Rattle.settle_core.specs.Standing.{Sheet, StandsFor, plies_of}
-use Rattle.settle_core.specs.Showing.{ShownEach}
+use Rattle.settle_core.specs.Showing.{AllPass, AllRest, HasWhole, HoldsOne, IsFront, IsInHand, IsUnderWay, MayRest, ShownEach, ShowsNoMore, shown_plies}
 
 -- the lists, one after the other
 abbrev pub joined : List (List Entry) → List Entry
@@ -40,6 +45,119 @@ HonestPlayIsKept =
     → ShownEach start moves lists
     → StandsFor sheet start (reverse (joined lists))
     → (moves_of (plies_of sheet) ≡ moves) × (sheet.score.sign ≡ None)
+
+-- And the score is that of the plies which the lists show: the ply of each move has its mover's time in the reading of the
+-- entry that ends the move's list, the first of the list with the picture after the move.
+abbrev pub HonestPlayKeepsClocks : Type 0
+HonestPlayKeepsClocks =
+    (start : Parts) (moves : List Move) (lists : List (List Entry)) (score : Score)
+    → Valid start
+    → Line start moves
+    → ShownEach start moves lists
+    → GivesScore start (joined lists) score
+    → score ≡ score_of (shown_plies start moves lists) None
+
+-- Where honest play stops between two moves: after a line, and then pictures with men in hand or a king off the board, no sign
+-- stands, and the plies are those of the line, or these and one more: of a legal move that takes no man, and that was shown.
+abbrev pub HonestPlayStops : Type 0
+HonestPlayStops =
+    (start : Parts) (moves : List Move) (lists : List (List Entry)) (part : List Entry) (score : Score)
+    → Valid start
+    → Line start moves
+    → ShownEach start moves lists
+    → AllPass (position_after start moves) part
+    → GivesScore start (joined lists ++ part) score
+    → (score.sign ≡ None) × HasWhole start moves lists part (reverse score.plies)
+
+-- So it is after any front of honest play.
+abbrev pub FrontsOfHonestPlay : Type 0
+FrontsOfHonestPlay =
+    (start : Parts) (moves : List Move) (lists : List (List Entry)) (first rest : List Entry) (score : Score)
+    → Valid start
+    → Line start moves
+    → ShownEach start moves lists
+    → joined lists ≡ first ++ rest
+    → GivesScore start first score
+    → (score.sign ≡ None)
+    × ((front : IsFront start moves lists first) × HasWhole start front.done front.whole front.part (reverse score.plies))
+
+-- After moves that are legal in their turn, a picture waits that shows no more than the position has, or on which a king
+-- stands nowhere, whatever else it shows.
+abbrev pub RestingWaits : Type 0
+RestingWaits =
+    (start : Parts) (moves : List Move) (seen : List ℕ)
+    → Valid start
+    → Played start moves
+    → MayRest (reached start moves) seen
+    → Shows start moves seen Waits
+
+-- Nothing is guessed where two plies were not seen: after moves that are legal in their turn, whatever they are, the picture
+-- after a legal move and a legal reply waits.
+abbrev pub TwoUnseenWait : Type 0
+TwoUnseenWait =
+    (start : Parts) (moves : List Move) (m reply : Move)
+    → Valid start
+    → Played start moves
+    → Legal (reached start moves) m
+    → Legal (after (reached start moves) m) reply
+    → Shows start moves (picture (after (after (reached start moves) m) reply)) Waits
+
+-- So an entry with such a picture leaves the score as it was.
+abbrev pub TwoUnseenChangeNothing : Type 0
+TwoUnseenChangeNothing =
+    (start : Parts) (past : List Entry) (entry : Entry) (before score : Score) (m reply : Move)
+    → Valid start
+    → Folds start past before
+    → Legal (reached start (moves_of before.plies)) m
+    → Legal (after (reached start (moves_of before.plies)) m) reply
+    → entry.picture ≡ picture (after (after (reached start (moves_of before.plies)) m) reply)
+    → Folds start (entry ∷ past) score
+    → score ≡ before
+
+-- After three unseen plies, no move of the position is settled, and no sign.
+abbrev pub ThreeUnseenSettleNothing : Type 0
+ThreeUnseenSettleNothing =
+    (p : Parts) (m reply next : Move)
+    → Valid p
+    → Legal p m
+    → Legal (after p m) reply
+    → Legal (after (after p m) reply) next
+    → ((n : Move) → ¬ Settles p (picture (after (after (after p m) reply) next)) n)
+    × ((over : Parts) (outcome : Outcome) → ¬ IsSign over (picture (after (after (after p m) reply) next)) outcome)
+
+-- A move that is tried while another one is to be made, with its man in hand and no other, is a move of that man, or the rook's
+-- where the move castles.
+abbrev pub OneHandTriesItsMan : Type 0
+OneHandTriesItsMan =
+    (p : Parts) (m tried : Move) (seen : List ℕ)
+    → Valid p
+    → Legal p m
+    → Legal p tried
+    → HoldsOne p m seen
+    → seen ≡ picture (after p tried)
+    → (tried.from ≡ m.from) ⊎ ((wing : Wing) × Castles p m wing × (tried.from ≡ rook_home p.side wing))
+
+-- The end by the kings: after honest play, pictures of these two kinds, the sign of a result, and again such pictures, the
+-- score has the plies of the line and the sign.
+abbrev pub KingsEndHonestPlay : Type 0
+KingsEndHonestPlay =
+    (start : Parts) (moves : List Move) (lists : List (List Entry)) (clearing later : List Entry) (kings : Entry) (outcome : Outcome) (score : Score)
+    → Valid start
+    → Line start moves
+    → ShownEach start moves lists
+    → AllRest (position_after start moves) clearing
+    → IsSign (position_after start moves) kings.picture outcome
+    → AllRest (position_after start moves) later
+    → GivesScore start (joined lists ++ (clearing ++ kings ∷ later)) score
+    → score ≡ score_of (shown_plies start moves lists) (Some outcome)
+
+-- A picture that shows no more than the position has has men in hand.
+abbrev pub NoMoreIsInHand : Type 0
+NoMoreIsInHand = (p : Parts) (seen : List ℕ) → Valid p → ShowsNoMore p seen → IsInHand p seen
+
+-- A picture on the way to a move, or a try of its man, has men in hand.
+abbrev pub UnderWayIsInHand : Type 0
+UnderWayIsInHand = (p : Parts) (m : Move) (seen : List ℕ) → Valid p → Legal p m → IsUnderWay p m seen → IsInHand p seen
 
 -- Taking out an entry whose picture equals the one before leaves the score: entries are listed with the latest first, so
 -- `later` came after the entry.

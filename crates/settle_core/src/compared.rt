@@ -1,11 +1,11 @@
 // A position beside the picture that was seen last.
-ghost use Rattle.std.specs.Prelude.{◌≡◌, ◌<◌, ℕ, List, IfSome, IfNone, length, slice_set};
+ghost use Rattle.std.specs.Prelude.{◌≡◌, ◌≢◌, ◌<◌, ◌↔◌, ℕ, List, IfSome, IfNone, IsTrue, Some, length, slice_set};
 ghost use Rattle.chess_rules.specs.declared.men.Move.{Move as MoveOf};
 ghost use Rattle.settle_core.specs.Settling.{Settles};
 ghost use Rattle.settle_core.specs.Masks.{IsDiff};
-ghost use Rattle.settle_core.specs.Kept.{IsCompared};
+ghost use Rattle.settle_core.specs.Kept.{IsCompared, OnlyLacks};
 
-use crate::laws::{candidate, diff_mask};
+use crate::laws::{candidate, diff_mask, landing};
 use chess_rules::laws::pictures_tell_moves;
 use chess_rules::{Move, Position};
 
@@ -44,16 +44,12 @@ impl Compared {
         }
     }
 
-    /// The same position beside another picture.
-    pub fn with(&self, seen: &[u8; 64]) -> Compared
-        ensures position { result.position ≡ self.now.position }
-        ensures compared { (old : List ℕ) → IsCompared self.now old → IsCompared result seen.now }
+    /// The position is now beside another picture.
+    pub fn compare(&mut self, seen: &[u8; 64])
+        ensures position { self.new.position ≡ self.old.position }
+        ensures compared { (old : List ℕ) → IsCompared self.old old → IsCompared self.new seen.now }
     {
-        Compared {
-            position: self.position,
-            picture: self.picture,
-            mask: diff_mask(&self.picture, seen),
-        }
+        self.mask = diff_mask(&self.picture, seen);
     }
 
     /// The other picture now shows this code on one square.
@@ -65,22 +61,67 @@ impl Compared {
         self.mask = changed(self.mask, &self.picture, at, code);
     }
 
+    /// Whether the picture differs from the position's only by men that it lacks.
+    pub fn only_lacks(&self, seen: &[u8; 64]) -> bool
+        requires { IsCompared self.now seen.now }
+        ensures { IsTrue result → OnlyLacks self.now.picture seen.now }
+    {
+        landing(false, &self.picture, seen, self.mask).is_none()
+    }
+
+    /// Whether the picture settles this move in the position.
+    fn settles(&self, seen: &[u8; 64], m: &Move) -> bool
+        ensures { IsTrue result ↔ Settles self.now.position seen.now m.now }
+    {
+        // The position is valid, and no other legal move gives the same picture.
+        self.position.parts();
+        pictures_tell_moves();
+        self.position.is_legal(copy(m)) && self.position.play(copy(m)).picture() == *seen
+    }
+
+    /// The one move that the picture may settle in the position, if any.
+    fn candidate(&self, seen: &[u8; 64]) -> Option<Move>
+        requires { IsCompared self.now seen.now }
+        ensures { (m : MoveOf) → Settles self.now.position seen.now m → result ≡ Some m }
+    {
+        self.position.parts();
+        candidate(&self.picture, seen, self.mask)
+    }
+
     /// The move that the picture settles in the position, if any: the one candidate is tested.
     pub fn settled(&self, seen: &[u8; 64]) -> Option<Move>
         requires { IsCompared self.now seen.now }
         ensures some { IfSome result (Settles self.now.position seen.now) }
         ensures none { IfNone result ((m : MoveOf) → ¬ Settles self.now.position seen.now m) }
     {
-        // The position is valid, and no other legal move gives the same picture.
-        self.position.parts();
-        pictures_tell_moves();
-        let m = candidate(&self.picture, seen, self.mask)?;
-        if self.position.is_legal(copy(&m)) && self.position.play(copy(&m)).picture() == *seen {
+        let m = self.candidate(seen)?;
+        if self.settles(seen, &m) {
             Some(m)
         } else {
             None
         }
     }
+
+    /// The move that the picture settles in the position, if it is another than this one, which is not tested.
+    pub fn settled_but(&self, seen: &[u8; 64], last: &Move) -> Option<Move>
+        requires { IsCompared self.now seen.now }
+        ensures some { IfSome result (λ m. Settles self.now.position seen.now m × m ≢ last.now) }
+        ensures none { IfNone result ((m : MoveOf) → Settles self.now.position seen.now m → m ≡ last.now) }
+    {
+        let m = self.candidate(seen)?;
+        if !same_move(&m, last) && self.settles(seen, &m) {
+            Some(m)
+        } else {
+            None
+        }
+    }
+}
+
+/// Whether two moves are one.
+pub fn same_move(a: &Move, b: &Move) -> bool
+    ensures { IsTrue result ↔ (a.now ≡ b.now) }
+{
+    *a == *b
 }
 
 /// A copy, since a move by value is given away.

@@ -5,7 +5,7 @@ ghost use Rattle.chess_rules.specs.declared.men.Move.{Move as MoveOf};
 ghost use Rattle.chess_rules.specs.declared.men.Parts.{Parts as PartsOf};
 ghost use Rattle.chess_rules.specs.Valid.{Valid};
 ghost use Rattle.chess_rules.specs.Picture.{picture};
-ghost use Rattle.settle_core.specs.Laws.{FoldsOnce, FoldsSome, GivesSome, HonestPlayFolds, HonestPlayIsKept, NoEntryGivesTwo, RepeatsCountOnce, RepliesReplaceNothing, SettlersTellTheScore, SignsSettleNothing};
+ghost use Rattle.settle_core.specs.Laws.{FoldsOnce, FoldsSome, FrontsOfHonestPlay, GivesSome, HonestPlayFolds, HonestPlayIsKept, HonestPlayKeepsClocks, HonestPlayStops, KingsEndHonestPlay, NoEntryGivesTwo, NoMoreIsInHand, OneHandTriesItsMan, RepeatsCountOnce, RepliesReplaceNothing, RestingWaits, SettlersTellTheScore, SignsSettleNothing, ThreeUnseenSettleNothing, TwoUnseenChangeNothing, TwoUnseenWait, UnderWayIsInHand};
 ghost use Rattle.settle_core.specs.Settling.{Settles};
 ghost use Rattle.settle_core.specs.Masks.{IsDiff, IsNoMove};
 ghost use Rattle.settle_core.specs.Candidate.{is_king_code, side_number, lands as lands_test, leaves as leaves_test, officer_of, promotion_between};
@@ -22,6 +22,57 @@ pub fn honest_play_folds()
 /// A settler that was given such pictures has exactly the moves of the line, and no sign.
 pub fn honest_play_is_kept()
     ensures { HonestPlayIsKept }
+{}
+
+/// The ply of each move then has its mover's time in the reading of the first entry that shows the whole move.
+pub fn honest_play_keeps_clocks()
+    ensures { HonestPlayKeepsClocks }
+{}
+
+/// Where honest play stops between two moves, the whole moves stand, and at most one try that takes no man.
+pub fn honest_play_stops()
+    ensures { HonestPlayStops }
+{}
+
+/// So it is after any front of honest play.
+pub fn fronts_of_honest_play()
+    ensures { FrontsOfHonestPlay }
+{}
+
+/// A picture waits that shows no more than the position has, or on which a king stands nowhere.
+pub fn resting_waits()
+    ensures { RestingWaits }
+{}
+
+/// Where two plies were not seen, the picture after them waits: it leaves the score as it was.
+pub fn two_unseen_wait()
+    ensures waits { TwoUnseenWait }
+    ensures score { TwoUnseenChangeNothing }
+{}
+
+/// Where three plies were not seen, the picture after them settles no move, and no sign.
+pub fn three_unseen_settle_nothing()
+    ensures { ThreeUnseenSettleNothing }
+{}
+
+/// A move that is tried with one man in hand is a move of that man, or the rook's where the move to be made castles.
+pub fn one_hand_tries_its_man()
+    ensures { OneHandTriesItsMan }
+{}
+
+/// After honest play, men are taken off, the kings are put into the centre, and men are set up again: the line and the sign stand.
+pub fn kings_end_honest_play()
+    ensures { KingsEndHonestPlay }
+{}
+
+/// A picture on the way to a move, or a try of its man, has men in hand.
+pub fn under_way_is_in_hand()
+    ensures { UnderWayIsInHand }
+{}
+
+/// So has a picture that shows no more than the position has.
+pub fn no_more_is_in_hand()
+    ensures { NoMoreIsInHand }
 {}
 
 /// An entry whose picture equals the one before counts for nothing.
@@ -136,7 +187,7 @@ fn without(mask: u64, square: u8) -> u64
 }
 
 /// A square on which a man landed, among those that differ.
-fn landing(kings: bool, before: &[u8; 64], after: &[u8; 64], mask: u64) -> Option<u8>
+pub(crate) fn landing(kings: bool, before: &[u8; 64], after: &[u8; 64], mask: u64) -> Option<u8>
     requires { IsDiff mask before.now after.now }
     ensures range { IfSome result (λ s. s < 64) }
     ensures some { IfSome result (λ s. lands_test kings (slice_index before.now s) (slice_index after.now s) ≡ true) }

@@ -54,12 +54,6 @@ fn time_of(side: Side, reading: Option<Reading>) -> Option<Hms>
     }
 }
 
-pub fn same_move(a: &Move, b: &Move) -> bool
-    ensures { IsTrue result ↔ (a.now ≡ b.now) }
-{
-    *a == *b
-}
-
 /// The last ply becomes this one.
 fn set_last(plies: &mut [Ply], ply: Ply)
     ensures { IsLastSet plies.old ply plies.new }
@@ -71,13 +65,12 @@ fn set_last(plies: &mut [Ply], ply: Ply)
 }
 
 /// Each compared with this picture.
-fn all_with(compared: &Option<Compared>, seen: &[u8; 64]) -> Option<Compared>
-    ensures positions { position_in result ≡ position_in compared.now }
-    ensures compared { (old : List ℕ) → IsComparedIn compared.now old → IsComparedIn result seen.now }
+fn compare_all(compared: &mut Option<Compared>, seen: &[u8; 64])
+    ensures positions { position_in compared.new ≡ position_in compared.old }
+    ensures compared { (old : List ℕ) → IsComparedIn compared.old old → IsComparedIn compared.new seen.now }
 {
-    match compared {
-        Some(compared) => Some(compared.with(seen)),
-        None => None,
+    if let Some(compared) = compared {
+        compared.compare(seen);
     }
 }
 
@@ -196,8 +189,8 @@ impl Settler {
     {
         self.seen = seen;
         self.picture = *picture;
-        self.here = self.here.with(picture);
-        self.before = all_with(&self.before, picture);
+        self.here.compare(picture);
+        compare_all(&mut self.before, picture);
     }
 
     /// The last picture shows this code on one square.
@@ -220,6 +213,11 @@ impl Settler {
         ensures memory { (picture : List ℕ) → self.old.last ≡ Some picture
             → OnErr result ((m : MoveOf) × Settles (position_of self.old) picture m) }
     {
+        if self.here.only_lacks(&self.picture) {
+            // The start is valid, and so is each position of the line.
+            self.start.parts();
+            return Ok(Seen::Waits);
+        }
         if let Some(m) = self.here.settled(&self.picture) {
             self.add(copy(&m), clock)?;
             return Ok(Seen::Moved(m));
@@ -261,14 +259,11 @@ impl Settler {
             → IfNone result ((m : MoveOf) → ¬ Replaces self.now.start (moves_of self.now.score.plies) picture m) }
         ensures legal { IfSome result (CanReplace self.now.start (moves_of self.now.score.plies)) }
     {
-        let before = self.before?;
-        let m = before.settled(&self.picture)?;
+        let Some(before) = &self.before else {
+            return None;
+        };
         let last = self.plies.last()?;
-        if same_move(&m, &last.mv) {
-            None
-        } else {
-            Some(m)
-        }
+        before.settled_but(&self.picture, &last.mv)
     }
 
     /// Plays a move in the place of the last one.

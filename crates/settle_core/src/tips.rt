@@ -8,8 +8,7 @@ ghost use Rattle.chess_rules.specs.Legal.{Legal};
 ghost use Rattle.settle_core.specs.Entries.{Entry, repeats};
 ghost use Rattle.settle_core.specs.Tips.{IsTip, IsOther, LeadsTo};
 
-use crate::compared::{Compared, copy};
-use crate::settler::same_move;
+use crate::compared::{Compared, copy, same_move};
 use crate::signs::sign_of;
 use chess_rules::{Move, Position};
 

@@ -1,12 +1,16 @@
-use Rattle.std.proofs.Common.{◌≡◌, ℕ, List, drop, refl, ap, ◌∙◌}
+use Rattle.std.proofs.Common.{◌≡◌, ℕ, List, drop, reverse, refl, ap, subst, ◌∙◌}
 use Rattle.chess_rules.specs.declared.men.Move.{Move}
 use Rattle.chess_rules.specs.declared.men.Parts.{Parts}
+use Rattle.chess_rules.specs.Picture.{picture}
 use Rattle.settle_core.specs.declared.game.Outcome.{Outcome}
-use Rattle.settle_core.specs.Settling.{Settles}
+use Rattle.settle_core.specs.declared.game.Seen.TheVariants.{Waits}
+use Rattle.settle_core.specs.Settling.{Settles, reached}
 use Rattle.settle_core.specs.Sign.{IsSign}
-use Rattle.settle_core.specs.Folding.{played}
+use Rattle.settle_core.specs.Folding.{Shows, moves_of, played}
+use Rattle.settle_core.specs.Kept.{OnlyLacks}
 use Rattle.settle_core.specs.Standing.{Sheet, position_of}
 use Rattle.settle_core.proofs.Steps.{elsewhere, last_is}
+use Rattle.settle_core.proofs.Lacking.{waits_lacking}
 use Rattle.settle_core.proofs.settler.Settler.judge.Goals as goal
 
 abbrev NoMove : Parts → List ℕ → Type 0
@@ -39,5 +43,19 @@ returns-clause-ok c picture seen =
         elsewhere NoSign _ _ _ _ at shown c.in_default-sign_of.ensures.none,
         c.in_default-instead.ensures.none picture seen,
       ),
+      refl,
+    )
+
+pub returns-then-only_lacks-clause-ok : goal.returns-then-only_lacks-clause-ok
+returns-then-only_lacks-clause-ok c seen last =
+    let shown : c.self.inside.picture ≡ seen = last_is c.self.inside.seen c.self.inside.picture seen (ap (λ (s : Sheet). s.last) c.self.view_is ∙ last) in
+    let moves = moves_of (reverse c.self.inside.plies.items) in
+    let P : List ℕ → Type 0 = λ xs. OnlyLacks xs c.self.inside.picture in
+    let Q : Parts → Type 0 = λ p. OnlyLacks (picture p) c.self.inside.picture in
+    let lacks : OnlyLacks (picture (reached c.self.inside.start moves)) c.self.inside.picture =
+    subst Q c.self.invariant.position (subst P (c.self.invariant.here_compared).picture (c.only_lacks.ensures c.if-only_lacks.true)) in
+    let R : List ℕ → Type 0 = λ xs. Shows c.self.inside.start moves xs Waits in
+    let S : Sheet → Type 0 = λ s. Shows s.start (moves_of s.score.plies) seen Waits in (
+      subst S c.self.view_is (subst R shown (waits_lacking c.self.inside.start moves c.self.inside.picture c.parts.ensures.valid c.self.invariant.played lacks)),
       refl,
     )

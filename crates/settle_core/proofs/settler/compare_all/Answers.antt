@@ -1,9 +1,9 @@
 use Rattle.std.proofs.Common.{Option, subst}
 use Rattle.settle_core.specs.declared.compared.Compared.{Compared}
 use Rattle.settle_core.specs.Kept.{IsComparedIn}
-use Rattle.settle_core.proofs.settler.all_with.Goals as goal
+use Rattle.settle_core.proofs.settler.compare_all.Goals as goal
 
 pub returns-in-Some-clause-compared : goal.returns-in-Some-clause-compared
 returns-in-Some-clause-compared c old h =
     let P : Option Compared → Type 0 = λ x. IsComparedIn x old in
-    c.with.ensures.compared old (subst P c.in-Some.is h)
+    c.compare.ensures.compared old (subst P c.in-Some.is h)

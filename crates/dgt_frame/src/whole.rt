@@ -1,0 +1,80 @@
+// Frames that lie whole at the front of bytes.
+ghost use Rattle.std.specs.Prelude.{IfSome};
+ghost use Rattle.dgt_frame.specs.Whole.{IsWhole};
+
+use crate::decode::{Arrival, DUMP, TIME, UPDATE};
+use crate::events::{Event, Message};
+use std::simd::prelude::*;
+
+/// The dump whose frame the bytes begin with.
+fn dump(bytes: &[u8]) -> Option<Arrival>
+    ensures { IfSome result (λ arrival. IsWhole bytes.now arrival.taken arrival.event) }
+{
+    if bytes.len() < 67 || bytes[0] != DUMP || bytes[1] != 0 || bytes[2] != 67 {
+        return None;
+    }
+    let codes = u8x64::from_slice(&bytes[3..]);
+    if codes.simd_ge(u8x64::splat(16)).to_bitmask() == 0 {
+        let event = Event::Message(Message::Dump(codes.to_array()));
+        Some(Arrival { taken: 67, event })
+    } else {
+        None
+    }
+}
+
+/// The update whose frame the bytes begin with.
+fn update(bytes: &[u8]) -> Option<Arrival>
+    ensures { IfSome result (λ arrival. IsWhole bytes.now arrival.taken arrival.event) }
+{
+    if bytes.len() < 5 || bytes[0] != UPDATE || bytes[1] != 0 || bytes[2] != 5 {
+        return None;
+    }
+    let field = bytes[3];
+    let code = bytes[4];
+    if field < 64 && code < 16 {
+        let event = Event::Message(Message::Update { field, code });
+        Some(Arrival { taken: 5, event })
+    } else {
+        None
+    }
+}
+
+/// The time message whose frame the bytes begin with.
+fn time(bytes: &[u8]) -> Option<Arrival>
+    ensures { IfSome result (λ arrival. IsWhole bytes.now arrival.taken arrival.event) }
+{
+    if bytes.len() < 10 || bytes[0] != TIME || bytes[1] != 0 || bytes[2] != 10 {
+        return None;
+    }
+    let times = [
+        bytes[3], bytes[4], bytes[5], bytes[6], bytes[7], bytes[8], bytes[9],
+    ];
+    if times[0] < 128
+        && times[1] < 128
+        && times[2] < 128
+        && times[3] < 128
+        && times[4] < 128
+        && times[5] < 128
+        && times[6] < 128
+    {
+        let event = Event::Message(Message::Time(times));
+        Some(Arrival { taken: 10, event })
+    } else {
+        None
+    }
+}
+
+/// The dump, update or time whose frame the bytes begin with, where all of it is there.
+pub fn whole(bytes: &[u8]) -> Option<Arrival>
+    ensures { IfSome result (λ arrival. IsWhole bytes.now arrival.taken arrival.event) }
+{
+    if bytes.is_empty() {
+        return None;
+    }
+    match bytes[0] {
+        UPDATE => update(bytes),
+        DUMP => dump(bytes),
+        TIME => time(bytes),
+        _ => None,
+    }
+}
