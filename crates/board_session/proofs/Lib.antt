@@ -1,6 +1,7 @@
 pub mod CountLemmas
 pub mod GameLemmas
 pub mod HearLemmas
+pub mod HonestLemmas
 pub mod LawLemmas
 pub mod PictureLemmas
 pub mod ReadLemmas

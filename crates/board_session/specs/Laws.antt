@@ -1,5 +1,5 @@
 -- What holds of all lists of events. Events have the latest first.
-use Rattle.std.specs.Prelude.{◌≡◌, ◌↔◌, ◌≤◌, ◌⊎◌, ◌+◌, ℕ, Bool, List, [], ◌∷◌, ◌++◌, Some, None, length, reverse, ⊤}
+use Rattle.std.specs.Prelude.{◌≡◌, ◌↔◌, ◌≤◌, ◌⊎◌, ◌+◌, ℕ, Bool, List, [], ◌∷◌, ◌++◌, Option, Some, None, Result as ResultOf, length, reverse, ⊤}
 use Rattle.std.specs.List.{AllByRecursion}
 use Rattle.chess_rules.specs.declared.men.Move.{Move}
 use Rattle.chess_rules.specs.After.{after}
@@ -11,20 +11,25 @@ use Rattle.dgt_frame.specs.declared.events.Message.TheVariants.{Dump, Update, Ti
 use Rattle.dgt_frame.specs.declared.events.Event.{Event}
 use Rattle.dgt_frame.specs.declared.events.Event.TheVariants.{Message as Shown, Fault}
 use Rattle.dgt_frame.specs.declared.First.{First}
+use Rattle.dgt_frame.specs.Streams.{Shows, Timed}
 use Rattle.settle_core.specs.Entries.{Entry, unstuttered}
 use Rattle.settle_core.specs.Folding.{moves_of}
 use Rattle.settle_core.specs.Laws.{joined}
 use Rattle.settle_core.specs.Settling.{Line, position_after}
-use Rattle.settle_core.specs.Showing.{AllPass, AllRest, HasWhole, ShownEach, shown_plies}
+use Rattle.settle_core.specs.Showing.{AllPass, AllRest, HasWhole, IsFront, ShownEach, shown_plies}
 use Rattle.settle_core.specs.Sign.{IsSign}
 use Rattle.settle_core.specs.declared.game.Outcome.{Outcome}
 use Rattle.pgn_book.specs.Games.{Content, Result}
 use Rattle.pgn_book.specs.Pgn.{Pgn}
 use Rattle.pgn_book.specs.Values.{TagValues}
-use Rattle.board_session.specs.Asking.{asks}
+use Rattle.board_session.specs.declared.recording.RecordError.{RecordError}
+use Rattle.board_session.specs.declared.recording.Report.{Report}
+use Rattle.board_session.specs.declared.recording.Setup.{Setup}
+use Rattle.board_session.specs.Asking.{asks, past_of}
 use Rattle.board_session.specs.Entering.{Idle}
 use Rattle.board_session.specs.Gaming.{IsGameOf}
 use Rattle.board_session.specs.Looking.{picture_of}
+use Rattle.board_session.specs.Recording.{Leaves, RecordsGame, setting_of}
 use Rattle.board_session.specs.Settings.{Setting}
 use Rattle.board_session.specs.Standing.{entries_in}
 
@@ -128,3 +133,51 @@ TwoUnseenAreNotRecorded = (setting : Setting) (tags : TagValues) (past : List Ev
     → picture_of setting.rotated (event ∷ past) ≡ picture (after (after (position_after setting.start (moves_of before.plies)) m) reply)
     → IsGameOf game setting tags (event ∷ past)
     → game ≡ before
+
+-- The bytes of a stream show these entries, in their order, and then perhaps a frame that is not at its end.
+pub record ShowsEntries (setting : Setting) (bytes : List ℕ) (shown : List Entry) : Type 0 where
+  pub events : List Timed
+  pub rest : ℕ
+  pub shows : Shows bytes events rest
+  pub are : entries_in setting (past_of events) ≡ reverse shown
+
+-- Of `record`: where a whole stream shows a line of moves honestly, the game that was written has exactly their plies, with their
+-- clocks, and the result of its last position, or none.
+abbrev pub HonestPlayIsWritten : Type 0
+HonestPlayIsWritten = (setup : Setup) (report : Report) (bytes : List ℕ) (sent sent' written written' : Option (List ℕ))
+    (recording : RecordsGame setup report bytes sent sent' written written') (moves : List Move) (lists : List (List Entry))
+    → Line setup.start moves → ShownEach setup.start moves lists
+    → ShowsEntries (setting_of setup) bytes (joined lists)
+    → (recording.game.plies ≡ shown_plies setup.start moves lists) × Result setup.start recording.game.plies None recording.game.result
+    × (report.moves ≡ length moves)
+
+-- What a recording has of honest play where it ended: the entries taken are a front of it, and the game has the plies of the
+-- whole moves in this front, or these and one more, of a legal move that takes no man and that was shown.
+pub record HasFront (setup : Setup) (moves : List Move) (lists : List (List Entry)) (taken : List Entry) (game : Content) : Type 0 where
+  pub rest : List Entry
+  pub parts : joined lists ≡ reverse taken ++ rest
+  pub front : IsFront setup.start moves lists (reverse taken)
+  pub plies : HasWhole setup.start front.done front.whole front.part game.plies
+  pub result : Result setup.start game.plies None game.result
+
+-- Of `record`, whatever ended it: where the bytes that it decoded, with whatever more was to come, show a line of moves honestly,
+-- the game whose text it wrote has all moves that were shown whole, and at most one try.
+abbrev pub HonestFrontIsWritten : Type 0
+HonestFrontIsWritten = (setup : Setup) (answer : ResultOf Report RecordError) (input input' sent sent' written written' : Option (List ℕ))
+    (recording : Leaves setup answer input input' sent sent' written written') (more : List ℕ) (moves : List Move) (lists : List (List Entry))
+    → Line setup.start moves → ShownEach setup.start moves lists
+    → ShowsEntries (setting_of setup) (recording.front ++ more) (joined lists)
+    → HasFront setup moves lists (entries_in (setting_of setup) (past_of recording.taken)) recording.game
+
+-- Of `record`: where a whole stream shows a line of moves honestly, then men taken off, the kings put into the centre, and men
+-- set up again, the game that was written has exactly the plies of the line, and the result of its last position, else the sign's.
+abbrev pub KingsEndIsWritten : Type 0
+KingsEndIsWritten = (setup : Setup) (report : Report) (bytes : List ℕ) (sent sent' written written' : Option (List ℕ))
+    (recording : RecordsGame setup report bytes sent sent' written written') (moves : List Move) (lists : List (List Entry))
+    (clearing later : List Entry) (kings : Entry) (outcome : Outcome)
+    → Line setup.start moves → ShownEach setup.start moves lists
+    → AllRest (position_after setup.start moves) clearing
+    → IsSign (position_after setup.start moves) kings.picture outcome
+    → AllRest (position_after setup.start moves) later
+    → ShowsEntries (setting_of setup) bytes (joined lists ++ (clearing ++ kings ∷ later))
+    → (recording.game.plies ≡ shown_plies setup.start moves lists) × Result setup.start recording.game.plies (Some outcome) recording.game.result

@@ -6,9 +6,10 @@ ghost use Rattle.pgn_book.specs.Games.{Content};
 ghost use Rattle.pgn_book.specs.Pgn.{Pgn};
 ghost use Rattle.pgn_book.specs.Values.{TagValues};
 ghost use Rattle.board_session.specs.Gaming.{IsGameOf};
-ghost use Rattle.board_session.specs.Laws.{EventsTellTheGame, FaultsAskOnce, FaultsBeforeDumpsCanGo, HonestClocksAreRecorded, HonestPlayIsRecorded, HonestStopIsRecorded, IdleEventsCanGo, KingsEndIsRecorded, NoEventGivesTwo, TwoUnseenAreNotRecorded};
+ghost use Rattle.board_session.specs.Laws.{EventsTellTheGame, FaultsAskOnce, FaultsBeforeDumpsCanGo, HonestClocksAreRecorded, HonestFrontIsWritten, HonestPlayIsRecorded, HonestPlayIsWritten, HonestStopIsRecorded, IdleEventsCanGo, KingsEndIsRecorded, KingsEndIsWritten, NoEventGivesTwo, TwoUnseenAreNotRecorded};
 ghost use Rattle.board_session.specs.Settings.{Setting};
 
+use dgt_frame::laws::{fronts_show_fronts, shows_once};
 use pgn_book::{Game, PgnError, read_pgn};
 use std::alloc::Global;
 
@@ -58,6 +59,28 @@ pub fn kings_end_is_recorded()
 pub fn two_unseen_are_not_recorded()
     ensures { TwoUnseenAreNotRecorded }
 {}
+
+/// What `record` writes of honest play: where a whole stream shows a line of moves honestly, the game has exactly these moves.
+pub fn honest_play_is_written()
+    ensures { HonestPlayIsWritten }
+{
+    shows_once();
+}
+
+/// Wherever a recording of honest play ends, and by whatever: the game has all moves that were shown whole, and at most one try
+/// that takes no man.
+pub fn honest_front_is_written()
+    ensures { HonestFrontIsWritten }
+{
+    fronts_show_fronts();
+}
+
+/// The end by the kings, of a whole stream: the game has the moves and the result.
+pub fn kings_end_is_written()
+    ensures { KingsEndIsWritten }
+{
+    shows_once();
+}
 
 /// Reads the text of the game of some events back. The answer is that game; only want of memory can prevent it.
 pub fn read_recorded(alloc: Global, text: &[u8]) -> Result<Game, PgnError>

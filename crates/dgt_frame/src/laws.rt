@@ -1,5 +1,5 @@
-//! Laws of what a stream shows: each stream shows exactly one list of events.
-ghost use Rattle.std.specs.Prelude.{◌≡◌, ℕ, List};
+//! Laws of what a stream shows: each stream shows exactly one list of events, and its first bytes the first of them.
+ghost use Rattle.std.specs.Prelude.{◌≡◌, ◌++◌, ℕ, List};
 ghost use Rattle.dgt_frame.specs.Streams.{Shows, Timed};
 
 use crate::decode::Decoder;
@@ -8,6 +8,12 @@ use crate::decode::Decoder;
 pub fn shows_once()
     ensures { (bytes : List ℕ) (events others : List Timed) (rest other : ℕ)
         → Shows bytes events rest → Shows bytes others other → (events ≡ others) × (rest ≡ other) }
+{}
+
+/// The first bytes of a stream show the first of its events: what was shown is never taken back.
+pub fn fronts_show_fronts()
+    ensures { (bytes more : List ℕ) (events all : List Timed) (rest last : ℕ)
+        → Shows bytes events rest → Shows (bytes ++ more) all last → (later : List Timed) × (all ≡ events ++ later) }
 {}
 
 /// Each stream of bytes shows some events, and leaves some rest.
