@@ -83,6 +83,7 @@ impl Recorder {
             → TakesEvent self.new setting taken offset event result (B.contents (inner_of board.old)) (B.contents (inner_of board.new)) }
         ensures working { OnOk result (has_failed board.new ≡ false) }
         ensures failed { result ≡ Err RecordError.Board → has_failed board.new ≡ true }
+        ensures blamed { has_failed board.new ≡ true → result ≡ Err RecordError.Board }
         ensures refusal { IfErr result IsRefusal }
     {
         let Ok(taken) = self.session.take(event) else {
@@ -125,6 +126,7 @@ impl Recorder {
         ensures hears { Hears self.old self.new piece.now result (B.contents (inner_of board.old)) (B.contents (inner_of board.new)) }
         ensures working { OnOk result (has_failed board.new ≡ false) }
         ensures failed { result ≡ Err RecordError.Board → has_failed board.new ≡ true }
+        ensures blamed { has_failed board.new ≡ true → result ≡ Err RecordError.Board }
         ensures refusal { IfErr result IsRefusal }
     {
         let mut at = 0;
@@ -151,6 +153,8 @@ impl Recorder {
         ensures ok { OnOk result ((has_failed reader.new ≡ false) × (has_failed board.new ≡ false)) }
         ensures read { result ≡ Err RecordError.Read → has_failed reader.new ≡ true }
         ensures board { result ≡ Err RecordError.Board → has_failed board.new ≡ true }
+        ensures reader_blamed { has_failed reader.new ≡ true → result ≡ Err RecordError.Read }
+        ensures board_blamed { has_failed board.new ≡ true → result ≡ Err RecordError.Board }
         ensures cause { result ≢ Err RecordError.Write }
     {
         let mut buffer = [0u8; PIECE];
@@ -189,6 +193,8 @@ impl Recorder {
         ensures ok { OnOk result ((has_failed reader.new ≡ false) × (has_failed board.new ≡ false)) }
         ensures read { result ≡ Err RecordError.Read → has_failed reader.new ≡ true }
         ensures board { result ≡ Err RecordError.Board → has_failed board.new ≡ true }
+        ensures reader_blamed { has_failed reader.new ≡ true → result ≡ Err RecordError.Read }
+        ensures board_blamed { has_failed board.new ≡ true → result ≡ Err RecordError.Board }
         ensures cause { result ≢ Err RecordError.Write }
     {
         send(board, &[SEND_DUMP, SEND_UPDATES])?;

@@ -1,5 +1,5 @@
 //! Recordings: the game of a stream of board bytes, as PGN text.
-ghost use Rattle.std.specs.Prelude.{◌≡◌, ◌≢◌, ◌≤◌, List, ℕ, MatchResult, OnOk, OnErr, IfErr, IfOk, IsOk, Err, true, false};
+ghost use Rattle.std.specs.Prelude.{◌≡◌, ◌≢◌, ◌≤◌, ◌⊎◌, List, ℕ, MatchResult, OnOk, OnErr, IfErr, IfOk, IsOk, Err, true, false};
 ghost use Rattle.std.specs.Io.KnownBytes.{Appends};
 ghost use Rattle.dgt_frame.specs.Decoding.{Decoded};
 ghost use Rattle.dgt_frame.specs.Streams.{Timed};
@@ -98,6 +98,8 @@ fn finish<W: Write>(
     ensures read { result ≡ Err RecordError.Read → ending ≡ Err RecordError.Read }
     ensures board { result ≡ Err RecordError.Board → ending ≡ Err RecordError.Board }
     ensures failed { ending ≢ Err RecordError.Write → result ≡ Err RecordError.Write → has_failed out.new ≡ true }
+    ensures written { result ≢ Err RecordError.Write → has_failed out.new ≡ false }
+    ensures blamed { IfErr ending (λ error. (result ≡ Err error) ⊎ (result ≡ Err RecordError.Write)) }
 {
     let Recorder {
         decoder,
@@ -153,6 +155,11 @@ pub fn record<R: Read, B: Write, W: Write>(
     ensures read { result ≡ Err RecordError.Read → has_failed reader.new ≡ true }
     ensures board { result ≡ Err RecordError.Board → has_failed board.new ≡ true }
     ensures write { result ≡ Err RecordError.Write → has_failed out.new ≡ true }
+
+    // And each stream that has failed is blamed: the output whatever else has failed, else the reader or the board.
+    ensures written { result ≢ Err RecordError.Write → has_failed out.new ≡ false }
+    ensures reader_blamed { has_failed reader.new ≡ true → (result ≡ Err RecordError.Read) ⊎ (result ≡ Err RecordError.Write) }
+    ensures board_blamed { has_failed board.new ≡ true → (result ≡ Err RecordError.Board) ⊎ (result ≡ Err RecordError.Write) }
 {
     // The text's game is the only one: no two games have one text.
     one_game();
