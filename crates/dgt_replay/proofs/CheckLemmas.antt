@@ -12,10 +12,11 @@ pub checked : (input written written' : Option (List ℕ)) (text : List ℕ) (ga
 checked None written written' text game text_is pgn within said = tt
 checked (Some bytes) written written' text game text_is pgn within said = (game, (let P : List ℕ → Type 0 = λ bs. Pgn game bs in subst P text_is pgn), omega (arith, within, ap length text_is), said)
 
-pub no_game : (input : Option (List ℕ)) (text : List ℕ) → IfSome input (λ bytes. text ≡ bytes) → ((game : Content) → Pgn game text → ⊥)
-    → IfSome input (λ bytes. (game : Content) → Pgn game bytes → ⊥)
-no_game None text text_is none = tt
-no_game (Some bytes) text text_is none = let P : List ℕ → Type 0 = λ bs. (game : Content) → Pgn game bs → ⊥ in subst P text_is none
+pub no_game : (input : Option (List ℕ)) (text : List ℕ) → IfSome input (λ bytes. text ≡ bytes) → length text ≤ text_limit → ((game : Content) → Pgn game text → ⊥)
+    → IfSome input (λ bytes. (length bytes ≤ text_limit) × ((game : Content) → Pgn game bytes → ⊥))
+no_game None text text_is within none = tt
+no_game (Some bytes) text text_is within none =
+    let P : List ℕ → Type 0 = λ bs. (length bs ≤ text_limit) × ((game : Content) → Pgn game bs → ⊥) in subst P text_is (within, none)
 
 -- At most so many bytes were read.
 pub read_more : (limit : ℕ) (input now left : Option (List ℕ)) (text piece : List ℕ) → Consumes input now text → Consumes now left piece → length text + length piece ≤ limit + 1 → ReadsWithin limit input left

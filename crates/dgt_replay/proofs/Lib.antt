@@ -1,6 +1,7 @@
 pub mod CheckLemmas
 pub mod CommandLemmas
 pub mod EndLemmas
+pub mod FaultLemmas
 pub mod GatherLemmas
 pub mod LineLemmas
 pub mod MoveLemmas

@@ -1,11 +1,14 @@
 -- What the words of the command line ask for.
-use Rattle.std.specs.Prelude.{◌≡◌, ◌⊎◌, ◌||◌, Bool, List, [], ◌∷◌, codes, Option, Some, MatchOption, IfSome, is_some, true, false, if◌then◌else◌}
+use Rattle.std.specs.Prelude.{◌≡◌, ◌≢◌, ◌⊎◌, ◌||◌, Bool, List, [], ◌∷◌, codes, Option, Some, MatchOption, IfSome, is_some, true, false, if◌then◌else◌}
 use Rattle.std.specs.Option.{option_map_or}
 use Rattle.std.specs.Borrow.{Bor}
 use Rattle.std.specs.Str.{bytes_eq}
 use Rattle.clap.specs.Walk.{Row, Text, first_of, one_of}
 use Rattle.clap.specs.Simple.{subcommand_of}
 use Rattle.clap.specs.Takes.{takes}
+use Rattle.clap.specs.Faults.{fault_of}
+use Rattle.clap.specs.Kinds.{IsAmong}
+use Rattle.clap.specs.declared.error.kind.ErrorKind.TheVariants as kind
 use Rattle.chess_rules.specs.declared.men.Parts.{Parts}
 use Rattle.board_session.specs.declared.recording.Setup.{Setup}
 use Rattle.dgt_replay.specs.declared.listed.Listed.TheVariants.{Events, Pictures}
@@ -36,6 +39,17 @@ AsksFor words choice = MatchOption (subcommand_of replay words) ⊥ (λ found. C
 -- A parse refuses the words, or they ask for nothing that the program does.
 abbrev pub IsRefused : List Text → Type 0
 IsRefused words = (takes replay words ≡ false) ⊎ (option_map_or (λ found. is_choice found.0 found.1) (subcommand_of replay words) false ≡ false)
+
+-- The words ask for help.
+abbrev pub AsksForHelp : List Text → Type 0
+AsksForHelp words = fault_of replay words ≡ kind.DisplayHelp ∷ []
+
+-- The words are mistaken: a parse finds fault with them, or they ask for nothing that the program does; and they don't ask for
+-- help or for a version.
+pub record AreMistaken (words : List Text) : Type 0 where
+  pub fault : (fault_of replay words ≢ []) ⊎ (option_map_or (λ found. is_choice found.0 found.1) (subcommand_of replay words) false ≡ false)
+  pub no_help : IsAmong kind.DisplayHelp (fault_of replay words) → ⊥
+  pub no_version : IsAmong kind.DisplayVersion (fault_of replay words) → ⊥
 
 -- The words ask for this subcommand with these arguments, and are not refused.
 pub record Asks (words : List Text) (name : Text) (rows : List Row) : Type 0 where
@@ -78,3 +92,7 @@ IsCheck words = (name : Text) × (words ≡ name ∷ codes "check" ∷ [])
 -- The words are a program's name, whatever it is, and `moves`.
 abbrev pub IsMoves : List Text → Type 0
 IsMoves words = (name : Text) × (words ≡ name ∷ codes "moves" ∷ [])
+
+-- The words are a program's name, whatever it is, and `--help` or `-h`.
+abbrev pub IsHelp : List Text → Type 0
+IsHelp words = (name : Text) × ((words ≡ name ∷ codes "--help" ∷ []) ⊎ (words ≡ name ∷ codes "-h" ∷ []))

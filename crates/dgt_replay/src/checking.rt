@@ -1,5 +1,5 @@
 //! The subcommand `check`.
-ghost use Rattle.std.specs.Prelude.{◌≡◌, ◌≢◌, ◌<◌, ◌≤◌, ◌⊎◌, Err, IfOk, IfSome, false, true, length};
+ghost use Rattle.std.specs.Prelude.{◌≡◌, ◌≢◌, ◌<◌, ◌≤◌, ◌⊎◌, Err, IfOk, OnOk, IfSome, false, true, length};
 ghost use Rattle.std.specs.Io.KnownBytes.{Keeps};
 ghost use Rattle.dgt_frame.specs.Watched.{inner_of, has_failed};
 ghost use Rattle.dgt_replay.specs.Checked.{ChecksGame, RefusesText};
@@ -32,6 +32,7 @@ fn read_text<R: Read>(alloc: Global, reader: &mut Watch<R>) -> Result<Vec<u8>, T
     ensures within { IfOk result (λ text. length text.items ≤ TEXT_LIMIT) }
     ensures bounded { ReadsWithin TEXT_LIMIT (R.remaining (inner_of reader.old)) (R.remaining (inner_of reader.new)) }
     ensures read { result ≡ Err TextError.Read → has_failed reader.new ≡ true }
+    ensures works { OnOk result (has_failed reader.new ≡ false) }
     ensures long { result ≡ Err TextError.TooLong → IfSome (R.remaining (inner_of reader.old)) (λ bytes. TEXT_LIMIT < length bytes) }
 {
     let mut text = Vec::new(alloc);
@@ -68,6 +69,7 @@ pub fn check<R: Read, O: Write, E: Write>(
         (has_failed reader.new) (has_failed out.new) (has_failed err.new) }
     ensures bounded { ReadsWithin TEXT_LIMIT (R.remaining (inner_of reader.old)) (R.remaining (inner_of reader.new)) }
     ensures silent { (result ≡ 1) ⊎ (result ≡ 4) → Keeps (O.contents (inner_of out.old)) (O.contents (inner_of out.new)) }
+    ensures works { result ≡ 0 → (has_failed reader.new ≡ false) × ((has_failed out.new ≡ false) × (err.new ≡ err.old)) }
     ensures known { result ≤ 4 }
     ensures status { result ≢ 2 }
 {

@@ -1,7 +1,7 @@
 //! What words without options ask for, as the contract of a function that does nothing.
-ghost use Rattle.std.specs.Prelude.{Bool, List, ℕ};
+ghost use Rattle.std.specs.Prelude.{Bool, List, ℕ, [], ◌∷◌, codes};
 ghost use Rattle.chess_rules.specs.Initial.{initial};
-ghost use Rattle.dgt_replay.specs.Choosing.{AsksForMoves, AsksToRecord, IsMoves, IsRecord};
+ghost use Rattle.dgt_replay.specs.Choosing.{AreMistaken, AsksForHelp, AsksForMoves, AsksToRecord, IsHelp, IsMoves, IsRecord};
 ghost use Rattle.dgt_replay.specs.Recorded.{plain_setup};
 
 /// `record` asks for a recording from the initial position, with White's time first and unknown tags, turned where `--rotated`
@@ -9,4 +9,11 @@ ghost use Rattle.dgt_replay.specs.Recorded.{plain_setup};
 pub fn without_options()
     ensures records { (rotated : Bool) (words : List (List ℕ)) → IsRecord rotated words → AsksToRecord words (plain_setup rotated) }
     ensures moves { (words : List (List ℕ)) → IsMoves words → AsksForMoves words initial }
+{}
+
+/// `--help` and `-h` ask for help; the program's name alone is mistaken, and so is a subcommand that the program doesn't have.
+pub fn help_and_mistakes()
+    ensures help { (words : List (List ℕ)) → IsHelp words → AsksForHelp words }
+    ensures nothing { (name : List ℕ) → AreMistaken (name ∷ []) }
+    ensures unknown { (name : List ℕ) → AreMistaken (name ∷ codes "fly" ∷ []) }
 {}

@@ -9,14 +9,14 @@ ghost use Rattle.clap.specs.Values.{kind_of};
 ghost use Rattle.clap.specs.Walk.{Row, first_of};
 ghost use Rattle.dgt_frame.specs.Watched.{inner_of, has_failed};
 ghost use Rattle.dgt_replay.specs.Checked.{ChecksGame, RefusesText, text_limit};
-ghost use Rattle.dgt_replay.specs.Choosing.{Asks, AsksForMoves, AsksForNoMoves, AsksToRecord, AsksToRecordNothing, IsCheck, IsPictures, IsRefused, IsShow};
+ghost use Rattle.dgt_replay.specs.Choosing.{AreMistaken, Asks, AsksForHelp, AsksForMoves, AsksForNoMoves, AsksToRecord, AsksToRecordNothing, IsCheck, IsPictures, IsRefused, IsShow};
 ghost use Rattle.dgt_replay.specs.declared.listed.Listed.{Listed};
 ghost use Rattle.dgt_replay.specs.Listing.{ListingEnds, ReadsWithin};
 ghost use Rattle.dgt_replay.specs.Printed.{PrintsMoves};
 ghost use Rattle.dgt_replay.specs.declared.words.Wishes.{Wishes};
 ghost use Rattle.dgt_replay.specs.Recorded.{EndsFor, Fails, RecordsAndTells, Untouched};
 ghost use Rattle.dgt_replay.specs.SettingUp.{HasNoStart, Meets, MeetsNothing, RefusesSetup, RefusesStart, SetsUpNothing, StartsAt, given, option_of, wished};
-ghost use Rattle.dgt_replay.specs.Telling.{IsTooLong, Says, Tells};
+ghost use Rattle.dgt_replay.specs.Telling.{GivesHelp, IsTooLong, RefusesWords, Says, Tells};
 
 use crate::checking::check;
 use crate::listed::Listed;
@@ -43,6 +43,12 @@ fn refused_words<O: Write, E: Write>(
     requires erring { has_failed err.old ≡ false }
     ensures memory { kind_of error.now ≡ ErrorKind.OutOfMemory → (result ≡ 4) × Keeps (O.contents (inner_of out.old)) (O.contents (inner_of out.new))
         × Says (E.contents (inner_of err.old)) (E.contents (inner_of err.new)) (has_failed err.new) (codes "memory\n") }
+    ensures memory_unwritten { kind_of error.now ≡ ErrorKind.OutOfMemory → out.new ≡ out.old }
+    ensures refuses { kind_of error.now ≢ ErrorKind.DisplayHelp → kind_of error.now ≢ ErrorKind.DisplayVersion → (out.new ≡ out.old)
+        × RefusesWords result (E.contents (inner_of err.old)) (E.contents (inner_of err.new)) (has_failed err.new) }
+    ensures help { kind_of error.now ≡ ErrorKind.DisplayHelp → GivesHelp result (O.contents (inner_of out.old)) (O.contents (inner_of out.new))
+        (E.contents (inner_of err.old)) (E.contents (inner_of err.new)) (has_failed out.new) (has_failed err.new) }
+    ensures works { result ≡ 0 → (has_failed out.new ≡ false) × (has_failed err.new ≡ false) }
     ensures known { result ≤ 4 }
 {
     if matches!(error.kind(), ErrorKind::OutOfMemory) {
@@ -72,6 +78,7 @@ fn list<R: Read, O: Write, E: Write>(
     ensures ends { ListingEnds listed result (R.remaining (inner_of reader.old)) (R.remaining (inner_of reader.new))
         (O.contents (inner_of out.old)) (O.contents (inner_of out.new)) (has_failed reader.new) (has_failed out.new) }
     ensures tells { Tells result IsTooLong (E.contents (inner_of err.old)) (E.contents (inner_of err.new)) (has_failed reader.new) (has_failed out.new) (has_failed err.new) }
+    ensures works { result ≡ 0 → (has_failed reader.new ≡ false) × ((has_failed out.new ≡ false) × (has_failed err.new ≡ false)) }
     ensures status { (result ≡ 0) ⊎ ((result ≡ 1) ⊎ (result ≡ 3)) }
 {
     let done = list_stream(listed, reader, out);
@@ -127,6 +134,8 @@ fn obey<R: Read, O: Write, E: Write>(
     ensures moves_tell { (fen : Option (Bor (List ℕ))) → choice.entry ≡ Choice.Moves fen → Tells result (RefusesStart (given fen))
         (E.contents (inner_of err.old)) (E.contents (inner_of err.new)) false (has_failed out.new) (has_failed err.new) }
     ensures moves_silent { (fen : Option (Bor (List ℕ))) → choice.entry ≡ Choice.Moves fen → result ≡ 4 → Keeps (O.contents (inner_of out.old)) (O.contents (inner_of out.new)) }
+    ensures moves_unread { (fen : Option (Bor (List ℕ))) → choice.entry ≡ Choice.Moves fen → reader.new ≡ reader.old }
+    ensures works { result ≡ 0 → (has_failed reader.new ≡ false) × ((has_failed out.new ≡ false) × (has_failed err.new ≡ false)) }
     ensures known { result ≤ 4 }
     ensures status { result ≢ 2 }
 {
@@ -210,6 +219,18 @@ pub fn run<R: Read, O: Write, E: Write>(
     ensures moves_silent { (start : PartsOf) → AsksForMoves (map string_bytes words.now) start → result ≡ 4 → Keeps (O.contents (inner_of out.old)) (O.contents (inner_of out.new)) }
     ensures moves_tell { (rows : List Row) → Asks (map string_bytes words.now) (codes "moves") rows → Tells result (RefusesStart (first_of (codes "fen") rows))
         (E.contents (inner_of err.old)) (E.contents (inner_of err.new)) false (has_failed out.new) (has_failed err.new) }
+
+    // `moves` reads nothing.
+    ensures moves_unread { (rows : List Row) → Asks (map string_bytes words.now) (codes "moves") rows → reader.new ≡ reader.old }
+
+    // Mistaken words: nothing is read, nothing is written to the output, and the reason alone is said. Help reads nothing.
+    ensures mistaken { AreMistaken (map string_bytes words.now) → (reader.new ≡ reader.old) × ((out.new ≡ out.old)
+        × RefusesWords result (E.contents (inner_of err.old)) (E.contents (inner_of err.new)) (has_failed err.new)) }
+    ensures help { AsksForHelp (map string_bytes words.now) → (reader.new ≡ reader.old) × GivesHelp result (O.contents (inner_of out.old)) (O.contents (inner_of out.new))
+        (E.contents (inner_of err.old)) (E.contents (inner_of err.new)) (has_failed out.new) (has_failed err.new) }
+
+    // Whatever was asked for, status 0 comes only where no stream has failed.
+    ensures works { result ≡ 0 → (has_failed reader.new ≡ false) × ((has_failed out.new ≡ false) × (has_failed err.new ≡ false)) }
 
     // There is no other status, and 2 is for words that are refused.
     ensures known { result ≤ 4 }

@@ -107,6 +107,7 @@ fn record_as<R: Read, O: Write, E: Write>(
         (has_failed reader.new) (has_failed out.new) (has_failed err.new) }
     ensures memory { result ≡ 4 → EndsFor RecordError.Memory setup (R.remaining (inner_of reader.old)) (R.remaining (inner_of reader.new))
         (E.contents (inner_of err.old)) (E.contents (inner_of err.new)) (has_failed err.new) (O.contents (inner_of out.old)) (O.contents (inner_of out.new)) }
+    ensures works { result ≡ 0 → (has_failed reader.new ≡ false) × ((has_failed out.new ≡ false) × (has_failed err.new ≡ false)) }
     ensures known { result ≤ 4 }
     ensures status { result ≢ 2 }
 {
@@ -154,6 +155,7 @@ pub fn record_game<R: Read, O: Write, E: Write>(
         × Untouched (R.remaining (inner_of reader.old)) (R.remaining (inner_of reader.new)) (O.contents (inner_of out.old)) (O.contents (inner_of out.new)) }
     ensures tells { MeetsNothing wishes.now → Tells result (RefusesSetup (given wishes.now.fen) (wished wishes.now))
         (E.contents (inner_of err.old)) (E.contents (inner_of err.new)) false false (has_failed err.new) }
+    ensures works { result ≡ 0 → (has_failed reader.new ≡ false) × ((has_failed out.new ≡ false) × (has_failed err.new ≡ false)) }
     ensures known { result ≤ 4 }
     ensures status { result ≢ 2 }
 {

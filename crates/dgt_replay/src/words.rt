@@ -1,5 +1,7 @@
 //! What the words of the command line ask for.
-ghost use Rattle.std.specs.Prelude.{◌≡◌, ◌⊎◌, Some, None, map, string_bytes, codes, IfOk, IfErr, IfSome, MatchOption, is_some, option_map};
+ghost use Rattle.std.specs.Prelude.{◌≡◌, ◌⊎◌, Some, None, map, string_bytes, codes, IfOk, IfErr, IfSome, MatchOption, OnOk, [], is_some, option_map};
+ghost use Rattle.clap.specs.Faults.{fault_of};
+ghost use Rattle.clap.specs.Kinds.{IsAmong};
 ghost use Rattle.clap.specs.Values.{kind_of};
 ghost use Rattle.clap.specs.Matches.{first_value, found_of};
 ghost use Rattle.clap.specs.Simple.{App, app_of, new_app, subcommand_rows_of};
@@ -241,6 +243,9 @@ fn choice_of<'a>(matches: &ArgMatches<'a>) -> Option<Choice<'a>>
 pub fn read_words<'a>(alloc: Global, words: &'a [String]) -> Result<Choice<'a>, Error>
     ensures chooses { IfOk result (λ choice. AsksFor (map string_bytes words.entry.now) choice) }
     ensures refused { IfErr result (λ error. (kind_of error ≡ ErrorKind.OutOfMemory) ⊎ IsRefused (map string_bytes words.entry.now)) }
+    ensures faultless { OnOk result (fault_of replay (map string_bytes words.entry.now) ≡ []) }
+    ensures fault { IfErr result (λ error. (kind_of error ≡ ErrorKind.OutOfMemory) ⊎ (IsAmong (kind_of error) (fault_of replay (map string_bytes words.entry.now))
+        ⊎ ((fault_of replay (map string_bytes words.entry.now) ≡ []) × (kind_of error ≡ ErrorKind.InvalidValue)))) }
 {
     let mut command = command(alloc)?;
     let matches = match command.try_get_matches_from_mut(words) {

@@ -29,7 +29,7 @@ returns-clause-passes g c done =
 pub returns-in-Err-NotExport-clause-tells : goal.returns-in-Err-NotExport-clause-tells
 returns-in-Err-NotExport-clause-tells g c =
     let input = g.R.Read.remaining (inner_of c.args.reader.now) in
-    let none = no_game input c.in-Ok.text.items c.in-Ok.ensures.whole
+    let none = no_game input c.in-Ok.text.items c.in-Ok.ensures.whole c.in-Ok.ensures.within
     (λ game pgn.
     let P : List ℕ → Type 0 = λ bs. Pgn game bs in
     let memory = c.in-Err-NotExport.ensures.only game (subst P (sym c.as_slice.ensures.value) pgn) in

@@ -37,4 +37,4 @@ pieces-preserved g c =
     Consumes-trans input (g.R.Read.remaining (inner_of c.pieces.reader)) left c.pieces.text.items piece c.pieces.invariant.read c.in-Ok.ensures.bytes.0 in
     let text_is : c.extend_from_slice.new.self.items ≡ c.pieces.text.items ++ piece =
     c.extend_from_slice.ensures.items ∙ if_ok c.extend_from_slice.result (c.pieces.text.items ++ piece) c.pieces.text.items (sym c.is_err.ensures.value ∙ c.if-is_err.false) in
-    record { within = search rules; read = rw text_is next }
+    record { working = search rules; within = search rules; read = rw text_is next }

@@ -1,4 +1,5 @@
-use Rattle.std.proofs.Common.{ℕ, List, Option, codes, map, string_bytes, inl, inr, arith}
+use Rattle.std.proofs.Common.{ℕ, List, Option, codes, map, string_bytes, inl, inr, refl, arith}
+use Rattle.clap.specs.Values.{kind_of}
 use Rattle.clap.specs.Walk.{first_of}
 use Rattle.std.proofs.KnownBytes.{Keeps-refl}
 use Rattle.dgt_frame.specs.Watched.{inner_of, has_failed}
@@ -8,7 +9,8 @@ use Rattle.dgt_replay.specs.Checked.{RefusesText}
 use Rattle.dgt_replay.specs.SettingUp.{RefusesSetup, RefusesStart, given, option_of, wished}
 use Rattle.dgt_replay.specs.Telling.{IsTooLong}
 use Rattle.dgt_replay.proofs.EndLemmas.{ends_for_memory}
-use Rattle.dgt_replay.proofs.SayingLemmas.{tells_alike, tells_memory}
+use Rattle.dgt_replay.proofs.FaultLemmas.{help_has_fault, help_kind, mistaken_asks_nothing, mistaken_kind}
+use Rattle.dgt_replay.proofs.SayingLemmas.{help_out_of_memory, tells_alike, tells_memory}
 use Rattle.dgt_replay.proofs.SettingLemmas.{meets_nothing, refuses_alike, refuses_start_alike}
 use Rattle.dgt_replay.proofs.WordLemmas.{check_unrefused, chooses_check, chooses_list, chooses_moves, chooses_no_moves, chooses_no_setup, chooses_pictures, chooses_record, chooses_show, lists_unrefused, moves_chosen, moves_unrefused, no_moves_unrefused, no_setup_unrefused, or_refused, pictures_unrefused, record_chosen, record_unrefused, show_unrefused, unrefused}
 use Rattle.dgt_replay.proofs.program.run.Goals as goal
@@ -190,3 +192,30 @@ returns-in-Ok-clause-refusal_tells g c rows asks nothing =
     tells_alike c.obey.result (RefusesSetup (given wishes.fen) (wished wishes)) (RefusesSetup (first_of (codes "fen") rows) text) _ _ _ _ _
     (λ words refuses. refuses_alike (given wishes.fen) (first_of (codes "fen") rows) (wished wishes) text wants.fen wants.tags words refuses)
     (c.obey.ensures.refusal_tells wishes chosen.1 (meets_nothing rows wishes wants nothing))
+
+pub returns-in-Ok-clause-moves_unread : goal.returns-in-Ok-clause-moves_unread
+returns-in-Ok-clause-moves_unread g c rows asks =
+    let chosen = moves_chosen (map string_bytes c.args.words.now) rows c.in-Ok.choice asks c.in-Ok.ensures.chooses in
+    c.obey.ensures.moves_unread chosen.0 chosen.1
+
+pub returns-in-Err-clause-mistaken : goal.returns-in-Err-clause-mistaken
+returns-in-Err-clause-mistaken g c mistaken =
+    let words = map string_bytes c.args.words.now in
+    elim c.in-Err.ensures.fault [
+      | inl memory ↦ (let ended = c.refused_words.ensures.memory memory in (refl, (c.refused_words.ensures.memory_unwritten memory, inr (ended.0, ended.2))))
+      | inr fault ↦ (let other = mistaken_kind words (kind_of c.in-Err.error) mistaken fault in (refl, c.refused_words.ensures.refuses other.0 other.1))
+    ]
+
+pub returns-in-Ok-clause-mistaken : goal.returns-in-Ok-clause-mistaken
+returns-in-Ok-clause-mistaken g c mistaken = absurd (mistaken_asks_nothing (map string_bytes c.args.words.now) c.in-Ok.choice mistaken c.in-Ok.ensures.faultless c.in-Ok.ensures.chooses)
+
+pub returns-in-Err-clause-help : goal.returns-in-Err-clause-help
+returns-in-Err-clause-help g c asks =
+    let words = map string_bytes c.args.words.now in
+    elim c.in-Err.ensures.fault [
+      | inl memory ↦ (let ended = c.refused_words.ensures.memory memory in (refl, help_out_of_memory c.refused_words.result _ _ _ _ _ _ ended.0 ended.1 ended.2))
+      | inr fault ↦ (refl, c.refused_words.ensures.help (help_kind words (kind_of c.in-Err.error) asks fault))
+    ]
+
+pub returns-in-Ok-clause-help : goal.returns-in-Ok-clause-help
+returns-in-Ok-clause-help g c asks = absurd (help_has_fault (map string_bytes c.args.words.now) asks c.in-Ok.ensures.faultless)

@@ -5,6 +5,7 @@ use Rattle.clap.specs.Simple.{app_of, subcommand_of, subcommand_rows_of}
 use Rattle.clap.specs.Takes.{takes}
 use Rattle.dgt_replay.specs.Choosing.{Chooses}
 use Rattle.dgt_replay.specs.Command.{replay}
+use Rattle.dgt_replay.proofs.FaultLemmas.{fault_found, none_found}
 use Rattle.dgt_replay.proofs.WordLemmas.{asks_for, asks_for_none, not_taken, rows_found}
 use Rattle.dgt_replay.proofs.words.read_words.Goals as goal
 
@@ -26,3 +27,14 @@ returns-in-Ok-error-clause-refused c =
     let found : subcommand_rows_of c.in-Ok.matches ≡ subcommand_of replay words = rows_found (app_of c.in_ok-command.command) words c.in-Ok.matches c.in_ok-command.ensures c.in-Ok.ensures.ok.2 in
     let P : Option (Text × List Row) → Type 0 = λ rows. MatchOption rows (c.choice_of.result ≡ None) (λ f. Chooses f.0 f.1 c.choice_of.result) in
     inr (inr (asks_for_none (subcommand_of replay words) c.choice_of.result (subst P found c.choice_of.ensures) c.in_default.is))
+
+pub returns-in-Err-clause-fault : goal.returns-in-Err-clause-fault
+returns-in-Err-clause-fault c = fault_found (app_of c.in_ok-command.command) (map string_bytes c.args.words.now) c.in-Err.error c.in_ok-command.ensures c.in-Err.ensures.kinds
+
+pub returns-in-Some-clause-faultless : goal.returns-in-Some-clause-faultless
+returns-in-Some-clause-faultless c = none_found (app_of c.in_ok-command.command) (map string_bytes c.args.words.now) c.in_ok-command.ensures c.in-Ok.ensures.kinds
+
+pub returns-in-Ok-error-clause-fault : goal.returns-in-Ok-error-clause-fault
+returns-in-Ok-error-clause-fault c =
+    let none = none_found (app_of c.in_ok-command.command) (map string_bytes c.args.words.now) c.in_ok-command.ensures c.in-Ok.ensures.kinds in
+    inr (inr (none, c.in-Ok-error.ensures.kind))
