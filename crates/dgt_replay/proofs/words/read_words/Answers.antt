@@ -20,9 +20,9 @@ returns-in-Some-clause-chooses c =
     let P : Option (Text × List Row) → Type 0 = λ rows. MatchOption rows (c.choice_of.result ≡ None) (λ f. Chooses f.0 f.1 c.choice_of.result) in
     asks_for (subcommand_of replay words) c.choice_of.result c.in-Some.choice (subst P found c.choice_of.ensures) c.in-Some.is
 
-pub returns-in-Ok-error-clause-refused : goal.returns-in-Ok-error-clause-refused
-returns-in-Ok-error-clause-refused c =
+pub returns-clause-refused : goal.returns-clause-refused
+returns-clause-refused c =
     let words = map string_bytes c.args.words.now in
     let found : subcommand_rows_of c.in-Ok.matches ≡ subcommand_of replay words = rows_found (app_of c.in_ok-command.command) words c.in-Ok.matches c.in_ok-command.ensures c.in-Ok.ensures.ok.2 in
     let P : Option (Text × List Row) → Type 0 = λ rows. MatchOption rows (c.choice_of.result ≡ None) (λ f. Chooses f.0 f.1 c.choice_of.result) in
-    inr (inr (asks_for_none (subcommand_of replay words) c.choice_of.result (subst P found c.choice_of.ensures) c.in_default.is))
+    inr (inr (asks_for_none (subcommand_of replay words) c.choice_of.result (subst P found c.choice_of.ensures) c.in-None.is))
