@@ -2,4 +2,14 @@
 #![tactic(auto)]
 
 #[cfg(test)]
+mod hands;
+#[cfg(test)]
+mod rows;
+#[cfg(test)]
+mod stops;
+#[cfg(test)]
+mod streams;
+#[cfg(test)]
 mod tests;
+#[cfg(test)]
+mod words;
