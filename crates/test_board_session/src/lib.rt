@@ -4,8 +4,6 @@
 #[cfg(test)]
 mod hands;
 #[cfg(test)]
-mod rows;
-#[cfg(test)]
 mod stops;
 #[cfg(test)]
 mod streams;
