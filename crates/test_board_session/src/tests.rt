@@ -1,148 +1,13 @@
 //! Recordings over streams in memory. The expected texts, reports and board bytes are worked by hand from the formats.
 ghost use Rattle.board_session.specs.Looking.{IsInRange};
 
+use crate::streams::{Bytes, OPENING, Sink, Source, Streams, WORKING, answer_leaving, setup, text};
 use board_session::laws::read_recorded;
-use board_session::{RecordError, Report, Session, Setup, Taken, record};
+use board_session::{RecordError, Report, Session, Taken, record};
 use chess_rules::Position;
 use dgt_frame::{Event, FaultKind, First, Message, Watch};
-use pgn_book::Tags;
 use settle_core::Seen;
 use std::alloc::Global;
-use std::io::{self, ErrorKind, Read, Write};
-
-/// Bytes in a fixed array. What finds no room is left out.
-#[derive(Drop)]
-struct Bytes {
-    held: [u8; 512],
-    len: usize,
-}
-
-impl Bytes {
-    fn of(parts: &[&[u8]]) -> Bytes {
-        let mut bytes = Bytes {
-            held: [0; 512],
-            len: 0,
-        };
-        for part in parts {
-            bytes.add(part);
-        }
-        bytes
-    }
-
-    fn add(&mut self, more: &[u8]) {
-        for byte in more {
-            if let Some(place) = self.held.get_mut(self.len) {
-                *place = *byte;
-                self.len = self.len.saturating_add(1);
-            }
-        }
-    }
-
-    fn get(&self) -> &[u8] {
-        self.front(self.len)
-    }
-
-    /// The first so many bytes.
-    fn front(&self, len: usize) -> &[u8] {
-        match self.held.get(..len) {
-            Some(bytes) => bytes,
-            None => &[],
-        }
-    }
-}
-
-/// Gives bytes in pieces, and then fails or ends.
-#[derive(Drop)]
-struct Source<'a> {
-    bytes: &'a [u8],
-    at: usize,
-    piece: usize,
-    fails: bool,
-}
-
-impl<'a> Source<'a> {
-    fn new(bytes: &'a Bytes, piece: usize, fails: bool) -> Source<'a> {
-        Source {
-            bytes: bytes.get(),
-            at: 0,
-            piece,
-            fails,
-        }
-    }
-}
-
-impl Read for Source<'_> {
-    fn read(&mut self, buf: &mut [u8]) -> io::Result<usize> {
-        let mut count = 0;
-        for place in buf.iter_mut() {
-            let Some(byte) = self.bytes.get(self.at) else {
-                break;
-            };
-            if count >= self.piece {
-                break;
-            }
-            *place = *byte;
-            self.at = self.at.saturating_add(1);
-            count += 1;
-        }
-        if count == 0 && self.fails {
-            return Err(io::Error::from(ErrorKind::BrokenPipe));
-        }
-        Ok(count)
-    }
-}
-
-/// Takes so many bytes and then fails. What isn't flushed doesn't show.
-#[derive(Drop)]
-struct Sink {
-    bytes: Bytes,
-    shown: usize,
-    room: usize,
-}
-
-impl Sink {
-    fn new(room: usize) -> Sink {
-        Sink {
-            bytes: Bytes::of(&[]),
-            shown: 0,
-            room,
-        }
-    }
-
-    fn shows(&self, text: &[u8]) -> bool {
-        match self.bytes.held.get(..self.shown) {
-            Some(shown) => shown == text,
-            None => false,
-        }
-    }
-
-    fn holds(&self, text: &[u8]) -> bool {
-        self.bytes.get() == text
-    }
-}
-
-impl Write for Sink {
-    fn write(&mut self, buf: &[u8]) -> io::Result<usize> {
-        let mut count = 0;
-        for byte in buf {
-            if self.room == 0 {
-                break;
-            }
-            self.room -= 1;
-            self.bytes.add(&[*byte]);
-            count += 1;
-        }
-        if count == 0 && !buf.is_empty() {
-            return Err(io::Error::from(ErrorKind::BrokenPipe));
-        }
-        Ok(count)
-    }
-
-    fn flush(&mut self) -> io::Result<()> {
-        self.shown = self.bytes.len;
-        Ok(())
-    }
-}
 
 const INITIAL: [u8; 67] = [
     0x86, 0x00, 0x43, 8, 9, 10, 12, 11, 10, 9, 8, 7, 7, 7, 7, 7, 7, 7, 7, 0, 0, 0, 0, 0, 0, 0, 0,
@@ -189,22 +54,6 @@ const BAD_TIME: [u8; 10] = [0x8D, 0x00, 0x0A, 0x00, 0x70, 0x00, 0x00, 0x30, 0x00
 
 const NO_CLOCK: [u8; 10] = [0x8D, 0x00, 0x0A, 0x01, 0x30, 0x00, 0x01, 0x29, 0x59, 0x20];
 
-const ROSTER: &[u8] =
-    b"[Event \"?\"]\n[Site \"?\"]\n[Date \"????.??.??\"]\n[Round \"?\"]\n[White \"?\"]\n[Black \"?\"]\n[Result \"";
-
-fn text(marker: &[u8], movetext: &[u8]) -> Bytes {
-    Bytes::of(&[ROSTER, marker, b"\"]\n\n", movetext, b"\n\n"])
-}
-
-fn setup(alloc: Global, first: First, rotated: bool) -> Setup {
-    Setup {
-        start: Position::initial(),
-        first,
-        rotated,
-        tags: Tags::new(alloc),
-    }
-}
-
 /// The parts of a capture, how it is recorded, and what is to be recorded of it.
 #[derive(Clone, Copy)]
 struct Row<'a> {
@@ -227,7 +76,7 @@ impl Row<'_> {
     }
 
     fn text(&self) -> Bytes {
-        text(self.marker, self.movetext)
+        text(b"", self.marker, self.movetext)
     }
 
     fn report(&self) -> Report {
@@ -241,26 +90,6 @@ impl Row<'_> {
     }
 }
 
-/// How far the streams of a recording work.
-#[derive(Clone, Copy)]
-struct Streams {
-    /// So many bytes come with a read.
-    piece: usize,
-    /// After all bytes a read fails.
-    fails: bool,
-    /// So many bytes find room in the board's stream.
-    board_room: usize,
-    /// So many bytes find room in the output.
-    out_room: usize,
-}
-
-const WORKING: Streams = Streams {
-    piece: 4096,
-    fails: false,
-    board_room: 512,
-    out_room: 512,
-};
-
 /// Over these streams this is answered, and the board's stream and the output then show exactly what the row says.
 fn leaves(
     alloc: Global,
@@ -268,21 +97,14 @@ fn leaves(
     streams: Streams,
     answer: Result<Report, RecordError>,
 ) -> bool {
-    let bytes = row.bytes();
-    let mut reader = Watch::new(Source::new(&bytes, streams.piece, streams.fails));
-    let mut board = Watch::new(Sink::new(streams.board_room));
-    let mut out = Watch::new(Sink::new(streams.out_room));
-    let setup = setup(alloc, row.first, row.rotated);
-    let got = record(alloc, setup, &mut reader, &mut board, &mut out);
-    got == answer && board.inner().shows(row.sent) && out.inner().shows(row.text().get())
+    let setup = setup(alloc, Position::initial(), row.first, row.rotated);
+    answer_leaving(alloc, setup, &row.bytes(), streams, row.sent, &row.text()) == Some(answer)
 }
 
 /// With so many bytes a read, what is recorded is what the row says.
 fn holds(alloc: Global, row: &Row<'_>, piece: usize) -> bool {
     leaves(alloc, row, Streams { piece, ..WORKING }, Ok(row.report()))
 }
-
-const OPENING: &[u8] = &[0x42, 0x4B];
 
 /// No byte from the initial position, White's time first, not rotated.
 const NOTHING: Row<'static> = Row {
@@ -552,14 +374,14 @@ fn fills(alloc: Global, fails: bool, room: usize) -> bool {
     let mut reader = Watch::new(Source::new(&bytes, 4096, fails));
     let mut board = Watch::new(Sink::new(512));
     let mut out = Watch::new(Sink::new(room));
-    let setup = setup(alloc, row.first, row.rotated);
+    let setup = setup(alloc, Position::initial(), row.first, row.rotated);
     let got = record(alloc, setup, &mut reader, &mut board, &mut out);
     got == Err(RecordError::Write) && out.inner().holds(row.text().front(room))
 }
 
 /// The least room for which an output has something else, all bytes being read and then a read failing or not.
 fn first_room_failing(alloc: Global, fails: bool) -> Option<usize> {
-    for room in 0..KINGS_PAWN_OPENING.text().len {
+    for room in 0..KINGS_PAWN_OPENING.text().get().len() {
         if !fills(alloc, fails, room) {
             return Some(room);
         }

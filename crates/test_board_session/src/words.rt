@@ -1,0 +1,143 @@
+//! Games told in words, and what is recorded of them.
+//!
+//! A line with a colon begins a game: what it shows, and the FEN of its start, or nothing for the initial position. The board
+//! sends the start's dump. Each line below it tells what the board sends next and, behind `=`, the movetext if it ends there:
+//!
+//! | Word | What the board sends, with the letters of a FEN |
+//! |---|---|
+//! | `e2-` | the update of e2, which is empty now |
+//! | `e4P` | the update of e4, which shows a white pawn now |
+//! | `8/8/8/8/8/8/8/8`, a placement | its dump |
+//! | `01:30:00-01:29:59` | a time message, White's time first |
+//! | `,` | nothing: it divides the words for a reader |
+
+use crate::streams::{Bytes, OPENING, WORKING, answer_leaving, setup, text};
+use chess_rules::Position;
+use chess_text::read_fen;
+use dgt_frame::First;
+use std::alloc::Global;
+
+/// The letters of the piece codes from 0 on.
+const LETTERS: &[u8] = b"-PRNBKQprnbkq";
+
+fn code_of(letter: u8) -> u8 {
+    let mut code: u8 = 0;
+    for other in LETTERS {
+        if *other == letter {
+            return code;
+        }
+        code = code.saturating_add(1);
+    }
+    0
+}
+
+/// The codes of a placement, in the order of the squares from a8 to h1.
+fn codes_of(placement: &[u8]) -> [u8; 64] {
+    let mut codes = [0; 64];
+    let mut at: usize = 0;
+    for letter in placement {
+        let digit = letter.saturating_sub(b'0');
+        if *letter == b'/' {} else if *letter >= b'1' && digit <= 8 {
+            at = at.saturating_add(digit as usize);
+        } else {
+            if let Some(code) = codes.get_mut(at) {
+                *code = code_of(*letter);
+            }
+            at = at.saturating_add(1);
+        }
+    }
+    codes
+}
+
+/// Adds the bytes of two times: each two digits are one byte.
+fn add_times(bytes: &mut Bytes, times: &[u8]) {
+    let mut byte: u8 = 0;
+    for letter in times {
+        if *letter >= b'0' && *letter <= b'9' {
+            byte = byte.saturating_mul(16).saturating_add(*letter - b'0');
+        } else {
+            bytes.add(&[byte]);
+            byte = 0;
+        }
+    }
+    bytes.add(&[byte]);
+}
+
+/// Adds what the word says.
+fn add_word(bytes: &mut Bytes, word: &[u8]) {
+    match word {
+        [_] => {}
+        [file, rank, man] => {
+            let column = file.saturating_sub(b'a').min(7);
+            let row = b'8'.saturating_sub(*rank).min(7);
+            bytes.add(&[0x8E, 0x00, 0x05, row * 8 + column, code_of(*man)]);
+        }
+        [_, _, b':', ..] => {
+            bytes.add(&[0x8D, 0x00, 0x0A]);
+            add_times(bytes, word);
+            bytes.add(&[0]);
+        }
+        _ => {
+            bytes.add(&[0x86, 0x00, 0x43]);
+            bytes.add(&codes_of(word));
+        }
+    }
+}
+
+fn start_of(fen: &[u8]) -> Option<Position> {
+    if fen.is_empty() {
+        Some(Position::initial())
+    } else {
+        read_fen(fen).ok()
+    }
+}
+
+/// The dump of the start's position.
+fn first_dump(fen: &[u8]) -> Bytes {
+    match start_of(fen) {
+        Some(start) => Bytes::of(&[&[0x86, 0x00, 0x43], &start.picture()]),
+        None => Bytes::of(&[]),
+    }
+}
+
+/// The text with this movetext, whose last word is the value of the result tag too.
+fn text_with(fen: &[u8], movetext: &str) -> Bytes {
+    let mut marker: &[u8] = b"";
+    for word in movetext.split_whitespace() {
+        marker = word.as_bytes();
+    }
+    text(fen, marker, movetext.as_bytes())
+}
+
+/// The game that is recorded of these bytes has this movetext, and no dump was asked for.
+fn is_recorded(alloc: Global, fen: &[u8], bytes: &Bytes, movetext: &str) -> bool {
+    let Some(start) = start_of(fen) else {
+        return false;
+    };
+    let setup = setup(alloc, start, First::White, false);
+    let text = text_with(fen, movetext);
+    match answer_leaving(alloc, setup, bytes, WORKING, OPENING, &text) {
+        Some(answer) => answer.is_ok(),
+        None => false,
+    }
+}
+
+/// The first line after which something else is recorded.
+pub fn first_failing<'a>(alloc: Global, games: &'a str) -> Option<&'a str> {
+    let mut fen: &[u8] = b"";
+    let mut bytes = Bytes::of(&[]);
+    for line in games.lines() {
+        if let Some((words, movetext)) = line.split_once('=') {
+            for word in words.split_whitespace() {
+                add_word(&mut bytes, word.as_bytes());
+            }
+            if !is_recorded(alloc, fen, &bytes, movetext.trim()) {
+                return Some(line);
+            }
+        } else if let Some((_, start)) = line.split_once(':') {
+            fen = start.trim().as_bytes();
+            bytes = first_dump(fen);
+        }
+    }
+    None
+}
