@@ -2,10 +2,7 @@
 use Rattle.std.proofs.Common.{◌≡◌, ◌≢◌, ◌⊎◌, inl, inr, ◌+◌, ◌≤◌, Bool, true, false, List, [], ◌∷◌, length, reverse, Option, Some, None, ◌++◌, refl, sym, ap, subst, ◌∙◌, arith}
 use Rattle.std.proofs.lemmas.List.{append-nil, length-reverse, reverse-reverse}
 use Rattle.chess_rules.specs.declared.men.Parts.{Parts}
-use Rattle.chess_rules.specs.declared.men.Move.{Move}
-use Rattle.chess_rules.specs.After.{after}
-use Rattle.chess_rules.specs.Legal.{Legal, Mated, Stale}
-use Rattle.chess_rules.specs.Picture.{picture}
+use Rattle.chess_rules.specs.Legal.{Mated, Stale}
 use Rattle.chess_rules.specs.Valid.{Valid}
 use Rattle.dgt_frame.specs.declared.events.Event.{Event}
 use Rattle.settle_core.specs.declared.game.Ply.{Ply}
@@ -15,11 +12,9 @@ use Rattle.settle_core.specs.Ending.{IsResult}
 use Rattle.settle_core.specs.Entries.{Entry, repeats, unstuttered}
 use Rattle.settle_core.specs.Folding.{Folds, Score, moves_of, score_of}
 use Rattle.settle_core.specs.Laws.{GivesScore, joined}
-use Rattle.settle_core.specs.Settling.{position_after, reached}
+use Rattle.settle_core.specs.Settling.{position_after}
 use Rattle.settle_core.proofs.Fronts.{honest_stops}
 use Rattle.settle_core.proofs.Lines.{honest_clocks, honest_play}
-use Rattle.settle_core.proofs.Lists.{position_in_order}
-use Rattle.settle_core.proofs.Skipping.{two_unseen_change_nothing}
 use Rattle.settle_core.proofs.Waiting.{kings_end}
 use Rattle.settle_core.specs.Showing.{HasWhole, shown_plies}
 use Rattle.settle_core.proofs.Once.{folds_once, no_entry_gives_two}
@@ -27,8 +22,7 @@ use Rattle.pgn_book.specs.Games.{Content, Result}
 use Rattle.pgn_book.specs.Values.{TagValues}
 use Rattle.board_session.specs.Entering.{entry_at, is_entry}
 use Rattle.board_session.specs.Gaming.{GivesOneEach}
-use Rattle.board_session.specs.Laws.{EventsTellTheGame, HonestClocksAreRecorded, HonestPlayIsRecorded, HonestStopIsRecorded, KingsEndIsRecorded, NoEventGivesTwo, TwoUnseenAreNotRecorded}
-use Rattle.board_session.specs.Looking.{picture_of}
+use Rattle.board_session.specs.Laws.{EventsTellTheGame, HonestClocksAreRecorded, HonestPlayIsRecorded, HonestStopIsRecorded, KingsEndIsRecorded, NoEventGivesTwo}
 use Rattle.board_session.specs.Settings.{Setting}
 use Rattle.board_session.specs.Standing.{entries_in}
 
@@ -150,46 +144,3 @@ kings_end_is_recorded setting tags past game moves lists clearing later kings ou
       sym (reverse-reverse game.plies) ∙ ap (λ (s : Score). reverse s.plies) one ∙ reverse-reverse plies,
       subst R (ap (λ (s : Score). s.sign) one) is.result_is,
     )
-
--- an entry with the picture after two unseen plies leaves the score, counted or not
-unseen_entry : (start : Parts) (entry : Entry) (past : List Entry) (before score : Score) (m reply : Move) (again : Bool) → repeats entry.picture past ≡ again
-    → Valid start → Folds start (unstuttered past) before
-    → Legal (reached start (moves_of before.plies)) m → Legal (after (reached start (moves_of before.plies)) m) reply
-    → entry.picture ≡ picture (after (after (reached start (moves_of before.plies)) m) reply)
-    → Folds start (unstuttered (entry ∷ past)) score → Folds start (unstuttered past) score
-unseen_entry start entry past before score m reply true e valid h lm ln shows k =
-    let same : unstuttered (entry ∷ past) ≡ unstuttered past = rw e refl in
-    rw same at k
-unseen_entry start entry past before score m reply false e valid h lm ln shows k =
-    let more : unstuttered (entry ∷ past) ≡ entry ∷ unstuttered past = rw e refl in
-    let one : score ≡ before = two_unseen_change_nothing start (unstuttered past) entry before score m reply valid h lm ln shows (rw more at k) in
-    let P : Score → Type 0 = λ s. Folds start (unstuttered past) s in
-    subst P (sym one) h
-
-unseen_event : (setting : Setting) (past : List Event) (event : Event) (before score : Score) (m reply : Move) (given : Bool) → is_entry event past ≡ given
-    → Valid setting.start → Folds setting.start (unstuttered (entries_in setting past)) before
-    → Legal (reached setting.start (moves_of before.plies)) m → Legal (after (reached setting.start (moves_of before.plies)) m) reply
-    → picture_of setting.rotated (event ∷ past) ≡ picture (after (after (reached setting.start (moves_of before.plies)) m) reply)
-    → Folds setting.start (unstuttered (entries_in setting (event ∷ past))) score
-    → Folds setting.start (unstuttered (entries_in setting past)) score
-unseen_event setting past event before score m reply true e valid h lm ln shows k =
-    let entry = entry_at setting.first setting.rotated (event ∷ past) in
-    let are : entries_in setting (event ∷ past) ≡ entry ∷ entries_in setting past = rw e refl in
-    unseen_entry setting.start entry (entries_in setting past) before score m reply (repeats entry.picture (entries_in setting past)) refl valid h lm ln shows (rw are at k)
-unseen_event setting past event before score m reply false e valid h lm ln shows k =
-    let are : entries_in setting (event ∷ past) ≡ entries_in setting past = rw e refl in
-    rw are at k
-
-pub two_unseen_are_not_recorded : TwoUnseenAreNotRecorded
-two_unseen_are_not_recorded setting tags past event before game m reply valid h lm ln shows k =
-    let plies : List Ply = reverse before.plies in
-    let at : position_after setting.start (moves_of before.plies) ≡ reached setting.start (moves_of plies) =
-    ap (λ (ps : List Ply). position_after setting.start (moves_of ps)) (sym (reverse-reverse before.plies)) ∙ position_in_order setting.start plies in
-    let L : Parts → Type 0 = λ p. Legal p m in
-    let R : Parts → Type 0 = λ p. Legal (after p m) reply in
-    let S : Parts → Type 0 = λ p. picture_of setting.rotated (event ∷ past) ≡ picture (after (after p m) reply) in
-    let folds : Folds setting.start (unstuttered (entries_in setting past)) (score_of game.plies k.sign) =
-    unseen_event setting past event (score_of before.plies h.sign) (score_of game.plies k.sign) m reply (is_entry event past) refl valid h.folds
-    (subst L at lm) (subst R at ln) (subst S at shows) k.folds in
-    events_tell_the_game setting tags past game before valid
-    (record { sign = k.sign; tags_are = k.tags_are; start_is = k.start_is; folds = folds; line = k.line; result_is = k.result_is }) h

@@ -8,4 +8,5 @@ pub mod ReadLemmas
 pub mod RecordLemmas
 pub mod StreamLemmas
 pub mod TakeLemmas
+pub mod UnseenLemmas
 pub mod ViewLemmas

@@ -19,6 +19,7 @@ use Rattle.settle_core.specs.Settling.{Line, position_after}
 use Rattle.settle_core.specs.Showing.{AllPass, AllRest, HasWhole, IsFront, ShownEach, shown_plies}
 use Rattle.settle_core.specs.Sign.{IsSign}
 use Rattle.settle_core.specs.declared.game.Outcome.{Outcome}
+use Rattle.settle_core.specs.declared.game.Ply.{Ply}
 use Rattle.pgn_book.specs.Games.{Content, Result}
 use Rattle.pgn_book.specs.Pgn.{Pgn}
 use Rattle.pgn_book.specs.Values.{TagValues}
@@ -133,6 +134,25 @@ TwoUnseenAreNotRecorded = (setting : Setting) (tags : TagValues) (past : List Ev
     → picture_of setting.rotated (event ∷ past) ≡ picture (after (after (position_after setting.start (moves_of before.plies)) m) reply)
     → IsGameOf game setting tags (event ∷ past)
     → game ≡ before
+
+-- The plies have another last one, and the same ones before it.
+pub record HasAnotherLast (before plies : List Ply) : Type 0 where
+  pub earlier : List Ply
+  pub old : Ply
+  pub new : Ply
+  pub was : before ≡ earlier ++ old ∷ []
+  pub is : plies ≡ earlier ++ new ∷ []
+
+-- Where three plies were not seen, the event after them adds no move: the game is as it was, or its last move is corrected.
+abbrev pub ThreeUnseenAddNothing : Type 0
+ThreeUnseenAddNothing = (setting : Setting) (tags : TagValues) (past : List Event) (event : Event) (before game : Content) (m reply next : Move)
+    → Valid setting.start → IsGameOf before setting tags past
+    → Legal (position_after setting.start (moves_of before.plies)) m
+    → Legal (after (position_after setting.start (moves_of before.plies)) m) reply
+    → Legal (after (after (position_after setting.start (moves_of before.plies)) m) reply) next
+    → picture_of setting.rotated (event ∷ past) ≡ picture (after (after (after (position_after setting.start (moves_of before.plies)) m) reply) next)
+    → IsGameOf game setting tags (event ∷ past)
+    → (game ≡ before) ⊎ HasAnotherLast before.plies game.plies
 
 -- The bytes of a stream show these entries, in their order, and then perhaps a frame that is not at its end.
 pub record ShowsEntries (setting : Setting) (bytes : List ℕ) (shown : List Entry) : Type 0 where

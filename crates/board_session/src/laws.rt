@@ -6,7 +6,7 @@ ghost use Rattle.pgn_book.specs.Games.{Content};
 ghost use Rattle.pgn_book.specs.Pgn.{Pgn};
 ghost use Rattle.pgn_book.specs.Values.{TagValues};
 ghost use Rattle.board_session.specs.Gaming.{IsGameOf};
-ghost use Rattle.board_session.specs.Laws.{EventsTellTheGame, FaultsAskOnce, FaultsBeforeDumpsCanGo, HonestClocksAreRecorded, HonestFrontIsWritten, HonestPlayIsRecorded, HonestPlayIsWritten, HonestStopIsRecorded, IdleEventsCanGo, KingsEndIsRecorded, KingsEndIsWritten, NoEventGivesTwo, TwoUnseenAreNotRecorded};
+ghost use Rattle.board_session.specs.Laws.{EventsTellTheGame, FaultsAskOnce, FaultsBeforeDumpsCanGo, HonestClocksAreRecorded, HonestFrontIsWritten, HonestPlayIsRecorded, HonestPlayIsWritten, HonestStopIsRecorded, IdleEventsCanGo, KingsEndIsRecorded, KingsEndIsWritten, NoEventGivesTwo, ThreeUnseenAddNothing, TwoUnseenAreNotRecorded};
 ghost use Rattle.board_session.specs.Settings.{Setting};
 
 use dgt_frame::laws::{fronts_show_fronts, shows_once};
@@ -58,6 +58,11 @@ pub fn kings_end_is_recorded()
 /// An event whose picture is that after two plies that were not seen leaves the game as it was.
 pub fn two_unseen_are_not_recorded()
     ensures { TwoUnseenAreNotRecorded }
+{}
+
+/// An event whose picture is that after three plies that were not seen adds no move; it may correct the last one.
+pub fn three_unseen_add_nothing()
+    ensures { ThreeUnseenAddNothing }
 {}
 
 /// What `record` writes of honest play: where a whole stream shows a line of moves honestly, the game has exactly these moves.

@@ -10,6 +10,7 @@ use Rattle.chess_rules.specs.Picture.{picture}
 use Rattle.chess_rules.specs.Valid.{Valid}
 use Rattle.settle_core.specs.Entries.{Entry, repeats, unstuttered}
 use Rattle.settle_core.specs.declared.game.Outcome.{Outcome}
+use Rattle.settle_core.specs.declared.game.Ply.{Ply}
 use Rattle.settle_core.specs.declared.game.Seen.TheVariants.{Waits}
 use Rattle.settle_core.specs.Settling.{Settles, Line, Played, position_after, reached}
 use Rattle.settle_core.specs.Sign.{IsSign}
@@ -124,6 +125,28 @@ ThreeUnseenSettleNothing =
     → Legal (after (after p m) reply) next
     → ((n : Move) → ¬ Settles p (picture (after (after (after p m) reply) next)) n)
     × ((over : Parts) (outcome : Outcome) → ¬ IsSign over (picture (after (after (after p m) reply) next)) outcome)
+
+-- The score has another last ply, and the same ones before it; no sign stands.
+pub record HasAnotherLast (before score : Score) : Type 0 where
+  pub old : Ply
+  pub new : Ply
+  pub earlier : List Ply
+  pub was : before.plies ≡ old ∷ earlier
+  pub is : score.plies ≡ new ∷ earlier
+  pub no_sign : score.sign ≡ None
+
+-- So an entry with such a picture leaves the score as it was, or corrects its last ply.
+abbrev pub ThreeUnseenAddNothing : Type 0
+ThreeUnseenAddNothing =
+    (start : Parts) (past : List Entry) (entry : Entry) (before score : Score) (m reply next : Move)
+    → Valid start
+    → Folds start past before
+    → Legal (reached start (moves_of before.plies)) m
+    → Legal (after (reached start (moves_of before.plies)) m) reply
+    → Legal (after (after (reached start (moves_of before.plies)) m) reply) next
+    → entry.picture ≡ picture (after (after (after (reached start (moves_of before.plies)) m) reply) next)
+    → Folds start (entry ∷ past) score
+    → (score ≡ before) ⊎ HasAnotherLast before score
 
 -- A move that is tried while another one is to be made, with its man in hand and no other, is a move of that man, or the rook's
 -- where the move castles.

@@ -5,7 +5,7 @@ ghost use Rattle.chess_rules.specs.declared.men.Move.{Move as MoveOf};
 ghost use Rattle.chess_rules.specs.declared.men.Parts.{Parts as PartsOf};
 ghost use Rattle.chess_rules.specs.Valid.{Valid};
 ghost use Rattle.chess_rules.specs.Picture.{picture};
-ghost use Rattle.settle_core.specs.Laws.{FoldsOnce, FoldsSome, FrontsOfHonestPlay, GivesSome, HonestPlayFolds, HonestPlayIsKept, HonestPlayKeepsClocks, HonestPlayStops, KingsEndHonestPlay, NoEntryGivesTwo, NoMoreIsInHand, OneHandTriesItsMan, RepeatsCountOnce, RepliesReplaceNothing, RestingWaits, SettlersTellTheScore, SignsSettleNothing, ThreeUnseenSettleNothing, TwoUnseenChangeNothing, TwoUnseenWait, UnderWayIsInHand};
+ghost use Rattle.settle_core.specs.Laws.{FoldsOnce, FoldsSome, FrontsOfHonestPlay, GivesSome, HonestPlayFolds, HonestPlayIsKept, HonestPlayKeepsClocks, HonestPlayStops, KingsEndHonestPlay, NoEntryGivesTwo, NoMoreIsInHand, OneHandTriesItsMan, RepeatsCountOnce, RepliesReplaceNothing, RestingWaits, SettlersTellTheScore, SignsSettleNothing, ThreeUnseenAddNothing, ThreeUnseenSettleNothing, TwoUnseenChangeNothing, TwoUnseenWait, UnderWayIsInHand};
 ghost use Rattle.settle_core.specs.Settling.{Settles};
 ghost use Rattle.settle_core.specs.Masks.{IsDiff, IsNoMove};
 ghost use Rattle.settle_core.specs.Candidate.{is_king_code, side_number, lands as lands_test, leaves as leaves_test, officer_of, promotion_between};
@@ -50,9 +50,11 @@ pub fn two_unseen_wait()
     ensures score { TwoUnseenChangeNothing }
 {}
 
-/// Where three plies were not seen, the picture after them settles no move, and no sign.
+/// Where three plies were not seen, the picture after them settles no move, and no sign: it adds nothing to the score, and may
+/// correct the last ply.
 pub fn three_unseen_settle_nothing()
-    ensures { ThreeUnseenSettleNothing }
+    ensures settles { ThreeUnseenSettleNothing }
+    ensures score { ThreeUnseenAddNothing }
 {}
 
 /// A move that is tried with one man in hand is a move of that man, or the rook's where the move to be made castles.
