@@ -3,7 +3,7 @@
 
 use crate::words::first_failing;
 
-const SLIDES: &str = "
+const SLIDES_AND_OTHER_MEN: &str = "
     A knight is slid over four squares that it can't go to, and shows on two of them at once:
         b1- b3N b3- b4N c4N b4- c4- d4N d4- c3N = 1. Nc3 *
     So is Black's, while White's last move is open:
@@ -14,9 +14,6 @@ const SLIDES: &str = "
         a1- a3R a3- a4R a4- a5R a5- a6R a6- a4R , e8- e7k = 1. Ra4 Ke7 *
     Each square shows the rook before the last one is empty: 4k3/8/8/8/8/8/8/R3K3 w - - 0 1
         a2R a1- a3R a2- a4R a3- a5R a4- a4R a5- = 1. Ra4 *
-";
-
-const OTHER_MEN: &str = "
     Two other men are tried and put back, one where it can't go, one where it can:
         g1- g4N g4- g1N , b1- c3N c3- b1N , e2- e4P , e7- e5p = 1. e4 e5 *
     A neighbour is straightened by way of the square beside it:
@@ -33,11 +30,10 @@ const OTHER_MEN: &str = "
 
 #[test]
 fn slides_and_other_men_do_no_harm(rt: HostRuntime) {
-    assert_eq!(rt; first_failing(rt.alloc(), SLIDES), None);
-    assert_eq!(rt; first_failing(rt.alloc(), OTHER_MEN), None);
+    assert_eq!(rt; first_failing(rt.alloc(), SLIDES_AND_OTHER_MEN), None);
 }
 
-const PROMOTIONS: &str = "
+const PROMOTION_AND_CASTLING: &str = "
     The queen stands there before the pawn is off: 8/4P2k/8/8/8/8/8/4K3 w - - 0 1
         e8Q e7- = 1. e8=Q *
     The queen waits on another square while the pawn is pushed: 8/4P2k/8/8/8/8/8/4K3 w - - 0 1
@@ -47,28 +43,24 @@ const PROMOTIONS: &str = "
     The queen is tried on the square without a capture: 3r4/4P2k/8/8/8/8/8/4K3 w - - 0 1
         e7- e8Q = 1. e8=Q *
         e8- d8- d8Q = 1. exd8=Q *
-";
-
-/// The cable may be pulled after each word.
-const CASTLINGS: &str = "
-    The king first: 4k3/8/8/8/8/8/8/4K2R w K - 0 1
+    The cable may be pulled after each word of a castling, the king first: 4k3/8/8/8/8/8/8/4K2R w K - 0 1
         e1- = *
         g1K = *
         h1- = *
         f1R = 1. O-O *
-    The rook first: 4k3/8/8/8/8/8/8/4K2R w K - 0 1
+    The same, the rook first: 4k3/8/8/8/8/8/8/4K2R w K - 0 1
         h1- = *
         f1R = 1. Rf1 *
         e1- = 1. Rf1 *
         g1K = 1. O-O *
-    The king by way of f1: 4k3/8/8/8/8/8/8/4K2R w K - 0 1
+    The same, the king by way of f1: 4k3/8/8/8/8/8/8/4K2R w K - 0 1
         e1- = *
         f1K = 1. Kf1 *
         f1- = 1. Kf1 *
         g1K = 1. Kf1 *
         h1- = 1. Kf1 *
         f1R = 1. O-O *
-    Both in hand at once: 4k3/8/8/8/8/8/8/4K2R w K - 0 1
+    The same, both in hand at once: 4k3/8/8/8/8/8/8/4K2R w K - 0 1
         e1- = *
         h1- = *
         f1R = *
@@ -86,8 +78,7 @@ const CASTLINGS: &str = "
 
 #[test]
 fn promotion_and_castling_go_in_any_order(rt: HostRuntime) {
-    assert_eq!(rt; first_failing(rt.alloc(), PROMOTIONS), None);
-    assert_eq!(rt; first_failing(rt.alloc(), CASTLINGS), None);
+    assert_eq!(rt; first_failing(rt.alloc(), PROMOTION_AND_CASTLING), None);
 }
 
 const CLOCKS: &str = "

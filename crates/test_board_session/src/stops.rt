@@ -3,15 +3,12 @@
 
 use crate::words::first_failing;
 
-const SET_UP: &str = "
+const SET_UP_AND_KINGS: &str = "
     Men are set up, the kings last, and first king and queen in each other's place:
         8/8/8/8/8/8/8/8 e2P d2P c2P b2P a2P f2P g2P h2P a1R h1R b1N g1N c1B f1B = *
         a7p b7p c7p d7p e7p f7p g7p h7p d8q a8r h8r b8n g8n c8b f8b = *
         d1K e1Q e1- d1- d1Q e1K e8k = *
         e2- e4P = 1. e4 *
-";
-
-const KINGS: &str = "
     Both kings are lifted and then set down, men are taken off and set up again:
         e2- e4P e7- e5p , e1- e8- e4- e4K = 1. e4 e5 *
         d5k = 1. e4 e5 1-0
@@ -51,8 +48,7 @@ const KINGS: &str = "
 
 #[test]
 fn men_are_set_up_and_kings_end_games(rt: HostRuntime) {
-    assert_eq!(rt; first_failing(rt.alloc(), SET_UP), None);
-    assert_eq!(rt; first_failing(rt.alloc(), KINGS), None);
+    assert_eq!(rt; first_failing(rt.alloc(), SET_UP_AND_KINGS), None);
 }
 
 const FRONTS: &str = "
