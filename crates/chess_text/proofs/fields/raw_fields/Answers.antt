@@ -1,4 +1,5 @@
-use Rattle.std.proofs.Common.{◌≡◌, ◌∙◌, ◌∷◌, ◌+◌, ◌<◌, arith, ap, length, List, ℕ, Option, Some}
+use Prim.{search}
+use Rattle.std.proofs.Common.{◌≡◌, ◌∙◌, ◌∷◌, ◌+◌, ◌<◌, arith, ap, length, rules, List, ℕ, Option, Some}
 use Rattle.std.proofs.lemmas.List.Splits.{length-slice_split}
 use denote.Ref.{Bor}
 use Rattle.chess_text.specs.FieldReading.{is_space, split, split_behind}
@@ -9,6 +10,9 @@ step bs w o rest e s = ap length (e ∙ ap (λ (x : Option (Bor (List ℕ))). w 
 
 some_field : (bs : List ℕ) → 0 < length (split bs)
 some_field bs = omega (arith, length-slice_split is_space bs)
+
+pub returns-in_default-behind_target-clause-some : goal.returns-in_default-behind_target-clause-some
+returns-in_default-behind_target-clause-some c = search rules
 
 pub returns-in-Some-end-clause-not_six : goal.returns-in-Some-end-clause-not_six
 returns-in-Some-end-clause-not_six c = λ six.
