@@ -1,4 +1,5 @@
-use Rattle.std.proofs.Common.{Some, ap, codes, sym, ◌∙◌, refl}
+use Prim.{search}
+use Rattle.std.proofs.Common.{Some, ap, codes, sym, ◌∙◌, refl, rules}
 use Rattle.std.specs.Prelude.{is_some}
 use Rattle.clap.specs.Matches.{found_of}
 use Rattle.clap.specs.Walk.{rows_of}
@@ -7,6 +8,9 @@ use Rattle.dgt_replay.specs.declared.words.Choice.TheVariants.{List as ListOf}
 use Rattle.dgt_replay.specs.SettingUp.{Wants}
 use Rattle.dgt_replay.proofs.WordLemmas.{flag_reads, if_some_at, pictures_not_check, pictures_not_moves, pictures_not_record, record_not_check, record_not_moves, side_known, text_given}
 use Rattle.dgt_replay.proofs.words.choice_named.Goals as goal
+
+pub returns-in-show : goal.returns-in-show
+returns-in-show c = search rules
 
 pub returns-in-pictures : goal.returns-in-pictures
 returns-in-pictures c = record {
