@@ -5,7 +5,7 @@ ghost use Rattle.settle_core.specs.Settling.{Settles};
 ghost use Rattle.settle_core.specs.Masks.{IsDiff};
 ghost use Rattle.settle_core.specs.Kept.{IsCompared, OnlyLacks};
 
-use crate::laws::{candidate, diff_mask, landing};
+use crate::laws::{candidate, diff_mask, is_owned, landing};
 use chess_rules::laws::pictures_tell_moves;
 use chess_rules::{Move, Position};
 
@@ -79,6 +79,18 @@ impl Compared {
         self.position.is_legal(copy(m)) && self.position.play(copy(m)).picture() == *seen
     }
 
+    /// Whether the first man that landed, if any, shows that the picture settles no move: it is not of the side to move.
+    fn settles_none(&self, seen: &[u8; 64]) -> bool
+        requires { IsCompared self.now seen.now }
+        ensures { IsTrue result → (m : MoveOf) → ¬ Settles self.now.position seen.now m }
+    {
+        let side = self.position.parts().side;
+        match landing(false, &self.picture, seen, self.mask) {
+            Some(square) => !is_owned(side, seen[square as usize]),
+            None => true,
+        }
+    }
+
     /// The one move that the picture may settle in the position, if any.
     fn candidate(&self, seen: &[u8; 64]) -> Option<Move>
         requires { IsCompared self.now seen.now }
@@ -94,6 +106,9 @@ impl Compared {
         ensures some { IfSome result (Settles self.now.position seen.now) }
         ensures none { IfNone result ((m : MoveOf) → ¬ Settles self.now.position seen.now m) }
     {
+        if self.settles_none(seen) {
+            return None;
+        }
         let m = self.candidate(seen)?;
         if self.settles(seen, &m) {
             Some(m)
@@ -108,6 +123,9 @@ impl Compared {
         ensures some { IfSome result (λ m. Settles self.now.position seen.now m × m ≢ last.now) }
         ensures none { IfNone result ((m : MoveOf) → Settles self.now.position seen.now m → m ≡ last.now) }
     {
+        if self.settles_none(seen) {
+            return None;
+        }
         let m = self.candidate(seen)?;
         if !same_move(&m, last) && self.settles(seen, &m) {
             Some(m)
