@@ -312,6 +312,9 @@ fn pawn_goes(parts: &Parts, m: &Move) -> bool
 pub fn goes(parts: &Parts, m: &Move) -> bool
     ensures { IsTrue result ↔ Goes parts.now m.now }
 {
+    let Some(_) = kind_on(&parts.board, parts.side, m.from.number()) else {
+        return castles(parts, m);
+    };
     if is_step(parts, m) {
         return true;
     }
@@ -329,9 +332,14 @@ pub fn is_king_of(board: &[Option<Piece>; 64], side: Side, square: u8) -> bool
     requires { square < 64 }
     ensures { IsTrue result ↔ (on board.now square ≡ man side Kind.King) }
 {
-    match kind_on(board, side, square) {
-        Some(kind) => kind.is(Kind::King),
-        None => false,
+    // Few men are kings, and half of them are of a side: so the kind is asked first.
+    if let Some(piece) = board[square as usize]
+        && piece.kind.is(Kind::King)
+        && piece.side.is(side)
+    {
+        true
+    } else {
+        false
     }
 }
 

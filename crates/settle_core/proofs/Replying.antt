@@ -1,5 +1,5 @@
--- A picture on which a man of the other side landed settles no move.
-use Rattle.std.proofs.Common.{◌≡◌, ◌≢◌, ℕ, ◌<◌, List, Bool, Option, None, Some, true, false, get_or, inl, inr, refl, sym, ap, ◌∙◌}
+-- Pictures that settle no move: on which a man of the other side landed, or none.
+use Rattle.std.proofs.Common.{◌≡◌, ◌≢◌, ℕ, ◌<◌, List, Option, None, Some, true, false, get_or, inl, inr, refl, sym, ap, ◌∙◌}
 use Rattle.std.proofs.lemmas.Bool.{both_ways, eq-eqb}
 use Rattle.chess_rules.specs.declared.men.Side.{Side}
 use Rattle.chess_rules.specs.declared.men.Side.TheVariants.{White, Black}
@@ -12,8 +12,9 @@ use Rattle.chess_rules.specs.After.{board_after}
 use Rattle.chess_rules.specs.Valid.{Valid}
 use Rattle.chess_rules.specs.Picture.{code, code_of_man, picture}
 use Rattle.settle_core.specs.Candidate.{is_owned_code, lands}
+use Rattle.settle_core.specs.Kept.{OnlyLacks}
 use Rattle.settle_core.specs.Settling.{Settles}
-use Rattle.settle_core.proofs.Candidates.{IsBetween, between, lands_at}
+use Rattle.settle_core.proofs.Candidates.{IsBetween, between, lands_at, no_land}
 use Rattle.settle_core.proofs.Men.{theirs_stood}
 use Rattle.settle_core.proofs.Tracing.{Lands, side_code, sides_two}
 
@@ -47,3 +48,8 @@ replies_settle_none p m before now s v e low h theirs st =
     let man_of_other : (k : Kind) × (on (board_after p m) s ≡ man (other p.side) k) =
     of_the_other p.side (on (board_after p m) s) l.some (ap (is_owned_code p.side) (sym (b.at_after s low)) ∙ theirs) in
     l.differ (ap code (theirs_stood p m s man_of_other.0 v b.legal man_of_other.1 ∙ sym man_of_other.1))
+
+-- nor does a picture that only lacks men
+pub lacks_settle_none :
+    (p : Parts) (m : Move) (before now : List ℕ) → Valid p → before ≡ picture p → OnlyLacks before now → ¬ Settles p now m
+lacks_settle_none p m before now v e lacks st = no_land p m before now (between p m before now v e st) lacks
