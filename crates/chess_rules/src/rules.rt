@@ -3,6 +3,8 @@ ghost use Rattle.std.specs.Prelude.{◌≡◌, ◌≢◌, ◌<◌, ◌↔◌, �
 ghost use Rattle.chess_rules.specs.Board.{Ahead, on, man, other, forward, second_row, last_row};
 ghost use Rattle.chess_rules.specs.Attack.{Attacks, InCheck};
 ghost use Rattle.chess_rules.specs.Legal.{IsOfficer, NamesPromotion, Steps, PawnSteps, Captures, DoubleSteps, TakesEnPassant, Castles, Goes, BetweenHomes, IsWaySafe};
+ghost use Rattle.chess_rules.specs.Valid.{HasOneKing};
+ghost use Rattle.chess_rules.specs.Walk.{square_from_home};
 ghost use Rattle.chess_rules.specs.After.{king_home, rook_home, castling_target, crossed, has_right};
 
 use crate::lines::Wing;
@@ -341,6 +343,33 @@ pub fn is_king_of(board: &[Option<Piece>; 64], side: Side, square: u8) -> bool
     } else {
         false
     }
+}
+
+/// The squares by number, from this side's own end of the board on.
+fn from_home(side: Side, i: u8) -> u8
+    requires { i < 64 }
+    ensures range { result < 64 }
+    ensures value { result ≡ square_from_home side i }
+{
+    match side {
+        Side::White => 63 - i,
+        Side::Black => i,
+    }
+}
+
+/// Whether this side's one king is attacked by the other side.
+pub fn is_king_attacked(board: &[Option<Piece>; 64], side: Side) -> bool
+    requires { HasOneKing board.now side }
+    ensures { IsTrue result ↔ InCheck board.now side (other side) }
+{
+    let attackers = other_side(side);
+    for i in 0..64u8 {
+        let square = from_home(side, i);
+        if is_king_of(board, side, square) {
+            return is_attacked(board, attackers, square);
+        }
+    }
+    false
 }
 
 /// Whether a king of this side is attacked by the other one.
