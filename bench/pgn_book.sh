@@ -1,14 +1,20 @@
 #!/usr/bin/env bash
-# Times read_pgn and write_pgn of the crate pgn_book on games of 1,250 to 9,999 moves, by the program pgn_bench from outside,
-# which reads a text, compares it with what it writes of the game, and writes it again. Beside it, in the same run,
-# pgn-extract (Debian) reads and writes the same text, where it is installed. Twice the moves are to take about twice the
-# time: each time is the least of several runs, process start included.
+# Times `check` on games of 1,250 to 9,999 moves, from outside, beside Debian's pgn-extract, which reads and writes the same
+# text and is installed where it is missing: medians of 21 runs by turns. `check` is to take no more processor time, and twice
+# the moves about twice the time.
 set -euo pipefail
 cd "$(dirname "$0")/.."
-runs=${1:-5}
+runs=${1:-21}
 . bench/timing.sh
 
-(cd crates/pgn_bench && rt run -- copy < stdin > "$work/build.log")
+bin/dgt_replay --help > "$work/help"
+program=build/dgt_replay
+extract=$(command -v pgn-extract || command -v /usr/games/pgn-extract || true)
+if [ -z "$extract" ]; then
+    apt-get update > "$work/apt.log"
+    apt-get install -y pgn-extract >> "$work/apt.log"
+    extract=$(command -v pgn-extract || command -v /usr/games/pgn-extract)
+fi
 
 # a game of so many moves by the four knights, in export form
 long_game() {
@@ -27,16 +33,10 @@ long_game() {
     }'
 }
 
-extract=$(command -v pgn-extract || command -v /usr/games/pgn-extract || true)
+processor
+heading 'check, by moves' pgn-extract
 for moves in 1250 2500 5000 9999; do
     long_game "$moves" > "$work/game"
-    time=$(least "$work/game" crates/pgn_bench/out/pgn_bench copy)
-    cmp -s "$work/out" "$work/game" || { echo "pgn_bench: another text at $moves moves" >&2; exit 1; }
-    awk -v moves="$moves" -v bytes="$(wc -c < "$work/game")" -v time="$time" \
-        'BEGIN { printf "%-24s %6d moves %8d bytes %8.1f ms %8.2f us a move\n", "pgn_book (proved)", moves, bytes, time / 1e6, time / 1e3 / moves }'
-    if [ -n "$extract" ]; then
-        time=$(least "$work/game" "$extract" -s -w79)
-        awk -v moves="$moves" -v bytes="$(wc -c < "$work/game")" -v time="$time" \
-            'BEGIN { printf "%-24s %6d moves %8d bytes %8.1f ms %8.2f us a move\n", "pgn-extract", moves, bytes, time / 1e6, time / 1e3 / moves }'
-    fi
+    beside "$moves" 1.0 "$work/game" "$program check" "$extract -s -w79"
 done
+verdicts

@@ -1,21 +1,17 @@
 #!/usr/bin/env bash
-# Times the program `settling` (see and see_field of the crate settle_core) from outside, beside a memory copy of as many bytes in the
-# same run. Each time is the least of several runs, process start included.
+# Times the program `settling` (see and see_field of the crate settle_core) from outside, beside a memory copy of as many pictures
+# of 64 bytes: medians of eleven runs by turns, process start included.
 set -euo pipefail
 cd "$(dirname "$0")/.."
-runs=${1:-5}
+runs=${1:-11}
 . bench/timing.sh
 
 (cd crates/settling && rt run > "$work/build.log")
+program=crates/settling/out/settling
 
-report() {
-    awk -v name="$1" -v count="$2" -v time="$3" \
-        'BEGIN { printf "%-24s %8d %8.1f ms %12.2f million/s\n", name, count, time / 1e6, count * 1e3 / time }'
-}
-
-for task in 'pictures 1000000' 'updates 1000000' 'plies 100000' 'copy 1000000'; do
-    read -r name count <<< "$task"
-    time=$(least /dev/null crates/settling/out/settling "$name" "$count")
-    [ "$(cat "$work/out")" = "$name $count" ] || { echo "settling $name: another count" >&2; exit 1; }
-    report "$name" "$count" "$time"
+processor
+heading 'settling, by task' copy
+for task in 'pictures 1000000' 'updates 1000000' 'plies 100000'; do
+    [ "$("$program" $task)" = "$task" ] || { echo "settling $task: another count" >&2; exit 1; }
+    beside "$task" - /dev/null "$program $task" "$program copy ${task#* }"
 done

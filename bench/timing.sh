@@ -2,30 +2,27 @@
 work=$(mktemp -d)
 trap 'rm -rf "$work"' EXIT
 
-# least INPUT WORD..: the least wall time of $runs runs of a command, in nanoseconds. What the last run wrote is in
-# $work/out.
-least() {
-    local input=$1 best= start took
-    shift
-    for _ in $(seq "$runs"); do
-        start=$(date +%s%N)
-        "$@" < "$input" > "$work/out" 2> "$work/err" || { cat "$work/err" >&2; return 1; }
-        took=$(($(date +%s%N) - start))
-        if [ -z "$best" ] || [ "$took" -lt "$best" ]; then best=$took; fi
-    done
-    echo "$best"
+# beside NAME GOAL INPUT COMMAND YARDSTICK: the median processor time of $runs runs of each, by turns, in a row that begins with
+# the ratio, and the peak memory of one run of the command more. What is to be at most GOAL stands in $work/verdicts; where GOAL is -, nothing is asked.
+beside() {
+    local name=$1 goal=$2 input=$3 command=$4 yardstick=$5
+    python3 bench/turns.py "$runs" "$input" "$command" "$yardstick" > "$work/turns"
+    /usr/bin/time -f %M -o "$work/peak" $command < "$input" > /dev/null 2> /dev/null
+    cat "$work/peak" >> "$work/turns"
+    paste -s -d ' ' "$work/turns" | awk -v name="$name" -v goal="$goal" -v verdicts="$work/verdicts" '{
+        ratio = $1 / ($2 > 0 ? $2 : 0.001)
+        printf "%-24s %6.2f %10.1f %10.1f %10d\n", name, ratio, $1, $2, $3
+        if (goal != "-") printf "%s: %.2f, at most %s: %s\n", name, ratio, goal, ratio <= goal ? "met" : "not met" >> verdicts
+    }'
 }
 
-# best INPUT WORD..: the CPU seconds of the best of three runs of a command, and the peak memory in KiB. What it writes goes
-# nowhere.
-best() {
-    local input=$1
-    shift
-    for _ in 1 2 3; do
-        /usr/bin/time -f '%U %S %M' -o "$work/time" "$@" < "$input" > /dev/null 2> /dev/null
-        cat "$work/time"
-    done | awk '{ cpu = $1 + $2; if (NR == 1 || cpu < least) least = cpu; if ($3 > peak) peak = $3 }
-        END { printf "%.2f %d\n", least, peak }'
+heading() {
+    printf '%-24s %6s %10s %10s %10s\n' "$1" ratio 'CPU ms' "$2" 'peak KiB'
+}
+
+verdicts() {
+    echo
+    cat "$work/verdicts"
 }
 
 processor() {

@@ -16,16 +16,17 @@ use crate::men::{Invalid, Move, Parts, Piece, Rights, Side, Status};
 use crate::moves::{legal_moves_in, status_of};
 use crate::picture::codes_of;
 use crate::rules::{
-    goes, holds_right, is_empty, is_in_check, is_king_of, is_pawn_of, is_rook_of, king_home_of,
-    other_side, rook_home_of,
+    goes, holds_right, is_empty, is_in_check, is_king_attacked, is_king_of, is_pawn_of, is_rook_of,
+    king_home_of, other_side, rook_home_of,
 };
 use std::alloc::{AllocError, Global};
 use std::marker::Model;
 
 type Board = [Option<Piece>; 64];
 
-/// Whether the move is legal where these parts stand.
+/// Whether the move is legal where these valid parts stand.
 pub fn is_legal_in(parts: &Parts, m: &Move) -> bool
+    requires { Valid parts.now }
     ensures { IsTrue result ↔ Legal parts.now m.now }
 {
     let _to = m.to.number();
@@ -33,7 +34,7 @@ pub fn is_legal_in(parts: &Parts, m: &Move) -> bool
         return false;
     }
     let next = board_after(parts, m);
-    !is_in_check(&next, parts.side)
+    !is_king_attacked(&next, parts.side)
 }
 
 fn has_counters(parts: &Parts) -> bool
@@ -234,7 +235,7 @@ impl Position {
     pub fn in_check(&self) -> bool
         ensures { IsTrue result ↔ InCheck self.now.board self.now.side (other self.now.side) }
     {
-        is_in_check(&self.parts.board, self.parts.side)
+        is_king_attacked(&self.parts.board, self.parts.side)
     }
 
     /// Whether the move is legal here (Article 3.10.1).

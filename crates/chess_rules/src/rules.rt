@@ -3,6 +3,8 @@ ghost use Rattle.std.specs.Prelude.{◌≡◌, ◌≢◌, ◌<◌, ◌↔◌, �
 ghost use Rattle.chess_rules.specs.Board.{Ahead, on, man, other, forward, second_row, last_row};
 ghost use Rattle.chess_rules.specs.Attack.{Attacks, InCheck};
 ghost use Rattle.chess_rules.specs.Legal.{IsOfficer, NamesPromotion, Steps, PawnSteps, Captures, DoubleSteps, TakesEnPassant, Castles, Goes, BetweenHomes, IsWaySafe};
+ghost use Rattle.chess_rules.specs.Valid.{HasOneKing};
+ghost use Rattle.chess_rules.specs.Walk.{square_from_home};
 ghost use Rattle.chess_rules.specs.After.{king_home, rook_home, castling_target, crossed, has_right};
 
 use crate::lines::Wing;
@@ -312,6 +314,9 @@ fn pawn_goes(parts: &Parts, m: &Move) -> bool
 pub fn goes(parts: &Parts, m: &Move) -> bool
     ensures { IsTrue result ↔ Goes parts.now m.now }
 {
+    let Some(_) = kind_on(&parts.board, parts.side, m.from.number()) else {
+        return castles(parts, m);
+    };
     if is_step(parts, m) {
         return true;
     }
@@ -329,10 +334,42 @@ pub fn is_king_of(board: &[Option<Piece>; 64], side: Side, square: u8) -> bool
     requires { square < 64 }
     ensures { IsTrue result ↔ (on board.now square ≡ man side Kind.King) }
 {
-    match kind_on(board, side, square) {
-        Some(kind) => kind.is(Kind::King),
-        None => false,
+    // Few men are kings, and half of them are of a side: so the kind is asked first.
+    if let Some(piece) = board[square as usize]
+        && piece.kind.is(Kind::King)
+        && piece.side.is(side)
+    {
+        true
+    } else {
+        false
     }
+}
+
+/// The squares by number, from this side's own end of the board on.
+fn from_home(side: Side, i: u8) -> u8
+    requires { i < 64 }
+    ensures range { result < 64 }
+    ensures value { result ≡ square_from_home side i }
+{
+    match side {
+        Side::White => 63 - i,
+        Side::Black => i,
+    }
+}
+
+/// Whether this side's one king is attacked by the other side.
+pub fn is_king_attacked(board: &[Option<Piece>; 64], side: Side) -> bool
+    requires { HasOneKing board.now side }
+    ensures { IsTrue result ↔ InCheck board.now side (other side) }
+{
+    let attackers = other_side(side);
+    for i in 0..64u8 {
+        let square = from_home(side, i);
+        if is_king_of(board, side, square) {
+            return is_attacked(board, attackers, square);
+        }
+    }
+    false
 }
 
 /// Whether a king of this side is attacked by the other one.

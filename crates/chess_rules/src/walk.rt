@@ -1,8 +1,8 @@
 // Looking outwards from a square: which men of a side attack it.
-ghost use Rattle.std.specs.Prelude.{◌≡◌, ◌+◌, ◌<◌, ◌↔◌, IsNone, IfSome, IfNone, IsTrue};
+ghost use Rattle.std.specs.Prelude.{◌≡◌, ◌≢◌, ◌+◌, ◌%◌, ◌/◌, ◌<◌, ◌↔◌, IsNone, IfSome, IfNone, IsTrue};
 ghost use Rattle.chess_rules.specs.Board.{Ahead, on, man};
 ghost use Rattle.chess_rules.specs.Attack.{Attacks, AttacksFrom, Ranges, IsJump, IsPawnDiagonal};
-ghost use Rattle.chess_rules.specs.Walk.{MayPoint, IsAtEdge, IsOpen, IsFirst, IsHitFrom, IsNotHit, IsJumped, opposite};
+ghost use Rattle.chess_rules.specs.Walk.{IsAtEdge, IsOpen, IsFirst, IsHitFrom, IsNotHit, IsJumped, JumpsFrom, NoneJumpsOver, PointsOnly, PointsNowhere, opposite};
 
 use crate::lines::Direction;
 use crate::men::{Kind, Piece, Side};
@@ -129,15 +129,63 @@ fn hit(board: &[Option<Piece>; 64], side: Side, square: u8, direction: Direction
     }
 }
 
-/// Whether the one square may lie in this direction from the other.
-fn may_point(direction: Direction, square: u8, from: u8) -> bool
-    ensures { IsTrue result ↔ MayPoint direction square from }
+/// The direction in which another square of the same file may lie.
+fn along_file(square: u8, other: u8) -> Direction
+    requires { square % 8 ≡ other % 8 }
+    ensures { PointsOnly result square other }
 {
-    match direction {
-        Direction::North | Direction::South => square % 8 == from % 8,
-        Direction::East | Direction::West => square / 8 == from / 8,
-        _ => (square % 8).abs_diff(from % 8) == (square / 8).abs_diff(from / 8),
+    if other / 8 < square / 8 {
+        Direction::North
+    } else {
+        Direction::South
     }
+}
+
+/// The direction in which another square of the same row may lie.
+fn along_row(square: u8, other: u8) -> Direction
+    requires { square / 8 ≡ other / 8 }
+    ensures { PointsOnly result square other }
+{
+    if square % 8 < other % 8 {
+        Direction::East
+    } else {
+        Direction::West
+    }
+}
+
+/// The direction in which a square of another file and row may lie.
+fn along_diagonal(square: u8, other: u8) -> Direction
+    requires files { square % 8 ≢ other % 8 }
+    requires rows { square / 8 ≢ other / 8 }
+    ensures { PointsOnly result square other }
+{
+    let east = square % 8 < other % 8;
+    let north = other / 8 < square / 8;
+    match (east, north) {
+        (true, true) => Direction::NorthEast,
+        (true, false) => Direction::SouthEast,
+        (false, true) => Direction::NorthWest,
+        (false, false) => Direction::SouthWest,
+    }
+}
+
+/// The one direction in which the other square may lie, if there is one.
+fn direction_to(square: u8, other: u8) -> Option<Direction>
+    ensures some { IfSome result (λ d. PointsOnly d square other) }
+    ensures none { IfNone result (PointsNowhere square other) }
+{
+    let (file, row) = (square % 8, square / 8);
+    let (to_file, to_row) = (other % 8, other / 8);
+    if file == to_file {
+        return Some(along_file(square, other));
+    }
+    if row == to_row {
+        return Some(along_row(square, other));
+    }
+    if file.abs_diff(to_file) == row.abs_diff(to_row) {
+        return Some(along_diagonal(square, other));
+    }
+    None
 }
 
 /// Whether the man on `from` is seen in this direction, is of this side and attacks the square.
@@ -151,9 +199,6 @@ fn is_hit_from(
     requires { square < 64 }
     ensures { IsTrue result ↔ IsHitFrom board.now side direction square from }
 {
-    if !may_point(direction, square, from) {
-        return false;
-    }
     match hit(board, side, square, direction) {
         Some(found) => found == from,
         None => false,
@@ -169,21 +214,44 @@ fn is_jump(from: u8, to: u8) -> bool
     (files == 1 && rows == 2) || (files == 2 && rows == 1)
 }
 
-/// Whether a knight of this side jumps to the square. No jump leads farther than to the 17th square before or after.
+/// Whether a knight of this side stands on the one square and jumps to the other.
+fn jumps_from(board: &[Option<Piece>; 64], side: Side, from: u8, square: u8) -> bool
+    requires { from < 64 }
+    ensures { IsTrue result ↔ JumpsFrom board.now side from square }
+{
+    if let Some(piece) = board[from as usize]
+        && piece.kind.is(Kind::Knight)
+        && piece.side.is(side)
+    {
+        is_jump(from, square)
+    } else {
+        false
+    }
+}
+
+/// Whether a knight of this side jumps to the square from so far before or after it, by number.
+fn is_jumped_over(board: &[Option<Piece>; 64], side: Side, square: u8, distance: u8) -> bool
+    requires square { square < 64 }
+    requires distance { distance < 64 }
+    ensures some { IsTrue result → IsJumped board.now side square }
+    ensures none { ¬ IsTrue result → NoneJumpsOver board.now side square distance }
+{
+    if jumps_from(board, side, square.saturating_sub(distance), square) {
+        return true;
+    }
+    jumps_from(board, side, (square + distance).min(63), square)
+}
+
+/// Whether a knight of this side jumps to the square.
 fn is_jumped(board: &[Option<Piece>; 64], side: Side, square: u8) -> bool
     requires { square < 64 }
     ensures { IsTrue result ↔ IsJumped board.now side square }
 {
-    let first = square.saturating_sub(17);
-    let end = (square + 18).min(64);
-    for from in first..end {
-        if let Some(piece) = board[from as usize]
-            && piece.kind.is(Kind::Knight)
-            && piece.side.is(side)
-            && is_jump(from, square)
-        {
-            return true;
-        }
+    if is_jumped_over(board, side, square, 6) || is_jumped_over(board, side, square, 10) {
+        return true;
+    }
+    if is_jumped_over(board, side, square, 15) || is_jumped_over(board, side, square, 17) {
+        return true;
     }
     false
 }
@@ -211,10 +279,8 @@ pub fn attacks_from(board: &[Option<Piece>; 64], side: Side, kind: Kind, from: u
     if kind.is(Kind::Knight) {
         return is_jump(from, to);
     }
-    for direction in DIRECTIONS {
-        if is_hit_from(board, side, to, direction, from) {
-            return true;
-        }
+    match direction_to(to, from) {
+        Some(direction) => is_hit_from(board, side, to, direction, from),
+        None => false,
     }
-    false
 }

@@ -112,7 +112,7 @@ fn add_message(lines: &mut Lines, message: &Message)
         Message::Update { field, code } => {
             add(lines, b"update ");
             add_number(lines, u32::from(*field));
-            add(lines, b" ");
+            lines.push(b' ');
             add_number(lines, u32::from(*code));
         }
         Message::Time(times) => {
@@ -150,9 +150,9 @@ pub fn add_line(lines: &mut Lines, offset: u32, event: &Event)
     ensures { lines.new.items ≡ lines.old.items ++ line_of (record { offset = offset; event = event.now }) }
 {
     add_number(lines, offset);
-    add(lines, b" ");
+    lines.push(b' ');
     add_event(lines, event);
-    add(lines, b"\n");
+    lines.push(b'\n');
 }
 
 /// Adds the placement of a picture.
@@ -162,7 +162,7 @@ pub fn add_placement(lines: &mut Lines, picture: &[u8; 64])
     ensures { lines.new.items ≡ lines.old.items ++ placement_line picture.now }
 {
     add(lines, write_placement(picture).as_str().as_bytes());
-    add(lines, b"\n");
+    lines.push(b'\n');
 }
 
 /// Adds the last line.

@@ -64,7 +64,7 @@ between p m before now v e h =
       at_after = λ s low. ap (λ xs. get_or xs s 0) h.shows ∙ at_picture (after p m) s (rw n low);
     }
 
-lands_at : (p : Parts) (m : Move) (before now : List ℕ) (kings : Bool) (s : ℕ) → IsBetween p m before now → s < 64
+pub lands_at : (p : Parts) (m : Move) (before now : List ℕ) (kings : Bool) (s : ℕ) → IsBetween p m before now → s < 64
     → lands kings (get_or before s 0) (get_or now s 0) ≡ true → Lands kings (code (on p.board s)) (code (on (board_after p m) s))
 lands_at p m before now kings s b low h =
     lands_parts kings _ _ (sym (ap (λ x. lands kings x (code (on (board_after p m) s))) (b.at_before s low)) ∙ sym (ap (lands kings (get_or before s 0)) (b.at_after s low)) ∙ h)

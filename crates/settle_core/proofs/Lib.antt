@@ -24,3 +24,4 @@ pub mod Unseen
 pub mod Trying
 pub mod Skipping
 pub mod Lacking
+pub mod Replying

@@ -250,7 +250,7 @@ traced_one p m v o =
       others = λ s nf nt nx ny. o.others s nf nt nx;
     }
 
-sides_two : (a b : Side) → (a ≡ b) ⊎ (a ≡ other b)
+pub sides_two : (a b : Side) → (a ≡ b) ⊎ (a ≡ other b)
 sides_two White White = inl refl
 sides_two Black Black = inl refl
 sides_two White Black = inr refl

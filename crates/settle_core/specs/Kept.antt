@@ -1,6 +1,6 @@
 -- What a settler keeps: the line, and each position of its end beside the last picture. The code's own words: the public
 -- contracts do not cite them.
-use Rattle.std.specs.Prelude.{◌≡◌, ◌<◌, ℕ, Bool, false, List, [], ◌∷◌, Option, Some, None, reverse, slice_index, if◌then◌else◌}
+use Rattle.std.specs.Prelude.{◌≡◌, ◌<◌, ℕ, Bool, true, false, List, [], ◌∷◌, Option, Some, None, reverse, slice_index, if◌then◌else◌}
 use Rattle.chess_rules.specs.declared.men.Move.{Move}
 use Rattle.chess_rules.specs.declared.men.Parts.{Parts}
 use Rattle.chess_rules.specs.Legal.{Legal}
@@ -22,6 +22,10 @@ pub record IsCompared (compared : Compared) (seen : List ℕ) : Type 0 where
 -- The second picture shows no man but where the first one shows the same.
 abbrev pub OnlyLacks : List ℕ → List ℕ → Type 0
 OnlyLacks before seen = (s : ℕ) → s < 64 → lands false (slice_index before s) (slice_index seen s) ≡ false
+
+-- on this square the second picture shows a man that the first one does not show there
+abbrev pub HasLanded : List ℕ → List ℕ → ℕ → Type 0
+HasLanded before seen s = (s < 64) × (lands false (slice_index before s) (slice_index seen s) ≡ true)
 
 -- the position before the last of these moves, of which the latest comes first
 abbrev pub before_last : Parts → List Move → Option Parts

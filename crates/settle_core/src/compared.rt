@@ -3,9 +3,9 @@ ghost use Rattle.std.specs.Prelude.{◌≡◌, ◌≢◌, ◌<◌, ◌↔◌, �
 ghost use Rattle.chess_rules.specs.declared.men.Move.{Move as MoveOf};
 ghost use Rattle.settle_core.specs.Settling.{Settles};
 ghost use Rattle.settle_core.specs.Masks.{IsDiff};
-ghost use Rattle.settle_core.specs.Kept.{IsCompared, OnlyLacks};
+ghost use Rattle.settle_core.specs.Kept.{HasLanded, IsCompared, OnlyLacks};
 
-use crate::laws::{candidate, diff_mask, landing};
+use crate::laws::{candidate, diff_mask, is_owned, landing};
 use chess_rules::laws::pictures_tell_moves;
 use chess_rules::{Move, Position};
 
@@ -61,12 +61,13 @@ impl Compared {
         self.mask = changed(self.mask, &self.picture, at, code);
     }
 
-    /// Whether the picture differs from the position's only by men that it lacks.
-    pub fn only_lacks(&self, seen: &[u8; 64]) -> bool
+    /// A square on which a man landed: the picture shows one that the position does not have there.
+    pub fn landed(&self, seen: &[u8; 64]) -> Option<u8>
         requires { IsCompared self.now seen.now }
-        ensures { IsTrue result → OnlyLacks self.now.picture seen.now }
+        ensures some { IfSome result (HasLanded self.now.picture seen.now) }
+        ensures none { IfNone result (OnlyLacks self.now.picture seen.now) }
     {
-        landing(false, &self.picture, seen, self.mask).is_none()
+        landing(false, &self.picture, seen, self.mask)
     }
 
     /// Whether the picture settles this move in the position.
@@ -77,6 +78,16 @@ impl Compared {
         self.position.parts();
         pictures_tell_moves();
         self.position.is_legal(copy(m)) && self.position.play(copy(m)).picture() == *seen
+    }
+
+    /// Whether the man that landed is not of the side to move: then the picture settles no move.
+    fn is_reply(&self, seen: &[u8; 64], landed: u8) -> bool
+        requires compared { IsCompared self.now seen.now }
+        requires landed { HasLanded self.now.picture seen.now landed }
+        ensures { IsTrue result → (m : MoveOf) → ¬ Settles self.now.position seen.now m }
+    {
+        let side = self.position.parts().side;
+        !is_owned(side, seen[landed as usize])
     }
 
     /// The one move that the picture may settle in the position, if any.
@@ -94,6 +105,24 @@ impl Compared {
         ensures some { IfSome result (Settles self.now.position seen.now) }
         ensures none { IfNone result ((m : MoveOf) → ¬ Settles self.now.position seen.now m) }
     {
+        let Some(landed) = self.landed(seen) else {
+            // The position is valid.
+            self.position.parts();
+            return None;
+        };
+        self.settled_by(seen, landed)
+    }
+
+    /// The same, where it is known of a square that a man landed there.
+    pub fn settled_by(&self, seen: &[u8; 64], landed: u8) -> Option<Move>
+        requires compared { IsCompared self.now seen.now }
+        requires landed { HasLanded self.now.picture seen.now landed }
+        ensures some { IfSome result (Settles self.now.position seen.now) }
+        ensures none { IfNone result ((m : MoveOf) → ¬ Settles self.now.position seen.now m) }
+    {
+        if self.is_reply(seen, landed) {
+            return None;
+        }
         let m = self.candidate(seen)?;
         if self.settles(seen, &m) {
             Some(m)
@@ -108,6 +137,13 @@ impl Compared {
         ensures some { IfSome result (λ m. Settles self.now.position seen.now m × m ≢ last.now) }
         ensures none { IfNone result ((m : MoveOf) → Settles self.now.position seen.now m → m ≡ last.now) }
     {
+        let Some(landed) = self.landed(seen) else {
+            self.position.parts();
+            return None;
+        };
+        if self.is_reply(seen, landed) {
+            return None;
+        }
         let m = self.candidate(seen)?;
         if !same_move(&m, last) && self.settles(seen, &m) {
             Some(m)

@@ -8,10 +8,10 @@ ghost use Rattle.chess_rules.specs.Picture.{picture};
 ghost use Rattle.settle_core.specs.Laws.{FoldsOnce, FoldsSome, FrontsOfHonestPlay, GivesSome, HonestPlayFolds, HonestPlayIsKept, HonestPlayKeepsClocks, HonestPlayStops, KingsEndHonestPlay, NoEntryGivesTwo, NoMoreIsInHand, OneHandTriesItsMan, RepeatsCountOnce, RepliesReplaceNothing, RestingWaits, SettlersTellTheScore, SignsSettleNothing, ThreeUnseenAddNothing, ThreeUnseenSettleNothing, TwoUnseenChangeNothing, TwoUnseenWait, UnderWayIsInHand};
 ghost use Rattle.settle_core.specs.Settling.{Settles};
 ghost use Rattle.settle_core.specs.Masks.{IsDiff, IsNoMove};
-ghost use Rattle.settle_core.specs.Candidate.{is_king_code, side_number, lands as lands_test, leaves as leaves_test, officer_of, promotion_between};
+ghost use Rattle.settle_core.specs.Candidate.{is_king_code, is_owned_code, side_number, lands as lands_test, leaves as leaves_test, officer_of, promotion_between};
 
 use crate::tips::{Tip, repeats_at};
-use chess_rules::{Kind, Move, Position, Square};
+use chess_rules::{Kind, Move, Position, Side, Square};
 use std::simd::prelude::*;
 
 /// Honest play folds to its moves: the pictures that show a line of moves, one after the other, give this line.
@@ -148,6 +148,16 @@ fn side_of(code: u8) -> u8
         1
     } else {
         2
+    }
+}
+
+/// Whether the code is that of a man of this side.
+pub(crate) fn is_owned(side: Side, code: u8) -> bool
+    ensures { result ≡ is_owned_code side code }
+{
+    match side {
+        Side::White => side_of(code) == 1,
+        Side::Black => side_of(code) == 2,
     }
 }
 

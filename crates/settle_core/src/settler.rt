@@ -213,12 +213,12 @@ impl Settler {
         ensures memory { (picture : List ℕ) → self.old.last ≡ Some picture
             → OnErr result ((m : MoveOf) × Settles (position_of self.old) picture m) }
     {
-        if self.here.only_lacks(&self.picture) {
+        let Some(landed) = self.here.landed(&self.picture) else {
             // The start is valid, and so is each position of the line.
             self.start.parts();
             return Ok(Seen::Waits);
-        }
-        if let Some(m) = self.here.settled(&self.picture) {
+        };
+        if let Some(m) = self.here.settled_by(&self.picture, landed) {
             self.add(copy(&m), clock)?;
             return Ok(Seen::Moved(m));
         }

@@ -26,7 +26,7 @@ returns-in-Some-instead-clause-ok c picture seen =
     let shown : c.self.inside.picture ≡ picture = last_is c.self.inside.seen c.self.inside.picture picture (ap (λ (s : Sheet). s.last) c.self.view_is ∙ seen) in
     let same : c.copy-in-Some-instead.result ≡ c.in-Some-instead.m = c.copy-in-Some-instead.ensures in (
       (
-        elsewhere NoMove _ _ _ _ at shown c.in_default.ensures.none,
+        elsewhere NoMove _ _ _ _ at shown c.in_default-settled_by.ensures.none,
         elsewhere NoSign _ _ _ _ at shown c.in_default-sign_of.ensures.none,
         c.in-Some-instead.ensures.some picture seen,
       ),
@@ -39,21 +39,21 @@ returns-clause-ok c picture seen =
     let at : c.self.inside.here.position ≡ position_of now = c.self.invariant.position ∙ ap position_of c.self.view_is in
     let shown : c.self.inside.picture ≡ picture = last_is c.self.inside.seen c.self.inside.picture picture (ap (λ (s : Sheet). s.last) c.self.view_is ∙ seen) in (
       (
-        elsewhere NoMove _ _ _ _ at shown c.in_default.ensures.none,
+        elsewhere NoMove _ _ _ _ at shown c.in_default-settled_by.ensures.none,
         elsewhere NoSign _ _ _ _ at shown c.in_default-sign_of.ensures.none,
         c.in_default-instead.ensures.none picture seen,
       ),
       refl,
     )
 
-pub returns-then-only_lacks-clause-ok : goal.returns-then-only_lacks-clause-ok
-returns-then-only_lacks-clause-ok c seen last =
+pub returns-in_default-clause-ok : goal.returns-in_default-clause-ok
+returns-in_default-clause-ok c seen last =
     let shown : c.self.inside.picture ≡ seen = last_is c.self.inside.seen c.self.inside.picture seen (ap (λ (s : Sheet). s.last) c.self.view_is ∙ last) in
     let moves = moves_of (reverse c.self.inside.plies.items) in
     let P : List ℕ → Type 0 = λ xs. OnlyLacks xs c.self.inside.picture in
     let Q : Parts → Type 0 = λ p. OnlyLacks (picture p) c.self.inside.picture in
     let lacks : OnlyLacks (picture (reached c.self.inside.start moves)) c.self.inside.picture =
-    subst Q c.self.invariant.position (subst P (c.self.invariant.here_compared).picture (c.only_lacks.ensures c.if-only_lacks.true)) in
+    subst Q c.self.invariant.position (subst P (c.self.invariant.here_compared).picture c.in_default.ensures.none) in
     let R : List ℕ → Type 0 = λ xs. Shows c.self.inside.start moves xs Waits in
     let S : Sheet → Type 0 = λ s. Shows s.start (moves_of s.score.plies) seen Waits in (
       subst S c.self.view_is (subst R shown (waits_lacking c.self.inside.start moves c.self.inside.picture c.parts.ensures.valid c.self.invariant.played lacks)),
