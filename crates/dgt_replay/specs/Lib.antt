@@ -1,6 +1,9 @@
 pub mod Checked
 pub mod Choosing
 pub mod Command
+pub mod Followed
+pub mod Following
+pub mod GameLines
 pub mod Lines
 pub mod Lister
 pub mod Listing
@@ -8,6 +11,7 @@ pub mod Placing
 pub mod Printed
 pub mod Reading
 pub mod Recorded
+pub mod Seeing
 pub mod SettingUp
 pub mod Status
 pub mod Telling

@@ -3,6 +3,7 @@
 
 mod checking;
 pub mod laws;
+mod follower;
 mod lines;
 mod listed;
 mod lister;

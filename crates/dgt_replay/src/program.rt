@@ -67,6 +67,7 @@ fn refused_words<O: Write, E: Write>(
 }
 
 fn list<R: Read, O: Write, E: Write>(
+    alloc: Global,
     listed: Listed,
     reader: &mut Watch<R>,
     out: &mut Watch<O>,
@@ -79,9 +80,10 @@ fn list<R: Read, O: Write, E: Write>(
         (O.contents (inner_of out.old)) (O.contents (inner_of out.new)) (has_failed reader.new) (has_failed out.new) }
     ensures tells { Tells result IsTooLong (E.contents (inner_of err.old)) (E.contents (inner_of err.new)) (has_failed reader.new) (has_failed out.new) (has_failed err.new) }
     ensures works { result ≡ 0 → (has_failed reader.new ≡ false) × ((has_failed out.new ≡ false) × (has_failed err.new ≡ false)) }
-    ensures status { (result ≡ 0) ⊎ ((result ≡ 1) ⊎ (result ≡ 3)) }
+    ensures known { result ≤ 4 }
+    ensures status { result ≢ 2 }
 {
-    let done = list_stream(listed, reader, out);
+    let done = list_stream(alloc, listed, reader, out);
     if out.failed() || out.flush().is_err() {
         return refused(err, b"write fault\n", 3);
     }
@@ -94,7 +96,7 @@ fn list<R: Read, O: Write, E: Write>(
 // Does what was chosen.
 fn obey<R: Read, O: Write, E: Write>(
     alloc: Global,
-    choice: Choice<'_>,
+    choice: &Choice<'_>,
     reader: &mut Watch<R>,
     out: &mut Watch<O>,
     err: &mut Watch<E>,
@@ -102,48 +104,48 @@ fn obey<R: Read, O: Write, E: Write>(
     requires reading { has_failed reader.old ≡ false }
     requires working { has_failed out.old ≡ false }
     requires erring { has_failed err.old ≡ false }
-    ensures lists { (listed : Listed) → choice.entry ≡ Choice.List listed → ListingEnds listed result
+    ensures lists { (listed : Listed) → choice.now ≡ Choice.List listed → ListingEnds listed result
         (R.remaining (inner_of reader.old)) (R.remaining (inner_of reader.new))
         (O.contents (inner_of out.old)) (O.contents (inner_of out.new)) (has_failed reader.new) (has_failed out.new) }
-    ensures lists_tell { (listed : Listed) → choice.entry ≡ Choice.List listed → Tells result IsTooLong
+    ensures lists_tell { (listed : Listed) → choice.now ≡ Choice.List listed → Tells result IsTooLong
         (E.contents (inner_of err.old)) (E.contents (inner_of err.new)) (has_failed reader.new) (has_failed out.new) (has_failed err.new) }
-    ensures records { (setup : Setup) (wishes : Wishes) → choice.entry ≡ Choice.Record wishes → Meets wishes setup → result ≡ 0 → RecordsAndTells setup (R.remaining (inner_of reader.old))
+    ensures records { (setup : Setup) (wishes : Wishes) → choice.now ≡ Choice.Record wishes → Meets wishes setup → result ≡ 0 → RecordsAndTells setup (R.remaining (inner_of reader.old))
         (E.contents (inner_of err.old)) (E.contents (inner_of err.new)) (O.contents (inner_of out.old)) (O.contents (inner_of out.new)) }
-    ensures record_long { (setup : Setup) (wishes : Wishes) → choice.entry ≡ Choice.Record wishes → Meets wishes setup → result ≡ 1 → EndsFor RecordError.TooLong setup (R.remaining (inner_of reader.old)) (R.remaining (inner_of reader.new))
+    ensures record_long { (setup : Setup) (wishes : Wishes) → choice.now ≡ Choice.Record wishes → Meets wishes setup → result ≡ 1 → EndsFor RecordError.TooLong setup (R.remaining (inner_of reader.old)) (R.remaining (inner_of reader.new))
         (E.contents (inner_of err.old)) (E.contents (inner_of err.new)) (has_failed err.new) (O.contents (inner_of out.old)) (O.contents (inner_of out.new)) }
-    ensures record_fails { (setup : Setup) (wishes : Wishes) → choice.entry ≡ Choice.Record wishes → Meets wishes setup → result ≡ 3 → Fails setup (R.remaining (inner_of reader.old)) (R.remaining (inner_of reader.new))
+    ensures record_fails { (setup : Setup) (wishes : Wishes) → choice.now ≡ Choice.Record wishes → Meets wishes setup → result ≡ 3 → Fails setup (R.remaining (inner_of reader.old)) (R.remaining (inner_of reader.new))
         (E.contents (inner_of err.old)) (E.contents (inner_of err.new)) (O.contents (inner_of out.old)) (O.contents (inner_of out.new))
         (has_failed reader.new) (has_failed out.new) (has_failed err.new) }
-    ensures record_memory { (setup : Setup) (wishes : Wishes) → choice.entry ≡ Choice.Record wishes → Meets wishes setup → result ≡ 4 → EndsFor RecordError.Memory setup (R.remaining (inner_of reader.old)) (R.remaining (inner_of reader.new))
+    ensures record_memory { (setup : Setup) (wishes : Wishes) → choice.now ≡ Choice.Record wishes → Meets wishes setup → result ≡ 4 → EndsFor RecordError.Memory setup (R.remaining (inner_of reader.old)) (R.remaining (inner_of reader.new))
         (E.contents (inner_of err.old)) (E.contents (inner_of err.new)) (has_failed err.new) (O.contents (inner_of out.old)) (O.contents (inner_of out.new))
         ⊎ (Untouched (R.remaining (inner_of reader.old)) (R.remaining (inner_of reader.new)) (O.contents (inner_of out.old)) (O.contents (inner_of out.new))
         × Says (E.contents (inner_of err.old)) (E.contents (inner_of err.new)) (has_failed err.new) (codes "memory\n")) }
-    ensures record_refuses { (wishes : Wishes) → choice.entry ≡ Choice.Record wishes → MeetsNothing wishes → ((result ≡ 1) ⊎ (result ≡ 4))
+    ensures record_refuses { (wishes : Wishes) → choice.now ≡ Choice.Record wishes → MeetsNothing wishes → ((result ≡ 1) ⊎ (result ≡ 4))
         × Untouched (R.remaining (inner_of reader.old)) (R.remaining (inner_of reader.new)) (O.contents (inner_of out.old)) (O.contents (inner_of out.new)) }
-    ensures refusal_tells { (wishes : Wishes) → choice.entry ≡ Choice.Record wishes → MeetsNothing wishes → Tells result (RefusesSetup (given wishes.fen) (wished wishes))
+    ensures refusal_tells { (wishes : Wishes) → choice.now ≡ Choice.Record wishes → MeetsNothing wishes → Tells result (RefusesSetup (given wishes.fen) (wished wishes))
         (E.contents (inner_of err.old)) (E.contents (inner_of err.new)) false false (has_failed err.new) }
-    ensures checks { choice.entry ≡ Choice.Check → result ≡ 0 → ChecksGame (R.remaining (inner_of reader.old))
+    ensures checks { choice.now ≡ Choice.Check → result ≡ 0 → ChecksGame (R.remaining (inner_of reader.old))
         (O.contents (inner_of out.old)) (O.contents (inner_of out.new)) }
-    ensures check_tells { choice.entry ≡ Choice.Check → Tells result (RefusesText (R.remaining (inner_of reader.old)))
+    ensures check_tells { choice.now ≡ Choice.Check → Tells result (RefusesText (R.remaining (inner_of reader.old)))
         (E.contents (inner_of err.old)) (E.contents (inner_of err.new)) (has_failed reader.new) (has_failed out.new) (has_failed err.new) }
-    ensures check_bounded { choice.entry ≡ Choice.Check → ReadsWithin text_limit (R.remaining (inner_of reader.old)) (R.remaining (inner_of reader.new)) }
-    ensures check_silent { choice.entry ≡ Choice.Check → (result ≡ 1) ⊎ (result ≡ 4) → Keeps (O.contents (inner_of out.old)) (O.contents (inner_of out.new)) }
-    ensures moves { (fen : Option (Bor (List ℕ))) (start : PartsOf) → choice.entry ≡ Choice.Moves fen → StartsAt (given fen) start → result ≡ 0 → PrintsMoves start (O.contents (inner_of out.old)) (O.contents (inner_of out.new)) }
-    ensures moves_accept { (fen : Option (Bor (List ℕ))) (start : PartsOf) → choice.entry ≡ Choice.Moves fen → StartsAt (given fen) start → result ≢ 1 }
-    ensures moves_refuse { (fen : Option (Bor (List ℕ))) → choice.entry ≡ Choice.Moves fen → HasNoStart (given fen) → (result ≡ 1) × Keeps (O.contents (inner_of out.old)) (O.contents (inner_of out.new)) }
-    ensures moves_tell { (fen : Option (Bor (List ℕ))) → choice.entry ≡ Choice.Moves fen → Tells result (RefusesStart (given fen))
+    ensures check_bounded { choice.now ≡ Choice.Check → ReadsWithin text_limit (R.remaining (inner_of reader.old)) (R.remaining (inner_of reader.new)) }
+    ensures check_silent { choice.now ≡ Choice.Check → (result ≡ 1) ⊎ (result ≡ 4) → Keeps (O.contents (inner_of out.old)) (O.contents (inner_of out.new)) }
+    ensures moves { (fen : Option (Bor (List ℕ))) (start : PartsOf) → choice.now ≡ Choice.Moves fen → StartsAt (given fen) start → result ≡ 0 → PrintsMoves start (O.contents (inner_of out.old)) (O.contents (inner_of out.new)) }
+    ensures moves_accept { (fen : Option (Bor (List ℕ))) (start : PartsOf) → choice.now ≡ Choice.Moves fen → StartsAt (given fen) start → result ≢ 1 }
+    ensures moves_refuse { (fen : Option (Bor (List ℕ))) → choice.now ≡ Choice.Moves fen → HasNoStart (given fen) → (result ≡ 1) × Keeps (O.contents (inner_of out.old)) (O.contents (inner_of out.new)) }
+    ensures moves_tell { (fen : Option (Bor (List ℕ))) → choice.now ≡ Choice.Moves fen → Tells result (RefusesStart (given fen))
         (E.contents (inner_of err.old)) (E.contents (inner_of err.new)) false (has_failed out.new) (has_failed err.new) }
-    ensures moves_silent { (fen : Option (Bor (List ℕ))) → choice.entry ≡ Choice.Moves fen → result ≡ 4 → Keeps (O.contents (inner_of out.old)) (O.contents (inner_of out.new)) }
-    ensures moves_unread { (fen : Option (Bor (List ℕ))) → choice.entry ≡ Choice.Moves fen → reader.new ≡ reader.old }
+    ensures moves_silent { (fen : Option (Bor (List ℕ))) → choice.now ≡ Choice.Moves fen → result ≡ 4 → Keeps (O.contents (inner_of out.old)) (O.contents (inner_of out.new)) }
+    ensures moves_unread { (fen : Option (Bor (List ℕ))) → choice.now ≡ Choice.Moves fen → reader.new ≡ reader.old }
     ensures works { result ≡ 0 → (has_failed reader.new ≡ false) × ((has_failed out.new ≡ false) × (has_failed err.new ≡ false)) }
     ensures known { result ≤ 4 }
     ensures status { result ≢ 2 }
 {
     match choice {
-        Choice::List(listed) => list(listed, reader, out, err),
-        Choice::Record(wishes) => record_game(alloc, &wishes, reader, out, err),
+        Choice::List(listed) => list(alloc, *listed, reader, out, err),
+        Choice::Record(wishes) => record_game(alloc, wishes, reader, out, err),
         Choice::Check => check(alloc, reader, out, err),
-        Choice::Moves { fen } => moves(alloc, fen, out, err),
+        Choice::Moves { fen } => moves(alloc, *fen, out, err),
     }
 }
 
@@ -238,6 +240,6 @@ pub fn run<R: Read, O: Write, E: Write>(
 {
     match read_words(alloc, words) {
         Err(error) => refused_words(alloc, &error, out, err),
-        Ok(choice) => obey(alloc, choice, reader, out, err),
+        Ok(choice) => obey(alloc, &choice, reader, out, err),
     }
 }
