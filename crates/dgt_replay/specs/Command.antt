@@ -50,6 +50,14 @@ pub record IsApp (command : Command) (app : App) : Type 0 where
   pub app_is : app_of command ≡ app
   pub local : (out-Command command).has_globals ≡ false
 
+-- The command, where there is one, is read so.
+abbrev pub Makes : Result Command AllocError → App → Type 0
+Makes command app = IfOk command (λ c. IsApp c app)
+
 -- Whatever the command was read as, it has this argument more.
-abbrev pub AddsRule : Command → Rule → Result Command AllocError → Type 0
-AddsRule old rule result = (app : App) → IsApp old app → IfOk result (λ command. IsApp command (with_rule app rule))
+abbrev pub AddsRule : Result Command AllocError → Rule → Result Command AllocError → Type 0
+AddsRule old rule result = (app : App) → Makes old app → Makes result (with_rule app rule)
+
+-- Whatever the two commands were read as, the first has the second as a subcommand more.
+abbrev pub AddsApp : Result Command AllocError → Result Command AllocError → Result Command AllocError → Type 0
+AddsApp old sub result = (app sub_app : App) → Makes old app → Makes sub sub_app → Makes result (with_subcommand app sub_app.top)

@@ -6,7 +6,7 @@ ghost use Rattle.clap.specs.Values.{kind_of};
 ghost use Rattle.clap.specs.Matches.{first_value, found_of};
 ghost use Rattle.clap.specs.Simple.{App, app_of, new_app, subcommand_rows_of};
 ghost use Rattle.clap.specs.Walk.{rows_of};
-ghost use Rattle.dgt_replay.specs.Command.{AddsRule, IsApp, check_app, moves_app, pictures_app, record_app, replay, rotated_rule, show_app, text_rule, with_tags};
+ghost use Rattle.dgt_replay.specs.Command.{AddsRule, AddsApp, IsApp, Makes, check_app, moves_app, pictures_app, record_app, replay, rotated_rule, show_app, text_rule, with_tags};
 ghost use Rattle.dgt_replay.specs.Choosing.{AsksFor, Chooses, IsRefused};
 ghost use Rattle.dgt_replay.specs.SettingUp.{Wants, side_in};
 
@@ -43,10 +43,14 @@ pub struct Wishes<'a> {
     pub black: Option<&'a str>,
 }
 
-// The command with a flag more.
-fn with_rotated<'a>(alloc: Global, command: Command<'a>) -> Result<Command<'a>, AllocError>
+// The command with a flag more. Where memory ran out before, it stays so.
+fn with_rotated<'a>(
+    alloc: Global,
+    command: Result<Command<'a>, AllocError>,
+) -> Result<Command<'a>, AllocError>
     ensures { AddsRule command.entry rotated_rule result }
 {
+    let command = command?;
     let rotated = Arg::new(alloc, "rotated")
         .long("rotated")
         .action(ArgAction::SetTrue)
@@ -54,21 +58,33 @@ fn with_rotated<'a>(alloc: Global, command: Command<'a>) -> Result<Command<'a>, 
     command.arg(rotated)
 }
 
-// The command with an option more, which has a value.
+// The command with an option more, which has a value. Where memory ran out before, it stays so.
 fn with_text<'a>(
     alloc: Global,
-    command: Command<'a>,
+    command: Result<Command<'a>, AllocError>,
     name: &'a str,
     value: &'a str,
     help: &'a str,
 ) -> Result<Command<'a>, AllocError>
     ensures { AddsRule command.entry (text_rule name.entry.now) result }
 {
+    let command = command?;
     let text = Arg::new(alloc, name)
         .long(name)
         .value_name(value)
         .help(help);
     command.arg(text)
+}
+
+// The command with a subcommand more. Where memory ran out before, for either, it stays so.
+fn with_subcommand<'a>(
+    command: Result<Command<'a>, AllocError>,
+    subcommand: Result<Command<'a>, AllocError>,
+) -> Result<Command<'a>, AllocError>
+    ensures { AddsApp command.entry subcommand.entry result }
+{
+    let command = command?;
+    command.subcommand(subcommand?)
 }
 
 // A command of this name, without arguments.
@@ -96,23 +112,26 @@ fn pictures<'a>(alloc: Global) -> Result<Command<'a>, AllocError>
         "pictures",
         "Prints the placement of each picture of a capture on standard input",
     );
-    with_rotated(alloc, command)
+    with_rotated(alloc, Ok(command))
 }
 
-fn with_tags<'a>(alloc: Global, command: Command<'a>) -> Result<Command<'a>, AllocError>
-    ensures { (app : App) → IsApp command.entry app → IfOk result (λ command. IsApp command (with_tags app)) }
+fn with_tags<'a>(
+    alloc: Global,
+    command: Result<Command<'a>, AllocError>,
+) -> Result<Command<'a>, AllocError>
+    ensures { (app : App) → Makes command.entry app → Makes result (with_tags app) }
 {
-    let command = with_text(alloc, command, "event", "TEXT", "The tag Event")?;
-    let command = with_text(alloc, command, "site", "TEXT", "The tag Site")?;
+    let command = with_text(alloc, command, "event", "TEXT", "The tag Event");
+    let command = with_text(alloc, command, "site", "TEXT", "The tag Site");
     let command = with_text(
         alloc,
         command,
         "date",
         "TEXT",
         "The tag Date, as 2024.05.31 or 2024.??.??",
-    )?;
-    let command = with_text(alloc, command, "round", "TEXT", "The tag Round")?;
-    let command = with_text(alloc, command, "white", "TEXT", "The tag White")?;
+    );
+    let command = with_text(alloc, command, "round", "TEXT", "The tag Round");
+    let command = with_text(alloc, command, "white", "TEXT", "The tag White");
     with_text(alloc, command, "black", "TEXT", "The tag Black")
 }
 
@@ -124,15 +143,15 @@ fn record<'a>(alloc: Global) -> Result<Command<'a>, AllocError>
         "record",
         "Records the game of a board on standard input as PGN; what the board is sent goes to standard error",
     );
-    let command = with_rotated(alloc, command)?;
+    let command = with_rotated(alloc, Ok(command));
     let command = with_text(
         alloc,
         command,
         "first",
         "SIDE",
         "Whose time comes first in a time message: white or black",
-    )?;
-    let command = with_text(alloc, command, "fen", "TEXT", "The position at the start")?;
+    );
+    let command = with_text(alloc, command, "fen", "TEXT", "The position at the start");
     with_tags(alloc, command)
 }
 
@@ -150,23 +169,23 @@ fn moves<'a>(alloc: Global) -> Result<Command<'a>, AllocError>
     ensures { IfOk result (λ command. IsApp command moves_app) }
 {
     let command = named(alloc, "moves", "Prints the legal moves of a position");
-    with_text(alloc, command, "fen", "TEXT", "The position")
+    with_text(alloc, Ok(command), "fen", "TEXT", "The position")
 }
 
 fn command<'a>(alloc: Global) -> Result<Command<'a>, AllocError>
     ensures { IfOk result (λ command. app_of command ≡ replay) }
 {
-    named(
+    let command = named(
         alloc,
         "dgt_replay",
         "Records games of chess from a DGT board",
     )
-    .subcommand_required(true)
-    .subcommand(show(alloc))?
-    .subcommand(pictures(alloc)?)?
-    .subcommand(record(alloc)?)?
-    .subcommand(check(alloc))?
-    .subcommand(moves(alloc)?)
+    .subcommand_required(true);
+    let command = with_subcommand(Ok(command), Ok(show(alloc)));
+    let command = with_subcommand(command, pictures(alloc));
+    let command = with_subcommand(command, record(alloc));
+    let command = with_subcommand(command, Ok(check(alloc)));
+    with_subcommand(command, moves(alloc))
 }
 
 fn side_named(name: &str) -> Option<First>
@@ -238,6 +257,19 @@ fn choice_of<'a>(matches: &ArgMatches<'a>) -> Option<Choice<'a>>
     }
 }
 
+// What is said of a side that is neither.
+fn unknown_side<'a>(command: &mut Command<'a>) -> Error
+    ensures { (kind_of result ≡ ErrorKind.OutOfMemory) ⊎ (kind_of result ≡ ErrorKind.InvalidValue) }
+{
+    match command.error(
+        ErrorKind::InvalidValue,
+        "the side after '--first' is white or black",
+    ) {
+        Ok(error) => error,
+        Err(refused) => Error::from(refused),
+    }
+}
+
 /// Reads the words, of which the first is the program's name. An `Err` has the text of `clap`: help that was asked
 /// for, or why the words are refused, or that memory ran out.
 pub fn read_words<'a>(alloc: Global, words: &'a [String]) -> Result<Choice<'a>, Error>
@@ -252,14 +284,8 @@ pub fn read_words<'a>(alloc: Global, words: &'a [String]) -> Result<Choice<'a>, 
         Ok(matches) => matches,
         Err(error) => return Err(error),
     };
-    if let Some(choice) = choice_of(&matches) {
-        return Ok(choice);
-    }
-    match command.error(
-        ErrorKind::InvalidValue,
-        "the side after '--first' is white or black",
-    ) {
-        Ok(error) => Err(error),
-        Err(refused) => Err(Error::from(refused)),
+    match choice_of(&matches) {
+        Some(choice) => Ok(choice),
+        None => Err(unknown_side(&mut command)),
     }
 }

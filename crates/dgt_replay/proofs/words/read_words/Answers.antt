@@ -1,4 +1,4 @@
-use Rattle.std.proofs.Common.{◌≡◌, ◌∙◌, List, Option, None, map, string_bytes, ap, inr, subst}
+use Rattle.std.proofs.Common.{◌≡◌, ◌∙◌, List, Option, None, map, string_bytes, ap, inl, inr, subst}
 use Rattle.std.specs.Prelude.{MatchOption}
 use Rattle.clap.specs.Walk.{Row, Text}
 use Rattle.clap.specs.Simple.{app_of, subcommand_of, subcommand_rows_of}
@@ -21,12 +21,12 @@ returns-in-Some-clause-chooses c =
     let P : Option (Text × List Row) → Type 0 = λ rows. MatchOption rows (c.choice_of.result ≡ None) (λ f. Chooses f.0 f.1 c.choice_of.result) in
     asks_for (subcommand_of replay words) c.choice_of.result c.in-Some.choice (subst P found c.choice_of.ensures) c.in-Some.is
 
-pub returns-in-Ok-error-clause-refused : goal.returns-in-Ok-error-clause-refused
-returns-in-Ok-error-clause-refused c =
+pub returns-clause-refused : goal.returns-clause-refused
+returns-clause-refused c =
     let words = map string_bytes c.args.words.now in
     let found : subcommand_rows_of c.in-Ok.matches ≡ subcommand_of replay words = rows_found (app_of c.in_ok-command.command) words c.in-Ok.matches c.in_ok-command.ensures c.in-Ok.ensures.ok.2 in
     let P : Option (Text × List Row) → Type 0 = λ rows. MatchOption rows (c.choice_of.result ≡ None) (λ f. Chooses f.0 f.1 c.choice_of.result) in
-    inr (inr (asks_for_none (subcommand_of replay words) c.choice_of.result (subst P found c.choice_of.ensures) c.in_default.is))
+    inr (inr (asks_for_none (subcommand_of replay words) c.choice_of.result (subst P found c.choice_of.ensures) c.in-None.is))
 
 pub returns-in-Err-clause-fault : goal.returns-in-Err-clause-fault
 returns-in-Err-clause-fault c = fault_found (app_of c.in_ok-command.command) (map string_bytes c.args.words.now) c.in-Err.error c.in_ok-command.ensures c.in-Err.ensures.kinds
@@ -34,7 +34,10 @@ returns-in-Err-clause-fault c = fault_found (app_of c.in_ok-command.command) (ma
 pub returns-in-Some-clause-faultless : goal.returns-in-Some-clause-faultless
 returns-in-Some-clause-faultless c = none_found (app_of c.in_ok-command.command) (map string_bytes c.args.words.now) c.in_ok-command.ensures c.in-Ok.ensures.kinds
 
-pub returns-in-Ok-error-clause-fault : goal.returns-in-Ok-error-clause-fault
-returns-in-Ok-error-clause-fault c =
+pub returns-clause-fault : goal.returns-clause-fault
+returns-clause-fault c =
     let none = none_found (app_of c.in_ok-command.command) (map string_bytes c.args.words.now) c.in_ok-command.ensures c.in-Ok.ensures.kinds in
-    inr (inr (none, c.in-Ok-error.ensures.kind))
+    elim c.unknown_side.ensures [
+      | inl memory ↦ inl memory
+      | inr kind ↦ inr (inr (none, kind))
+    ]
