@@ -100,7 +100,6 @@ ends_refused listed TooLong status input left written so_far after reader_failed
   bounded = within;
   whole = λ e. absurd (omega arith);
 }
-
 ends_refused listed Memory status input left written so_far after reader_failed out_failed is reading working read front long refused within kept = record {
   done = λ e. absurd (omega arith);
   long = λ e. absurd (omega arith);

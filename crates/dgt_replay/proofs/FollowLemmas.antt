@@ -1,5 +1,5 @@
 -- What a follower tells.
-use Rattle.std.proofs.Common.{◌≡◌, ◌≢◌, ℕ, ◌+◌, Bool, true, false, ◌⊎◌, inl, inr, append-nil, List, [], ◌∷◌, ◌++◌, drop, Option, Some, None, IfSome, refl, sym, ◌∙◌, ap, subst, codes}
+use Rattle.std.proofs.Common.{◌≡◌, ◌≢◌, ℕ, Bool, true, false, ◌⊎◌, inl, inr, append-nil, List, [], ◌∷◌, ◌++◌, drop, Option, Some, None, IfSome, refl, sym, ◌∙◌, ap, subst}
 use Rattle.std.specs.Prelude.{if◌then◌else◌, is_some}
 use Rattle.chess_rules.specs.declared.men.Move.{Move}
 use Rattle.chess_rules.specs.declared.men.Parts.{Parts}
@@ -28,7 +28,7 @@ use Rattle.dgt_frame.specs.declared.events.Event.TheVariants.{Message, Fault}
 use Rattle.dgt_replay.specs.Lines.{line_of}
 use Rattle.dgt_replay.specs.GameLines.{line, move_words}
 use Rattle.dgt_replay.specs.Followed.{HasFollowed}
-use Rattle.dgt_replay.specs.Following.{HasResult, TellsEntry, TellsEvent, TellsPly}
+use Rattle.dgt_replay.specs.Following.{HasResult, TellsEvent, TellsPly}
 use Rattle.dgt_replay.specs.Seeing.{AddsNews, LastIsLegal, MayTell}
 
 -- what is known of the latest ply and its position
@@ -185,14 +185,16 @@ added_fault old new setting past x taken lines lines' followed stands tells asks
     let fault : is_fault x.event ≡ true = sym tells.asks ∙ asks in
     let none : is_entry x.event past ≡ false = fault_gives_none x.event past fault in (
       followed_same old new setting past x.event followed stands (ap unstuttered (entries_same setting x.event past none)),
-      (line_of x,
-      lines_are,
-      record {
-        fault = λ f. refl;
-        repeated = λ entry same. absurd (clash entry none);
-        entry = λ entry new. absurd (clash entry none);
-        other = λ f none. absurd (clash fault f);
-      }),
+      (
+        line_of x,
+        lines_are,
+        record {
+          fault = λ f. refl;
+          repeated = λ entry same. absurd (clash entry none);
+          entry = λ entry new. absurd (clash entry none);
+          other = λ f none. absurd (clash fault f);
+        },
+      ),
     )
 
 pub added_nothing : (old : Follower) (new : State) (setting : Setting) (past : List Event) (x : Timed) (taken : Taken) (lines lines' : List ℕ) → HasFollowed old setting past
@@ -201,14 +203,16 @@ pub added_nothing : (old : Follower) (new : State) (setting : Setting) (past : L
 added_nothing old new setting past x taken lines lines' followed stands tells asks seen lines_are =
     let none : is_entry x.event past ≡ false = sym tells.entry ∙ ap is_some seen in (
       followed_same old new setting past x.event followed stands (ap unstuttered (entries_same setting x.event past none)),
-      ([],
-      lines_are ∙ sym (append-nil lines),
-      record {
-        fault = λ fault. absurd (clash fault (sym tells.asks ∙ asks));
-        repeated = λ entry same. refl;
-        entry = λ entry new. absurd (clash entry none);
-        other = λ f none. refl;
-      }),
+      (
+        [],
+        lines_are ∙ sym (append-nil lines),
+        record {
+          fault = λ fault. absurd (clash fault (sym tells.asks ∙ asks));
+          repeated = λ entry same. refl;
+          entry = λ entry new. absurd (clash entry none);
+          other = λ f none. refl;
+        },
+      ),
     )
 
 pub added_same : (old : Follower) (new : State) (setting : Setting) (past : List Event) (x : Timed) (taken : Taken) (seen : Seen) (lines lines' : List ℕ) → HasFollowed old setting past
@@ -222,14 +226,16 @@ added_same old new setting past x taken seen lines lines' followed stands tells 
     let shorter : unstuttered (here ∷ entries_in setting past) ≡ unstuttered (entries_in setting past) =
     ap (λ b. if b then unstuttered (entries_in setting past) else here ∷ unstuttered (entries_in setting past)) repeated in (
       followed_same old new setting past x.event followed stands (ap unstuttered (entries_new setting x.event past entry) ∙ shorter),
-      ([],
-      lines_are ∙ sym (append-nil lines),
-      record {
-        fault = λ fault. absurd (clash fault (sym tells.asks ∙ asks));
-        repeated = λ entry same. refl;
-        entry = λ entry new. absurd (clash repeated new);
-        other = λ f none. refl;
-      }),
+      (
+        [],
+        lines_are ∙ sym (append-nil lines),
+        record {
+          fault = λ fault. absurd (clash fault (sym tells.asks ∙ asks));
+          repeated = λ entry same. refl;
+          entry = λ entry new. absurd (clash repeated new);
+          other = λ f none. refl;
+        },
+      ),
     )
 
 pub added_news : (old new : Follower) (setting : Setting) (past : List Event) (x : Timed) (taken : Taken) (seen : Seen) (lines lines' : List ℕ) → HasFollowed old setting past
@@ -258,28 +264,30 @@ added_news old new setting past x taken seen lines lines' followed stands tells 
         told = made.result_is;
         valid = followed.valid;
       },
-      (made.first ++ made.second,
-      made.lines_are,
-      record {
-        fault = λ fault. absurd (clash fault (sym tells.asks ∙ asks));
-        repeated = λ entry same. absurd (clash same fresh.new);
-        entry = λ entry other. record {
-          before = fresh.before;
-          seen = seen;
-          old = old.told;
-          new = new.told;
-          first = made.first;
-          second = made.second;
-          folds = fresh.folds;
-          shows = fresh.shows;
-          old_is = subst B before followed.told;
-          new_is = made.result_is;
-          first_is = made.first_is;
-          second_is = made.second_is;
-          text_is = refl;
-        };
-        other = λ f none. absurd (clash entry none);
-      }),
+      (
+        made.first ++ made.second,
+        made.lines_are,
+        record {
+          fault = λ fault. absurd (clash fault (sym tells.asks ∙ asks));
+          repeated = λ entry same. absurd (clash same fresh.new);
+          entry = λ entry other. record {
+            before = fresh.before;
+            seen = seen;
+            old = old.told;
+            new = new.told;
+            first = made.first;
+            second = made.second;
+            folds = fresh.folds;
+            shows = fresh.shows;
+            old_is = subst B before followed.told;
+            new_is = made.result_is;
+            first_is = made.first_is;
+            second_is = made.second_is;
+            text_is = refl;
+          };
+          other = λ f none. absurd (clash entry none);
+        },
+      ),
     )
 
 abbrev is_same_picture : Seen → Bool

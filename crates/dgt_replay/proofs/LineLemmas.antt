@@ -1,20 +1,15 @@
 -- The lines of events, one event at a time.
-use Rattle.std.proofs.Common.{◌≡◌, ℕ, Bool, true, false, List, [], ◌∷◌, ◌++◌, map, Option, Some, None, reverse, append-nil, refl, sym, subst, ◌∙◌, ap}
-use Rattle.std.specs.Prelude.{if◌then◌else◌}
+use Rattle.std.proofs.Common.{◌≡◌, ℕ, Bool, List, [], ◌∷◌, ◌++◌, map, Option, Some, None, reverse, append-nil, refl, sym, subst, ◌∙◌, ap}
 use Rattle.std.specs.List.{flat_map}
 use Rattle.std.proofs.lemmas.Grind.{flat_map-append}
 use Rattle.std.proofs.lemmas.List.{map-append, reverse-append}
 use Rattle.dgt_frame.specs.Streams.{Timed}
 use Rattle.dgt_frame.specs.declared.events.Event.{Event}
-use Rattle.dgt_frame.specs.declared.time.First.TheVariants.{White}
-use Rattle.settle_core.specs.Entries.{Entry, repeats, unstuttered}
 use Rattle.board_session.specs.Asking.{past_of}
-use Rattle.board_session.specs.Entering.{entries, entry_at, is_entry}
 use Rattle.board_session.specs.Viewing.{Adds, pictures}
 use Rattle.board_session.specs.Settings.{Setting}
 use Rattle.dgt_replay.specs.Following.{TellsEvent, TellsEvents}
 use Rattle.board_session.proofs.HearLemmas.{past_more}
-use Rattle.dgt_replay.specs.declared.listed.Listed.{Listed}
 use Rattle.dgt_replay.specs.declared.listed.Listed.TheVariants.{Events, Pictures}
 use Rattle.dgt_replay.specs.Lines.{line_of}
 use Rattle.dgt_replay.specs.Placing.{placement_line}

@@ -1,6 +1,6 @@
 -- What a lister adds at an event.
 use Rattle.std.specs.Prelude.{⊤}
-use Rattle.std.proofs.Common.{◌≡◌, ℕ, Bool, List, [], ◌∷◌, ◌++◌, Option, None, Result, Ok, Err, OnOk, refl, sym, ◌∙◌, ap, subst, append-nil}
+use Rattle.std.proofs.Common.{◌≡◌, ℕ, Bool, List, [], ◌∷◌, None, Result, Ok, Err, OnOk, sym, subst, append-nil}
 use Rattle.dgt_frame.specs.declared.events.Event.{Event}
 use Rattle.dgt_frame.specs.Streams.{Timed}
 use Rattle.board_session.specs.declared.view.View.{View}
@@ -11,11 +11,10 @@ use Rattle.board_session.specs.Views.{Views}
 use Rattle.board_session.proofs.HearLemmas.{past_more}
 use Rattle.dgt_replay.specs.declared.follower.Follower.{Follower}
 use Rattle.dgt_replay.specs.declared.lister.Lister.{Lister}
-use Rattle.dgt_replay.specs.declared.lister.Lister.TheVariants.{Events as EachEvent, Pictures as EachPicture, Game as EachMove}
-use Rattle.dgt_replay.specs.declared.listed.Listed.{Listed}
+use Rattle.dgt_replay.specs.declared.lister.Lister.TheVariants.{Pictures as EachPicture, Game as EachMove}
 use Rattle.dgt_replay.specs.declared.listed.Listed.TheVariants.{Events, Pictures, Game}
 use Rattle.dgt_replay.specs.Followed.{AddsEvent, HasFollowed}
-use Rattle.dgt_replay.specs.Lister.{AddsLines, Follows}
+use Rattle.dgt_replay.specs.Lister.{AddsLines}
 use Rattle.dgt_replay.proofs.LineLemmas.{game_more, pictures_added}
 
 none_by : (view new : View) (x : Timed) (lines : List ℕ) → ((rotated : Bool) (past : List Event) → Views view rotated past → Views new rotated (x.event ∷ past))

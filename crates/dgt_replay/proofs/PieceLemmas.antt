@@ -113,16 +113,22 @@ lists_end old new lister lister' start piece begin written written' waiting sent
 pub breaks_end : (old new : Decoder) (lister lister' : Lister) (start n : ℕ) (piece : List ℕ) (begin written written' : Option (List ℕ)) (waiting : List ℕ)
     → Appends written written' (take n waiting) → ListsPiece old lister start piece new lister' begin written waiting → BreaksOff Write old lister start piece new begin written'
 breaks_end old new lister lister' start n piece begin written written' waiting took part listed bytes events from at stands =
-    let before = part listed bytes events from at stands in
-    (piece, [], before.0, sym (append-nil piece), before.1.decoded, record {
-      taken = events ++ before.0;
-      extra = [];
-      text = before.1.text;
-      parts = sym (append-nil (events ++ before.0));
-      leaves = tt;
-      lines = before.1.lines;
-      stops = front_written from written written' waiting before.1.text n before.1.gathers took;
-    })
+    let before = part listed bytes events from at stands in (
+      piece,
+      [],
+      before.0,
+      sym (append-nil piece),
+      before.1.decoded,
+      record {
+        taken = events ++ before.0;
+        extra = [];
+        text = before.1.text;
+        parts = sym (append-nil (events ++ before.0));
+        leaves = tt;
+        lines = before.1.lines;
+        stops = front_written from written written' waiting before.1.text n before.1.gathers took;
+      },
+    )
 
 pub taken_more : (now new : Decoder) (count start before : ℕ) (event : Event) (more : List ℕ) → count ≤ length more → TakesUpTo now more count event new
     → HasTaken now (start + before) → HasTaken new (start + (before + count))

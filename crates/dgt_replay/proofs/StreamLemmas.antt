@@ -1,5 +1,5 @@
 -- What stands when a stream has been listed, wholly or in part.
-use Rattle.std.proofs.Common.{◌≡◌, ◌⊎◌, inl, inr, ℕ, ◌+◌, ◌-◌, ◌<◌, ◌≤◌, List, [], ◌∷◌, ◌++◌, length, take, drop, Option, Some, None, Result, Ok, Err, OnErr, OnOk, true, false, refl, sym, ◌∙◌, ap, subst, append_assoc, append-nil, length-append, length-drop, take-add, arith}
+use Rattle.std.proofs.Common.{◌≡◌, ◌⊎◌, inl, inr, ℕ, ◌+◌, ◌-◌, ◌<◌, ◌≤◌, List, [], ◌∷◌, ◌++◌, length, take, drop, Option, Some, None, Result, Ok, Err, OnErr, OnOk, false, refl, sym, ◌∙◌, ap, subst, append_assoc, append-nil, length-append, length-drop, take-add, arith}
 use Rattle.std.specs.Prelude.{if◌then◌else◌, is_err, is_ok}
 use Rattle.std.proofs.KnownBytes.{Appends-trans, Consumes-kept, Consumes-trans}
 use Rattle.std.proofs.lemmas.List.{length-take-le}
@@ -11,7 +11,7 @@ use Rattle.board_session.specs.Recording.{limit}
 use Rattle.dgt_replay.specs.declared.lister.Lister.{Lister}
 use Rattle.dgt_replay.specs.declared.listed.Listed.{Listed}
 use Rattle.dgt_replay.specs.Lister.{HasBegun}
-use Rattle.dgt_replay.specs.Listing.{Gathers, HasLines, Leaves, ListsAll, ListsFirst, ListsFront, ListsRead, ListsRefused, ReadsWithin, WritesFront, last_line}
+use Rattle.dgt_replay.specs.Listing.{Gathers, Leaves, ListsAll, ListsFirst, ListsFront, ListsRead, ListsRefused, ReadsWithin, WritesFront, last_line}
 use Rattle.dgt_replay.specs.Reading.{BreaksOff, FinishBreaksOff, Finishes, HasListed, HasTaken, ListsPiece, Stops}
 use Rattle.dgt_replay.specs.declared.listing.ListError.{ListError}
 use Rattle.dgt_replay.specs.declared.listing.ListError.TheVariants.{Memory, Read, TooLong, Write}

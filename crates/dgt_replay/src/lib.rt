@@ -2,8 +2,8 @@
 #![tactic(auto)]
 
 mod checking;
-pub mod laws;
 mod follower;
+pub mod laws;
 mod lines;
 mod listed;
 mod lister;

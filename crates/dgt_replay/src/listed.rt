@@ -8,7 +8,9 @@ pub enum Listed {
     /// One line for each event, and one for the rest.
     Events,
     /// One placement for each picture that differs from the one before. With `rotated`, field n means square 63 - n.
-    Pictures { rotated: bool },
+    Pictures {
+        rotated: bool,
+    },
     /// What each event makes of the game from this start, where `first` is whose time comes first.
     Game {
         start: Position,

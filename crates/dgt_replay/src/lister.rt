@@ -29,9 +29,11 @@ impl Lister {
         match listed {
             Listed::Events => Lister::Events,
             Listed::Pictures { rotated } => Lister::Pictures(View::new(rotated)),
-            Listed::Game { start, first, rotated } => {
-                Lister::Game(Follower::new(alloc, start, first, rotated))
-            }
+            Listed::Game {
+                start,
+                first,
+                rotated,
+            } => { Lister::Game(Follower::new(alloc, start, first, rotated)) }
         }
     }
 

@@ -1,7 +1,6 @@
-use Rattle.std.proofs.Common.{refl, sym, ap}
+use Rattle.std.proofs.Common.{refl}
 use Rattle.chess_rules.specs.Picture.{picture}
-use Rattle.settle_core.specs.declared.game.Seen.TheVariants.{Waits}
-use Rattle.dgt_replay.specs.Following.{TellsSeen, reached_by}
+use Rattle.dgt_replay.specs.Following.{reached_by}
 use Rattle.dgt_replay.proofs.follower.add_seen.Goals as goal
 
 pub returns-in-Waits-clause-told : goal.returns-in-Waits-clause-told

@@ -1,5 +1,4 @@
-use Rattle.std.proofs.Common.{rules, ◌≡◌, ◌+◌, ◌++◌, [], ◌∷◌, ℕ, List, true, false, sym, ◌∙◌, ap, arith}
-use Rattle.settle_core.specs.Masks.{IsDiff}
+use Rattle.std.proofs.Common.{rules, ◌≡◌, ◌++◌, [], ◌∷◌, true, false, sym, ◌∙◌, ap, arith}
 use Rattle.dgt_replay.specs.GameLines.{differing}
 use Rattle.dgt_replay.proofs.SquareLemmas.{all_squares, differs_there, same_there, three_pushed}
 use Rattle.dgt_replay.proofs.lines.squares_of.Goals as goal

@@ -1,8 +1,7 @@
-use Rattle.std.proofs.Common.{◌≡◌, [], sym, ◌∙◌}
+use Rattle.std.proofs.Common.{◌≡◌, sym, ◌∙◌}
 use Rattle.dgt_frame.specs.Streams.{Timed}
 use Rattle.dgt_frame.specs.Watched.{inner_of}
 use Rattle.dgt_replay.specs.Lister.{AddsLines}
-use Rattle.dgt_replay.specs.Reading.{GathersEvent}
 use Rattle.dgt_replay.proofs.GatherLemmas.{at_err, at_fault, at_ok, broken_both, broken_memory, broken_write, gathers_event, gathers_none}
 use Rattle.dgt_replay.proofs.listing.gather.Goals as goal
 

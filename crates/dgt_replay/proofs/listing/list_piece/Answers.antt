@@ -1,10 +1,8 @@
-use Rattle.std.proofs.Common.{◌≡◌, ◌+◌, ◌-◌, ◌<◌, ◌≤◌, ◌++◌, List, ℕ, [], length, take, drop, sym, ap, ◌∙◌, subst, take_all, take-add, length-drop, arith, rules}
+use Rattle.std.proofs.Common.{◌≡◌, ◌+◌, ◌-◌, ◌<◌, ◌≤◌, ◌++◌, List, ℕ, length, take, drop, sym, ap, ◌∙◌, subst, take_all, take-add, length-drop, arith, rules}
 use Rattle.std.proofs.lemmas.List.{length-take-le, take-append-drop}
-use Rattle.std.specs.Io.KnownBytes.{Appends}
 use Rattle.dgt_frame.specs.Decoding.{TakesUpTo}
 use Rattle.dgt_frame.specs.Watched.{inner_of}
 use Rattle.dgt_replay.specs.Reading.{BreaksOff, ListsPiece}
-use Rattle.dgt_replay.proofs.GatherLemmas.{at_ok, on_err, on_fault, on_ok}
 use Rattle.dgt_replay.proofs.PieceLemmas.{breaks_end, breaks_event, lists_end, lists_event, lists_none, lists_start, taken_more}
 use Rattle.dgt_replay.proofs.listing.list_piece.Goals as goal
 

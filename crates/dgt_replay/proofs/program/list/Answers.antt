@@ -1,4 +1,4 @@
-use Rattle.std.proofs.Common.{◌≡◌, ◌||◌, false, rules, Err, inr, sym, ◌∙◌, ap}
+use Rattle.std.proofs.Common.{◌≡◌, ◌||◌, rules, Err, inr, sym, ◌∙◌, ap}
 use Rattle.std.specs.Prelude.{is_err}
 use Rattle.dgt_frame.specs.Watched.{inner_of, has_failed}
 use Rattle.dgt_replay.proofs.EndLemmas.{ends_done, ends_in_fault, ends_refused, front_kept, true_or}

@@ -1,4 +1,4 @@
-use Rattle.std.proofs.Common.{◌≡◌, ◌∷◌, refl, sym, ap, ◌∙◌, true, false, inl, inr}
+use Rattle.std.proofs.Common.{◌∷◌, refl, inl, inr}
 use Rattle.dgt_frame.specs.Streams.{Timed}
 use Rattle.board_session.specs.Entering.{entry_at}
 use Rattle.board_session.specs.Standing.{entries_in}

@@ -1,6 +1,6 @@
-use Rattle.std.proofs.Common.{◌≡◌, ◌++◌, ap, sym, ◌∙◌, append_assoc, subst, Some, ℕ, List}
+use Rattle.std.proofs.Common.{◌++◌, ap, ◌∙◌, append_assoc, subst}
 use Rattle.settle_core.specs.Standing.{Sheet}
-use Rattle.dgt_replay.specs.Following.{HasResult, TellsSeen}
+use Rattle.dgt_replay.specs.Following.{TellsSeen}
 use Rattle.dgt_replay.proofs.follower.Follower.tell.Goals as goal
 
 pub add_seen-requires-clause-may : goal.add_seen-requires-clause-may

@@ -1,4 +1,3 @@
-use Rattle.std.proofs.Common.{refl}
 use Rattle.dgt_frame.specs.Streams.{Timed}
 use Rattle.dgt_replay.proofs.ListerLemmas.{game_adds, none_adds}
 use Rattle.dgt_replay.proofs.lister.Lister.add.Goals as goal
