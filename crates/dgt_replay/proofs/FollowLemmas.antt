@@ -98,7 +98,7 @@ pub record News (sheet : Sheet) (start : Parts) (past : List Entry) (entry : Ent
   pub last : sheet.last ≡ Some entry.picture
   pub score_is : sheet.score ≡ score_after start before entry.reading seen
 
-without_repeats : (entry : Entry) (past : List Entry) → repeats entry.picture past ≡ false → unstuttered (entry ∷ past) ≡ entry ∷ unstuttered past
+pub without_repeats : (entry : Entry) (past : List Entry) → repeats entry.picture past ≡ false → unstuttered (entry ∷ past) ≡ entry ∷ unstuttered past
 without_repeats entry past new = ap (λ b. if b then unstuttered past else entry ∷ unstuttered past) new
 
 news_of : (sheet : Sheet) (start : Parts) (past : List Entry) (entry : Entry) (seen : Seen) → Valid start → Settled sheet start (entry ∷ past)
@@ -119,10 +119,10 @@ news_of sheet start past entry seen valid stands answer =
       score_is = folds_once start (entry ∷ unstuttered past) sheet.score after valid folded made;
     }
 
-entries_new : (setting : Setting) (event : Event) (past : List Event) → is_entry event past ≡ true → entries_in setting (event ∷ past) ≡ entry_at setting.first setting.rotated (event ∷ past) ∷ entries_in setting past
+pub entries_new : (setting : Setting) (event : Event) (past : List Event) → is_entry event past ≡ true → entries_in setting (event ∷ past) ≡ entry_at setting.first setting.rotated (event ∷ past) ∷ entries_in setting past
 entries_new setting event past is = ap (λ b. if b then entry_at setting.first setting.rotated (event ∷ past) ∷ entries_in setting past else entries_in setting past) is
 
-entries_same : (setting : Setting) (event : Event) (past : List Event) → is_entry event past ≡ false → entries_in setting (event ∷ past) ≡ entries_in setting past
+pub entries_same : (setting : Setting) (event : Event) (past : List Event) → is_entry event past ≡ false → entries_in setting (event ∷ past) ≡ entries_in setting past
 entries_same setting event past is = ap (λ b. if b then entry_at setting.first setting.rotated (event ∷ past) ∷ entries_in setting past else entries_in setting past) is
 
 -- A session took an event that gave a new picture.
@@ -167,10 +167,10 @@ followed_same old new setting past event followed stands same =
       valid = followed.valid;
     }
 
-clash : {b : Bool} → b ≡ true → b ≡ false → ⊥
+pub clash : {b : Bool} → b ≡ true → b ≡ false → ⊥
 clash h k = cc
 
-fault_gives_none : (event : Event) (past : List Event) → is_fault event ≡ true → is_entry event past ≡ false
+pub fault_gives_none : (event : Event) (past : List Event) → is_fault event ≡ true → is_entry event past ≡ false
 fault_gives_none (Fault kind) past is = refl
 fault_gives_none (Message m) past is = absurd (clash is refl)
 

@@ -4,6 +4,7 @@ pub mod EndLemmas
 pub mod FaultLemmas
 pub mod FollowLemmas
 pub mod GatherLemmas
+pub mod GivingLemmas
 pub mod LineLemmas
 pub mod ListerLemmas
 pub mod MoveLemmas

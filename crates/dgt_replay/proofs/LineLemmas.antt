@@ -42,7 +42,7 @@ pictures_added rotated events x (Some picture) text adds is =
     ∙ ap (λ t. drawn (pictures rotated (past_of events)) ++ t) (append-nil (placement_line picture)) in
     ap (λ t. t ++ placement_line picture) is ∙ sym next
 
-map-reverse : {X A : Type 0} (f : X → A) (xs : List X) → map f (reverse xs) ≡ reverse (map f xs)
+pub map-reverse : {X A : Type 0} (f : X → A) (xs : List X) → map f (reverse xs) ≡ reverse (map f xs)
 map-reverse f [] = refl
 map-reverse f (x ∷ xs) = ap (map f) (reverse-append (x ∷ []) xs) ∙ map-append f (reverse xs) (x ∷ []) ∙ ap (λ l. l ++ f x ∷ []) (map-reverse f xs) ∙ sym (reverse-append (f x ∷ []) (map f xs))
 

@@ -4,6 +4,7 @@ pub mod Command
 pub mod Followed
 pub mod Following
 pub mod GameLines
+pub mod Giving
 pub mod Lines
 pub mod Lister
 pub mod Listing

@@ -4,18 +4,20 @@ ghost use Rattle.std.specs.Borrow.{Bor};
 ghost use Rattle.std.specs.Io.KnownBytes.{Keeps};
 ghost use Rattle.board_session.specs.declared.recording.RecordError.{RecordError};
 ghost use Rattle.board_session.specs.declared.recording.Setup.{Setup};
+ghost use Rattle.board_session.specs.Settings.{Setting};
 ghost use Rattle.chess_rules.specs.declared.men.Parts.{Parts as PartsOf};
 ghost use Rattle.clap.specs.Values.{kind_of};
 ghost use Rattle.clap.specs.Walk.{Row, first_of};
 ghost use Rattle.dgt_frame.specs.Watched.{inner_of, has_failed};
 ghost use Rattle.dgt_replay.specs.Checked.{ChecksGame, RefusesText, text_limit};
-ghost use Rattle.dgt_replay.specs.Choosing.{AreMistaken, Asks, AsksForHelp, AsksForMoves, AsksForNoMoves, AsksToRecord, AsksToRecordNothing, IsCheck, IsPictures, IsRefused, IsShow};
+ghost use Rattle.dgt_replay.specs.Choosing.{AreMistaken, Asks, AsksForHelp, AsksForMoves, AsksForNoMoves, AsksToFollow, AsksToFollowNothing, AsksToRecord, AsksToRecordNothing, IsCheck, IsPictures, IsRefused, IsShow};
 ghost use Rattle.dgt_replay.specs.declared.listed.Listed.{Listed};
 ghost use Rattle.dgt_replay.specs.Listing.{ListingEnds, ReadsWithin};
 ghost use Rattle.dgt_replay.specs.Printed.{PrintsMoves};
+ghost use Rattle.dgt_replay.specs.declared.words.FollowWishes.{FollowWishes as FollowWishesOf};
 ghost use Rattle.dgt_replay.specs.declared.words.Wishes.{Wishes};
 ghost use Rattle.dgt_replay.specs.Recorded.{EndsFor, Fails, RecordsAndTells, Untouched};
-ghost use Rattle.dgt_replay.specs.SettingUp.{HasNoStart, Meets, MeetsNothing, RefusesSetup, RefusesStart, SetsUpNothing, StartsAt, given, option_of, wished};
+ghost use Rattle.dgt_replay.specs.SettingUp.{HasNoStart, Meets, MeetsNothing, MeetsToFollow, RefusesSetup, RefusesStart, SetsUpNothing, StartsAt, given, option_of, wished};
 ghost use Rattle.dgt_replay.specs.Telling.{GivesHelp, IsTooLong, RefusesWords, Says, Tells};
 
 use crate::checking::check;
@@ -23,8 +25,9 @@ use crate::listed::Listed;
 use crate::listing::list_stream;
 use crate::moves::moves;
 use crate::recording::record_game;
-use crate::saying::refused;
-use crate::words::{Choice, read_words};
+use crate::saying::{refused, refused_fen};
+use crate::starting::start_of;
+use crate::words::{Choice, FollowWishes, read_words};
 use clap::Error;
 use clap::error::ErrorKind;
 use dgt_frame::Watch;
@@ -93,6 +96,43 @@ fn list<R: Read, O: Write, E: Write>(
     }
 }
 
+// Lists what each event makes of a game, as is wished.
+fn follow<R: Read, O: Write, E: Write>(
+    alloc: Global,
+    wishes: &FollowWishes<'_>,
+    reader: &mut Watch<R>,
+    out: &mut Watch<O>,
+    err: &mut Watch<E>,
+) -> u8
+    requires reading { has_failed reader.old ≡ false }
+    requires working { has_failed out.old ≡ false }
+    requires erring { has_failed err.old ≡ false }
+    ensures ends { (setting : Setting) → MeetsToFollow wishes.now setting → ListingEnds (Listed.Game setting.start setting.first setting.rotated) result
+        (R.remaining (inner_of reader.old)) (R.remaining (inner_of reader.new))
+        (O.contents (inner_of out.old)) (O.contents (inner_of out.new)) (has_failed reader.new) (has_failed out.new) }
+    ensures tells { (setting : Setting) → MeetsToFollow wishes.now setting → Tells result IsTooLong
+        (E.contents (inner_of err.old)) (E.contents (inner_of err.new)) (has_failed reader.new) (has_failed out.new) (has_failed err.new) }
+    ensures refuses { HasNoStart (given wishes.now.fen) → (result ≡ 1)
+        × Untouched (R.remaining (inner_of reader.old)) (R.remaining (inner_of reader.new)) (O.contents (inner_of out.old)) (O.contents (inner_of out.new)) }
+    ensures refusal_tells { HasNoStart (given wishes.now.fen) → Tells result (RefusesStart (given wishes.now.fen))
+        (E.contents (inner_of err.old)) (E.contents (inner_of err.new)) false false (has_failed err.new) }
+    ensures works { result ≡ 0 → (has_failed reader.new ≡ false) × ((has_failed out.new ≡ false) × (has_failed err.new ≡ false)) }
+    ensures known { result ≤ 4 }
+    ensures status { result ≢ 2 }
+{
+    match start_of(wishes.fen) {
+        Ok(start) => {
+            let listed = Listed::Game {
+                start,
+                first: wishes.first,
+                rotated: wishes.rotated,
+            };
+            list(alloc, listed, reader, out, err)
+        }
+        Err(error) => refused_fen(err, error),
+    }
+}
+
 // Does what was chosen.
 fn obey<R: Read, O: Write, E: Write>(
     alloc: Global,
@@ -124,6 +164,15 @@ fn obey<R: Read, O: Write, E: Write>(
         × Untouched (R.remaining (inner_of reader.old)) (R.remaining (inner_of reader.new)) (O.contents (inner_of out.old)) (O.contents (inner_of out.new)) }
     ensures refusal_tells { (wishes : Wishes) → choice.now ≡ Choice.Record wishes → MeetsNothing wishes → Tells result (RefusesSetup (given wishes.fen) (wished wishes))
         (E.contents (inner_of err.old)) (E.contents (inner_of err.new)) false false (has_failed err.new) }
+    ensures follows { (wishes : FollowWishesOf) (setting : Setting) → choice.now ≡ Choice.Follow wishes → MeetsToFollow wishes setting → ListingEnds (Listed.Game setting.start setting.first setting.rotated) result
+        (R.remaining (inner_of reader.old)) (R.remaining (inner_of reader.new))
+        (O.contents (inner_of out.old)) (O.contents (inner_of out.new)) (has_failed reader.new) (has_failed out.new) }
+    ensures follow_tells { (wishes : FollowWishesOf) (setting : Setting) → choice.now ≡ Choice.Follow wishes → MeetsToFollow wishes setting → Tells result IsTooLong
+        (E.contents (inner_of err.old)) (E.contents (inner_of err.new)) (has_failed reader.new) (has_failed out.new) (has_failed err.new) }
+    ensures follow_refuses { (wishes : FollowWishesOf) → choice.now ≡ Choice.Follow wishes → HasNoStart (given wishes.fen) → (result ≡ 1)
+        × Untouched (R.remaining (inner_of reader.old)) (R.remaining (inner_of reader.new)) (O.contents (inner_of out.old)) (O.contents (inner_of out.new)) }
+    ensures follow_refusal_tells { (wishes : FollowWishesOf) → choice.now ≡ Choice.Follow wishes → HasNoStart (given wishes.fen) → Tells result (RefusesStart (given wishes.fen))
+        (E.contents (inner_of err.old)) (E.contents (inner_of err.new)) false false (has_failed err.new) }
     ensures checks { choice.now ≡ Choice.Check → result ≡ 0 → ChecksGame (R.remaining (inner_of reader.old))
         (O.contents (inner_of out.old)) (O.contents (inner_of out.new)) }
     ensures check_tells { choice.now ≡ Choice.Check → Tells result (RefusesText (R.remaining (inner_of reader.old)))
@@ -144,6 +193,7 @@ fn obey<R: Read, O: Write, E: Write>(
     match choice {
         Choice::List(listed) => list(alloc, *listed, reader, out, err),
         Choice::Record(wishes) => record_game(alloc, wishes, reader, out, err),
+        Choice::Follow(wishes) => follow(alloc, wishes, reader, out, err),
         Choice::Check => check(alloc, reader, out, err),
         Choice::Moves { fen } => moves(alloc, *fen, out, err),
     }
@@ -200,6 +250,19 @@ pub fn run<R: Read, O: Write, E: Write>(
 
     ensures refusal_tells { (rows : List Row) → Asks (map string_bytes words.now) (codes "record") rows → SetsUpNothing rows
         → Tells result (RefusesSetup (first_of (codes "fen") rows) (λ tag. first_of (option_of tag) rows))
+        (E.contents (inner_of err.old)) (E.contents (inner_of err.new)) false false (has_failed err.new) }
+
+    // `follow` with any options: the lines of what each event makes of the game, from the start that they say. What it says, by
+    // its status. Where no position has the FEN, nothing is read, and nothing written to the output; the reason is said.
+    ensures follow { (setting : Setting) → AsksToFollow (map string_bytes words.now) setting → ListingEnds (Listed.Game setting.start setting.first setting.rotated) result
+        (R.remaining (inner_of reader.old)) (R.remaining (inner_of reader.new))
+        (O.contents (inner_of out.old)) (O.contents (inner_of out.new)) (has_failed reader.new) (has_failed out.new) }
+    ensures follow_tells { (setting : Setting) → AsksToFollow (map string_bytes words.now) setting → Tells result IsTooLong
+        (E.contents (inner_of err.old)) (E.contents (inner_of err.new)) (has_failed reader.new) (has_failed out.new) (has_failed err.new) }
+    ensures follow_refuses { AsksToFollowNothing (map string_bytes words.now) → ((result ≡ 1) ⊎ (result ≡ 4))
+        × Untouched (R.remaining (inner_of reader.old)) (R.remaining (inner_of reader.new)) (O.contents (inner_of out.old)) (O.contents (inner_of out.new)) }
+    ensures follow_refusal_tells { (rows : List Row) → Asks (map string_bytes words.now) (codes "follow") rows → HasNoStart (first_of (codes "fen") rows)
+        → Tells result (RefusesStart (first_of (codes "fen") rows))
         (E.contents (inner_of err.old)) (E.contents (inner_of err.new)) false false (has_failed err.new) }
 
     // NAME `check`: the input is the export text of a game.
