@@ -13,4 +13,5 @@ pub mod SayingLemmas
 pub mod SettingLemmas
 pub mod SquareLemmas
 pub mod StreamLemmas
+pub mod TextLemmas
 pub mod WordLemmas
