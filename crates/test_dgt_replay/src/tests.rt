@@ -951,7 +951,9 @@ const FOLLOWED_CAPTURES: &[Case<'static>] = &[
     },
     // nothing is said of what repeats the picture, or of a time
     Case {
-        input: &[INITIAL, TIME, INITIAL, E2_EMPTY, E2_EMPTY, E4_PAWN, E4_PAWN, TIME],
+        input: &[
+            INITIAL, TIME, INITIAL, E2_EMPTY, E2_EMPTY, E4_PAWN, E4_PAWN, TIME,
+        ],
         out: &[b"66 agrees\n148 differs e2\n158 move 1. e4 1:30:00\nrest 0\n"],
         ..FOLLOW
     },
@@ -1015,7 +1017,13 @@ const FOLLOWED_MOVES: &[Case<'static>] = &[
     // a promotion to a queen, and then to a knight
     Case {
         words: &["follow", "--fen", "8/P3k3/8/8/8/8/8/4K3 w - - 0 1"],
-        input: &[PROMOTION, b"\x8E\x00\x05\x08\x00", b"\x8E\x00\x05\x00\x01", b"\x8E\x00\x05\x00\x06", b"\x8E\x00\x05\x00\x03"],
+        input: &[
+            PROMOTION,
+            b"\x8E\x00\x05\x08\x00",
+            b"\x8E\x00\x05\x00\x01",
+            b"\x8E\x00\x05\x00\x06",
+            b"\x8E\x00\x05\x00\x03",
+        ],
         out: &[
             b"66 agrees\n71 differs a7\n76 differs a8 a7\n81 move 1. a8=Q\n86 correction 1. a8=N\nrest 0\n",
         ],
@@ -1024,7 +1032,13 @@ const FOLLOWED_MOVES: &[Case<'static>] = &[
     // castling, the rook first
     Case {
         words: &["follow", "--fen", CASTLING_FEN],
-        input: &[CASTLING, b"\x8E\x00\x05\x3F\x00", b"\x8E\x00\x05\x3D\x02", b"\x8E\x00\x05\x3C\x00", b"\x8E\x00\x05\x3E\x05"],
+        input: &[
+            CASTLING,
+            b"\x8E\x00\x05\x3F\x00",
+            b"\x8E\x00\x05\x3D\x02",
+            b"\x8E\x00\x05\x3C\x00",
+            b"\x8E\x00\x05\x3E\x05",
+        ],
         out: &[
             b"66 agrees\n71 differs h1\n76 move 1. Rf1\n81 differs e1\n86 correction 1. O-O\nrest 0\n",
         ],
@@ -1032,7 +1046,12 @@ const FOLLOWED_MOVES: &[Case<'static>] = &[
     },
     Case {
         words: &["follow", "--fen", "4k3/8/8/3pP3/8/8/8/4K3 w - d6 0 2"],
-        input: &[EN_PASSANT, b"\x8E\x00\x05\x1B\x00", b"\x8E\x00\x05\x1C\x00", b"\x8E\x00\x05\x13\x01"],
+        input: &[
+            EN_PASSANT,
+            b"\x8E\x00\x05\x1B\x00",
+            b"\x8E\x00\x05\x1C\x00",
+            b"\x8E\x00\x05\x13\x01",
+        ],
         out: &[b"66 agrees\n71 differs d5\n76 differs d5 e5\n81 move 2. exd6\nrest 0\n"],
         ..FOLLOW
     },
@@ -1062,7 +1081,13 @@ const FOLLOWED_RESULTS: &[Case<'static>] = &[
     // a mate, corrected
     Case {
         words: &["follow", "--fen", "k7/8/1K6/8/8/8/8/7R w - - 0 1"],
-        input: &[MATE, b"\x8E\x00\x05\x3F\x00", b"\x8E\x00\x05\x07\x02", b"\x8E\x00\x05\x07\x00", b"\x8E\x00\x05\x0F\x02"],
+        input: &[
+            MATE,
+            b"\x8E\x00\x05\x3F\x00",
+            b"\x8E\x00\x05\x07\x02",
+            b"\x8E\x00\x05\x07\x00",
+            b"\x8E\x00\x05\x0F\x02",
+        ],
         out: &[
             b"66 agrees\n71 differs h1\n76 move 1. Rh8#\n76 result 1-0\n81 differs h8\n86 correction 1. Rh7\n86 result *\nrest 0\n",
         ],
