@@ -42,7 +42,7 @@ same_or_not (Some Drawn) (Some BlackWins) = inr (λ e. cc)
 same_or_not (Some Drawn) (Some Drawn) = inl refl
 
 -- A position has one result under a sign.
-one_result : (p : Parts) (sign a b : Option Outcome) → IsResult p sign a → IsResult p sign b → a ≡ b
+pub one_result : (p : Parts) (sign a b : Option Outcome) → IsResult p sign a → IsResult p sign b → a ≡ b
 one_result p sign a b h k = elim (same_or_not a b) [
   | inl same ↦ same
   | inr differ ↦

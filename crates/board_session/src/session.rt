@@ -162,7 +162,8 @@ impl Session {
 
     /// The settler of the pictures that were seen.
     pub fn settler(&self) -> &Settler
-        ensures { (setting : Setting) (past : List Event) → StandsFor self.now setting past
+        ensures same { result.now ≡ self.now.settler }
+        ensures stands { (setting : Setting) (past : List Event) → StandsFor self.now setting past
             → Settled result.now setting.start (entries_in setting past) }
     {
         &self.settler

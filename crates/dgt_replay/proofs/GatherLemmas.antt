@@ -1,5 +1,6 @@
 -- Lines that are gathered, and written in pieces.
-use Rattle.std.proofs.Common.{◌<◌, ℕ, List, [], ◌∷◌, ◌++◌, take, drop, Option, Result, Ok, Err, OnErr, OnOk, IfErr, sym, ◌∙◌, ap, append_assoc, append-nil}
+use Rattle.std.proofs.Common.{◌<◌, ℕ, List, [], ◌∷◌, ◌++◌, take, drop, Option, Result, Ok, Err, OnErr, OnOk, IfErr, refl, sym, subst, true, false, ◌≡◌, ◌∙◌, ap, append_assoc, append-nil}
+use Rattle.std.specs.Prelude.{is_err, is_ok}
 use Rattle.std.proofs.KnownBytes.{Appends-trans}
 use Rattle.std.proofs.lemmas.List.{take-append-drop}
 use Rattle.std.specs.Io.KnownBytes.{Appends}
@@ -8,7 +9,9 @@ use Rattle.dgt_frame.specs.Streams.{Timed}
 use Rattle.dgt_replay.specs.declared.lister.Lister.{Lister}
 use Rattle.dgt_replay.specs.declared.listed.Listed.{Listed}
 use Rattle.dgt_replay.specs.Lister.{AddsLines, Follows}
-use Rattle.dgt_replay.specs.Listing.{Gathers, WritesFront, lines_of}
+use Rattle.dgt_replay.specs.declared.listing.ListError.TheVariants.{Memory, Write}
+use Rattle.dgt_replay.specs.Reading.{BreaksLines, GathersEvent}
+use Rattle.dgt_replay.specs.Listing.{Gathers, Refuses, WritesFront}
 
 pub on_err : {T E : Type 0} (P : Type 0) (r : Result T E) → P → OnErr r P
 on_err P (Ok v) p = tt
@@ -47,10 +50,86 @@ gathers_sent begin written written' waiting text gathered sent =
     (gathered.0 ++ waiting, gathered.1 ∙ sym (append-nil (gathered.0 ++ waiting)), Appends-trans begin written written' gathered.0 waiting gathered.2 sent)
 
 -- The lines of one more event wait.
-pub gathers_event : (old new : Lister) (waiting waiting' : List ℕ) (x : Timed) (listed : Listed) (events : List Timed) (begin written : Option (List ℕ))
-    → AddsLines old waiting x new waiting' → Follows old listed events → Gathers begin written waiting (lines_of listed events)
-    → Follows new listed (events ++ x ∷ []) × Gathers begin written waiting' (lines_of listed (events ++ x ∷ []))
-gathers_event old new waiting waiting' x listed events begin written adds follows gathered =
+pub gathers_event : (old new : Lister) (waiting waiting' : List ℕ) (x : Timed) (written : Option (List ℕ))
+    → AddsLines old waiting x new waiting' → GathersEvent old written waiting x new written waiting'
+gathers_event old new waiting waiting' x written adds listed events text begin follows lines gathered =
     let added = adds listed events follows in
-    let more = added.1.0 in
-    (added.0, (gathered.0, added.1.2 ∙ ap (λ bs. bs ++ more) gathered.1 ∙ append_assoc gathered.0 waiting more ∙ ap (λ bs. gathered.0 ++ bs) (sym added.1.1), gathered.2))
+    let more = added.1.0 in (
+      added.0,
+      (text ++ more, added.1.2 text lines, (gathered.0, ap (λ bs. bs ++ more) gathered.1 ∙ append_assoc gathered.0 waiting more ∙ ap (λ bs. gathered.0 ++ bs) (sym added.1.1), gathered.2)),
+    )
+
+-- Those that waited were written.
+pub gathers_none : (old new : Lister) (waiting waiting' : List ℕ) (x : Timed) (written written' : Option (List ℕ))
+    → GathersEvent old written waiting x new written waiting' → Appends written written' waiting' → GathersEvent old written waiting x new written' []
+gathers_none old new waiting waiting' x written written' gathers sent listed events text begin follows lines gathered =
+    let here = gathers listed events text begin follows lines gathered in
+    (here.0, (here.1.0, here.1.1, gathers_sent begin written written' waiting' here.1.0 here.1.2 sent))
+
+-- Or a front of them, and the stream has failed.
+pub broken_write : (old new : Lister) (waiting waiting' : List ℕ) (x : Timed) (n : ℕ) (written written' : Option (List ℕ))
+    → GathersEvent old written waiting x new written waiting' → Appends written written' (take n waiting') → BreaksLines old written waiting x Write written'
+broken_write old new waiting waiting' x n written written' gathers took listed events text begin follows lines gathered =
+    let here = gathers listed events text begin follows lines gathered in
+    record {
+      taken = events ++ x ∷ [];
+      extra = [];
+      text = here.1.0;
+      parts = sym (append-nil (events ++ x ∷ []));
+      leaves = tt;
+      lines = here.1.1;
+      stops = front_written begin written written' waiting' here.1.0 n here.1.2 took;
+    }
+
+written_now : (begin written written' : Option (List ℕ)) (waiting text : List ℕ) → Gathers begin written waiting text → Appends written written' waiting → Appends begin written' text
+written_now begin written written' waiting text gathered sent =
+    let P : List ℕ → Type 0 = λ bs. Appends begin written' bs in
+    subst P (sym gathered.1) (Appends-trans begin written written' gathered.0 waiting gathered.2 sent)
+
+-- Memory was refused, and the lines of the events before were written.
+pub broken_memory : (old : Lister) (waiting : List ℕ) (x : Timed) (written written' : Option (List ℕ))
+    → ((listed : Listed) (events : List Timed) → Follows old listed events → Refuses listed events x) → Appends written written' waiting
+    → BreaksLines old written waiting x Memory written'
+broken_memory old waiting x written written' refuses sent listed events text begin follows lines gathered = record {
+  taken = events;
+  extra = x ∷ [];
+  text = text;
+  parts = refl;
+  leaves = refuses listed events follows;
+  lines = lines;
+  stops = ((x, refl), written_now begin written written' waiting text gathered sent);
+}
+
+-- Memory was refused, and then the stream has failed.
+pub broken_both : (old : Lister) (waiting : List ℕ) (x : Timed) (n : ℕ) (written written' : Option (List ℕ))
+    → ((listed : Listed) (events : List Timed) → Follows old listed events → Refuses listed events x) → Appends written written' (take n waiting)
+    → BreaksLines old written waiting x Write written'
+broken_both old waiting x n written written' refuses took listed events text begin follows lines gathered = record {
+  taken = events;
+  extra = x ∷ [];
+  text = text;
+  parts = refl;
+  leaves = refuses listed events follows;
+  lines = lines;
+  stops = front_written begin written written' waiting text n gathered took;
+}
+
+pub at_err : {T E : Type 0} (P : Type 0) (r : Result T E) → is_err r ≡ true → OnErr r P → P
+at_err P (Ok v) h p = absurd (cc)
+at_err P (Err e) h p = p
+
+pub at_ok : {T E : Type 0} (P : Type 0) (r : Result T E) → is_err r ≡ false → OnOk r P → P
+at_ok P (Ok v) h p = p
+at_ok P (Err e) h p = absurd (cc)
+
+-- what a failed write took
+pub at_fault : (whole : ℕ) (Q : ℕ → Type 0) {T : Type 0} (r : Result T WriteFault) → is_err r ≡ true → IfErr r (λ fault. (fault.written < whole) × Q fault.written) → (n : ℕ) × Q n
+at_fault whole Q (Ok v) h clause = absurd (cc)
+at_fault whole Q (Err fault) h clause = (fault.written, clause.1)
+
+-- What follows where another result is good wherever the first is.
+pub ok_through : {S T D E : Type 0} (P Q : Type 0) (r : Result S D) (r' : Result T E) → is_ok r' ≡ is_ok r → OnOk r P → (P → Q) → OnOk r' Q
+ok_through P Q (Ok v) (Ok w) same p k = k p
+ok_through P Q (Err d) (Ok w) same p k = absurd (cc)
+ok_through P Q (Ok v) (Err e) same p k = tt
+ok_through P Q (Err d) (Err e) same p k = tt

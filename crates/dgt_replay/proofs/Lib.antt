@@ -2,11 +2,16 @@ pub mod CheckLemmas
 pub mod CommandLemmas
 pub mod EndLemmas
 pub mod FaultLemmas
+pub mod FollowLemmas
 pub mod GatherLemmas
+pub mod GivingLemmas
 pub mod LineLemmas
+pub mod ListerLemmas
 pub mod MoveLemmas
 pub mod PieceLemmas
 pub mod SayingLemmas
 pub mod SettingLemmas
+pub mod SquareLemmas
 pub mod StreamLemmas
+pub mod TextLemmas
 pub mod WordLemmas

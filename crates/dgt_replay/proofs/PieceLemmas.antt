@@ -7,10 +7,10 @@ use Rattle.dgt_frame.specs.declared.events.Event.{Event}
 use Rattle.dgt_frame.specs.Decoding.{Decoded, TakesAll, TakesUpTo}
 use Rattle.dgt_frame.specs.Streams.{Timed}
 use Rattle.dgt_replay.specs.declared.lister.Lister.{Lister}
-use Rattle.dgt_replay.specs.Listing.{WritesFront, lines_of}
-use Rattle.dgt_replay.specs.Reading.{BreaksLines, BreaksOff, GathersEvent, HasTaken, ListsPiece}
+use Rattle.dgt_replay.specs.declared.listing.ListError.{ListError}
+use Rattle.dgt_replay.specs.declared.listing.ListError.TheVariants.{Write}
+use Rattle.dgt_replay.specs.Reading.{BreaksLines, BreaksOff, Broken, GathersEvent, HasTaken, ListsPiece}
 use Rattle.dgt_replay.proofs.GatherLemmas.{front_written, gathers_sent}
-use Rattle.dgt_replay.proofs.LineLemmas.{lines_more}
 
 -- nothing was taken yet
 pub lists_start : (decoder : Decoder) (lister : Lister) (start : ℕ) (written : Option (List ℕ)) (waiting : List ℕ) → waiting ≡ []
@@ -20,7 +20,9 @@ lists_start decoder lister start written waiting none listed bytes events begin 
   record {
     decoded = rw (append-nil bytes, append-nil events) stands.decoded;
     follows = rw (append-nil events) stands.follows;
-    gathers = rw (append-nil events, none) stands.gathers;
+    text = stands.text;
+    lines = rw (append-nil events) stands.lines;
+    gathers = rw none stands.gathers;
   },
 )
 
@@ -33,6 +35,8 @@ lists_none old now new lister lister' start piece more written written' waiting 
       record {
         decoded = rw (← append_assoc bytes piece more) (takes (bytes ++ piece) (events ++ before.0) before.1.decoded);
         follows = before.1.follows;
+        text = before.1.text;
+        lines = before.1.lines;
         gathers = before.1.gathers;
       },
     )
@@ -58,33 +62,36 @@ lists_event old now new lister lister' lister'' start count offset event piece m
     let here : offset ≡ length (bytes ++ piece) + (count - 1) = offset_is ∙ ap (λ n. n + (count - 1)) (ap (λ n. n + length piece) (sym at) ∙ sym (length-append bytes piece)) in
     let gathers_x : GathersEvent lister' written waiting x lister'' written' waiting' =
     (let P : ℕ → Type 0 = λ n. GathersEvent lister' written waiting (record { offset = n; event = event }) lister'' written' waiting' in subst P here gathers) in
-    let given = gathers_x listed (events ++ later) from before.1.follows before.1.gathers in (
+    let given = gathers_x listed (events ++ later) before.1.text from before.1.follows before.1.lines before.1.gathers in (
       later ++ x ∷ [],
       record {
         decoded = decoded_more now new count event bytes piece more events later takes before.1.decoded;
         follows = rw (← append_assoc events later (x ∷ [])) given.0;
-        gathers = rw (← append_assoc events later (x ∷ [])) given.1;
+        text = given.1.0;
+        lines = rw (← append_assoc events later (x ∷ [])) given.1.1;
+        gathers = given.1.2;
       },
     )
 
--- an event came, and a write failed
-pub breaks_event : (old now new : Decoder) (lister lister' : Lister) (start count : ℕ) (event : Event) (piece more after : List ℕ) (begin written written' : Option (List ℕ)) (waiting : List ℕ)
-    → TakesUpTo now more count event new → BreaksLines lister' written waiting written' → ListsPiece old lister start piece now lister' begin written waiting
-    → BreaksOff old lister start ((piece ++ take count more) ++ after) new begin written'
-breaks_event old now new lister lister' start count event piece more after begin written written' waiting takes breaks part listed bytes events from at stands =
+-- an event came, and there it ended
+pub breaks_event : (error : ListError) (old now new : Decoder) (lister lister' : Lister) (start count offset : ℕ) (event : Event) (piece more after : List ℕ) (begin written written' : Option (List ℕ)) (waiting : List ℕ)
+    → offset ≡ start + length piece + (count - 1) → TakesUpTo now more count event new → BreaksLines lister' written waiting (record { offset = offset; event = event }) error written'
+    → ListsPiece old lister start piece now lister' begin written waiting → BreaksOff error old lister start ((piece ++ take count more) ++ after) new begin written'
+breaks_event error old now new lister lister' start count offset event piece more after begin written written' waiting offset_is takes breaks part listed bytes events from at stands =
     let before = part listed bytes events from at stands in
     let later = before.0 in
     let x = arrived bytes piece count event in
-    let front = breaks listed (events ++ later) from before.1.follows before.1.gathers in
-    let added = lines_more listed (events ++ later) x in
-    let text : WritesFront from written' (lines_of listed ((events ++ later) ++ x ∷ [])) =
-    (front.0 ++ added.0, (front.1.0, added.1 ∙ ap (λ bs. bs ++ added.0) front.1.1 ∙ append_assoc front.1.0 front.0 added.0, front.1.2)) in (
+    let here : offset ≡ length (bytes ++ piece) + (count - 1) = offset_is ∙ ap (λ n. n + (count - 1)) (ap (λ n. n + length piece) (sym at) ∙ sym (length-append bytes piece)) in
+    let breaks_x : BreaksLines lister' written waiting x error written' =
+    (let P : ℕ → Type 0 = λ n. BreaksLines lister' written waiting (record { offset = n; event = event }) error written' in subst P here breaks) in
+    let broken = breaks_x listed (events ++ later) before.1.text from before.1.follows before.1.lines before.1.gathers in
+    let B : List Timed → Type 0 = λ es. Broken error listed es from written' in (
       piece ++ take count more,
       after,
       later ++ x ∷ [],
       refl,
       decoded_more now new count event bytes piece more events later takes before.1.decoded,
-      rw (← append_assoc events later (x ∷ [])) text,
+      subst B (append_assoc events later (x ∷ [])) broken,
     )
 
 -- what waits was written
@@ -96,16 +103,32 @@ lists_end old new lister lister' start piece begin written written' waiting sent
       record {
         decoded = before.1.decoded;
         follows = before.1.follows;
-        gathers = gathers_sent from written written' waiting (lines_of listed (events ++ before.0)) before.1.gathers sent;
+        text = before.1.text;
+        lines = before.1.lines;
+        gathers = gathers_sent from written written' waiting before.1.text before.1.gathers sent;
       },
     )
 
 -- the write of what waits failed
 pub breaks_end : (old new : Decoder) (lister lister' : Lister) (start n : ℕ) (piece : List ℕ) (begin written written' : Option (List ℕ)) (waiting : List ℕ)
-    → Appends written written' (take n waiting) → ListsPiece old lister start piece new lister' begin written waiting → BreaksOff old lister start piece new begin written'
+    → Appends written written' (take n waiting) → ListsPiece old lister start piece new lister' begin written waiting → BreaksOff Write old lister start piece new begin written'
 breaks_end old new lister lister' start n piece begin written written' waiting took part listed bytes events from at stands =
-    let before = part listed bytes events from at stands in
-    (piece, [], before.0, sym (append-nil piece), before.1.decoded, front_written from written written' waiting (lines_of listed (events ++ before.0)) n before.1.gathers took)
+    let before = part listed bytes events from at stands in (
+      piece,
+      [],
+      before.0,
+      sym (append-nil piece),
+      before.1.decoded,
+      record {
+        taken = events ++ before.0;
+        extra = [];
+        text = before.1.text;
+        parts = sym (append-nil (events ++ before.0));
+        leaves = tt;
+        lines = before.1.lines;
+        stops = front_written from written written' waiting before.1.text n before.1.gathers took;
+      },
+    )
 
 pub taken_more : (now new : Decoder) (count start before : ℕ) (event : Event) (more : List ℕ) → count ≤ length more → TakesUpTo now more count event new
     → HasTaken now (start + before) → HasTaken new (start + (before + count))

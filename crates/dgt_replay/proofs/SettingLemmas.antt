@@ -1,5 +1,5 @@
 -- What options set up, and wishes.
-use Rattle.std.proofs.Common.{◌≡◌, ◌⊎◌, ◌∙◌, ◌≢◌, ℕ, Bool, false, List, [], ◌∷◌, ◌++◌, Option, Some, None, ap, codes, inl, inr, refl, subst, sym}
+use Rattle.std.proofs.Common.{◌≡◌, ◌⊎◌, ◌∙◌, ◌≢◌, ℕ, Bool, false, List, [], ◌∷◌, ◌++◌, Option, Some, None, Result, Ok, ap, codes, inl, inr, refl, subst, sym}
 use Rattle.std.specs.Prelude.{All, IfSome, MatchOption, slice_index_or}
 use Rattle.std.proofs.lemmas.List.Elements.{All-cons, All-nil}
 use Rattle.std.specs.Borrow.{Bor}
@@ -16,11 +16,15 @@ use Rattle.pgn_book.specs.declared.values.TagError.{TagError}
 use Rattle.pgn_book.specs.declared.values.TagError.TheVariants.{Text as NoText, Long, Date as NoDate, Memory}
 use Rattle.pgn_book.specs.Values.{Refuses, TagValues, unknown_of, unknown_values, value_of}
 use Rattle.board_session.specs.declared.recording.Setup.{Setup}
+use Rattle.board_session.specs.Recording.{setting_of}
+use Rattle.board_session.specs.Settings.{Setting}
 use Rattle.dgt_replay.specs.declared.recording.Refusal.{Refusal}
 use Rattle.dgt_replay.specs.declared.recording.Refusal.TheVariants.{Fen, Tag as OfTag}
+use Rattle.dgt_replay.specs.declared.listed.Listed.TheVariants.{Game}
+use Rattle.dgt_replay.specs.declared.words.FollowWishes.{FollowWishes}
 use Rattle.dgt_replay.specs.declared.words.Wishes.{Wishes}
 use Rattle.dgt_replay.specs.Recorded.{plain_setup}
-use Rattle.dgt_replay.specs.SettingUp.{ForMemory, HasNoStart, HasNoValue, HasValue, HasValues, IsFirst, MayHave, Meets, MeetsNothing, OfFirstTag, RefusesSetup, RefusesStart, RefusesValue, SetsUp, SetsUpNothing, StartsAt, Wants, flag_text, given, option_of, refusal_words, tags, wished, with_given}
+use Rattle.dgt_replay.specs.SettingUp.{ForMemory, HasNoStart, HasNoValue, HasValue, HasValues, IsFirst, MayHave, Meets, MeetsNothing, MeetsToFollow, OfFirstTag, RefusesSetup, RefusesStart, RefusesValue, SetsFollowingUp, SetsUp, SetsUpNothing, StartsAt, Wants, WantsToFollow, flag_text, given, option_of, refusal_words, tags, wished, with_given}
 use Rattle.dgt_replay.specs.Telling.{Says, Tells, fen_words, tag_words}
 use Rattle.dgt_replay.proofs.SayingLemmas.{tells_memory, tells_refused}
 
@@ -35,6 +39,27 @@ meets rows wishes setup wants sets =
       start = subst P (sym wants.fen) sets.start;
       tags = λ tag. (let Q : Option Text → Type 0 = λ text. HasValue tag text (value_of tag setup.tags) in subst Q (sym (wants.tags tag)) (sets.tags tag));
     }
+
+pub meets_to_follow : (rows : List Row) (wishes : FollowWishes) (setting : Setting) → WantsToFollow rows wishes → SetsFollowingUp rows setting → MeetsToFollow wishes setting
+meets_to_follow rows wishes setting wants sets =
+    let first : Some setting.first ≡ Some wishes.first = sym sets.first ∙ wants.first in
+    let P : Option Text → Type 0 = λ fen. StartsAt fen setting.start in
+    record {
+      rotated = sym (wants.rotated setting.rotated sets.rotated);
+      first = cc;
+      start = subst P (sym wants.fen) sets.start;
+    }
+
+-- Wishes are met by the setting that has this start.
+pub game_wished : (wishes : FollowWishes) (setting : Setting) (start : Parts) → MeetsToFollow wishes setting → start ≡ setting.start
+    → Game start wishes.first wishes.rotated ≡ Game setting.start setting.first setting.rotated
+game_wished wishes setting start meets same =
+    let first : wishes.first ≡ setting.first = sym meets.first in
+    let rotated : wishes.rotated ≡ setting.rotated = sym meets.rotated in
+    rw (same, first, rotated) refl
+
+pub ok_same : {A E : Type 0} (r : Result A E) (a b : A) → r ≡ Ok a → r ≡ Ok b → a ≡ b
+ok_same r a b x y = let e : Ok a ≡ Ok b = sym x ∙ y in cc
 
 pub meets_nothing : (rows : List Row) (wishes : Wishes) → Wants rows wishes → SetsUpNothing rows → MeetsNothing wishes
 meets_nothing rows wishes wants (inl none) = inl (subst HasNoStart (sym wants.fen) none)
@@ -55,6 +80,14 @@ sets_up_plainly rows rotated turned first fen none = record {
   first = rw first refl;
   start = rw fen refl;
   tags = λ tag. rw (none tag) (unknown tag);
+}
+
+pub follows_plainly : (rows : List Row) (rotated : Bool) → one_of (codes "rotated") rows ≡ Some (flag_text rotated) → first_of (codes "first") rows ≡ None
+    → first_of (codes "fen") rows ≡ None → SetsFollowingUp rows (setting_of (plain_setup rotated))
+follows_plainly rows rotated turned first fen = record {
+  rotated = turned;
+  first = rw first refl;
+  start = rw fen refl;
 }
 
 abbrev pub wished_with : Bool → First → (fen event site date round white black : Option (Bor Text)) → Wishes

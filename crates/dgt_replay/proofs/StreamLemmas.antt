@@ -1,5 +1,5 @@
 -- What stands when a stream has been listed, wholly or in part.
-use Rattle.std.proofs.Common.{◌≡◌, ℕ, ◌+◌, ◌-◌, ◌<◌, ◌≤◌, List, [], ◌++◌, length, take, drop, Option, Some, None, Result, Ok, Err, OnErr, OnOk, true, false, refl, sym, ◌∙◌, ap, subst, append_assoc, append-nil, length-append, length-drop, take-add, arith}
+use Rattle.std.proofs.Common.{◌≡◌, ◌⊎◌, inl, inr, ℕ, ◌+◌, ◌-◌, ◌<◌, ◌≤◌, List, [], ◌∷◌, ◌++◌, length, take, drop, Option, Some, None, Result, Ok, Err, OnErr, OnOk, false, refl, sym, ◌∙◌, ap, subst, append_assoc, append-nil, length-append, length-drop, take-add, arith}
 use Rattle.std.specs.Prelude.{if◌then◌else◌, is_err, is_ok}
 use Rattle.std.proofs.KnownBytes.{Appends-trans, Consumes-kept, Consumes-trans}
 use Rattle.std.proofs.lemmas.List.{length-take-le}
@@ -10,16 +10,11 @@ use Rattle.dgt_frame.specs.Streams.{Shows, Timed}
 use Rattle.board_session.specs.Recording.{limit}
 use Rattle.dgt_replay.specs.declared.lister.Lister.{Lister}
 use Rattle.dgt_replay.specs.declared.listed.Listed.{Listed}
-use Rattle.dgt_replay.specs.Listing.{Gathers, ListsAll, ListsFirst, ListsFront, ListsRead, ReadsWithin, last_line, lines_of, listed_text}
-use Rattle.dgt_replay.specs.Reading.{BreaksOff, FinishBreaksOff, Finishes, HasListed, HasTaken, ListsPiece}
-
-pub at_err : {T E : Type 0} (P : Type 0) (r : Result T E) → is_err r ≡ true → OnErr r P → P
-at_err P (Ok v) h p = absurd (cc)
-at_err P (Err e) h p = p
-
-pub at_ok : {T E : Type 0} (P : Type 0) (r : Result T E) → is_err r ≡ false → OnOk r P → P
-at_ok P (Ok v) h p = p
-at_ok P (Err e) h p = absurd (cc)
+use Rattle.dgt_replay.specs.Lister.{HasBegun}
+use Rattle.dgt_replay.specs.Listing.{Gathers, Leaves, ListsAll, ListsFirst, ListsFront, ListsRead, ListsRefused, ReadsWithin, WritesFront, last_line}
+use Rattle.dgt_replay.specs.Reading.{BreaksOff, FinishBreaksOff, Finishes, HasListed, HasTaken, ListsPiece, Stops}
+use Rattle.dgt_replay.specs.declared.listing.ListError.{ListError}
+use Rattle.dgt_replay.specs.declared.listing.ListError.TheVariants.{Memory, Read, TooLong, Write}
 
 pub if_ok : {T E : Type 0} (r : Result T E) (xs ys : List ℕ) → is_err r ≡ false → (if is_ok r then xs else ys) ≡ xs
 if_ok (Ok v) xs ys h = refl
@@ -54,44 +49,88 @@ written_all written written' text gathered =
 pub read_so_far : (decoder : Decoder) (lister : Lister) (listed : Listed) (count rest : ℕ) (input now left written so_far : Option (List ℕ))
     → HasListed decoder lister listed count input now written so_far → Keeps now left → Concludes decoder rest → ListsRead listed input left written so_far
 read_so_far decoder lister listed count rest input now left written so_far done kept concludes =
-    (done.0, done.1, rest, Consumes-kept input now left done.0 done.3 kept, concludes done.0 done.1 done.4.decoded, written_all written so_far (lines_of listed done.1) done.4.gathers)
+    (done.0, done.1, rest, done.4.text, Consumes-kept input now left done.0 done.3 kept, concludes done.0 done.1 done.4.decoded, done.4.lines, written_all written so_far done.4.text done.4.gathers)
 
 pub front_of_read : (listed : Listed) (input left written so_far : Option (List ℕ)) → ListsRead listed input left written so_far → ListsFront listed input left written so_far
 front_of_read listed input left written so_far read = (
   read.0,
   [],
   read.1,
+  [],
   read.2,
-  (let P : List ℕ → Type 0 = λ bs. Consumes input left bs in subst P (sym (append-nil read.0)) read.3),
-  read.4,
-  (last_line listed read.2, (lines_of listed read.1, refl, read.5)),
+  read.3,
+  (let P : List ℕ → Type 0 = λ bs. Consumes input left bs in subst P (sym (append-nil read.0)) read.4),
+  (let P : List Timed → Type 0 = λ es. Shows read.0 es read.2 in subst P (sym (append-nil read.1)) read.5),
+  tt,
+  read.6,
+  (last_line listed read.2, (read.3, refl, read.7)),
 )
 
--- A write failed amid a piece.
-pub front_at_piece : (old new : Decoder) (lister : Lister) (listed : Listed) (count rest : ℕ) (piece dropped : List ℕ) (input now left written so_far after : Option (List ℕ))
-    → HasListed old lister listed count input now written so_far → Consumes now left (piece ++ dropped) → BreaksOff old lister count piece new so_far after → Concludes new rest
+-- a front of a text is one of a longer text
+front_longer : (written written' : Option (List ℕ)) (text more : List ℕ) → WritesFront written written' text → WritesFront written written' (text ++ more)
+front_longer written written' text more front = (front.0 ++ more, (front.1.0, ap (λ bs. bs ++ more) front.1.1 ∙ append_assoc front.1.0 front.0 more, front.1.2))
+
+-- what stands after a refusal is a front
+front_stopped : (error : ListError) (extra : List Timed) (written written' : Option (List ℕ)) (text : List ℕ) → Stops error extra written written' text → WritesFront written written' text
+front_stopped Memory extra written written' text stops = ([], (text, sym (append-nil text), stops.1))
+front_stopped Write extra written written' text stops = stops
+front_stopped Read extra written written' text stops = absurd stops
+front_stopped TooLong extra written written' text stops = absurd stops
+
+cut_bytes : (bytes piece taken unread dropped : List ℕ) → piece ≡ taken ++ unread → bytes ++ (piece ++ dropped) ≡ (bytes ++ taken) ++ (unread ++ dropped)
+cut_bytes bytes piece taken unread dropped is = ap (λ bs. bytes ++ (bs ++ dropped)) is ∙ ap (λ bs. bytes ++ bs) (append_assoc taken unread dropped) ∙ sym (append_assoc bytes taken (unread ++ dropped))
+
+-- A refusal came amid a piece.
+pub front_at_piece : (error : ListError) (old new : Decoder) (lister : Lister) (listed : Listed) (count rest : ℕ) (piece dropped : List ℕ) (input now left written so_far after : Option (List ℕ))
+    → HasListed old lister listed count input now written so_far → Consumes now left (piece ++ dropped) → BreaksOff error old lister count piece new so_far after → Concludes new rest
     → ListsFront listed input left written after
-front_at_piece old new lister listed count rest piece dropped input now left written so_far after done read breaks concludes =
+front_at_piece error old new lister listed count rest piece dropped input now left written so_far after done read breaks concludes =
     let bytes = done.0 in
     let events = done.1 in
-    let broken = breaks listed bytes events written done.2 done.4 in
-    let taken = broken.0 in
-    let unread = broken.1 in
-    let later = broken.2 in
-    let front = broken.5 in
-    let waits = front.0 in
-    let sent = front.1.0 in
-    let last = last_line listed rest in
+    let cut = breaks listed bytes events written done.2 done.4 in
+    let broken = cut.5 in
     let consumed : Consumes input left (bytes ++ (piece ++ dropped)) = Consumes-trans input now left bytes (piece ++ dropped) done.3 read in
-    let bytes_are : bytes ++ (piece ++ dropped) ≡ (bytes ++ taken) ++ (unread ++ dropped) =
-    ap (λ bs. bytes ++ (bs ++ dropped)) broken.3 ∙ ap (λ bs. bytes ++ bs) (append_assoc taken unread dropped) ∙ sym (append_assoc bytes taken (unread ++ dropped)) in (
-      bytes ++ taken,
-      unread ++ dropped,
-      events ++ later,
+    let P : List ℕ → Type 0 = λ bs. Consumes input left bs in
+    let Q : List Timed → Type 0 = λ es. Shows (bytes ++ cut.0) es rest in (
+      bytes ++ cut.0,
+      cut.1 ++ dropped,
+      broken.taken,
+      broken.extra,
       rest,
-      (let P : List ℕ → Type 0 = λ bs. Consumes input left bs in subst P bytes_are consumed),
-      concludes (bytes ++ taken) (events ++ later) broken.4,
-      (waits ++ last, (sent, ap (λ bs. bs ++ last) front.1.1 ∙ append_assoc sent waits last, front.1.2)),
+      broken.text,
+      subst P (cut_bytes bytes piece cut.0 cut.1 dropped cut.3) consumed,
+      subst Q broken.parts (concludes (bytes ++ cut.0) (events ++ cut.2) cut.4),
+      broken.leaves,
+      broken.lines,
+      front_longer written after broken.text (last_line listed rest) (front_stopped error broken.extra written after broken.text broken.stops),
+    )
+
+-- Memory was refused amid a piece.
+pub refused_at_piece : (old new : Decoder) (lister : Lister) (listed : Listed) (count rest : ℕ) (piece dropped : List ℕ) (input now left written so_far after : Option (List ℕ))
+    → HasListed old lister listed count input now written so_far → Consumes now left (piece ++ dropped) → BreaksOff Memory old lister count piece new so_far after → Concludes new rest
+    → ListsRefused listed input left written after
+refused_at_piece old new lister listed count rest piece dropped input now left written so_far after done read breaks concludes =
+    let bytes = done.0 in
+    let events = done.1 in
+    let cut = breaks listed bytes events written done.2 done.4 in
+    let broken = cut.5 in
+    let refused = broken.stops.0.0 in
+    let only : broken.extra ≡ refused ∷ [] = broken.stops.0.1 in
+    let consumed : Consumes input left (bytes ++ (piece ++ dropped)) = Consumes-trans input now left bytes (piece ++ dropped) done.3 read in
+    let P : List ℕ → Type 0 = λ bs. Consumes input left bs in
+    let Q : List Timed → Type 0 = λ es. Shows (bytes ++ cut.0) es rest in
+    let L : List Timed → Type 0 = λ es. Leaves listed broken.taken es in (
+      bytes ++ cut.0,
+      cut.1 ++ dropped,
+      broken.taken,
+      refused,
+      rest,
+      broken.text,
+      subst P (cut_bytes bytes piece cut.0 cut.1 dropped cut.3) consumed,
+      subst Q (broken.parts ∙ ap (λ es. broken.taken ++ es) only) (concludes (bytes ++ cut.0) (events ++ cut.2) cut.4),
+      subst L only broken.leaves,
+      broken.lines,
+      broken.stops.1,
     )
 
 -- A piece was listed.
@@ -118,10 +157,14 @@ front_past_limit old new lister lister' listed count rest piece dropped input no
       done.0 ++ piece,
       dropped,
       events,
+      [],
       rest,
+      given.1.text,
       (let P : List ℕ → Type 0 = λ bs. Consumes input left bs in subst P (sym (append_assoc done.0 piece dropped)) consumed),
-      concludes (done.0 ++ piece) events given.1.decoded,
-      (last_line listed rest, (lines_of listed events, refl, written_all written after (lines_of listed events) given.1.gathers)),
+      (let P : List Timed → Type 0 = λ es. Shows (done.0 ++ piece) es rest in subst P (sym (append-nil events)) (concludes (done.0 ++ piece) events given.1.decoded)),
+      tt,
+      given.1.lines,
+      (last_line listed rest, (given.1.text, refl, written_all written after given.1.text given.1.gathers)),
     )
 
 -- There are more bytes than may be.
@@ -140,11 +183,13 @@ first_at_limit old new lister lister' listed count rest piece dropped (Some all)
       dropped ++ left,
       events,
       rest,
+      given.1.text,
       done.3 ∙ ap (λ bs. bytes ++ bs) (read ∙ append_assoc piece dropped left) ∙ sym (append_assoc bytes piece (dropped ++ left)),
       length-append bytes piece ∙ ap (λ n. n + length piece) done.2 ∙ long,
       omega (arith, length-append dropped left),
       concludes (bytes ++ piece) events given.1.decoded,
-      written_all written after (lines_of listed events) given.1.gathers,
+      given.1.lines,
+      written_all written after given.1.text given.1.gathers,
     )
 
 -- How many bytes were read.
@@ -162,37 +207,47 @@ pub front_at_end : {T E : Type 0} (r : Result T E) (decoder : Decoder) (lister :
     → HasListed decoder lister listed count input now written so_far → Consumes now left [] → OnOk r (Finishes decoder lister so_far after) → OnErr r (FinishBreaksOff decoder lister so_far after)
     → ListsFront listed input left written after
 front_at_end (Ok v) decoder lister listed count input now left written so_far after done read whole broken =
-    let last = whole listed done.0 done.1 done.4.decoded done.4.follows in (
+    let last = whole listed done.0 done.1 done.4.decoded done.4.follows in
+    let text = done.4.text in (
       done.0,
       [],
       done.1,
+      [],
       last.0,
+      text,
       Consumes-trans input now left done.0 [] done.3 read,
-      last.1,
+      (let P : List Timed → Type 0 = λ es. Shows done.0 es last.0 in subst P (sym (append-nil done.1)) last.1),
+      tt,
+      done.4.lines,
       (
         [],
         (
-          listed_text listed done.1 last.0,
-          sym (append-nil (listed_text listed done.1 last.0)),
-          Appends-trans written so_far after (lines_of listed done.1) (last_line listed last.0) (written_all written so_far (lines_of listed done.1) done.4.gathers) last.2,
+          text ++ last_line listed last.0,
+          sym (append-nil (text ++ last_line listed last.0)),
+          Appends-trans written so_far after text (last_line listed last.0) (written_all written so_far text done.4.gathers) last.2,
         ),
       ),
     )
 front_at_end (Err e) decoder lister listed count input now left written so_far after done read whole broken =
     let last = broken listed done.0 done.1 done.4.decoded done.4.follows in
+    let text = done.4.text in
     let front = last.2 in (
       done.0,
       [],
       done.1,
+      [],
       last.0,
+      text,
       Consumes-trans input now left done.0 [] done.3 read,
-      last.1,
+      (let P : List Timed → Type 0 = λ es. Shows done.0 es last.0 in subst P (sym (append-nil done.1)) last.1),
+      tt,
+      done.4.lines,
       (
         front.0,
         (
-          lines_of listed done.1 ++ front.1.0,
-          ap (λ bs. lines_of listed done.1 ++ bs) front.1.1 ∙ sym (append_assoc (lines_of listed done.1) front.1.0 front.0),
-          Appends-trans written so_far after (lines_of listed done.1) front.1.0 (written_all written so_far (lines_of listed done.1) done.4.gathers) front.1.2,
+          text ++ front.1.0,
+          ap (λ bs. text ++ bs) front.1.1 ∙ sym (append_assoc text front.1.0 front.0),
+          Appends-trans written so_far after text front.1.0 (written_all written so_far text done.4.gathers) front.1.2,
         ),
       ),
     )
@@ -207,7 +262,26 @@ all_at_end decoder lister listed count (Some all) (Some ahead) (Some left) writt
     let bytes_are : done.0 ≡ all = sym (done.3 ∙ ap (λ bs. done.0 ++ bs) (read ∙ end) ∙ append-nil done.0) in (
       done.1,
       last.0,
+      done.4.text,
       omega (arith, done.2, within, ap length bytes_are),
       (let P : List ℕ → Type 0 = λ bs. Shows bs done.1 last.0 in subst P bytes_are last.1),
-      Appends-trans written so_far after (lines_of listed done.1) (last_line listed last.0) (written_all written so_far (lines_of listed done.1) done.4.gathers) last.2,
+      done.4.lines,
+      Appends-trans written so_far after done.4.text (last_line listed last.0) (written_all written so_far done.4.text done.4.gathers) last.2,
     )
+
+-- The lister was given some events.
+pub has_begun : (decoder : Decoder) (lister : Lister) (listed : Listed) (count : ℕ) (input now written so_far : Option (List ℕ))
+    → HasListed decoder lister listed count input now written so_far → HasBegun lister
+has_begun decoder lister listed count input now written so_far done = (listed, done.1, done.4.follows)
+
+never : (error : ListError) (extra : List Timed) (written written' : Option (List ℕ)) (text : List ℕ) → Stops error extra written written' text → (error ≡ Read) ⊎ (error ≡ TooLong) → ⊥
+never error extra written written' text stops (inl is) = (let P : ListError → Type 0 = λ e. Stops e extra written written' text in subst P is stops)
+never error extra written written' text stops (inr is) = (let P : ListError → Type 0 = λ e. Stops e extra written written' text in subst P is stops)
+
+-- Amid a piece only a write or memory is refused.
+pub no_other : (error : ListError) (old new : Decoder) (lister : Lister) (listed : Listed) (count : ℕ) (piece : List ℕ) (input now written so_far after : Option (List ℕ))
+    → HasListed old lister listed count input now written so_far → BreaksOff error old lister count piece new so_far after → (error ≡ Read) ⊎ (error ≡ TooLong) → ⊥
+no_other error old new lister listed count piece input now written so_far after done breaks is =
+    let cut = breaks listed done.0 done.1 written done.2 done.4 in
+    let broken = cut.5 in
+    never error broken.extra written after broken.text broken.stops is

@@ -16,16 +16,19 @@ use Rattle.chess_rules.specs.declared.men.Parts.{Parts}
 use Rattle.pgn_book.specs.declared.values.Tag.{Tag}
 use Rattle.pgn_book.specs.declared.values.Tag.TheVariants.{Event, Site, Date, Round, White, Black}
 use Rattle.board_session.specs.declared.recording.Setup.{Setup}
+use Rattle.board_session.specs.Recording.{setting_of}
+use Rattle.board_session.specs.Settings.{Setting}
 use Rattle.dgt_replay.specs.declared.listed.Listed.{Listed}
 use Rattle.dgt_replay.specs.declared.listed.Listed.TheVariants.{Events, Pictures}
 use Rattle.dgt_replay.specs.declared.words.Choice.{Choice}
-use Rattle.dgt_replay.specs.declared.words.Choice.TheVariants.{List as ListOf, Record, Check, Moves}
+use Rattle.dgt_replay.specs.declared.words.Choice.TheVariants.{List as ListOf, Record, Follow, Check, Moves}
+use Rattle.dgt_replay.specs.declared.words.FollowWishes.{FollowWishes}
 use Rattle.dgt_replay.specs.declared.words.Wishes.{Wishes}
 use Rattle.dgt_replay.specs.Command.{replay}
-use Rattle.dgt_replay.specs.Choosing.{Asks, AsksFor, AsksForMoves, AsksForNoMoves, AsksToRecord, AsksToRecordNothing, Chooses, IsCheck, IsMoves, IsPictures, IsRecord, IsRefused, IsShow, is_choice}
+use Rattle.dgt_replay.specs.Choosing.{Asks, AsksFor, AsksForMoves, AsksForNoMoves, AsksToFollow, AsksToFollowNothing, AsksToRecord, AsksToRecordNothing, Chooses, IsCheck, IsFollow, IsMoves, IsPictures, IsRecord, IsRefused, IsShow, is_choice}
 use Rattle.dgt_replay.specs.Recorded.{plain_setup}
-use Rattle.dgt_replay.specs.SettingUp.{HasNoStart, Meets, MeetsNothing, StartsAt, Wants, flag_text, given, option_of, side_in}
-use Rattle.dgt_replay.proofs.SettingLemmas.{meets, meets_nothing, sets_up_plainly}
+use Rattle.dgt_replay.specs.SettingUp.{HasNoStart, Meets, MeetsNothing, MeetsToFollow, StartsAt, Wants, WantsToFollow, flag_text, given, option_of, side_in}
+use Rattle.dgt_replay.proofs.SettingLemmas.{follows_plainly, meets, meets_nothing, meets_to_follow, sets_up_plainly}
 
 -- a text that was given, or not, is in the rows
 pub text_given : (found : Found) (id : Text) (result : Option (Bor (List ℕ))) → option_map (λ s. s.now) result ≡ first_value found id → given result ≡ first_of id (rows_of found)
@@ -64,7 +67,7 @@ pub flag_reads : (found : Found) (result rotated : Bool) → (one_text found (co
 flag_reads found result true set unset given = set (flag_given found (codes "rotated") (codes "true") given)
 flag_reads found result false set unset given = unset (flag_given found (codes "rotated") (codes "false") given)
 
-pub side_known : (found : Found) (wishes : Option Wishes) → is_some wishes ≡ is_some (side_in (first_value found (codes "first")))
+pub side_known : {A : Type 0} (found : Found) (wishes : Option A) → is_some wishes ≡ is_some (side_in (first_value found (codes "first")))
     → is_some wishes ≡ is_some (side_in (first_of (codes "first") (rows_of found)))
 side_known found wishes known = known ∙ ap (λ text. is_some (side_in text)) (first_value-rows found (codes "first"))
 
@@ -82,6 +85,18 @@ record_not_moves name is other = let bad : 114 ≡ 109 = ap (λ t. slice_index t
 
 pub record_not_check : (name : Text) → name ≡ codes "record" → name ≡ codes "check" → ⊥
 record_not_check name is other = let bad : 114 ≡ 99 = ap (λ t. slice_index t 0) (sym is ∙ other) in absurd (omega (arith, bad))
+
+pub pictures_not_follow : (name : Text) → name ≡ codes "pictures" → name ≡ codes "follow" → ⊥
+pictures_not_follow name is other = let bad : 112 ≡ 102 = ap (λ t. slice_index t 0) (sym is ∙ other) in absurd (omega (arith, bad))
+
+pub record_not_follow : (name : Text) → name ≡ codes "record" → name ≡ codes "follow" → ⊥
+record_not_follow name is other = let bad : 114 ≡ 102 = ap (λ t. slice_index t 0) (sym is ∙ other) in absurd (omega (arith, bad))
+
+pub follow_not_check : (name : Text) → name ≡ codes "follow" → name ≡ codes "check" → ⊥
+follow_not_check name is other = let bad : 102 ≡ 99 = ap (λ t. slice_index t 0) (sym is ∙ other) in absurd (omega (arith, bad))
+
+pub follow_not_moves : (name : Text) → name ≡ codes "follow" → name ≡ codes "moves" → ⊥
+follow_not_moves name is other = let bad : 102 ≡ 109 = ap (λ t. slice_index t 0) (sym is ∙ other) in absurd (omega (arith, bad))
 
 -- ---- fixed words
 
@@ -207,6 +222,25 @@ chooses_no_setup words choice (rows, asks, nothing) asked =
     let found = record_chosen words rows choice asks asked in
     (found.0, found.1, meets_nothing rows found.0 found.2 nothing)
 
+-- `follow` asks that a game be followed as its options wish
+pub follow_chosen : (words : List Text) (rows : List Row) (choice : Choice) → Asks words (codes "follow") rows → AsksFor words choice
+    → (wishes : FollowWishes) × (choice ≡ Follow wishes) × WantsToFollow rows wishes
+follow_chosen words rows choice asks asked =
+    let found = (chosen words (codes "follow") rows choice asks asked).follow refl in
+    (found.0, found.1, found.2)
+
+pub chooses_follow : (words : List Text) (setting : Setting) (choice : Choice) → AsksToFollow words setting → AsksFor words choice
+    → (wishes : FollowWishes) × (choice ≡ Follow wishes) × MeetsToFollow wishes setting
+chooses_follow words setting choice (rows, asks, sets) asked =
+    let found = follow_chosen words rows choice asks asked in
+    (found.0, found.1, meets_to_follow rows found.0 setting found.2 sets)
+
+pub chooses_no_follow : (words : List Text) (choice : Choice) → AsksToFollowNothing words → AsksFor words choice
+    → (wishes : FollowWishes) × (choice ≡ Follow wishes) × HasNoStart (given wishes.fen)
+chooses_no_follow words choice (rows, asks, none) asked =
+    let found = follow_chosen words rows choice asks asked in
+    (found.0, found.1, subst HasNoStart (sym found.2.fen) none)
+
 -- `moves` asks for those of the position that its option says
 pub moves_chosen : (words : List Text) (rows : List Row) (choice : Choice) → Asks words (codes "moves") rows → AsksFor words choice
     → (fen : Option (Bor Text)) × (choice ≡ Moves fen) × (given fen ≡ first_of (codes "fen") rows)
@@ -246,6 +280,12 @@ record_unrefused words setup (rows, asks, sets) = unrefused words (codes "record
 
 pub no_setup_unrefused : (words : List Text) → AsksToRecordNothing words → IsRefused words → ⊥
 no_setup_unrefused words (rows, asks, nothing) = unrefused words (codes "record") rows asks
+
+pub follow_unrefused : (words : List Text) (setting : Setting) → AsksToFollow words setting → IsRefused words → ⊥
+follow_unrefused words setting (rows, asks, sets) = unrefused words (codes "follow") rows asks
+
+pub no_follow_unrefused : (words : List Text) → AsksToFollowNothing words → IsRefused words → ⊥
+no_follow_unrefused words (rows, asks, none) = unrefused words (codes "follow") rows asks
 
 pub moves_unrefused : (words : List Text) (start : Parts) → AsksForMoves words start → IsRefused words → ⊥
 moves_unrefused words start (rows, asks, starts) = unrefused words (codes "moves") rows asks
@@ -308,6 +348,36 @@ record_asks false words (name, is) =
     let f = record_found name in
     let P : List Text → Type 0 = λ w. AsksToRecord w (plain_setup false) in
     subst P (sym is) (asks_to_record (name ∷ codes "record" ∷ []) false f.1 f.0 (plain_others name) (plain_tags name))
+
+follow_found : (name : Text) → (name_in (subcommand_of replay (name ∷ codes "follow" ∷ [])) ≡ Some (codes "follow"))
+    × (one_of (codes "rotated") (rows_for (name ∷ codes "follow" ∷ [])) ≡ Some (codes "false"))
+    × (first_of (codes "first") (rows_for (name ∷ codes "follow" ∷ [])) ≡ None) × (first_of (codes "fen") (rows_for (name ∷ codes "follow" ∷ [])) ≡ None)
+    × (takes replay (name ∷ codes "follow" ∷ []) ≡ true)
+unfolding clap_on_literals
+follow_found name = (refl, refl, refl, refl, refl)
+
+turned_follow_found : (name : Text) → (name_in (subcommand_of replay (name ∷ codes "follow" ∷ codes "--rotated" ∷ [])) ≡ Some (codes "follow"))
+    × (one_of (codes "rotated") (rows_for (name ∷ codes "follow" ∷ codes "--rotated" ∷ [])) ≡ Some (codes "true"))
+    × (first_of (codes "first") (rows_for (name ∷ codes "follow" ∷ codes "--rotated" ∷ [])) ≡ None)
+    × (first_of (codes "fen") (rows_for (name ∷ codes "follow" ∷ codes "--rotated" ∷ [])) ≡ None)
+    × (takes replay (name ∷ codes "follow" ∷ codes "--rotated" ∷ []) ≡ true)
+unfolding clap_on_literals
+turned_follow_found name = (refl, refl, refl, refl, refl)
+
+asks_to_follow : (words : List Text) (rotated : Bool) → name_in (subcommand_of replay words) ≡ Some (codes "follow") → one_of (codes "rotated") (rows_for words) ≡ Some (flag_text rotated)
+    → first_of (codes "first") (rows_for words) ≡ None → first_of (codes "fen") (rows_for words) ≡ None → takes replay words ≡ true → AsksToFollow words (setting_of (plain_setup rotated))
+asks_to_follow words rotated is turned first fen taken =
+    (rows_for words, asks_by words (codes "follow") taken is (rw first refl), follows_plainly (rows_for words) rotated turned first fen)
+
+pub follow_asks : (rotated : Bool) (words : List Text) → IsFollow rotated words → AsksToFollow words (setting_of (plain_setup rotated))
+follow_asks true words (name, is) =
+    let f = turned_follow_found name in
+    let P : List Text → Type 0 = λ w. AsksToFollow w (setting_of (plain_setup true)) in
+    subst P (sym is) (asks_to_follow (name ∷ codes "follow" ∷ codes "--rotated" ∷ []) true f.0 f.1 f.2 f.3 f.4)
+follow_asks false words (name, is) =
+    let f = follow_found name in
+    let P : List Text → Type 0 = λ w. AsksToFollow w (setting_of (plain_setup false)) in
+    subst P (sym is) (asks_to_follow (name ∷ codes "follow" ∷ []) false f.0 f.1 f.2 f.3 f.4)
 
 moves_found : (name : Text) → (name_in (subcommand_of replay (name ∷ codes "moves" ∷ [])) ≡ Some (codes "moves"))
     × (first_of (codes "fen") (rows_for (name ∷ codes "moves" ∷ [])) ≡ None)

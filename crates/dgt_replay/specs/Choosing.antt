@@ -11,16 +11,18 @@ use Rattle.clap.specs.Kinds.{IsAmong}
 use Rattle.clap.specs.declared.error.kind.ErrorKind.TheVariants as kind
 use Rattle.chess_rules.specs.declared.men.Parts.{Parts}
 use Rattle.board_session.specs.declared.recording.Setup.{Setup}
+use Rattle.board_session.specs.Settings.{Setting}
 use Rattle.dgt_replay.specs.declared.listed.Listed.TheVariants.{Events, Pictures}
 use Rattle.dgt_replay.specs.declared.words.Choice.{Choice}
-use Rattle.dgt_replay.specs.declared.words.Choice.TheVariants.{List as ListOf, Record, Check, Moves}
+use Rattle.dgt_replay.specs.declared.words.Choice.TheVariants.{List as ListOf, Record, Follow, Check, Moves}
+use Rattle.dgt_replay.specs.declared.words.FollowWishes.{FollowWishes}
 use Rattle.dgt_replay.specs.declared.words.Wishes.{Wishes}
 use Rattle.dgt_replay.specs.Command.{replay}
-use Rattle.dgt_replay.specs.SettingUp.{HasNoStart, SetsUp, SetsUpNothing, StartsAt, Wants, flag_text, given, side_in}
+use Rattle.dgt_replay.specs.SettingUp.{HasNoStart, SetsFollowingUp, SetsUp, SetsUpNothing, StartsAt, Wants, WantsToFollow, flag_text, given, side_in}
 
 -- whether the subcommand is one of the program's, and the side after `--first`, if there is one, is white or black
 abbrev pub is_choice : Text → List Row → Bool
-is_choice name rows = if bytes_eq name (codes "record") then is_some (side_in (first_of (codes "first") rows))
+is_choice name rows = if bytes_eq name (codes "record") || bytes_eq name (codes "follow") then is_some (side_in (first_of (codes "first") rows))
     else (bytes_eq name (codes "show") || bytes_eq name (codes "pictures") || bytes_eq name (codes "check") || bytes_eq name (codes "moves"))
 
 -- what a subcommand with these arguments asks for
@@ -28,6 +30,7 @@ pub record Chooses (name : Text) (rows : List Row) (choice : Option Choice) : Ty
   pub show : name ≡ codes "show" → choice ≡ Some (ListOf Events)
   pub pictures : (rotated : Bool) → name ≡ codes "pictures" → one_of (codes "rotated") rows ≡ Some (flag_text rotated) → choice ≡ Some (ListOf (Pictures rotated))
   pub record_is : name ≡ codes "record" → IfSome choice (λ chosen. (wishes : Wishes) × (chosen ≡ Record wishes) × Wants rows wishes)
+  pub follow : name ≡ codes "follow" → IfSome choice (λ chosen. (wishes : FollowWishes) × (chosen ≡ Follow wishes) × WantsToFollow rows wishes)
   pub check : name ≡ codes "check" → choice ≡ Some Check
   pub moves : name ≡ codes "moves" → (fen : Option (Bor Text)) × (choice ≡ Some (Moves fen)) × (given fen ≡ first_of (codes "fen") rows)
   pub known : is_some choice ≡ is_choice name rows
@@ -65,6 +68,14 @@ AsksToRecord words setup = (rows : List Row) × Asks words (codes "record") rows
 abbrev pub AsksToRecordNothing : List Text → Type 0
 AsksToRecordNothing words = (rows : List Row) × Asks words (codes "record") rows × SetsUpNothing rows
 
+-- The words ask that a game be followed that is set up so.
+abbrev pub AsksToFollow : List Text → Setting → Type 0
+AsksToFollow words setting = (rows : List Row) × Asks words (codes "follow") rows × SetsFollowingUp rows setting
+
+-- The words ask that a game be followed, and no position has the FEN.
+abbrev pub AsksToFollowNothing : List Text → Type 0
+AsksToFollowNothing words = (rows : List Row) × Asks words (codes "follow") rows × HasNoStart (first_of (codes "fen") rows)
+
 -- The words ask for the moves of this position.
 abbrev pub AsksForMoves : List Text → Parts → Type 0
 AsksForMoves words start = (rows : List Row) × Asks words (codes "moves") rows × StartsAt (first_of (codes "fen") rows) start
@@ -84,6 +95,10 @@ IsPictures rotated words = (name : Text) × (words ≡ name ∷ codes "pictures"
 -- The words are a program's name, whatever it is, and `record`, with or without `--rotated`.
 abbrev pub IsRecord : Bool → List Text → Type 0
 IsRecord rotated words = (name : Text) × (words ≡ name ∷ codes "record" ∷ (if rotated then codes "--rotated" ∷ [] else []))
+
+-- The words are a program's name, whatever it is, and `follow`, with or without `--rotated`.
+abbrev pub IsFollow : Bool → List Text → Type 0
+IsFollow rotated words = (name : Text) × (words ≡ name ∷ codes "follow" ∷ (if rotated then codes "--rotated" ∷ [] else []))
 
 -- The words are a program's name, whatever it is, and `check`.
 abbrev pub IsCheck : List Text → Type 0

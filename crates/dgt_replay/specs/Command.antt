@@ -28,8 +28,12 @@ abbrev pub with_tags : App → App
 with_tags app = with_text (with_text (with_text (with_text (with_text (with_text app
     (codes "event")) (codes "site")) (codes "date")) (codes "round")) (codes "white")) (codes "black")
 
+-- how a board stands and where its game starts
+abbrev pub with_board : App → App
+with_board app = with_text (with_text (with_rule app rotated_rule) (codes "first")) (codes "fen")
+
 abbrev pub record_app : App
-record_app = with_tags (with_text (with_text (with_rule (new_app (codes "record")) rotated_rule) (codes "first")) (codes "fen"))
+record_app = with_tags (with_board (new_app (codes "record")))
 
 abbrev pub check_app : App
 check_app = new_app (codes "check")
@@ -37,13 +41,16 @@ check_app = new_app (codes "check")
 abbrev pub moves_app : App
 moves_app = with_text (new_app (codes "moves")) (codes "fen")
 
+abbrev pub follow_app : App
+follow_app = with_board (new_app (codes "follow"))
+
 abbrev pub requiring : App → App
 requiring app = record app { top = record app.top { subcommand_required = true } }
 
 -- the command with its subcommands
 abbrev pub replay : App
-replay = with_subcommand (with_subcommand (with_subcommand (with_subcommand (with_subcommand (requiring (new_app (codes "dgt_replay")))
-    show_app.top) pictures_app.top) record_app.top) check_app.top) moves_app.top
+replay = with_subcommand (with_subcommand (with_subcommand (with_subcommand (with_subcommand (with_subcommand (requiring (new_app (codes "dgt_replay")))
+    show_app.top) pictures_app.top) record_app.top) follow_app.top) check_app.top) moves_app.top
 
 -- The command is read so by a parse.
 pub record IsApp (command : Command) (app : App) : Type 0 where

@@ -1,45 +1,58 @@
--- What `show` and `pictures` list of a stream.
-use Rattle.std.specs.Prelude.{◌≡◌, ◌<◌, ◌≤◌, ◌+◌, ◌⊎◌, ℕ, List, [], ◌∷◌, ◌++◌, length, reverse, Option, IfSome, Bool, true, false, Contains}
+-- What `show`, `pictures` and `follow` list of a stream.
+use Rattle.std.specs.Prelude.{◌≡◌, ◌<◌, ◌≤◌, ◌+◌, ◌⊎◌, ℕ, List, [], ◌∷◌, ◌++◌, length, reverse, Option, IfSome, Bool, true, false, Contains, ⊤}
 use Rattle.std.specs.List.{flat_map}
 use Rattle.std.specs.Io.KnownBytes.{Appends, Consumes, Keeps}
 use Rattle.dgt_frame.specs.Streams.{Shows, Timed}
 use Rattle.board_session.specs.Asking.{past_of}
 use Rattle.board_session.specs.Recording.{limit}
+use Rattle.board_session.specs.Standing.{WantsMemory}
 use Rattle.board_session.specs.Viewing.{pictures}
 use Rattle.dgt_replay.specs.declared.listed.Listed.{Listed}
-use Rattle.dgt_replay.specs.declared.listed.Listed.TheVariants.{Events, Pictures}
+use Rattle.dgt_replay.specs.declared.listed.Listed.TheVariants.{Events, Pictures, Game}
+use Rattle.dgt_replay.specs.Following.{TellsEvents}
 use Rattle.dgt_replay.specs.Lines.{line_of, rest_line}
 use Rattle.dgt_replay.specs.Placing.{placement_line}
 
--- the lines of events in their order: `show` has one for each, `pictures` one for each picture that differs from the one before
-abbrev pub lines_of : Listed → List Timed → List ℕ
-lines_of Events events = flat_map line_of events
-lines_of (Pictures rotated) events = flat_map placement_line (reverse (pictures rotated (past_of events)))
+-- The text is the lines of these events, in their order: `show` has one for each, `pictures` one for each picture that differs
+-- from the one before, and `follow` those of what each makes of the game.
+abbrev pub HasLines : Listed → List Timed → List ℕ → Type 0
+HasLines Events events text = text ≡ flat_map line_of events
+HasLines (Pictures rotated) events text = text ≡ flat_map placement_line (reverse (pictures rotated (past_of events)))
+HasLines (Game start first rotated) events text = TellsEvents (record { start = start; first = first; rotated = rotated }) (reverse events) text
 
--- the last line: `show` tells how many bytes of an unfinished frame are left
+-- the last line: `show` and `follow` tell how many bytes of an unfinished frame are left
 abbrev pub last_line : Listed → ℕ → List ℕ
 last_line Events rest = rest_line rest
 last_line (Pictures rotated) rest = []
+last_line (Game start first rotated) rest = rest_line rest
 
--- all that is listed
-abbrev pub listed_text : Listed → List Timed → ℕ → List ℕ
-listed_text listed events rest = lines_of listed events ++ last_line listed rest
+-- After these events the memory for the next one may be refused: under `follow`, where it gives a move.
+abbrev pub Refuses : Listed → List Timed → Timed → Type 0
+Refuses Events events x = ⊥
+Refuses (Pictures rotated) events x = ⊥
+Refuses (Game start first rotated) events x = WantsMemory (record { start = start; first = first; rotated = rotated }) (past_of events) x.event
+
+-- After these events no other was left out, or one for which memory was refused.
+abbrev pub Leaves : Listed → List Timed → List Timed → Type 0
+Leaves listed events [] = ⊤
+Leaves listed events (x ∷ []) = Refuses listed events x
+Leaves listed events (x ∷ y ∷ more) = ⊥
 
 -- All of the input was read, which is within the limit, and the text of what it shows was written.
 abbrev pub ListsAll : Listed → Option (List ℕ) → Option (List ℕ) → Option (List ℕ) → Type 0
-ListsAll listed input written written' = IfSome input (λ bytes. (events : List Timed) × (rest : ℕ) × (length bytes ≤ limit)
-    × Shows bytes events rest × Appends written written' (listed_text listed events rest))
+ListsAll listed input written written' = IfSome input (λ bytes. (events : List Timed) × (rest : ℕ) × (text : List ℕ) × (length bytes ≤ limit)
+    × Shows bytes events rest × HasLines listed events text × Appends written written' (text ++ last_line listed rest))
 
 -- The input is longer than the limit, and the lines of its first bytes, so many, were written.
 abbrev pub ListsFirst : Listed → Option (List ℕ) → Option (List ℕ) → Option (List ℕ) → Type 0
-ListsFirst listed input written written' = IfSome input (λ bytes. (first more : List ℕ) × (events : List Timed) × (rest : ℕ)
+ListsFirst listed input written written' = IfSome input (λ bytes. (first more : List ℕ) × (events : List Timed) × (rest : ℕ) × (text : List ℕ)
     × (bytes ≡ first ++ more) × (length first ≡ limit) × (0 < length more)
-    × Shows first events rest × Appends written written' (lines_of listed events))
+    × Shows first events rest × HasLines listed events text × Appends written written' text)
 
 -- These bytes were read, and the lines of their events were written.
 abbrev pub ListsRead : Listed → Option (List ℕ) → Option (List ℕ) → Option (List ℕ) → Option (List ℕ) → Type 0
-ListsRead listed input input' written written' = (bytes : List ℕ) × (events : List Timed) × (rest : ℕ)
-    × Consumes input input' bytes × Shows bytes events rest × Appends written written' (lines_of listed events)
+ListsRead listed input input' written written' = (bytes : List ℕ) × (events : List Timed) × (rest : ℕ) × (text : List ℕ)
+    × Consumes input input' bytes × Shows bytes events rest × HasLines listed events text × Appends written written' text
 
 -- A front of the text was written, and the rest of it waits.
 abbrev pub Gathers : Option (List ℕ) → Option (List ℕ) → List ℕ → List ℕ → Type 0
@@ -49,10 +62,26 @@ Gathers written written' waiting text = (sent : List ℕ) × (text ≡ sent ++ w
 abbrev pub WritesFront : Option (List ℕ) → Option (List ℕ) → List ℕ → Type 0
 WritesFront written written' text = (left : List ℕ) × Gathers written written' left text
 
--- Of the bytes that were read, these show a text of which a front was written.
+-- Of the bytes that were read, these show a text of which a front was written. The lines are those of all their events, or of
+-- those before one for which memory was refused.
 abbrev pub ListsFront : Listed → Option (List ℕ) → Option (List ℕ) → Option (List ℕ) → Option (List ℕ) → Type 0
-ListsFront listed input input' written written' = (bytes after : List ℕ) × (events : List Timed) × (rest : ℕ)
-    × Consumes input input' (bytes ++ after) × Shows bytes events rest × WritesFront written written' (listed_text listed events rest)
+ListsFront listed input input' written written' = (bytes after : List ℕ) × (events extra : List Timed) × (rest : ℕ) × (text : List ℕ)
+    × Consumes input input' (bytes ++ after) × Shows bytes (events ++ extra) rest × Leaves listed events extra × HasLines listed events text
+    × WritesFront written written' (text ++ last_line listed rest)
+
+-- Of the bytes that were read, the last event that these show gives a move, the memory for it was refused, and the lines of the
+-- events before it were written.
+abbrev pub ListsRefused : Listed → Option (List ℕ) → Option (List ℕ) → Option (List ℕ) → Option (List ℕ) → Type 0
+ListsRefused listed input input' written written' = (bytes after : List ℕ) × (events : List Timed) × (refused : Timed) × (rest : ℕ) × (text : List ℕ)
+    × Consumes input input' (bytes ++ after) × Shows bytes (events ++ refused ∷ []) rest × Refuses listed events refused × HasLines listed events text
+    × Appends written written' text
+
+-- For want of memory nothing was read or written; or, under `follow`, a move was refused.
+abbrev pub EndsForMemory : Listed → Option (List ℕ) → Option (List ℕ) → Option (List ℕ) → Option (List ℕ) → Type 0
+EndsForMemory Events input input' written written' = Keeps input input' × Keeps written written'
+EndsForMemory (Pictures rotated) input input' written written' = Keeps input input' × Keeps written written'
+EndsForMemory (Game start first rotated) input input' written written' = (Keeps input input' × Keeps written written')
+    ⊎ ListsRefused (Game start first rotated) input input' written written'
 
 -- At most one byte past the limit was read.
 abbrev pub ReadsWithin : ℕ → Option (List ℕ) → Option (List ℕ) → Type 0
@@ -67,8 +96,8 @@ pub record ListingEnds (listed : Listed) (status : ℕ) (input input' written wr
   -- a stream has failed: where it isn't the reader, a front of the text stands
   pub fault : status ≡ 3 → ((reader_failed ≡ true) × ListsRead listed input input' written written')
       ⊎ ((out_failed ≡ true) × ListsFront listed input input' written written')
-  -- for want of memory nothing was read or written
-  pub memory : status ≡ 4 → Keeps input input' × Keeps written written'
+  -- memory was refused
+  pub memory : status ≡ 4 → EndsForMemory listed input input' written written'
   pub known : Contains (0 ∷ 1 ∷ 3 ∷ 4 ∷ []) status
   pub bounded : ReadsWithin limit input input'
   pub whole : status ≡ 0 → (reader_failed ≡ false) × (out_failed ≡ false)

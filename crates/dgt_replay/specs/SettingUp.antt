@@ -1,4 +1,4 @@
--- What the options of `record` and of `moves` mean.
+-- What the options of `record`, of `follow` and of `moves` mean.
 use Rattle.std.specs.Prelude.{◌≡◌, ◌≢◌, ◌⊎◌, Bool, List, [], ◌∷◌, ◌++◌, All, ℕ, codes, Option, Some, None, MatchOption, option_map, true, false, if◌then◌else◌, ⊤}
 use Rattle.std.specs.Borrow.{Bor}
 use Rattle.std.specs.Str.{bytes_eq}
@@ -16,8 +16,10 @@ use Rattle.pgn_book.specs.declared.values.TagError.{TagError}
 use Rattle.pgn_book.specs.declared.values.TagError.TheVariants.{Memory}
 use Rattle.pgn_book.specs.Values.{IsValue, Refuses, TagValues, unknown_of, value_of, with_value}
 use Rattle.board_session.specs.declared.recording.Setup.{Setup}
+use Rattle.board_session.specs.Settings.{Setting}
 use Rattle.dgt_replay.specs.declared.recording.Refusal.{Refusal}
 use Rattle.dgt_replay.specs.declared.recording.Refusal.TheVariants.{Fen, Tag as OfTag}
+use Rattle.dgt_replay.specs.declared.words.FollowWishes.{FollowWishes}
 use Rattle.dgt_replay.specs.declared.words.Wishes.{Wishes}
 use Rattle.dgt_replay.specs.Telling.{fen_words, tag_words}
 
@@ -56,6 +58,12 @@ pub record SetsUp (rows : List Row) (setup : Setup) : Type 0 where
   pub first : side_in (first_of (codes "first") rows) ≡ Some setup.first
   pub start : StartsAt (first_of (codes "fen") rows) setup.start
   pub tags : (tag : Tag) → HasValue tag (first_of (option_of tag) rows) (value_of tag setup.tags)
+
+-- The options set following up so.
+pub record SetsFollowingUp (rows : List Row) (setting : Setting) : Type 0 where
+  pub rotated : one_of (codes "rotated") rows ≡ Some (flag_text setting.rotated)
+  pub first : side_in (first_of (codes "first") rows) ≡ Some setting.first
+  pub start : StartsAt (first_of (codes "fen") rows) setting.start
 
 -- No position has the FEN.
 abbrev pub HasNoStart : Option Text → Type 0
@@ -114,6 +122,12 @@ pub record Wants (rows : List Row) (wishes : Wishes) : Type 0 where
   pub fen : given wishes.fen ≡ first_of (codes "fen") rows
   pub tags : (tag : Tag) → wished wishes tag ≡ first_of (option_of tag) rows
 
+-- The wishes for following are what the options say.
+pub record WantsToFollow (rows : List Row) (wishes : FollowWishes) : Type 0 where
+  pub rotated : (rotated : Bool) → one_of (codes "rotated") rows ≡ Some (flag_text rotated) → wishes.rotated ≡ rotated
+  pub first : side_in (first_of (codes "first") rows) ≡ Some wishes.first
+  pub fen : given wishes.fen ≡ first_of (codes "fen") rows
+
 -- The tags have the values that are wished.
 abbrev pub HasValues : Wishes → TagValues → Type 0
 HasValues wishes values = (tag : Tag) → HasValue tag (wished wishes tag) (value_of tag values)
@@ -124,6 +138,12 @@ pub record Meets (wishes : Wishes) (setup : Setup) : Type 0 where
   pub first : setup.first ≡ wishes.first
   pub start : StartsAt (given wishes.fen) setup.start
   pub tags : HasValues wishes setup.tags
+
+-- The setting in which a game is followed is as wished.
+pub record MeetsToFollow (wishes : FollowWishes) (setting : Setting) : Type 0 where
+  pub rotated : setting.rotated ≡ wishes.rotated
+  pub first : setting.first ≡ wishes.first
+  pub start : StartsAt (given wishes.fen) setting.start
 
 -- No position has the FEN that is wished, or a tag may not have the text that is wished for it.
 abbrev pub MeetsNothing : Wishes → Type 0

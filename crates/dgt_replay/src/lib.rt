@@ -2,6 +2,7 @@
 #![tactic(auto)]
 
 mod checking;
+mod follower;
 pub mod laws;
 mod lines;
 mod listed;

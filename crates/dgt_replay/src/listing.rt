@@ -1,8 +1,10 @@
-//! Streams to lines: the subcommands `show` and `pictures`.
-ghost use Rattle.std.specs.Prelude.{◌≡◌, ◌<◌, ◌≤◌, ◌+◌, ◌^◌, [], length, OnOk, OnErr, Err, true, false};
+//! Streams to lines: the subcommands `show`, `pictures` and `follow`.
+ghost use Rattle.std.specs.Prelude.{◌≡◌, ◌<◌, ◌≤◌, ◌+◌, ◌^◌, [], length, IfErr, OnOk, OnErr, Err, true, false};
 ghost use Rattle.dgt_frame.specs.Streams.{HasFrame};
 ghost use Rattle.dgt_frame.specs.Watched.{inner_of, has_failed};
-ghost use Rattle.dgt_replay.specs.Listing.{ListsAll, ListsFirst, ListsFront, ListsRead, ReadsWithin};
+ghost use Rattle.dgt_replay.specs.Listing.{ListsAll, ListsFirst, ListsFront, ListsRead, ListsRefused, ReadsWithin};
+ghost use Rattle.arrayvec.specs.ArrayVec.{array_vec_len};
+ghost use Rattle.dgt_replay.specs.Lister.{HasBegun};
 ghost use Rattle.dgt_replay.specs.Reading.{BreaksLines, BreaksOff, FinishBreaksOff, Finishes, GathersEvent, HasTaken, ListsPiece};
 ghost use Rattle.dgt_replay.specs.Status.{status_of, words_of};
 
@@ -11,6 +13,7 @@ use crate::listed::Listed;
 use crate::lister::Lister;
 use dgt_frame::{Decoder, Event, Watch};
 use pgn_book::{WriteFault, put};
+use std::alloc::Global;
 use std::io::{Read, Write};
 
 /// The most bytes of a stream.
@@ -27,6 +30,8 @@ pub enum ListError {
     Write,
     /// There is a byte past the limit.
     TooLong,
+    /// Memory was refused.
+    Memory,
 }
 
 impl ListError {
@@ -38,6 +43,7 @@ impl ListError {
             ListError::Read => b"read fault\n",
             ListError::Write => b"write fault\n",
             ListError::TooLong => b"input: too long\n",
+            ListError::Memory => b"memory\n",
         }
     }
 
@@ -48,31 +54,45 @@ impl ListError {
         match self {
             ListError::Read | ListError::Write => 3,
             ListError::TooLong => 1,
+            ListError::Memory => 4,
         }
     }
 }
 
-// Adds the lines of an event, after those that wait are written where there is no room for one more.
+// Adds the lines of an event, and writes those that wait where there is no room for another's. Where memory is refused, those
+// of the events before it are written.
 fn gather<O: Write>(
     lister: &mut Lister,
     lines: &mut Lines,
     offset: u32,
     event: &Event,
     out: &mut Watch<O>,
-) -> Result<(), WriteFault>
+) -> Result<(), ListError>
     requires working { has_failed out.old ≡ false }
     requires frame { HasFrame event.now }
+    requires begun { HasBegun lister.old }
+    requires room { array_vec_len lines.old + LONGEST ≤ GATHERED }
     ensures ok { OnOk result (GathersEvent lister.old (O.contents (inner_of out.old)) lines.old.items (record { offset = offset; event = event.now })
         lister.new (O.contents (inner_of out.new)) lines.new.items) }
+    ensures room { OnOk result (array_vec_len lines.new + LONGEST ≤ GATHERED) }
+    ensures begun { OnOk result (HasBegun lister.new) }
     ensures working { OnOk result (has_failed out.new ≡ false) }
-    ensures front { OnErr result (BreaksLines lister.old (O.contents (inner_of out.old)) lines.old.items (O.contents (inner_of out.new))) }
-    ensures failed { OnErr result (has_failed out.new ≡ true) }
+    ensures broken { IfErr result (λ error. BreaksLines lister.old (O.contents (inner_of out.old)) lines.old.items
+        (record { offset = offset; event = event.now }) error (O.contents (inner_of out.new))) }
+    ensures failed { result ≡ Err ListError.Write → has_failed out.new ≡ true }
 {
+    if lister.add(lines, offset, event).is_err() {
+        return match put(out, lines.as_slice()) {
+            Ok(()) => Err(ListError::Memory),
+            Err(_) => Err(ListError::Write),
+        };
+    }
     if lines.len() + LONGEST > GATHERED {
-        put(out, lines.as_slice())?;
+        if put(out, lines.as_slice()).is_err() {
+            return Err(ListError::Write);
+        }
         lines.clear();
     }
-    lister.add(lines, offset, event);
     Ok(())
 }
 
@@ -83,25 +103,31 @@ fn list_piece<O: Write>(
     start: u32,
     piece: &[u8],
     out: &mut Watch<O>,
-) -> Result<(), WriteFault>
+) -> Result<(), ListError>
     requires working { has_failed out.old ≡ false }
     requires room { start + length piece.now < 2 ^ 32 }
     requires taken { HasTaken decoder.old start }
+    requires begun { HasBegun lister.old }
     ensures ok { OnOk result (ListsPiece decoder.old lister.old start piece.now decoder.new lister.new
         (O.contents (inner_of out.old)) (O.contents (inner_of out.new)) []) }
     ensures working { OnOk result (has_failed out.new ≡ false) }
-    ensures front { OnErr result (BreaksOff decoder.old lister.old start piece.now decoder.new
+    ensures broken { IfErr result (λ error. BreaksOff error decoder.old lister.old start piece.now decoder.new
         (O.contents (inner_of out.old)) (O.contents (inner_of out.new))) }
-    ensures failed { OnErr result (has_failed out.new ≡ true) }
+    ensures failed { result ≡ Err ListError.Write → has_failed out.new ≡ true }
 {
     let mut lines = Lines::new();
     let mut taken = 0;
     'events: while let Some(arrival) = decoder.push_until(&piece[taken..]) {
         let last = taken + arrival.taken - 1;
-        gather(lister, &mut lines, start + last as u32, &arrival.event, out)?;
+        if let Err(error) = gather(lister, &mut lines, start + last as u32, &arrival.event, out) {
+            return Err(error);
+        }
         taken += arrival.taken;
     }
-    put(out, lines.as_slice())
+    match put(out, lines.as_slice()) {
+        Ok(()) => Ok(()),
+        Err(_) => Err(ListError::Write),
+    }
 }
 
 fn finish<O: Write>(
@@ -123,6 +149,7 @@ fn finish<O: Write>(
 /// Writes the lines of a stream. Those of a piece are written before the next read, so that those of a slow board stand
 /// as they come.
 pub fn list_stream<R: Read, O: Write>(
+    alloc: Global,
     listed: Listed,
     reader: &mut Watch<R>,
     out: &mut Watch<O>,
@@ -144,9 +171,12 @@ pub fn list_stream<R: Read, O: Write>(
         (O.contents (inner_of out.old)) (O.contents (inner_of out.new)) }
     ensures long { result ≡ Err ListError.TooLong → ListsFirst listed (R.remaining (inner_of reader.old))
         (O.contents (inner_of out.old)) (O.contents (inner_of out.new)) }
+    ensures memory { result ≡ Err ListError.Memory → ListsRefused listed
+        (R.remaining (inner_of reader.old)) (R.remaining (inner_of reader.new))
+        (O.contents (inner_of out.old)) (O.contents (inner_of out.new)) }
 {
     let mut decoder = Decoder::new();
-    let mut lister = Lister::new(listed);
+    let mut lister = Lister::new(alloc, listed);
     let mut buffer = [0u8; PIECE];
     let mut total: u32 = 0;
     'pieces: loop {
@@ -160,9 +190,9 @@ pub fn list_stream<R: Read, O: Write>(
             return finish(&decoder, &lister, out).map_err(|_| ListError::Write);
         }
         let within = n.min((LIMIT - total) as usize);
-        if list_piece(&mut decoder, &mut lister, total, &space[..within], out).is_err() {
+        if let Err(error) = list_piece(&mut decoder, &mut lister, total, &space[..within], out) {
             decoder.pending();
-            return Err(ListError::Write);
+            return Err(error);
         }
         if within < n {
             decoder.pending();

@@ -4,18 +4,22 @@ ghost use Rattle.std.specs.Borrow.{Bor};
 ghost use Rattle.std.specs.Io.KnownBytes.{Keeps};
 ghost use Rattle.board_session.specs.declared.recording.RecordError.{RecordError};
 ghost use Rattle.board_session.specs.declared.recording.Setup.{Setup};
+ghost use Rattle.board_session.specs.Settings.{Setting};
 ghost use Rattle.chess_rules.specs.declared.men.Parts.{Parts as PartsOf};
 ghost use Rattle.clap.specs.Values.{kind_of};
 ghost use Rattle.clap.specs.Walk.{Row, first_of};
 ghost use Rattle.dgt_frame.specs.Watched.{inner_of, has_failed};
 ghost use Rattle.dgt_replay.specs.Checked.{ChecksGame, RefusesText, text_limit};
-ghost use Rattle.dgt_replay.specs.Choosing.{AreMistaken, Asks, AsksForHelp, AsksForMoves, AsksForNoMoves, AsksToRecord, AsksToRecordNothing, IsCheck, IsPictures, IsRefused, IsShow};
+ghost use Rattle.dgt_replay.specs.Choosing.{AreMistaken, Asks, AsksForHelp, AsksForMoves, AsksForNoMoves, AsksToFollow, AsksToFollowNothing, AsksToRecord, AsksToRecordNothing, IsCheck, IsPictures, IsRefused, IsShow};
 ghost use Rattle.dgt_replay.specs.declared.listed.Listed.{Listed};
 ghost use Rattle.dgt_replay.specs.Listing.{ListingEnds, ReadsWithin};
+ghost use Rattle.dgt_replay.specs.Lines.{rest_line};
+ghost use Rattle.dgt_replay.specs.OneText.{TextEnds, event_lines, no_line, picture_lines};
 ghost use Rattle.dgt_replay.specs.Printed.{PrintsMoves};
+ghost use Rattle.dgt_replay.specs.declared.words.FollowWishes.{FollowWishes as FollowWishesOf};
 ghost use Rattle.dgt_replay.specs.declared.words.Wishes.{Wishes};
 ghost use Rattle.dgt_replay.specs.Recorded.{EndsFor, Fails, RecordsAndTells, Untouched};
-ghost use Rattle.dgt_replay.specs.SettingUp.{HasNoStart, Meets, MeetsNothing, RefusesSetup, RefusesStart, SetsUpNothing, StartsAt, given, option_of, wished};
+ghost use Rattle.dgt_replay.specs.SettingUp.{HasNoStart, Meets, MeetsNothing, MeetsToFollow, RefusesSetup, RefusesStart, SetsUpNothing, StartsAt, given, option_of, wished};
 ghost use Rattle.dgt_replay.specs.Telling.{GivesHelp, IsTooLong, RefusesWords, Says, Tells};
 
 use crate::checking::check;
@@ -23,8 +27,9 @@ use crate::listed::Listed;
 use crate::listing::list_stream;
 use crate::moves::moves;
 use crate::recording::record_game;
-use crate::saying::refused;
-use crate::words::{Choice, read_words};
+use crate::saying::{refused, refused_fen};
+use crate::starting::start_of;
+use crate::words::{Choice, FollowWishes, read_words};
 use clap::Error;
 use clap::error::ErrorKind;
 use dgt_frame::Watch;
@@ -67,6 +72,7 @@ fn refused_words<O: Write, E: Write>(
 }
 
 fn list<R: Read, O: Write, E: Write>(
+    alloc: Global,
     listed: Listed,
     reader: &mut Watch<R>,
     out: &mut Watch<O>,
@@ -79,9 +85,10 @@ fn list<R: Read, O: Write, E: Write>(
         (O.contents (inner_of out.old)) (O.contents (inner_of out.new)) (has_failed reader.new) (has_failed out.new) }
     ensures tells { Tells result IsTooLong (E.contents (inner_of err.old)) (E.contents (inner_of err.new)) (has_failed reader.new) (has_failed out.new) (has_failed err.new) }
     ensures works { result ≡ 0 → (has_failed reader.new ≡ false) × ((has_failed out.new ≡ false) × (has_failed err.new ≡ false)) }
-    ensures status { (result ≡ 0) ⊎ ((result ≡ 1) ⊎ (result ≡ 3)) }
+    ensures known { result ≤ 4 }
+    ensures status { result ≢ 2 }
 {
-    let done = list_stream(listed, reader, out);
+    let done = list_stream(alloc, listed, reader, out);
     if out.failed() || out.flush().is_err() {
         return refused(err, b"write fault\n", 3);
     }
@@ -91,10 +98,10 @@ fn list<R: Read, O: Write, E: Write>(
     }
 }
 
-// Does what was chosen.
-fn obey<R: Read, O: Write, E: Write>(
+// Lists what each event makes of a game, as is wished.
+fn follow<R: Read, O: Write, E: Write>(
     alloc: Global,
-    choice: Choice<'_>,
+    wishes: &FollowWishes<'_>,
     reader: &mut Watch<R>,
     out: &mut Watch<O>,
     err: &mut Watch<E>,
@@ -102,48 +109,95 @@ fn obey<R: Read, O: Write, E: Write>(
     requires reading { has_failed reader.old ≡ false }
     requires working { has_failed out.old ≡ false }
     requires erring { has_failed err.old ≡ false }
-    ensures lists { (listed : Listed) → choice.entry ≡ Choice.List listed → ListingEnds listed result
+    ensures ends { (setting : Setting) → MeetsToFollow wishes.now setting → ListingEnds (Listed.Game setting.start setting.first setting.rotated) result
         (R.remaining (inner_of reader.old)) (R.remaining (inner_of reader.new))
         (O.contents (inner_of out.old)) (O.contents (inner_of out.new)) (has_failed reader.new) (has_failed out.new) }
-    ensures lists_tell { (listed : Listed) → choice.entry ≡ Choice.List listed → Tells result IsTooLong
+    ensures tells { (setting : Setting) → MeetsToFollow wishes.now setting → Tells result IsTooLong
         (E.contents (inner_of err.old)) (E.contents (inner_of err.new)) (has_failed reader.new) (has_failed out.new) (has_failed err.new) }
-    ensures records { (setup : Setup) (wishes : Wishes) → choice.entry ≡ Choice.Record wishes → Meets wishes setup → result ≡ 0 → RecordsAndTells setup (R.remaining (inner_of reader.old))
+    ensures refuses { HasNoStart (given wishes.now.fen) → (result ≡ 1)
+        × Untouched (R.remaining (inner_of reader.old)) (R.remaining (inner_of reader.new)) (O.contents (inner_of out.old)) (O.contents (inner_of out.new)) }
+    ensures refusal_tells { HasNoStart (given wishes.now.fen) → Tells result (RefusesStart (given wishes.now.fen))
+        (E.contents (inner_of err.old)) (E.contents (inner_of err.new)) false false (has_failed err.new) }
+    ensures works { result ≡ 0 → (has_failed reader.new ≡ false) × ((has_failed out.new ≡ false) × (has_failed err.new ≡ false)) }
+    ensures known { result ≤ 4 }
+    ensures status { result ≢ 2 }
+{
+    match start_of(wishes.fen) {
+        Ok(start) => {
+            let listed = Listed::Game {
+                start,
+                first: wishes.first,
+                rotated: wishes.rotated,
+            };
+            list(alloc, listed, reader, out, err)
+        }
+        Err(error) => refused_fen(err, error),
+    }
+}
+
+// Does what was chosen.
+fn obey<R: Read, O: Write, E: Write>(
+    alloc: Global,
+    choice: &Choice<'_>,
+    reader: &mut Watch<R>,
+    out: &mut Watch<O>,
+    err: &mut Watch<E>,
+) -> u8
+    requires reading { has_failed reader.old ≡ false }
+    requires working { has_failed out.old ≡ false }
+    requires erring { has_failed err.old ≡ false }
+    ensures lists { (listed : Listed) → choice.now ≡ Choice.List listed → ListingEnds listed result
+        (R.remaining (inner_of reader.old)) (R.remaining (inner_of reader.new))
+        (O.contents (inner_of out.old)) (O.contents (inner_of out.new)) (has_failed reader.new) (has_failed out.new) }
+    ensures lists_tell { (listed : Listed) → choice.now ≡ Choice.List listed → Tells result IsTooLong
+        (E.contents (inner_of err.old)) (E.contents (inner_of err.new)) (has_failed reader.new) (has_failed out.new) (has_failed err.new) }
+    ensures records { (setup : Setup) (wishes : Wishes) → choice.now ≡ Choice.Record wishes → Meets wishes setup → result ≡ 0 → RecordsAndTells setup (R.remaining (inner_of reader.old))
         (E.contents (inner_of err.old)) (E.contents (inner_of err.new)) (O.contents (inner_of out.old)) (O.contents (inner_of out.new)) }
-    ensures record_long { (setup : Setup) (wishes : Wishes) → choice.entry ≡ Choice.Record wishes → Meets wishes setup → result ≡ 1 → EndsFor RecordError.TooLong setup (R.remaining (inner_of reader.old)) (R.remaining (inner_of reader.new))
+    ensures record_long { (setup : Setup) (wishes : Wishes) → choice.now ≡ Choice.Record wishes → Meets wishes setup → result ≡ 1 → EndsFor RecordError.TooLong setup (R.remaining (inner_of reader.old)) (R.remaining (inner_of reader.new))
         (E.contents (inner_of err.old)) (E.contents (inner_of err.new)) (has_failed err.new) (O.contents (inner_of out.old)) (O.contents (inner_of out.new)) }
-    ensures record_fails { (setup : Setup) (wishes : Wishes) → choice.entry ≡ Choice.Record wishes → Meets wishes setup → result ≡ 3 → Fails setup (R.remaining (inner_of reader.old)) (R.remaining (inner_of reader.new))
+    ensures record_fails { (setup : Setup) (wishes : Wishes) → choice.now ≡ Choice.Record wishes → Meets wishes setup → result ≡ 3 → Fails setup (R.remaining (inner_of reader.old)) (R.remaining (inner_of reader.new))
         (E.contents (inner_of err.old)) (E.contents (inner_of err.new)) (O.contents (inner_of out.old)) (O.contents (inner_of out.new))
         (has_failed reader.new) (has_failed out.new) (has_failed err.new) }
-    ensures record_memory { (setup : Setup) (wishes : Wishes) → choice.entry ≡ Choice.Record wishes → Meets wishes setup → result ≡ 4 → EndsFor RecordError.Memory setup (R.remaining (inner_of reader.old)) (R.remaining (inner_of reader.new))
+    ensures record_memory { (setup : Setup) (wishes : Wishes) → choice.now ≡ Choice.Record wishes → Meets wishes setup → result ≡ 4 → EndsFor RecordError.Memory setup (R.remaining (inner_of reader.old)) (R.remaining (inner_of reader.new))
         (E.contents (inner_of err.old)) (E.contents (inner_of err.new)) (has_failed err.new) (O.contents (inner_of out.old)) (O.contents (inner_of out.new))
         ⊎ (Untouched (R.remaining (inner_of reader.old)) (R.remaining (inner_of reader.new)) (O.contents (inner_of out.old)) (O.contents (inner_of out.new))
         × Says (E.contents (inner_of err.old)) (E.contents (inner_of err.new)) (has_failed err.new) (codes "memory\n")) }
-    ensures record_refuses { (wishes : Wishes) → choice.entry ≡ Choice.Record wishes → MeetsNothing wishes → ((result ≡ 1) ⊎ (result ≡ 4))
+    ensures record_refuses { (wishes : Wishes) → choice.now ≡ Choice.Record wishes → MeetsNothing wishes → ((result ≡ 1) ⊎ (result ≡ 4))
         × Untouched (R.remaining (inner_of reader.old)) (R.remaining (inner_of reader.new)) (O.contents (inner_of out.old)) (O.contents (inner_of out.new)) }
-    ensures refusal_tells { (wishes : Wishes) → choice.entry ≡ Choice.Record wishes → MeetsNothing wishes → Tells result (RefusesSetup (given wishes.fen) (wished wishes))
+    ensures refusal_tells { (wishes : Wishes) → choice.now ≡ Choice.Record wishes → MeetsNothing wishes → Tells result (RefusesSetup (given wishes.fen) (wished wishes))
         (E.contents (inner_of err.old)) (E.contents (inner_of err.new)) false false (has_failed err.new) }
-    ensures checks { choice.entry ≡ Choice.Check → result ≡ 0 → ChecksGame (R.remaining (inner_of reader.old))
-        (O.contents (inner_of out.old)) (O.contents (inner_of out.new)) }
-    ensures check_tells { choice.entry ≡ Choice.Check → Tells result (RefusesText (R.remaining (inner_of reader.old)))
+    ensures follows { (wishes : FollowWishesOf) (setting : Setting) → choice.now ≡ Choice.Follow wishes → MeetsToFollow wishes setting → ListingEnds (Listed.Game setting.start setting.first setting.rotated) result
+        (R.remaining (inner_of reader.old)) (R.remaining (inner_of reader.new))
+        (O.contents (inner_of out.old)) (O.contents (inner_of out.new)) (has_failed reader.new) (has_failed out.new) }
+    ensures follow_tells { (wishes : FollowWishesOf) (setting : Setting) → choice.now ≡ Choice.Follow wishes → MeetsToFollow wishes setting → Tells result IsTooLong
         (E.contents (inner_of err.old)) (E.contents (inner_of err.new)) (has_failed reader.new) (has_failed out.new) (has_failed err.new) }
-    ensures check_bounded { choice.entry ≡ Choice.Check → ReadsWithin text_limit (R.remaining (inner_of reader.old)) (R.remaining (inner_of reader.new)) }
-    ensures check_silent { choice.entry ≡ Choice.Check → (result ≡ 1) ⊎ (result ≡ 4) → Keeps (O.contents (inner_of out.old)) (O.contents (inner_of out.new)) }
-    ensures moves { (fen : Option (Bor (List ℕ))) (start : PartsOf) → choice.entry ≡ Choice.Moves fen → StartsAt (given fen) start → result ≡ 0 → PrintsMoves start (O.contents (inner_of out.old)) (O.contents (inner_of out.new)) }
-    ensures moves_accept { (fen : Option (Bor (List ℕ))) (start : PartsOf) → choice.entry ≡ Choice.Moves fen → StartsAt (given fen) start → result ≢ 1 }
-    ensures moves_refuse { (fen : Option (Bor (List ℕ))) → choice.entry ≡ Choice.Moves fen → HasNoStart (given fen) → (result ≡ 1) × Keeps (O.contents (inner_of out.old)) (O.contents (inner_of out.new)) }
-    ensures moves_tell { (fen : Option (Bor (List ℕ))) → choice.entry ≡ Choice.Moves fen → Tells result (RefusesStart (given fen))
+    ensures follow_refuses { (wishes : FollowWishesOf) → choice.now ≡ Choice.Follow wishes → HasNoStart (given wishes.fen) → (result ≡ 1)
+        × Untouched (R.remaining (inner_of reader.old)) (R.remaining (inner_of reader.new)) (O.contents (inner_of out.old)) (O.contents (inner_of out.new)) }
+    ensures follow_refusal_tells { (wishes : FollowWishesOf) → choice.now ≡ Choice.Follow wishes → HasNoStart (given wishes.fen) → Tells result (RefusesStart (given wishes.fen))
+        (E.contents (inner_of err.old)) (E.contents (inner_of err.new)) false false (has_failed err.new) }
+    ensures checks { choice.now ≡ Choice.Check → result ≡ 0 → ChecksGame (R.remaining (inner_of reader.old))
+        (O.contents (inner_of out.old)) (O.contents (inner_of out.new)) }
+    ensures check_tells { choice.now ≡ Choice.Check → Tells result (RefusesText (R.remaining (inner_of reader.old)))
+        (E.contents (inner_of err.old)) (E.contents (inner_of err.new)) (has_failed reader.new) (has_failed out.new) (has_failed err.new) }
+    ensures check_bounded { choice.now ≡ Choice.Check → ReadsWithin text_limit (R.remaining (inner_of reader.old)) (R.remaining (inner_of reader.new)) }
+    ensures check_silent { choice.now ≡ Choice.Check → (result ≡ 1) ⊎ (result ≡ 4) → Keeps (O.contents (inner_of out.old)) (O.contents (inner_of out.new)) }
+    ensures moves { (fen : Option (Bor (List ℕ))) (start : PartsOf) → choice.now ≡ Choice.Moves fen → StartsAt (given fen) start → result ≡ 0 → PrintsMoves start (O.contents (inner_of out.old)) (O.contents (inner_of out.new)) }
+    ensures moves_accept { (fen : Option (Bor (List ℕ))) (start : PartsOf) → choice.now ≡ Choice.Moves fen → StartsAt (given fen) start → result ≢ 1 }
+    ensures moves_refuse { (fen : Option (Bor (List ℕ))) → choice.now ≡ Choice.Moves fen → HasNoStart (given fen) → (result ≡ 1) × Keeps (O.contents (inner_of out.old)) (O.contents (inner_of out.new)) }
+    ensures moves_tell { (fen : Option (Bor (List ℕ))) → choice.now ≡ Choice.Moves fen → Tells result (RefusesStart (given fen))
         (E.contents (inner_of err.old)) (E.contents (inner_of err.new)) false (has_failed out.new) (has_failed err.new) }
-    ensures moves_silent { (fen : Option (Bor (List ℕ))) → choice.entry ≡ Choice.Moves fen → result ≡ 4 → Keeps (O.contents (inner_of out.old)) (O.contents (inner_of out.new)) }
-    ensures moves_unread { (fen : Option (Bor (List ℕ))) → choice.entry ≡ Choice.Moves fen → reader.new ≡ reader.old }
+    ensures moves_silent { (fen : Option (Bor (List ℕ))) → choice.now ≡ Choice.Moves fen → result ≡ 4 → Keeps (O.contents (inner_of out.old)) (O.contents (inner_of out.new)) }
+    ensures moves_unread { (fen : Option (Bor (List ℕ))) → choice.now ≡ Choice.Moves fen → reader.new ≡ reader.old }
     ensures works { result ≡ 0 → (has_failed reader.new ≡ false) × ((has_failed out.new ≡ false) × (has_failed err.new ≡ false)) }
     ensures known { result ≤ 4 }
     ensures status { result ≢ 2 }
 {
     match choice {
-        Choice::List(listed) => list(listed, reader, out, err),
-        Choice::Record(wishes) => record_game(alloc, &wishes, reader, out, err),
+        Choice::List(listed) => list(alloc, *listed, reader, out, err),
+        Choice::Record(wishes) => record_game(alloc, wishes, reader, out, err),
+        Choice::Follow(wishes) => follow(alloc, wishes, reader, out, err),
         Choice::Check => check(alloc, reader, out, err),
-        Choice::Moves { fen } => moves(alloc, fen, out, err),
+        Choice::Moves { fen } => moves(alloc, *fen, out, err),
     }
 }
 
@@ -162,12 +216,12 @@ pub fn run<R: Read, O: Write, E: Write>(
     requires erring { has_failed err.old ≡ false }
 
     // NAME `show`: the lines of the events, and of the rest.
-    ensures show { IsShow (map string_bytes words.now) → ListingEnds Listed.Events result
+    ensures show { IsShow (map string_bytes words.now) → TextEnds event_lines rest_line result
         (R.remaining (inner_of reader.old)) (R.remaining (inner_of reader.new))
         (O.contents (inner_of out.old)) (O.contents (inner_of out.new)) (has_failed reader.new) (has_failed out.new) }
 
     // NAME `pictures`, with or without `--rotated`: the placements.
-    ensures pictures { (rotated : Bool) → IsPictures rotated (map string_bytes words.now) → ListingEnds (Listed.Pictures rotated) result
+    ensures pictures { (rotated : Bool) → IsPictures rotated (map string_bytes words.now) → TextEnds (picture_lines rotated) no_line result
         (R.remaining (inner_of reader.old)) (R.remaining (inner_of reader.new))
         (O.contents (inner_of out.old)) (O.contents (inner_of out.new)) (has_failed reader.new) (has_failed out.new) }
 
@@ -198,6 +252,19 @@ pub fn run<R: Read, O: Write, E: Write>(
 
     ensures refusal_tells { (rows : List Row) → Asks (map string_bytes words.now) (codes "record") rows → SetsUpNothing rows
         → Tells result (RefusesSetup (first_of (codes "fen") rows) (λ tag. first_of (option_of tag) rows))
+        (E.contents (inner_of err.old)) (E.contents (inner_of err.new)) false false (has_failed err.new) }
+
+    // `follow` with any options: the lines of what each event makes of the game, from the start that they say. What it says, by
+    // its status. Where no position has the FEN, nothing is read, and nothing written to the output; the reason is said.
+    ensures follow { (setting : Setting) → AsksToFollow (map string_bytes words.now) setting → ListingEnds (Listed.Game setting.start setting.first setting.rotated) result
+        (R.remaining (inner_of reader.old)) (R.remaining (inner_of reader.new))
+        (O.contents (inner_of out.old)) (O.contents (inner_of out.new)) (has_failed reader.new) (has_failed out.new) }
+    ensures follow_tells { (setting : Setting) → AsksToFollow (map string_bytes words.now) setting → Tells result IsTooLong
+        (E.contents (inner_of err.old)) (E.contents (inner_of err.new)) (has_failed reader.new) (has_failed out.new) (has_failed err.new) }
+    ensures follow_refuses { AsksToFollowNothing (map string_bytes words.now) → ((result ≡ 1) ⊎ (result ≡ 4))
+        × Untouched (R.remaining (inner_of reader.old)) (R.remaining (inner_of reader.new)) (O.contents (inner_of out.old)) (O.contents (inner_of out.new)) }
+    ensures follow_refusal_tells { (rows : List Row) → Asks (map string_bytes words.now) (codes "follow") rows → HasNoStart (first_of (codes "fen") rows)
+        → Tells result (RefusesStart (first_of (codes "fen") rows))
         (E.contents (inner_of err.old)) (E.contents (inner_of err.new)) false false (has_failed err.new) }
 
     // NAME `check`: the input is the export text of a game.
@@ -238,6 +305,6 @@ pub fn run<R: Read, O: Write, E: Write>(
 {
     match read_words(alloc, words) {
         Err(error) => refused_words(alloc, &error, out, err),
-        Ok(choice) => obey(alloc, choice, reader, out, err),
+        Ok(choice) => obey(alloc, &choice, reader, out, err),
     }
 }

@@ -6,9 +6,9 @@ ghost use Rattle.clap.specs.Values.{kind_of};
 ghost use Rattle.clap.specs.Matches.{first_value, found_of};
 ghost use Rattle.clap.specs.Simple.{App, app_of, new_app, subcommand_rows_of};
 ghost use Rattle.clap.specs.Walk.{rows_of};
-ghost use Rattle.dgt_replay.specs.Command.{AddsRule, AddsApp, IsApp, Makes, check_app, moves_app, pictures_app, record_app, replay, rotated_rule, show_app, text_rule, with_tags};
+ghost use Rattle.dgt_replay.specs.Command.{AddsRule, AddsApp, IsApp, Makes, check_app, follow_app, moves_app, pictures_app, record_app, replay, rotated_rule, show_app, text_rule, with_board, with_tags};
 ghost use Rattle.dgt_replay.specs.Choosing.{AsksFor, Chooses, IsRefused};
-ghost use Rattle.dgt_replay.specs.SettingUp.{Wants, side_in};
+ghost use Rattle.dgt_replay.specs.SettingUp.{Wants, WantsToFollow, side_in};
 
 use crate::listed::Listed;
 use clap::error::ErrorKind;
@@ -23,6 +23,8 @@ pub enum Choice<'a> {
     List(Listed),
     /// The PGN of a capture.
     Record(Wishes<'a>),
+    /// What each event of a capture makes of the game.
+    Follow(FollowWishes<'a>),
     /// Whether a text is PGN in export form.
     Check,
     /// The legal moves of a position.
@@ -41,6 +43,14 @@ pub struct Wishes<'a> {
     pub round: Option<&'a str>,
     pub white: Option<&'a str>,
     pub black: Option<&'a str>,
+}
+
+/// How a game is to be followed.
+#[derive(Clone, Copy, Debug)]
+pub struct FollowWishes<'a> {
+    pub rotated: bool,
+    pub first: First,
+    pub fen: Option<&'a str>,
 }
 
 // The command with a flag more. Where memory ran out before, it stays so.
@@ -135,6 +145,24 @@ fn with_tags<'a>(
     with_text(alloc, command, "black", "TEXT", "The tag Black")
 }
 
+// The command with the options that say how a board stands and where its game starts.
+fn with_board<'a>(
+    alloc: Global,
+    command: Result<Command<'a>, AllocError>,
+) -> Result<Command<'a>, AllocError>
+    ensures { (app : App) → Makes command.entry app → Makes result (with_board app) }
+{
+    let command = with_rotated(alloc, command);
+    let command = with_text(
+        alloc,
+        command,
+        "first",
+        "SIDE",
+        "Whose time comes first in a time message: white or black",
+    );
+    with_text(alloc, command, "fen", "TEXT", "The position at the start")
+}
+
 fn record<'a>(alloc: Global) -> Result<Command<'a>, AllocError>
     ensures { IfOk result (λ command. IsApp command record_app) }
 {
@@ -143,16 +171,18 @@ fn record<'a>(alloc: Global) -> Result<Command<'a>, AllocError>
         "record",
         "Records the game of a board on standard input as PGN; what the board is sent goes to standard error",
     );
-    let command = with_rotated(alloc, Ok(command));
-    let command = with_text(
+    with_tags(alloc, with_board(alloc, Ok(command)))
+}
+
+fn follow<'a>(alloc: Global) -> Result<Command<'a>, AllocError>
+    ensures { IfOk result (λ command. IsApp command follow_app) }
+{
+    let command = named(
         alloc,
-        command,
-        "first",
-        "SIDE",
-        "Whose time comes first in a time message: white or black",
+        "follow",
+        "Prints what each message of a board on standard input makes of the game, as it comes",
     );
-    let command = with_text(alloc, command, "fen", "TEXT", "The position at the start");
-    with_tags(alloc, command)
+    with_board(alloc, Ok(command))
 }
 
 fn check<'a>(alloc: Global) -> Command<'a>
@@ -184,6 +214,7 @@ fn command<'a>(alloc: Global) -> Result<Command<'a>, AllocError>
     let command = with_subcommand(Ok(command), Ok(show(alloc)));
     let command = with_subcommand(command, pictures(alloc));
     let command = with_subcommand(command, record(alloc));
+    let command = with_subcommand(command, follow(alloc));
     let command = with_subcommand(command, Ok(check(alloc)));
     with_subcommand(command, moves(alloc))
 }
@@ -228,6 +259,20 @@ fn wishes_of<'a>(matches: &ArgMatches<'a>) -> Option<Wishes<'a>>
     })
 }
 
+fn follow_wishes_of<'a>(matches: &ArgMatches<'a>) -> Option<FollowWishes<'a>>
+    ensures wants { IfSome result (λ wishes. WantsToFollow (rows_of (found_of matches.now)) wishes) }
+    ensures known { is_some result ≡ is_some (side_in (first_value (found_of matches.now) (codes "first"))) }
+{
+    let Some(first) = side_of(matches.get_str("first")) else {
+        return None;
+    };
+    Some(FollowWishes {
+        rotated: matches.get_flag("rotated"),
+        first,
+        fen: matches.get_str("fen"),
+    })
+}
+
 fn choice_named<'a>(name: &str, matches: &ArgMatches<'a>) -> Option<Choice<'a>>
     ensures { Chooses name.now (rows_of (found_of matches.now)) result }
 {
@@ -238,6 +283,10 @@ fn choice_named<'a>(name: &str, matches: &ArgMatches<'a>) -> Option<Choice<'a>>
         })),
         "record" => match wishes_of(matches) {
             Some(wishes) => Some(Choice::Record(wishes)),
+            None => None,
+        },
+        "follow" => match follow_wishes_of(matches) {
+            Some(follow) => Some(Choice::Follow(follow)),
             None => None,
         },
         "check" => Some(Choice::Check),

@@ -69,7 +69,7 @@ fn winner_over(side: Side) -> Outcome
 }
 
 /// The result where the last position is this one and a sign stands.
-fn result_at(last: &Position, sign: Option<Outcome>) -> Option<Outcome>
+pub fn result_at(last: &Position, sign: Option<Outcome>) -> Option<Outcome>
     ensures { IsResult last.now sign result }
 {
     match last.status() {

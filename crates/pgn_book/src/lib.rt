@@ -13,7 +13,7 @@ mod values;
 mod words;
 mod writing;
 
-pub use game::Game;
+pub use game::{Game, result_at};
 pub use output::{WriteFault, put};
 pub use reading::{PgnError, read_pgn};
 pub use tags::Tags;

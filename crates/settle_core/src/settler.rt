@@ -4,7 +4,10 @@ ghost use Rattle.chess_rules.specs.declared.men.Move.{Move as MoveOf};
 ghost use Rattle.chess_rules.specs.declared.men.Parts.{Parts as PartsOf};
 ghost use Rattle.chess_rules.specs.Legal.{Legal};
 ghost use Rattle.settle_core.specs.Entries.{Entry, entry_of, changed, unstuttered};
-ghost use Rattle.settle_core.specs.Settling.{Settles, Line, position_after};
+ghost use Rattle.chess_rules.specs.Picture.{picture};
+ghost use Rattle.settle_core.specs.declared.game.Ply.{Ply as PlyOf};
+ghost use Rattle.settle_core.specs.Masks.{IsDiff};
+ghost use Rattle.settle_core.specs.Settling.{Settles, Line, position_after, reached};
 ghost use Rattle.settle_core.specs.Folding.{Folds, Replaces, Shows, moves_of, played, score_after, score_of, time_of as time_in};
 ghost use Rattle.settle_core.specs.Standing.{StandsFor, Answers, GivesMove, has_seen, plies_of, position_of};
 ghost use Rattle.settle_core.specs.Kept.{CanReplace, IsComparedIn, IsLastSet, last_of, position_in};
@@ -309,6 +312,27 @@ impl Settler {
         ensures in_order { result.now ≡ position_after self.now.start (moves_of (plies_of self.now)) }
     {
         &self.here.position
+    }
+
+    /// The last ply, and the position in which it was made.
+    pub fn last_ply(&self) -> Option<(Position, Ply)>
+        ensures { (ply : PlyOf) (earlier : List PlyOf) → self.now.score.plies ≡ ply ∷ earlier
+            → result ≡ Some (reached self.now.start (moves_of earlier), ply) }
+    {
+        let Some(before) = &self.before else {
+            return None;
+        };
+        let Some(ply) = self.plies.last() else {
+            return None;
+        };
+        Some((before.position, *ply))
+    }
+
+    /// The squares on which the last picture differs from the position: bit n is square n.
+    pub fn differs(&self) -> u64
+        ensures { (seen : List ℕ) → self.now.last ≡ Some seen → IsDiff result (picture (position_of self.now)) seen }
+    {
+        self.here.mask
     }
 
     /// The result whose sign was seen, if no move was made after it.

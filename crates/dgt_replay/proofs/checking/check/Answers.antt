@@ -7,7 +7,7 @@ use Rattle.dgt_replay.proofs.CheckLemmas.{checked, no_game}
 use Rattle.pgn_book.specs.Pgn.{Pgn}
 use Rattle.dgt_replay.proofs.EndLemmas.{true_or}
 use Rattle.dgt_replay.proofs.SayingLemmas.{tells_fault, tells_or_fault, tells_refused}
-use Rattle.dgt_replay.proofs.StreamLemmas.{at_err, at_ok}
+use Rattle.dgt_replay.proofs.GatherLemmas.{at_err, at_ok}
 use Rattle.dgt_replay.proofs.checking.check.Goals as goal
 use Rattle.dgt_replay.proofs.checking.check.Goals.{then-is_err-via-then-is_err, then-is_err-via-else-is_err+then-is_err-2}
 

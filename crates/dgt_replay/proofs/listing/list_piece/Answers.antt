@@ -1,10 +1,8 @@
-use Rattle.std.proofs.Common.{◌≡◌, ◌+◌, ◌-◌, ◌<◌, ◌≤◌, ◌++◌, List, ℕ, [], length, take, drop, sym, ap, ◌∙◌, subst, take_all, take-add, length-drop, arith, rules}
+use Rattle.std.proofs.Common.{◌≡◌, ◌+◌, ◌-◌, ◌<◌, ◌≤◌, ◌++◌, List, ℕ, length, take, drop, sym, ap, ◌∙◌, subst, take_all, take-add, length-drop, arith, rules}
 use Rattle.std.proofs.lemmas.List.{length-take-le, take-append-drop}
-use Rattle.std.specs.Io.KnownBytes.{Appends}
 use Rattle.dgt_frame.specs.Decoding.{TakesUpTo}
 use Rattle.dgt_frame.specs.Watched.{inner_of}
 use Rattle.dgt_replay.specs.Reading.{BreaksOff, ListsPiece}
-use Rattle.dgt_replay.proofs.GatherLemmas.{on_err, on_fault, on_ok}
 use Rattle.dgt_replay.proofs.PieceLemmas.{breaks_end, breaks_event, lists_end, lists_event, lists_none, lists_start, taken_more}
 use Rattle.dgt_replay.proofs.listing.list_piece.Goals as goal
 
@@ -12,6 +10,8 @@ pub events-init : goal.events-init
 events-init g c = record {
   inside = omega arith;
   working = search rules;
+  begun = c.requires.begun;
+  room = search rules;
   taken = search rules;
   listed = lists_start c.args.decoder.now c.args.lister.now c.args.start (g.O.Write.contents (inner_of c.args.out.now)) c.new-lines.result.items c.new-lines.ensures;
 }
@@ -28,16 +28,18 @@ events-preserved g c =
     let front_long : length front ≡ c.events.taken = length-take-le c.events.taken piece c.events.invariant.inside in
     record {
       inside = omega (arith, inside, length-drop c.events.taken piece);
-      working = c.in_ok-gather.ensures.working;
+      working = c.in_default-gather.ensures.working;
+      begun = c.in_default-gather.ensures.begun;
+      room = c.in_default-gather.ensures.room;
       taken = taken_more c.events.decoder c.push_until.new.self c.in-Some.arrival.taken c.args.start c.events.taken c.in-Some.arrival.event more inside takes c.events.invariant.taken;
       listed = rw (take-add c.events.taken c.in-Some.arrival.taken piece) (lists_event c.args.decoder.now c.events.decoder c.push_until.new.self c.args.lister.now c.events.lister c.gather.new.lister
           c.args.start c.in-Some.arrival.taken (c.args.start + (c.events.taken + c.in-Some.arrival.taken - 1)) c.in-Some.arrival.event front more (g.O.Write.contents (inner_of c.args.out.now))
           (g.O.Write.contents (inner_of c.events.out)) (g.O.Write.contents (inner_of c.gather.new.out)) c.events.lines.items c.gather.new.lines.items (omega (arith, front_long, some)) takes
-          c.in_ok-gather.ensures.ok c.events.invariant.listed);
+          c.in_default-gather.ensures.ok c.events.invariant.listed);
     }
 
-pub returns-in_err-gather-clause-front : goal.returns-in_err-gather-clause-front
-returns-in_err-gather-clause-front g c =
+pub returns-in-Err-clause-broken : goal.returns-in-Err-clause-broken
+returns-in-Err-clause-broken g c =
     let before = g.O.Write.contents (inner_of c.args.out.now) in
     let written = g.O.Write.contents (inner_of c.events.out) in
     let after = g.O.Write.contents (inner_of c.gather.new.out) in
@@ -47,32 +49,40 @@ returns-in_err-gather-clause-front g c =
     let more = drop c.events.taken piece in
     let all : take (length piece - c.events.taken) more ≡ more = take_all (length piece - c.events.taken) more (omega (arith, length-drop c.events.taken piece)) in
     let takes : TakesUpTo c.events.decoder more count c.in-Some.arrival.event c.push_until.new.self = rw all at c.in-Some.ensures.some in
+    let some : 0 < count = c.in-Some.ensures.taken.0 in
+    let front_long : length front ≡ c.events.taken = length-take-le c.events.taken piece c.events.invariant.inside in
     let left = drop (c.events.taken + count) piece in
     let piece_is : (front ++ take count more) ++ left ≡ piece = ap (λ bs. bs ++ left) (sym (take-add c.events.taken count piece)) ∙ take-append-drop (c.events.taken + count) piece in
-    on_err (BreaksOff c.args.decoder.now c.args.lister.now c.args.start piece c.push_until.new.self before after) c.from_residual.result
-    (let P : List ℕ → Type 0 = λ bytes. BreaksOff c.args.decoder.now c.args.lister.now c.args.start bytes c.push_until.new.self before after in
-    subst P piece_is (breaks_event c.args.decoder.now c.events.decoder c.push_until.new.self c.args.lister.now c.events.lister c.args.start count c.in-Some.arrival.event front more left
-    before written after c.events.lines.items takes c.in_err-gather.ensures.front c.events.invariant.listed))
+    let P : List ℕ → Type 0 = λ bytes. BreaksOff c.in-Err.error c.args.decoder.now c.args.lister.now c.args.start bytes c.push_until.new.self before after in
+    subst P piece_is (breaks_event c.in-Err.error c.args.decoder.now c.events.decoder c.push_until.new.self c.args.lister.now c.events.lister c.args.start count
+    (c.args.start + (c.events.taken + count - 1)) c.in-Some.arrival.event front more left before written after c.events.lines.items (omega (arith, front_long, some)) takes
+    c.in-Err.ensures.broken c.events.invariant.listed)
 
-pub returns : goal.returns
-returns g c =
+pub returns-in-Ok-clause-ok : goal.returns-in-Ok-clause-ok
+returns-in-Ok-clause-ok g c =
     let before = g.O.Write.contents (inner_of c.args.out.now) in
     let written = g.O.Write.contents (inner_of c.events.out) in
     let after = g.O.Write.contents (inner_of c.put.new.out) in
     let piece = c.args.piece.now in
     let more = drop c.events.taken piece in
     let all : take (length piece - c.events.taken) more ≡ more = take_all (length piece - c.events.taken) more (omega (arith, length-drop c.events.taken piece)) in
+    let P : List ℕ → Type 0 = λ bytes. ListsPiece c.args.decoder.now c.args.lister.now c.args.start bytes c.push_until.new.self c.events.lister before written c.events.lines.items in
     let listed : ListsPiece c.args.decoder.now c.args.lister.now c.args.start piece c.push_until.new.self c.events.lister before written c.events.lines.items =
-    (let P : List ℕ → Type 0 = λ bytes. ListsPiece c.args.decoder.now c.args.lister.now c.args.start bytes c.push_until.new.self c.events.lister before written c.events.lines.items in
     subst P (take-append-drop c.events.taken piece) (lists_none c.args.decoder.now c.events.decoder c.push_until.new.self c.args.lister.now c.events.lister c.args.start
-    (take c.events.taken piece) more before written c.events.lines.items (rw all at c.in_default.ensures.none) c.events.invariant.listed)) in
-    record {
-      ok = on_ok (Appends written after c.events.lines.items) (ListsPiece c.args.decoder.now c.args.lister.now c.args.start piece c.push_until.new.self c.events.lister before after []) c.put.result
-          (rw c.as_slice.ensures.value at c.put.ensures.ok) (λ sent. lists_end c.args.decoder.now c.push_until.new.self c.args.lister.now c.events.lister c.args.start piece before written after
-          c.events.lines.items sent listed);
-      working = c.put.ensures.working;
-      front = on_fault (BreaksOff c.args.decoder.now c.args.lister.now c.args.start piece c.push_until.new.self before after) (length c.events.lines.items)
-          (λ n. Appends written after (take n c.events.lines.items)) c.put.result (rw c.as_slice.ensures.value at c.put.ensures.fault)
-          (λ n took. breaks_end c.args.decoder.now c.push_until.new.self c.args.lister.now c.events.lister c.args.start n piece before written after c.events.lines.items took listed);
-      failed = c.put.ensures.failed;
-    }
+    (take c.events.taken piece) more before written c.events.lines.items (rw all at c.in_default.ensures.none) c.events.invariant.listed) in
+    lists_end c.args.decoder.now c.push_until.new.self c.args.lister.now c.events.lister c.args.start piece before written after c.events.lines.items (rw c.as_slice.ensures.value at c.in-Ok.ensures.ok) listed
+
+pub returns-in-Err-put-clause-broken : goal.returns-in-Err-put-clause-broken
+returns-in-Err-put-clause-broken g c =
+    let before = g.O.Write.contents (inner_of c.args.out.now) in
+    let written = g.O.Write.contents (inner_of c.events.out) in
+    let after = g.O.Write.contents (inner_of c.put.new.out) in
+    let piece = c.args.piece.now in
+    let more = drop c.events.taken piece in
+    let all : take (length piece - c.events.taken) more ≡ more = take_all (length piece - c.events.taken) more (omega (arith, length-drop c.events.taken piece)) in
+    let P : List ℕ → Type 0 = λ bytes. ListsPiece c.args.decoder.now c.args.lister.now c.args.start bytes c.push_until.new.self c.events.lister before written c.events.lines.items in
+    let listed : ListsPiece c.args.decoder.now c.args.lister.now c.args.start piece c.push_until.new.self c.events.lister before written c.events.lines.items =
+    subst P (take-append-drop c.events.taken piece) (lists_none c.args.decoder.now c.events.decoder c.push_until.new.self c.args.lister.now c.events.lister c.args.start
+    (take c.events.taken piece) more before written c.events.lines.items (rw all at c.in_default.ensures.none) c.events.invariant.listed) in
+    breaks_end c.args.decoder.now c.push_until.new.self c.args.lister.now c.events.lister c.args.start c.in-Err-put.field-0.written piece before written after c.events.lines.items
+    (rw c.as_slice.ensures.value at c.in-Err-put.ensures.fault.1) listed

@@ -1,5 +1,7 @@
 use Rattle.std.proofs.Common.{◌≡◌, ◌+◌, ◌-◌, ◌≤◌, length, take, false}
 use Rattle.dgt_frame.specs.Watched.{inner_of, has_failed}
+use Rattle.arrayvec.specs.ArrayVec.{array_vec_len}
+use Rattle.dgt_replay.specs.Lister.{HasBegun}
 use Rattle.dgt_replay.specs.Reading.{HasTaken, ListsPiece}
 use Rattle.dgt_replay.proofs.listing.list_piece.Given as goal
 
@@ -7,6 +9,8 @@ abbrev pub invariant-events : goal.invariant-events
 invariant-events g l = record {
   inside : l.taken ≤ length l.piece;
   working : has_failed l.out ≡ false;
+  begun : HasBegun l.lister;
+  room : array_vec_len l.lines + 256 ≤ 8192;
   taken : HasTaken l.decoder (l.start + l.taken);
   listed : ListsPiece l.fn.decoder l.fn.lister l.start (take l.taken l.piece) l.decoder l.lister (g.O.Write.contents (inner_of l.fn.out)) (g.O.Write.contents (inner_of l.out)) l.lines.items;
 }

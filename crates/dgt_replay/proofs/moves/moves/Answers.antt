@@ -8,7 +8,7 @@ use Rattle.dgt_replay.proofs.SayingLemmas.{tells_fault, tells_refused}
 use Rattle.dgt_frame.specs.Watched.{has_failed}
 use Rattle.dgt_replay.proofs.EndLemmas.{true_or}
 use Rattle.dgt_replay.proofs.SettingLemmas.{start_refused}
-use Rattle.dgt_replay.proofs.StreamLemmas.{at_err}
+use Rattle.dgt_replay.proofs.GatherLemmas.{at_err}
 use Rattle.dgt_replay.proofs.moves.moves.Goals as goal
 use Rattle.dgt_replay.proofs.moves.moves.Goals.{then-is_err-via-then-is_err, then-is_err-via-else-is_err+then-is_err-2}
 

@@ -1,7 +1,7 @@
-use Rattle.std.proofs.Common.{◌≡◌, ◌||◌, Err, inr, sym, ◌∙◌, ap}
+use Rattle.std.proofs.Common.{◌≡◌, ◌||◌, rules, Err, inr, sym, ◌∙◌, ap}
 use Rattle.std.specs.Prelude.{is_err}
 use Rattle.dgt_frame.specs.Watched.{inner_of, has_failed}
-use Rattle.dgt_replay.proofs.EndLemmas.{ends_in_fault, ends_refused, front_kept, true_or}
+use Rattle.dgt_replay.proofs.EndLemmas.{ends_done, ends_in_fault, ends_refused, front_kept, true_or}
 use Rattle.dgt_replay.proofs.program.list.Goals as goal
 use Rattle.dgt_replay.proofs.program.list.Goals.{then-failed-via-then-failed, then-failed-via-else-failed+then-is_err}
 
@@ -28,4 +28,11 @@ returns-in-Err-clause-ends g c =
     ends_refused c.args.listed c.in-Err.error c.refused-in-Err.result (g.R.Read.remaining (inner_of c.args.reader.now)) (g.R.Read.remaining (inner_of c.list_stream-done.new.reader))
     (g.O.Write.contents (inner_of c.args.out.now)) (g.O.Write.contents (inner_of c.list_stream-done.new.out)) (g.O.Write.contents (inner_of c.flush.new.self))
     (has_failed c.list_stream-done.new.reader) (has_failed c.flush.new.self) (c.refused-in-Err.ensures.status ∙ c.status.ensures)
-    (λ e. done.reading (is ∙ ap Err e)) (λ e. c.flush.ensures.failed ∙ ap (λ failed. failed || is_err c.flush.result) (done.working (is ∙ ap Err e))) (λ e. done.read (is ∙ ap Err e)) done.front (λ e. done.long (is ∙ ap Err e)) done.bounded c.flush.ensures.bytes
+    (λ e. done.reading (is ∙ ap Err e)) (λ e. c.flush.ensures.failed ∙ ap (λ failed. failed || is_err c.flush.result) (done.working (is ∙ ap Err e))) (λ e. done.read (is ∙ ap Err e)) done.front (λ e. done.long (is ∙ ap Err e)) (λ e. done.memory (is ∙ ap Err e)) done.bounded c.flush.ensures.bytes
+
+pub returns-in-Ok-clause-ends : goal.returns-in-Ok-clause-ends
+returns-in-Ok-clause-ends g c =
+    let done = c.in-Ok.ensures in
+    ends_done c.args.listed (g.R.Read.remaining (inner_of c.args.reader.now)) (g.R.Read.remaining (inner_of c.list_stream-done.new.reader))
+    (g.O.Write.contents (inner_of c.args.out.now)) (g.O.Write.contents (inner_of c.list_stream-done.new.out)) (g.O.Write.contents (inner_of c.flush.new.self))
+    (has_failed c.list_stream-done.new.reader) (has_failed c.flush.new.self) done.ok c.flush.ensures.bytes done.bounded done.whole.0 (search rules)

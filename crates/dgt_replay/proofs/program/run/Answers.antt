@@ -1,33 +1,34 @@
-use Rattle.std.proofs.Common.{ℕ, List, Option, codes, map, string_bytes, inl, inr, refl, arith}
+use Rattle.std.proofs.Common.{ℕ, List, Option, codes, map, string_bytes, inl, inr, refl, subst, sym, arith}
 use Rattle.clap.specs.Values.{kind_of}
 use Rattle.clap.specs.Walk.{first_of}
 use Rattle.std.proofs.KnownBytes.{Keeps-refl}
 use Rattle.dgt_frame.specs.Watched.{inner_of, has_failed}
-use Rattle.dgt_replay.specs.declared.listed.Listed.TheVariants.{Events, Pictures}
+use Rattle.dgt_replay.specs.declared.listed.Listed.TheVariants.{Events, Game, Pictures}
 use Rattle.pgn_book.specs.declared.values.Tag.{Tag}
 use Rattle.dgt_replay.specs.Checked.{RefusesText}
-use Rattle.dgt_replay.specs.SettingUp.{RefusesSetup, RefusesStart, given, option_of, wished}
+use Rattle.dgt_replay.specs.SettingUp.{HasNoStart, RefusesSetup, RefusesStart, given, option_of, wished}
 use Rattle.dgt_replay.specs.Telling.{IsTooLong}
 use Rattle.dgt_replay.proofs.EndLemmas.{ends_for_memory}
 use Rattle.dgt_replay.proofs.FaultLemmas.{help_has_fault, help_kind, mistaken_asks_nothing, mistaken_kind}
 use Rattle.dgt_replay.proofs.SayingLemmas.{help_out_of_memory, tells_alike, tells_memory}
 use Rattle.dgt_replay.proofs.SettingLemmas.{meets_nothing, refuses_alike, refuses_start_alike}
-use Rattle.dgt_replay.proofs.WordLemmas.{check_unrefused, chooses_check, chooses_list, chooses_moves, chooses_no_moves, chooses_no_setup, chooses_pictures, chooses_record, chooses_show, lists_unrefused, moves_chosen, moves_unrefused, no_moves_unrefused, no_setup_unrefused, or_refused, pictures_unrefused, record_chosen, record_unrefused, show_unrefused, unrefused}
+use Rattle.dgt_replay.proofs.TextLemmas.{events_end, pictures_end}
+use Rattle.dgt_replay.proofs.WordLemmas.{check_unrefused, chooses_check, chooses_follow, chooses_list, chooses_moves, chooses_no_follow, chooses_no_moves, chooses_no_setup, chooses_pictures, chooses_record, chooses_show, follow_chosen, follow_unrefused, lists_unrefused, moves_chosen, moves_unrefused, no_follow_unrefused, no_moves_unrefused, no_setup_unrefused, or_refused, pictures_unrefused, record_chosen, record_unrefused, show_unrefused, unrefused}
 use Rattle.dgt_replay.proofs.program.run.Goals as goal
 
 pub returns-in-Err-clause-show : goal.returns-in-Err-clause-show
 returns-in-Err-clause-show g c is =
     let ended = c.refused_words.ensures.memory (or_refused c.in-Err.ensures.refused (show_unrefused (map string_bytes c.args.words.now) is)) in
-    ends_for_memory Events c.refused_words.result (g.R.Read.remaining (inner_of c.args.reader.now)) (g.R.Read.remaining (inner_of c.args.reader.now))
+    events_end _ _ _ _ _ _ _ (ends_for_memory Events c.refused_words.result (g.R.Read.remaining (inner_of c.args.reader.now)) (g.R.Read.remaining (inner_of c.args.reader.now))
     (g.O.Write.contents (inner_of c.args.out.now)) (g.O.Write.contents (inner_of c.refused_words.new.out)) (has_failed c.args.reader.now) (has_failed c.refused_words.new.out)
-    ended.0 (Keeps-refl (g.R.Read.remaining (inner_of c.args.reader.now))) ended.1
+    ended.0 (Keeps-refl (g.R.Read.remaining (inner_of c.args.reader.now))) ended.1)
 
 pub returns-in-Err-clause-pictures : goal.returns-in-Err-clause-pictures
 returns-in-Err-clause-pictures g c rotated is =
     let ended = c.refused_words.ensures.memory (or_refused c.in-Err.ensures.refused (pictures_unrefused rotated (map string_bytes c.args.words.now) is)) in
-    ends_for_memory (Pictures rotated) c.refused_words.result (g.R.Read.remaining (inner_of c.args.reader.now)) (g.R.Read.remaining (inner_of c.args.reader.now))
+    pictures_end rotated _ _ _ _ _ _ _ (ends_for_memory (Pictures rotated) c.refused_words.result (g.R.Read.remaining (inner_of c.args.reader.now)) (g.R.Read.remaining (inner_of c.args.reader.now))
     (g.O.Write.contents (inner_of c.args.out.now)) (g.O.Write.contents (inner_of c.refused_words.new.out)) (has_failed c.args.reader.now) (has_failed c.refused_words.new.out)
-    ended.0 (Keeps-refl (g.R.Read.remaining (inner_of c.args.reader.now))) ended.1
+    ended.0 (Keeps-refl (g.R.Read.remaining (inner_of c.args.reader.now))) ended.1)
 
 pub returns-in-Err-clause-usage : goal.returns-in-Err-clause-usage
 returns-in-Err-clause-usage g c two =
@@ -37,10 +38,10 @@ returns-in-Err-clause-usage g c two =
     ]
 
 pub returns-in-Ok-clause-show : goal.returns-in-Ok-clause-show
-returns-in-Ok-clause-show g c is = c.obey.ensures.lists Events (chooses_show (map string_bytes c.args.words.now) c.in-Ok.choice is c.in-Ok.ensures.chooses)
+returns-in-Ok-clause-show g c is = events_end _ _ _ _ _ _ _ (c.obey.ensures.lists Events (chooses_show (map string_bytes c.args.words.now) c.in-Ok.choice is c.in-Ok.ensures.chooses))
 
 pub returns-in-Ok-clause-pictures : goal.returns-in-Ok-clause-pictures
-returns-in-Ok-clause-pictures g c rotated is = c.obey.ensures.lists (Pictures rotated) (chooses_pictures rotated (map string_bytes c.args.words.now) c.in-Ok.choice is c.in-Ok.ensures.chooses)
+returns-in-Ok-clause-pictures g c rotated is = pictures_end rotated _ _ _ _ _ _ _ (c.obey.ensures.lists (Pictures rotated) (chooses_pictures rotated (map string_bytes c.args.words.now) c.in-Ok.choice is c.in-Ok.ensures.chooses))
 
 pub returns-in-Err-clause-check : goal.returns-in-Err-clause-check
 returns-in-Err-clause-check g c is done =
@@ -219,3 +220,49 @@ returns-in-Err-clause-help g c asks =
 
 pub returns-in-Ok-clause-help : goal.returns-in-Ok-clause-help
 returns-in-Ok-clause-help g c asks = absurd (help_has_fault (map string_bytes c.args.words.now) asks c.in-Ok.ensures.faultless)
+
+pub returns-in-Err-clause-follow : goal.returns-in-Err-clause-follow
+returns-in-Err-clause-follow g c setting asks =
+    let ended = c.refused_words.ensures.memory (or_refused c.in-Err.ensures.refused (follow_unrefused (map string_bytes c.args.words.now) setting asks)) in
+    ends_for_memory (Game setting.start setting.first setting.rotated) c.refused_words.result (g.R.Read.remaining (inner_of c.args.reader.now)) (g.R.Read.remaining (inner_of c.args.reader.now))
+    (g.O.Write.contents (inner_of c.args.out.now)) (g.O.Write.contents (inner_of c.refused_words.new.out)) (has_failed c.args.reader.now) (has_failed c.refused_words.new.out)
+    ended.0 (Keeps-refl (g.R.Read.remaining (inner_of c.args.reader.now))) ended.1
+
+pub returns-in-Err-clause-follow_tells : goal.returns-in-Err-clause-follow_tells
+returns-in-Err-clause-follow_tells g c setting asks =
+    let ended = c.refused_words.ensures.memory (or_refused c.in-Err.ensures.refused (follow_unrefused (map string_bytes c.args.words.now) setting asks)) in
+    tells_memory c.refused_words.result IsTooLong _ _ _ _ _ ended.0 ended.2
+
+pub returns-in-Err-clause-follow_refuses : goal.returns-in-Err-clause-follow_refuses
+returns-in-Err-clause-follow_refuses g c asks =
+    let ended = c.refused_words.ensures.memory (or_refused c.in-Err.ensures.refused (no_follow_unrefused (map string_bytes c.args.words.now) asks)) in
+    (inr ended.0, (Keeps-refl (g.R.Read.remaining (inner_of c.args.reader.now)), ended.1))
+
+pub returns-in-Err-clause-follow_refusal_tells : goal.returns-in-Err-clause-follow_refusal_tells
+returns-in-Err-clause-follow_refusal_tells g c rows asks none =
+    let ended = c.refused_words.ensures.memory (or_refused c.in-Err.ensures.refused (unrefused (map string_bytes c.args.words.now) (codes "follow") rows asks)) in
+    tells_memory c.refused_words.result (RefusesStart (first_of (codes "fen") rows)) _ _ _ _ _ ended.0 ended.2
+
+pub returns-in-Ok-clause-follow : goal.returns-in-Ok-clause-follow
+returns-in-Ok-clause-follow g c setting asks =
+    let chosen = chooses_follow (map string_bytes c.args.words.now) setting c.in-Ok.choice asks c.in-Ok.ensures.chooses in
+    c.obey.ensures.follows chosen.0 setting chosen.1 chosen.2
+
+pub returns-in-Ok-clause-follow_tells : goal.returns-in-Ok-clause-follow_tells
+returns-in-Ok-clause-follow_tells g c setting asks =
+    let chosen = chooses_follow (map string_bytes c.args.words.now) setting c.in-Ok.choice asks c.in-Ok.ensures.chooses in
+    c.obey.ensures.follow_tells chosen.0 setting chosen.1 chosen.2
+
+pub returns-in-Ok-clause-follow_refuses : goal.returns-in-Ok-clause-follow_refuses
+returns-in-Ok-clause-follow_refuses g c asks =
+    let chosen = chooses_no_follow (map string_bytes c.args.words.now) c.in-Ok.choice asks c.in-Ok.ensures.chooses in
+    let refused = c.obey.ensures.follow_refuses chosen.0 chosen.1 chosen.2 in
+    (inl refused.0, refused.1)
+
+pub returns-in-Ok-clause-follow_refusal_tells : goal.returns-in-Ok-clause-follow_refusal_tells
+returns-in-Ok-clause-follow_refusal_tells g c rows asks none =
+    let chosen = follow_chosen (map string_bytes c.args.words.now) rows c.in-Ok.choice asks c.in-Ok.ensures.chooses in
+    let fen = chosen.2.fen in
+    tells_alike c.obey.result (RefusesStart (given chosen.0.fen)) (RefusesStart (first_of (codes "fen") rows)) _ _ _ _ _
+    (λ words refuses. refuses_start_alike (given chosen.0.fen) (first_of (codes "fen") rows) words fen refuses)
+    (c.obey.ensures.follow_refusal_tells chosen.0 chosen.1 (subst HasNoStart (sym fen) none))

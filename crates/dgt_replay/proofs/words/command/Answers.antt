@@ -1,6 +1,6 @@
 use Rattle.std.proofs.Common.{codes, rules}
 use Rattle.clap.specs.Simple.{App, new_app, with_subcommand}
-use Rattle.dgt_replay.specs.Command.{IsApp, check_app, moves_app, pictures_app, record_app, replay, requiring, show_app}
+use Rattle.dgt_replay.specs.Command.{IsApp, check_app, follow_app, moves_app, pictures_app, record_app, replay, requiring, show_app}
 use Rattle.dgt_replay.proofs.CommandLemmas.{app_made}
 use Rattle.dgt_replay.proofs.words.command.Goals as goal
 
@@ -11,9 +11,11 @@ returns c =
     let one = with_subcommand top show_app.top in
     let two = with_subcommand one pictures_app.top in
     let three = with_subcommand two record_app.top in
-    let four = with_subcommand three check_app.top in
+    let four = with_subcommand three follow_app.top in
+    let five = with_subcommand four check_app.top in
     let s1 = c.with_subcommand-command.ensures top show_app base c.show.ensures in
     let s2 = c.with_subcommand-command-2.ensures one pictures_app s1 c.pictures.ensures in
     let s3 = c.with_subcommand-command-3.ensures two record_app s2 c.record.ensures in
-    let s4 = c.with_subcommand-command-4.ensures three check_app s3 c.check.ensures in
-    app_made c.with_subcommand.result replay (c.with_subcommand.ensures four moves_app s4 c.moves.ensures)
+    let s4 = c.with_subcommand-command-4.ensures three follow_app s3 c.follow.ensures in
+    let s5 = c.with_subcommand-command-5.ensures four check_app s4 c.check.ensures in
+    app_made c.with_subcommand.result replay (c.with_subcommand.ensures five moves_app s5 c.moves.ensures)

@@ -39,5 +39,5 @@ returns-clause-fault c =
     let none = none_found (app_of c.in_ok-command.command) (map string_bytes c.args.words.now) c.in_ok-command.ensures c.in-Ok.ensures.kinds in
     elim c.unknown_side.ensures [
       | inl memory ↦ inl memory
-      | inr own ↦ inr (inr (none, own))
+      | inr kind ↦ inr (inr (none, kind))
     ]

@@ -1,7 +1,13 @@
-use Prim.{grind}
-use Rattle.std.proofs.Common.{arith}
-use Rattle.std.proofs.lemmas.Grind.{common_steps}
+use Rattle.dgt_frame.specs.Streams.{Timed}
+use Rattle.dgt_replay.proofs.ListerLemmas.{game_adds, none_adds}
 use Rattle.dgt_replay.proofs.lister.Lister.add.Goals as goal
 
-pub returns-in-Events : goal.returns-in-Events
-returns-in-Events c = grind (arith, common_steps)
+pub returns-in_default-clause-ok : goal.returns-in_default-clause-ok
+returns-in_default-clause-ok c =
+    let x : Timed = record { offset = c.args.offset; event = c.args.event.now } in
+    none_adds c.args.self.now c.in-Pictures.view c.take.new.self x c.args.lines.now.items c.in-Pictures.is c.in_default.ensures.views c.in_default.ensures.shown
+
+pub returns-in-Game-clause-ok : goal.returns-in-Game-clause-ok
+returns-in-Game-clause-ok c =
+    let x : Timed = record { offset = c.args.offset; event = c.args.event.now } in
+    game_adds c.add.result c.args.self.now c.in-Game.follower c.add.new.self x c.args.lines.now.items c.add.new.lines.items c.in-Game.is c.add.ensures.ok
