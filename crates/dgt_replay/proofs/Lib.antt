@@ -8,6 +8,7 @@ pub mod GivingLemmas
 pub mod LineLemmas
 pub mod ListerLemmas
 pub mod MoveLemmas
+pub mod OnceLemmas
 pub mod PieceLemmas
 pub mod SayingLemmas
 pub mod SettingLemmas
