@@ -6,7 +6,6 @@ use Rattle.std.proofs.lemmas.List.{append_cancel_left}
 use Rattle.std.proofs.lemmas.List.Elements.{recursion_from_All}
 use Rattle.chess_rules.specs.declared.men.Move.{Move}
 use Rattle.chess_rules.specs.declared.men.Parts.{Parts}
-use Rattle.chess_rules.specs.Legal.{Legal}
 use Rattle.chess_rules.specs.Valid.{Valid}
 use Rattle.chess_text.specs.Laws.{IsSanByte, TextsArePlain, TextsTellMoves}
 use Rattle.chess_text.specs.San.{San}
@@ -19,7 +18,7 @@ use Rattle.settle_core.specs.Settling.{Played, reached}
 use Rattle.settle_core.proofs.Stages.{valid_reached}
 use Rattle.pgn_book.specs.Movetext.{number_token}
 use Rattle.board_session.proofs.GameLemmas.{one_result}
-use Rattle.dgt_replay.specs.GameLines.{clock_words, move_words, result_words, time_text, waiting_words}
+use Rattle.dgt_replay.specs.GameLines.{clock_words, move_words, result_words, waiting_words}
 use Rattle.dgt_replay.specs.Giving.{AddsPly, Changes, CorrectsPly, GameLine, Gives, IsOther, LinesGiveOneGame, TellsLegal}
 
 -- ---- what stands before a space

@@ -1439,6 +1439,72 @@ fn first_other_end(alloc: Global, cases: &[Case<'_>]) -> Option<usize> {
     None
 }
 
+/// `follow` over a capture of 1. e4 whose first bytes, so many, are read before a read fails.
+fn follows_front(alloc: Global, front: &[u8], lines: &[u8]) -> bool {
+    let case = Case {
+        words: &["follow"],
+        input: &[front],
+        out: &[lines],
+        ..FAILED_READ
+    };
+    leaves(alloc, &case)
+}
+
+/// What `follow` says of so many bytes of that capture.
+fn lines_of(count: usize) -> &'static [u8] {
+    if count < 67 {
+        b""
+    } else if count < 72 {
+        b"66 agrees\n"
+    } else if count < 77 {
+        b"66 agrees\n71 differs e2\n"
+    } else {
+        b"66 agrees\n71 differs e2\n76 move 1. e4\n"
+    }
+}
+
+/// The first number of bytes after which a read that fails leaves something else.
+fn first_read_untold(alloc: Global) -> Option<usize> {
+    let capture = Bytes::of(&[INITIAL, E2_EMPTY, E4_PAWN]);
+    for count in 0..78 {
+        if !follows_front(alloc, capture.front(count), lines_of(count)) {
+            return Some(count);
+        }
+    }
+    None
+}
+
+/// With room for so many bytes, this front of the lines is all that stands.
+fn fills_front(alloc: Global, room: usize, front: &[u8]) -> bool {
+    let case = Case {
+        words: &["follow"],
+        room,
+        out: &[front],
+        ..FAILED_WRITE
+    };
+    match run_of(alloc, &case) {
+        Some(left) => says(&left, &case) && left.out.get() == front,
+        None => false,
+    }
+}
+
+/// The first room that leaves something else.
+fn first_room_untold(alloc: Global) -> Option<usize> {
+    let whole = Bytes::of(&[b"66 agrees\n71 differs e2\n76 move 1. e4\nrest 0\n"]);
+    for room in 0..whole.len {
+        if !fills_front(alloc, room, whole.front(room)) {
+            return Some(room);
+        }
+    }
+    None
+}
+
+#[test]
+fn follow_fails_anywhere(rt: HostRuntime) {
+    assert_eq!(rt; first_read_untold(rt.alloc()), None);
+    assert_eq!(rt; first_room_untold(rt.alloc()), None);
+}
+
 #[test]
 fn outputs_fail(rt: HostRuntime) {
     assert_eq!(rt; first_written(rt.alloc(), FAILED_WRITES), None);
