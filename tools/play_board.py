@@ -30,8 +30,10 @@ def frame(identifier, data):
 
 
 class Board:
-    def __init__(self, device, pause, cut):
-        self.line = os.open(device, os.O_RDWR | os.O_NOCTTY)
+    """A board with a clock. `line` is an open device."""
+
+    def __init__(self, line, pause=0, cut=0):
+        self.line = line
         self.codes = list(INITIAL)
         self.pause = pause
         self.cut = cut
@@ -48,12 +50,15 @@ class Board:
         while (left := until - time.monotonic()) > 0:
             if not select.select([self.line], [], [], left)[0]:
                 return
-            for command in os.read(self.line, 64):
-                print(f"board: asked {command:02X}", file=sys.stderr)
-                if command == SEND_DUMP:
-                    self.send(frame(DUMP, self.codes))
-                elif command == SEND_UPDATES:
-                    self.asked_for_updates = True
+            self.answer(os.read(self.line, 64))
+
+    def answer(self, commands):
+        for command in commands:
+            print(f"board: asked {command:02X}", file=sys.stderr)
+            if command == SEND_DUMP:
+                self.send(frame(DUMP, self.codes))
+            elif command == SEND_UPDATES:
+                self.asked_for_updates = True
 
     def show(self, number, code):
         """A square changes. One update, if it was asked for, is cut off after its header."""
@@ -98,7 +103,7 @@ def main():
     words.add_argument("--stay", type=float, default=0.5, help="seconds before it hangs up")
     words = words.parse_intermixed_args()
 
-    board = Board(words.device, words.pause, words.cut)
+    board = Board(os.open(words.device, os.O_RDWR | os.O_NOCTTY), words.pause, words.cut)
     while not board.asked_for_updates:
         board.listen(1)
     times = [words.clock, words.clock]
@@ -111,4 +116,5 @@ def main():
     board.listen(words.stay)
 
 
-main()
+if __name__ == "__main__":
+    main()
