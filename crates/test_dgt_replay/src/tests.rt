@@ -1439,15 +1439,24 @@ fn first_other_end(alloc: Global, cases: &[Case<'_>]) -> Option<usize> {
     None
 }
 
-/// `follow` over a capture of 1. e4 whose first bytes, so many, are read before a read fails.
+/// `follow` over an input that fails.
+const UNREAD: Case<'static> = Case {
+    words: &["follow"],
+    ..FAILED_READ
+};
+
+/// The same over these bytes.
+fn unread_after<'a>(input: &'a [&'a [u8]]) -> Case<'a> {
+    Case { input, ..UNREAD }
+}
+
+/// Where a read fails after these bytes, these lines stand.
 fn follows_front(alloc: Global, front: &[u8], lines: &[u8]) -> bool {
-    let case = Case {
-        words: &["follow"],
-        input: &[front],
-        out: &[lines],
-        ..FAILED_READ
-    };
-    leaves(alloc, &case)
+    let parts = [front];
+    match run_of(alloc, &unread_after(&parts)) {
+        Some(left) => says(&left, &UNREAD) && left.shown.get() == lines,
+        None => false,
+    }
 }
 
 /// What `follow` says of so many bytes of that capture.
@@ -1474,16 +1483,16 @@ fn first_read_untold(alloc: Global) -> Option<usize> {
     None
 }
 
+/// `follow` over an output that fails.
+const UNWRITTEN: Case<'static> = Case {
+    words: &["follow"],
+    ..FAILED_WRITE
+};
+
 /// With room for so many bytes, this front of the lines is all that stands.
 fn fills_front(alloc: Global, room: usize, front: &[u8]) -> bool {
-    let case = Case {
-        words: &["follow"],
-        room,
-        out: &[front],
-        ..FAILED_WRITE
-    };
-    match run_of(alloc, &case) {
-        Some(left) => says(&left, &case) && left.out.get() == front,
+    match run_of(alloc, &Case { room, ..UNWRITTEN }) {
+        Some(left) => says(&left, &UNWRITTEN) && left.out.get() == front,
         None => false,
     }
 }
