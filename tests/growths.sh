@@ -9,8 +9,8 @@
 set -eu
 
 cd "$(dirname "$0")/../crates/dgt_growths"
-calls=14
-runs=400
+calls=15
+runs=600
 folder=$(mktemp -d)
 trap 'rm -rf "$folder"' EXIT
 

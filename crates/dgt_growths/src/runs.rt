@@ -19,6 +19,8 @@ pub struct Case<'a> {
     err: &'a str,
     /// The output where the first ply was refused; empty where none is made.
     without_ply: &'a str,
+    /// Standard error then.
+    ply_refused: &'a str,
 }
 
 const CASES: &[Case<'static>] = &[
@@ -29,6 +31,16 @@ const CASES: &[Case<'static>] = &[
         out: "[Event \"?\"]\n[Site \"?\"]\n[Date \"????.??.??\"]\n[Round \"?\"]\n[White \"?\"]\n[Black \"?\"]\n[Result \"*\"]\n\n1. e4 *\n\n",
         err: "BK\nmessages 3, faults 0, moves 1, rest 0\n",
         without_ply: "[Event \"?\"]\n[Site \"?\"]\n[Date \"????.??.??\"]\n[Round \"?\"]\n[White \"?\"]\n[Black \"?\"]\n[Result \"*\"]\n\n*\n\n",
+        ply_refused: "BK\nmemory\n",
+    },
+    Case {
+        name: "follow",
+        words: &["follow"],
+        input: &[Dump(INITIAL), Lift("e2"), Put("e4", "P")],
+        out: "66 agrees\n71 differs e2\n76 move 1. e4\nrest 0\n",
+        err: "",
+        without_ply: "66 agrees\n71 differs e2\n",
+        ply_refused: "memory\n",
     },
     Case {
         name: "record with options",
@@ -43,6 +55,7 @@ const CASES: &[Case<'static>] = &[
         out: "[Event \"?\"]\n[Site \"?\"]\n[Date \"????.??.??\"]\n[Round \"?\"]\n[White \"Anna\"]\n[Black \"?\"]\n[Result \"*\"]\n[FEN \"4k3/8/8/8/8/8/8/4K2R w K - 0 1\"]\n[SetUp \"1\"]\n\n1. Ke2 *\n\n",
         err: "BK\nmessages 3, faults 0, moves 1, rest 0\n",
         without_ply: "[Event \"?\"]\n[Site \"?\"]\n[Date \"????.??.??\"]\n[Round \"?\"]\n[White \"Anna\"]\n[Black \"?\"]\n[Result \"*\"]\n[FEN \"4k3/8/8/8/8/8/8/4K2R w K - 0 1\"]\n[SetUp \"1\"]\n\n*\n\n",
+        ply_refused: "BK\nmemory\n",
     },
     Case {
         name: "check",
@@ -53,6 +66,7 @@ const CASES: &[Case<'static>] = &[
         out: "moves 1, result *\n",
         err: "",
         without_ply: "",
+        ply_refused: "",
     },
     Case {
         name: "moves",
@@ -61,6 +75,7 @@ const CASES: &[Case<'static>] = &[
         out: "a4\na3\nb4\nb3\nc4\nc3\nd4\nd3\ne4\ne3\nf4\nf3\ng4\ng3\nh4\nh3\nNa3\nNc3\nNf3\nNh3\n",
         err: "",
         without_ply: "",
+        ply_refused: "",
     },
 ];
 
@@ -112,7 +127,7 @@ fn is_done(case: &Case<'_>, left: &Run) -> bool {
         && left.err.get() == case.err.as_bytes()
 }
 
-/// Nothing was written, or the game without a ply: the growth came before the recording or in it.
+/// Nothing was written, or the game without a ply: the growth came before the recording or the listing, or in it.
 fn is_refused(case: &Case<'_>, left: &Run) -> bool {
     if left.status != 4 {
         return false;
@@ -120,7 +135,7 @@ fn is_refused(case: &Case<'_>, left: &Run) -> bool {
     if left.out.get().is_empty() {
         return left.err.get() == b"memory\n".as_slice();
     }
-    left.out.get() == case.without_ply.as_bytes() && left.err.get() == b"BK\nmemory\n".as_slice()
+    left.out.get() == case.without_ply.as_bytes() && left.err.get() == case.ply_refused.as_bytes()
 }
 
 /// Whether the program does all.

@@ -1,5 +1,5 @@
 -- The game that lines give.
-use Rattle.std.proofs.Common.{◌≡◌, ◌⊎◌, ◌∙◌, ℕ, List, [], ◌∷◌, ◌++◌, drop, Bool, true, false, inl, inr, codes, map, reverse, Option, Some, None, ap, refl, sym, subst, append_assoc, append-nil}
+use Rattle.std.proofs.Common.{◌≡◌, ◌∙◌, ℕ, List, [], ◌∷◌, ◌++◌, drop, Bool, true, false, inl, inr, codes, map, reverse, Option, None, ap, refl, sym, subst, append_assoc, append-nil}
 use Rattle.std.specs.Prelude.{if◌then◌else◌}
 use Rattle.std.proofs.lemmas.List.{reverse-reverse}
 use Rattle.chess_rules.specs.declared.men.Parts.{Parts}
@@ -30,9 +30,9 @@ use Rattle.board_session.specs.Settings.{Setting}
 use Rattle.board_session.specs.Standing.{entries_in}
 use Rattle.board_session.proofs.GameLemmas.{one_result}
 use Rattle.dgt_replay.specs.Following.{HasResult, TellsEntry, TellsEvent, TellsEvents, TellsPly, TellsResult, TellsSeen, reached_by}
-use Rattle.dgt_replay.specs.Giving.{FollowTellsTheGame, Gives, IsOtherLine, LinesGiveTheGame, text_of}
-use Rattle.dgt_replay.specs.GameLines.{squares_text}
-use Rattle.dgt_replay.specs.Lines.{line_of, rest_line}
+use Rattle.dgt_replay.specs.Giving.{FollowTellsTheGame, GameLine, Gives, LinesGiveTheGame, text_of}
+use Rattle.dgt_replay.specs.GameLines.{line, move_words, result_words, squares_text, waiting_words}
+use Rattle.dgt_replay.specs.Lines.{kind_text, line_of, rest_line}
 use Rattle.dgt_replay.proofs.FollowLemmas.{clash, entries_new, entries_same, fault_gives_none, without_repeats}
 use Rattle.dgt_replay.proofs.LineLemmas.{map-reverse}
 
@@ -40,52 +40,58 @@ abbrev ShowsOnce : Type 0
 ShowsOnce = (bytes : List ℕ) (events others : List Timed) (rest other : ℕ) → ShowsEvents bytes events rest → ShowsEvents bytes others other → (events ≡ others) × (rest ≡ other)
 
 -- Lines that are behind those before them, and give these plies and this result.
-record More (start : Parts) (lines : List (List ℕ)) (text : List ℕ) (plies : List Ply) (result : Option Outcome) : Type 0 where
-  all : List (List ℕ)
+record More (start : Parts) (lines : List GameLine) (text : List ℕ) (plies : List Ply) (result : Option Outcome) : Type 0 where
+  all : List GameLine
   text_is : text_of lines ++ text ≡ text_of all
   gives : Gives start all plies result
 
-one_line : (start : Parts) (lines : List (List ℕ)) (text : List ℕ) (plies : List Ply) (result : Option Outcome) → Gives start (text ∷ lines) plies result → More start lines text plies result
-one_line start lines text plies result gives = record { all = text ∷ lines; text_is = refl; gives = gives }
+one_line : (start : Parts) (lines : List GameLine) (offset : ℕ) (words text : List ℕ) (plies : List Ply) (result : Option Outcome) → text ≡ line offset words
+    → Gives start (record { offset = offset; words = words } ∷ lines) plies result → More start lines text plies result
+one_line start lines offset words text plies result is gives = record { all = record { offset = offset; words = words } ∷ lines; text_is = ap (λ t. text_of lines ++ t) is; gives = gives }
 
-no_line : (start : Parts) (lines : List (List ℕ)) (text : List ℕ) (plies : List Ply) (result : Option Outcome) → text ≡ [] → Gives start lines plies result → More start lines text plies result
+no_line : (start : Parts) (lines : List GameLine) (text : List ℕ) (plies : List Ply) (result : Option Outcome) → text ≡ [] → Gives start lines plies result → More start lines text plies result
 no_line start lines text plies result none gives = record { all = lines; text_is = ap (λ t. text_of lines ++ t) none ∙ append-nil (text_of lines); gives = gives }
 
 -- the ply of a move
 abbrev made : Parts → List Ply → Option Reading → Move → Ply
 made start earlier reading m = record { mv = m; clock = time_of (reached start (moves_of earlier)).side reading }
 
-replaced_more : (offset : ℕ) (start : Parts) (plies : List Ply) (reading : Option Reading) (m : Move) (shown text : List ℕ) (lines : List (List ℕ)) (old : Option Outcome)
+replaced_more : (offset : ℕ) (start : Parts) (plies : List Ply) (reading : Option Reading) (m : Move) (shown text : List ℕ) (lines : List GameLine) (old : Option Outcome)
     → Replaces start (moves_of plies) shown m → TellsPly offset (codes "correction") start (played start (drop 1 plies) reading m).plies text
     → Gives start lines plies old → More start lines text (played start (drop 1 plies) reading m).plies old
 replaced_more offset start [] reading m shown text lines old replaces tells gives = absurd replaces
 replaced_more offset start (last ∷ earlier) reading m shown text lines old replaces tells gives =
     let ply = made start earlier reading m in
-    one_line start lines text (ply ∷ earlier) old (last ∷ earlier, old, gives, inr (inl ((offset, ply, refl, tells), refl)))
+    let p = reached start (moves_of earlier) in
+    one_line start lines offset (move_words (codes "correction") p tells.0 ply.clock) text (ply ∷ earlier) old tells.2
+    (last ∷ earlier, old, gives, inr (inl ((ply, refl, record { san = tells.0; legal = replaces.0.legal; san_is = tells.1; words_are = refl }), refl)))
 
 -- The line of what a picture shows.
-seen_more : (offset : ℕ) (start : Parts) (before : Score) (reading : Option Reading) (shown : List ℕ) (seen : Seen) (text : List ℕ) (lines : List (List ℕ)) (old : Option Outcome)
+seen_more : (offset : ℕ) (start : Parts) (before : Score) (reading : Option Reading) (shown : List ℕ) (seen : Seen) (text : List ℕ) (lines : List GameLine) (old : Option Outcome)
     → Shows start (moves_of before.plies) shown seen → TellsSeen offset start (score_after start before reading seen) shown seen text → Gives start lines before.plies old
     → More start lines text (score_after start before reading seen).plies old
 seen_more offset start before reading shown Same text lines old shows tells gives = absurd shows
 seen_more offset start before reading shown (Sign outcome) text lines old shows tells gives = no_line start lines text before.plies old tells gives
 seen_more offset start before reading shown Waits text lines old shows tells gives =
-    one_line start lines text before.plies old (before.plies, old, gives, inr (inr (inr (refl, refl, (offset, inl (squares_text (picture (reached_by start before)) shown, tells))))))
+    let squares = squares_text (picture (reached_by start before)) shown in
+    one_line start lines offset (waiting_words squares) text before.plies old tells (before.plies, old, gives, inr (inr (inr (refl, refl, inl (squares, refl)))))
 seen_more offset start before reading shown (Moved m) text lines old shows tells gives =
     let ply = made start before.plies reading m in
-    one_line start lines text (ply ∷ before.plies) old (before.plies, old, gives, inl ((offset, ply, refl, tells), refl))
+    let p = reached start (moves_of before.plies) in
+    one_line start lines offset (move_words (codes "move") p tells.0 ply.clock) text (ply ∷ before.plies) old tells.2
+    (before.plies, old, gives, inl ((ply, refl, record { san = tells.0; legal = shows.legal; san_is = tells.1; words_are = refl }), refl))
 seen_more offset start before reading shown (Replaced m) text lines old shows tells gives = replaced_more offset start before.plies reading m shown text lines old shows.2 tells gives
 
 -- The line of the result.
-result_more : (offset : ℕ) (start : Parts) (lines : List (List ℕ)) (plies : List Ply) (old new : Option Outcome) (text : List ℕ) → TellsResult offset old new text
+result_more : (offset : ℕ) (start : Parts) (lines : List GameLine) (plies : List Ply) (old new : Option Outcome) (text : List ℕ) → TellsResult offset old new text
     → Gives start lines plies old → More start lines text plies new
 result_more offset start lines plies old new text (inl (same, none)) gives =
     let P : Option Outcome → Type 0 = λ r. Gives start lines plies r in
     no_line start lines text plies new none (subst P (sym same) gives)
-result_more offset start lines plies old new text (inr (other, is)) gives = one_line start lines text plies new (plies, old, gives, inr (inr (inl (refl, (offset, is)))))
+result_more offset start lines plies old new text (inr (other, is)) gives = one_line start lines offset (result_words new) text plies new is (plies, old, gives, inr (inr (inl (refl, refl))))
 
 -- The lines of an entry.
-entry_more : (offset : ℕ) (start : Parts) (past : List Entry) (entry : Entry) (text : List ℕ) (e : TellsEntry offset start past entry text) (lines : List (List ℕ)) (told : Option Outcome)
+entry_more : (offset : ℕ) (start : Parts) (past : List Entry) (entry : Entry) (text : List ℕ) (e : TellsEntry offset start past entry text) (lines : List GameLine) (told : Option Outcome)
     → Gives start lines e.before.plies e.old → HasResult start (score_after start e.before entry.reading e.seen) told
     → More start lines text (score_after start e.before entry.reading e.seen).plies told
 entry_more offset start past entry text e lines told gives has =
@@ -102,7 +108,7 @@ entry_more offset start past entry text e lines told gives has =
 
 -- A text of lines that give these plies and this result.
 record Told (start : Parts) (text : List ℕ) (plies : List Ply) (result : Option Outcome) : Type 0 where
-  lines : List (List ℕ)
+  lines : List GameLine
   text_is : text ≡ text_of lines
   gives : Gives start lines plies result
 
@@ -122,7 +128,7 @@ record Given (setting : Setting) (events : List Timed) (text : List ℕ) : Type 
 -- One more event that leaves the game.
 unchanged : (setting : Setting) (events : List Timed) (x : Timed) (before more text : List ℕ) → Given setting events before
     → unstuttered (entries_in setting (events_of (x ∷ events))) ≡ unstuttered (entries_in setting (events_of events)) → text ≡ before ++ more
-    → ((lines : List (List ℕ)) (plies : List Ply) (outcome : Option Outcome) → Gives setting.start lines plies outcome → More setting.start lines more plies outcome)
+    → ((lines : List GameLine) (plies : List Ply) (outcome : Option Outcome) → Gives setting.start lines plies outcome → More setting.start lines more plies outcome)
     → Given setting (x ∷ events) text
 unchanged setting events x before more text g same is adds =
     let P : List Entry → Type 0 = λ es. Folds setting.start es g.score in
@@ -132,13 +138,11 @@ unchanged setting events x before more text g same is adds =
       told = λ outcome has. (let t = g.told outcome has in behind setting.start before more text g.score.plies g.score.plies outcome outcome t is (adds t.lines g.score.plies outcome t.gives));
     }
 
-fault_line : (offset : ℕ) (event : Event) → is_fault event ≡ true → IsOtherLine (line_of (record { offset = offset; event = event }))
-fault_line offset (Fault kind) is = (offset, inr (kind, refl))
-fault_line offset (Message m) is = absurd (clash is refl)
-
-other_more : (start : Parts) (text : List ℕ) → IsOtherLine text → (lines : List (List ℕ)) (plies : List Ply) (outcome : Option Outcome) → Gives start lines plies outcome
-    → More start lines text plies outcome
-other_more start text other lines plies outcome gives = one_line start lines text plies outcome (plies, outcome, gives, inr (inr (inr (refl, refl, other))))
+fault_more : (start : Parts) (offset : ℕ) (event : Event) (text : List ℕ) → is_fault event ≡ true → text ≡ line_of (record { offset = offset; event = event })
+    → (lines : List GameLine) (plies : List Ply) (outcome : Option Outcome) → Gives start lines plies outcome → More start lines text plies outcome
+fault_more start offset (Message m) text fault is lines plies outcome gives = absurd (clash fault refl)
+fault_more start offset (Fault kind) text fault is lines plies outcome gives =
+    one_line start lines offset (codes "fault " ++ kind_text kind) text plies outcome is (plies, outcome, gives, inr (inr (inr (refl, refl, inr (kind, refl)))))
 
 -- One more entry, whose picture is a new one.
 entered : (setting : Setting) (events : List Timed) (x : Timed) (before more text : List ℕ) → Valid setting.start → Given setting events before
@@ -168,9 +172,8 @@ step : (setting : Setting) (events : List Timed) (x : Timed) (before more text :
     → repeats (entry_at setting.first setting.rotated (x.event ∷ events_of events)).picture (entries_in setting (events_of events)) ≡ repeated → Given setting (x ∷ events) text
 step setting events x before more text valid g tells is true entry repeated f i r =
     let none : is_entry x.event (events_of events) ≡ false = fault_gives_none x.event (events_of events) f in
-    let P : List ℕ → Type 0 = λ t. IsOtherLine t in
     unchanged setting events x before more text g (ap unstuttered (entries_same setting x.event (events_of events) none)) is
-    (other_more setting.start more (subst P (sym (tells.fault f)) (fault_line x.offset x.event f)))
+    (fault_more setting.start x.offset x.event more f (tells.fault f))
 step setting events x before more text valid g tells is false false repeated f i r =
     unchanged setting events x before more text g (ap unstuttered (entries_same setting x.event (events_of events) i)) is
     (λ lines plies outcome gives. no_line setting.start lines more plies outcome (tells.other f i) gives)

@@ -8,9 +8,11 @@ pub mod GivingLemmas
 pub mod LineLemmas
 pub mod ListerLemmas
 pub mod MoveLemmas
+pub mod OnceLemmas
 pub mod PieceLemmas
 pub mod SayingLemmas
 pub mod SettingLemmas
 pub mod SquareLemmas
 pub mod StreamLemmas
+pub mod TextLemmas
 pub mod WordLemmas

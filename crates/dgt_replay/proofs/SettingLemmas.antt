@@ -20,7 +20,6 @@ use Rattle.board_session.specs.Recording.{setting_of}
 use Rattle.board_session.specs.Settings.{Setting}
 use Rattle.dgt_replay.specs.declared.recording.Refusal.{Refusal}
 use Rattle.dgt_replay.specs.declared.recording.Refusal.TheVariants.{Fen, Tag as OfTag}
-use Rattle.dgt_replay.specs.declared.listed.Listed.{Listed}
 use Rattle.dgt_replay.specs.declared.listed.Listed.TheVariants.{Game}
 use Rattle.dgt_replay.specs.declared.words.FollowWishes.{FollowWishes}
 use Rattle.dgt_replay.specs.declared.words.Wishes.{Wishes}

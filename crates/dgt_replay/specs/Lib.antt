@@ -8,6 +8,7 @@ pub mod Giving
 pub mod Lines
 pub mod Lister
 pub mod Listing
+pub mod OneText
 pub mod Placing
 pub mod Printed
 pub mod Reading

@@ -3,9 +3,10 @@ ghost use Rattle.std.specs.Prelude.{Bool, List, ℕ, [], ◌∷◌, codes};
 ghost use Rattle.chess_rules.specs.Initial.{initial};
 ghost use Rattle.dgt_replay.specs.Choosing.{AreMistaken, AsksForHelp, AsksForMoves, AsksToFollow, AsksToRecord, IsFollow, IsHelp, IsMoves, IsRecord};
 ghost use Rattle.board_session.specs.Recording.{setting_of};
-ghost use Rattle.dgt_replay.specs.Giving.{FollowTellsTheGame, LinesGiveTheGame};
+ghost use Rattle.dgt_replay.specs.Giving.{FollowTellsTheGame, LinesGiveOneGame, LinesGiveTheGame};
 ghost use Rattle.dgt_replay.specs.Recorded.{plain_setup};
 
+use chess_text::laws::{texts_are_plain, texts_tell_moves};
 use dgt_frame::laws::shows_once;
 
 /// `record` asks for a recording from the initial position, with White's time first and unknown tags, turned where `--rotated`
@@ -34,4 +35,12 @@ pub fn follow_tells_the_game()
     ensures { FollowTellsTheGame }
 {
     shows_once();
+}
+
+/// Lines of `follow` give one list of plies and one result at most, with whatever position they begin.
+pub fn lines_give_one_game()
+    ensures { LinesGiveOneGame }
+{
+    texts_are_plain();
+    texts_tell_moves();
 }

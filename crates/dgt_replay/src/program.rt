@@ -13,6 +13,8 @@ ghost use Rattle.dgt_replay.specs.Checked.{ChecksGame, RefusesText, text_limit};
 ghost use Rattle.dgt_replay.specs.Choosing.{AreMistaken, Asks, AsksForHelp, AsksForMoves, AsksForNoMoves, AsksToFollow, AsksToFollowNothing, AsksToRecord, AsksToRecordNothing, IsCheck, IsPictures, IsRefused, IsShow};
 ghost use Rattle.dgt_replay.specs.declared.listed.Listed.{Listed};
 ghost use Rattle.dgt_replay.specs.Listing.{ListingEnds, ReadsWithin};
+ghost use Rattle.dgt_replay.specs.Lines.{rest_line};
+ghost use Rattle.dgt_replay.specs.OneText.{TextEnds, event_lines, no_line, picture_lines};
 ghost use Rattle.dgt_replay.specs.Printed.{PrintsMoves};
 ghost use Rattle.dgt_replay.specs.declared.words.FollowWishes.{FollowWishes as FollowWishesOf};
 ghost use Rattle.dgt_replay.specs.declared.words.Wishes.{Wishes};
@@ -214,12 +216,12 @@ pub fn run<R: Read, O: Write, E: Write>(
     requires erring { has_failed err.old ≡ false }
 
     // NAME `show`: the lines of the events, and of the rest.
-    ensures show { IsShow (map string_bytes words.now) → ListingEnds Listed.Events result
+    ensures show { IsShow (map string_bytes words.now) → TextEnds event_lines rest_line result
         (R.remaining (inner_of reader.old)) (R.remaining (inner_of reader.new))
         (O.contents (inner_of out.old)) (O.contents (inner_of out.new)) (has_failed reader.new) (has_failed out.new) }
 
     // NAME `pictures`, with or without `--rotated`: the placements.
-    ensures pictures { (rotated : Bool) → IsPictures rotated (map string_bytes words.now) → ListingEnds (Listed.Pictures rotated) result
+    ensures pictures { (rotated : Bool) → IsPictures rotated (map string_bytes words.now) → TextEnds (picture_lines rotated) no_line result
         (R.remaining (inner_of reader.old)) (R.remaining (inner_of reader.new))
         (O.contents (inner_of out.old)) (O.contents (inner_of out.new)) (has_failed reader.new) (has_failed out.new) }
 

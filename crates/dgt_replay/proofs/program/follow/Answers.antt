@@ -1,5 +1,4 @@
-use Rattle.std.proofs.Common.{◌≡◌, ◌∙◌, Result, Ok, Err, sym}
-use Rattle.chess_rules.specs.declared.men.Parts.{Parts}
+use Rattle.std.proofs.Common.{◌∙◌, sym}
 use Rattle.dgt_replay.specs.SettingUp.{RefusesStart, given}
 use Rattle.dgt_replay.specs.Telling.{fen_words}
 use Rattle.dgt_replay.proofs.SayingLemmas.{tells_refused}

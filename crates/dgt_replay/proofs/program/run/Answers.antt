@@ -12,22 +12,23 @@ use Rattle.dgt_replay.proofs.EndLemmas.{ends_for_memory}
 use Rattle.dgt_replay.proofs.FaultLemmas.{help_has_fault, help_kind, mistaken_asks_nothing, mistaken_kind}
 use Rattle.dgt_replay.proofs.SayingLemmas.{help_out_of_memory, tells_alike, tells_memory}
 use Rattle.dgt_replay.proofs.SettingLemmas.{meets_nothing, refuses_alike, refuses_start_alike}
+use Rattle.dgt_replay.proofs.TextLemmas.{events_end, pictures_end}
 use Rattle.dgt_replay.proofs.WordLemmas.{check_unrefused, chooses_check, chooses_follow, chooses_list, chooses_moves, chooses_no_follow, chooses_no_moves, chooses_no_setup, chooses_pictures, chooses_record, chooses_show, follow_chosen, follow_unrefused, lists_unrefused, moves_chosen, moves_unrefused, no_follow_unrefused, no_moves_unrefused, no_setup_unrefused, or_refused, pictures_unrefused, record_chosen, record_unrefused, show_unrefused, unrefused}
 use Rattle.dgt_replay.proofs.program.run.Goals as goal
 
 pub returns-in-Err-clause-show : goal.returns-in-Err-clause-show
 returns-in-Err-clause-show g c is =
     let ended = c.refused_words.ensures.memory (or_refused c.in-Err.ensures.refused (show_unrefused (map string_bytes c.args.words.now) is)) in
-    ends_for_memory Events c.refused_words.result (g.R.Read.remaining (inner_of c.args.reader.now)) (g.R.Read.remaining (inner_of c.args.reader.now))
+    events_end _ _ _ _ _ _ _ (ends_for_memory Events c.refused_words.result (g.R.Read.remaining (inner_of c.args.reader.now)) (g.R.Read.remaining (inner_of c.args.reader.now))
     (g.O.Write.contents (inner_of c.args.out.now)) (g.O.Write.contents (inner_of c.refused_words.new.out)) (has_failed c.args.reader.now) (has_failed c.refused_words.new.out)
-    ended.0 (Keeps-refl (g.R.Read.remaining (inner_of c.args.reader.now))) ended.1
+    ended.0 (Keeps-refl (g.R.Read.remaining (inner_of c.args.reader.now))) ended.1)
 
 pub returns-in-Err-clause-pictures : goal.returns-in-Err-clause-pictures
 returns-in-Err-clause-pictures g c rotated is =
     let ended = c.refused_words.ensures.memory (or_refused c.in-Err.ensures.refused (pictures_unrefused rotated (map string_bytes c.args.words.now) is)) in
-    ends_for_memory (Pictures rotated) c.refused_words.result (g.R.Read.remaining (inner_of c.args.reader.now)) (g.R.Read.remaining (inner_of c.args.reader.now))
+    pictures_end rotated _ _ _ _ _ _ _ (ends_for_memory (Pictures rotated) c.refused_words.result (g.R.Read.remaining (inner_of c.args.reader.now)) (g.R.Read.remaining (inner_of c.args.reader.now))
     (g.O.Write.contents (inner_of c.args.out.now)) (g.O.Write.contents (inner_of c.refused_words.new.out)) (has_failed c.args.reader.now) (has_failed c.refused_words.new.out)
-    ended.0 (Keeps-refl (g.R.Read.remaining (inner_of c.args.reader.now))) ended.1
+    ended.0 (Keeps-refl (g.R.Read.remaining (inner_of c.args.reader.now))) ended.1)
 
 pub returns-in-Err-clause-usage : goal.returns-in-Err-clause-usage
 returns-in-Err-clause-usage g c two =
@@ -37,10 +38,10 @@ returns-in-Err-clause-usage g c two =
     ]
 
 pub returns-in-Ok-clause-show : goal.returns-in-Ok-clause-show
-returns-in-Ok-clause-show g c is = c.obey.ensures.lists Events (chooses_show (map string_bytes c.args.words.now) c.in-Ok.choice is c.in-Ok.ensures.chooses)
+returns-in-Ok-clause-show g c is = events_end _ _ _ _ _ _ _ (c.obey.ensures.lists Events (chooses_show (map string_bytes c.args.words.now) c.in-Ok.choice is c.in-Ok.ensures.chooses))
 
 pub returns-in-Ok-clause-pictures : goal.returns-in-Ok-clause-pictures
-returns-in-Ok-clause-pictures g c rotated is = c.obey.ensures.lists (Pictures rotated) (chooses_pictures rotated (map string_bytes c.args.words.now) c.in-Ok.choice is c.in-Ok.ensures.chooses)
+returns-in-Ok-clause-pictures g c rotated is = pictures_end rotated _ _ _ _ _ _ _ (c.obey.ensures.lists (Pictures rotated) (chooses_pictures rotated (map string_bytes c.args.words.now) c.in-Ok.choice is c.in-Ok.ensures.chooses))
 
 pub returns-in-Err-clause-check : goal.returns-in-Err-clause-check
 returns-in-Err-clause-check g c is done =
