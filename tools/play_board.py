@@ -10,6 +10,7 @@ import os
 import select
 import sys
 import time
+import tty
 
 SEND_DUMP, SEND_UPDATES = 0x42, 0x4B
 DUMP, UPDATE, TIME = 0x86, 0x8E, 0x8D
@@ -96,6 +97,7 @@ class Board:
 def main():
     words = argparse.ArgumentParser(description=__doc__)
     words.add_argument("device")
+    words.add_argument("--make", action="store_true", help="makes the device, and removes it at the end")
     words.add_argument("moves", nargs="*")
     words.add_argument("--pause", type=float, default=0.05, help="seconds after each update")
     words.add_argument("--cut", type=int, default=0, help="the number of the update that is cut off")
@@ -103,7 +105,13 @@ def main():
     words.add_argument("--stay", type=float, default=0.5, help="seconds before it hangs up")
     words = words.parse_intermixed_args()
 
-    board = Board(os.open(words.device, os.O_RDWR | os.O_NOCTTY), words.pause, words.cut)
+    if words.make:
+        line, slave = os.openpty()
+        tty.setraw(slave)
+        os.symlink(os.ttyname(slave), words.device)
+    else:
+        line = os.open(words.device, os.O_RDWR | os.O_NOCTTY)
+    board = Board(line, words.pause, words.cut)
     while not board.asked_for_updates:
         board.listen(1)
     times = [words.clock, words.clock]
@@ -114,6 +122,8 @@ def main():
             board.listen(words.pause)
         board.play(move)
     board.listen(words.stay)
+    if words.make:
+        os.unlink(words.device)
 
 
 if __name__ == "__main__":
