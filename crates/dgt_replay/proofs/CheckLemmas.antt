@@ -5,7 +5,7 @@ use Rattle.std.specs.Io.KnownBytes.{Appends, Consumes}
 use Rattle.pgn_book.specs.Games.{Content}
 use Rattle.pgn_book.specs.Pgn.{Pgn}
 use Rattle.dgt_replay.specs.Checked.{ChecksGame, summary_line, text_limit}
-use Rattle.dgt_replay.specs.Listing.{ReadsWithin}
+use Rattle.board_listing.specs.Listings.{ReadsWithin}
 
 pub checked : (input written written' : Option (List ℕ)) (text : List ℕ) (game : Content) → IfSome input (λ bytes. text ≡ bytes) → Pgn game text → length text ≤ text_limit
     → Appends written written' (summary_line (length game.plies) game.result) → ChecksGame input written written'

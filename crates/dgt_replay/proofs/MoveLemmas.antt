@@ -6,7 +6,7 @@ use Rattle.std.specs.Io.KnownBytes.{Appends}
 use Rattle.chess_rules.specs.declared.men.Move.{Move}
 use Rattle.chess_rules.specs.declared.men.Parts.{Parts}
 use Rattle.chess_text.specs.San.{San}
-use Rattle.dgt_replay.specs.Listing.{Gathers}
+use Rattle.board_listing.specs.Listings.{Gathers}
 use Rattle.dgt_replay.specs.Printed.{TellsMoves}
 
 -- Whatever text the rest of the moves has, all of them have what is done, and then that text.

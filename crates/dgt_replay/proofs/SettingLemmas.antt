@@ -18,15 +18,15 @@ use Rattle.pgn_book.specs.Values.{Refuses, TagValues, unknown_of, unknown_values
 use Rattle.board_session.specs.declared.recording.Setup.{Setup}
 use Rattle.board_session.specs.Recording.{setting_of}
 use Rattle.board_session.specs.Settings.{Setting}
-use Rattle.dgt_replay.specs.declared.recording.Refusal.{Refusal}
-use Rattle.dgt_replay.specs.declared.recording.Refusal.TheVariants.{Fen, Tag as OfTag}
-use Rattle.dgt_replay.specs.declared.listed.Listed.TheVariants.{Game}
+use Rattle.dgt_replay.specs.declared.record.Refusal.{Refusal}
+use Rattle.dgt_replay.specs.declared.record.Refusal.TheVariants.{Fen, Tag as OfTag}
+use Rattle.board_listing.specs.declared.listing.Listing.TheVariants.{Game}
 use Rattle.dgt_replay.specs.declared.words.FollowWishes.{FollowWishes}
 use Rattle.dgt_replay.specs.declared.words.Wishes.{Wishes}
 use Rattle.dgt_replay.specs.Recorded.{plain_setup}
 use Rattle.dgt_replay.specs.SettingUp.{ForMemory, HasNoStart, HasNoValue, HasValue, HasValues, IsFirst, MayHave, Meets, MeetsNothing, MeetsToFollow, OfFirstTag, RefusesSetup, RefusesStart, RefusesValue, SetsFollowingUp, SetsUp, SetsUpNothing, StartsAt, Wants, WantsToFollow, flag_text, given, option_of, refusal_words, tags, wished, with_given}
-use Rattle.dgt_replay.specs.Telling.{Says, Tells, fen_words, tag_words}
-use Rattle.dgt_replay.proofs.SayingLemmas.{tells_memory, tells_refused}
+use Rattle.dgt_replay.specs.Messages.{Says, Tells, fen_words, tag_words}
+use Rattle.dgt_replay.proofs.MessageLemmas.{tells_memory, tells_refused}
 
 -- What options set up is what the wishes want.
 pub meets : (rows : List Row) (wishes : Wishes) (setup : Setup) → Wants rows wishes → SetsUp rows setup → Meets wishes setup

@@ -18,8 +18,8 @@ use Rattle.pgn_book.specs.declared.values.Tag.TheVariants.{Event, Site, Date, Ro
 use Rattle.board_session.specs.declared.recording.Setup.{Setup}
 use Rattle.board_session.specs.Recording.{setting_of}
 use Rattle.board_session.specs.Settings.{Setting}
-use Rattle.dgt_replay.specs.declared.listed.Listed.{Listed}
-use Rattle.dgt_replay.specs.declared.listed.Listed.TheVariants.{Events, Pictures}
+use Rattle.board_listing.specs.declared.listing.Listing.{Listing}
+use Rattle.board_listing.specs.declared.listing.Listing.TheVariants.{Events, Pictures}
 use Rattle.dgt_replay.specs.declared.words.Choice.{Choice}
 use Rattle.dgt_replay.specs.declared.words.Choice.TheVariants.{List as ListOf, Record, Follow, Check, Moves}
 use Rattle.dgt_replay.specs.declared.words.FollowWishes.{FollowWishes}
@@ -199,7 +199,7 @@ pub chooses_check : (words : List Text) (choice : Choice) → IsCheck words → 
 chooses_check words choice is asks = some_choice choice Check ((chosen words (codes "check") (rows_for words) choice (check_asks words is) asks).check refl)
 
 pub chooses_list : (words : List Text) (choice : Choice) → IsShow words ⊎ ((rotated : Bool) × IsPictures rotated words) → AsksFor words choice
-    → (listed : Listed) × (choice ≡ ListOf listed)
+    → (listing : Listing) × (choice ≡ ListOf listing)
 chooses_list words choice (inl is) asks = (Events, chooses_show words choice is asks)
 chooses_list words choice (inr (rotated, is)) asks = (Pictures rotated, chooses_pictures rotated words choice is asks)
 

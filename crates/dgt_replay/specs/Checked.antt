@@ -5,7 +5,7 @@ use Rattle.settle_core.specs.declared.game.Outcome.{Outcome}
 use Rattle.pgn_book.specs.Games.{Content}
 use Rattle.pgn_book.specs.Movetext.{result_text}
 use Rattle.pgn_book.specs.Pgn.{Pgn}
-use Rattle.dgt_replay.specs.Telling.{IsTooLong}
+use Rattle.dgt_replay.specs.Messages.{IsTooLong}
 
 -- the number of moves, and the result
 abbrev pub summary_line : ℕ → Option Outcome → List ℕ

@@ -12,7 +12,7 @@ use Rattle.clap.specs.declared.error.kind.ErrorKind.TheVariants as kind
 use Rattle.chess_rules.specs.declared.men.Parts.{Parts}
 use Rattle.board_session.specs.declared.recording.Setup.{Setup}
 use Rattle.board_session.specs.Settings.{Setting}
-use Rattle.dgt_replay.specs.declared.listed.Listed.TheVariants.{Events, Pictures}
+use Rattle.board_listing.specs.declared.listing.Listing.TheVariants.{Events, Pictures}
 use Rattle.dgt_replay.specs.declared.words.Choice.{Choice}
 use Rattle.dgt_replay.specs.declared.words.Choice.TheVariants.{List as ListOf, Record, Follow, Check, Moves}
 use Rattle.dgt_replay.specs.declared.words.FollowWishes.{FollowWishes}

@@ -9,7 +9,7 @@ use Rattle.board_session.specs.declared.recording.RecordError.TheVariants.{Read,
 use Rattle.board_session.specs.declared.recording.Report.{Report}
 use Rattle.board_session.specs.declared.recording.Setup.{Setup}
 use Rattle.board_session.specs.Recording.{AppendsPart, Leaves, RecordsAll}
-use Rattle.dgt_replay.specs.Telling.{Says, end_words}
+use Rattle.dgt_replay.specs.Messages.{Says, end_words}
 
 -- the line about a recording, which begins a new line after the bytes for the board
 abbrev pub report_line : Report → List ℕ

@@ -17,11 +17,11 @@ use Rattle.pgn_book.specs.declared.values.TagError.TheVariants.{Memory}
 use Rattle.pgn_book.specs.Values.{IsValue, Refuses, TagValues, unknown_of, value_of, with_value}
 use Rattle.board_session.specs.declared.recording.Setup.{Setup}
 use Rattle.board_session.specs.Settings.{Setting}
-use Rattle.dgt_replay.specs.declared.recording.Refusal.{Refusal}
-use Rattle.dgt_replay.specs.declared.recording.Refusal.TheVariants.{Fen, Tag as OfTag}
+use Rattle.dgt_replay.specs.declared.record.Refusal.{Refusal}
+use Rattle.dgt_replay.specs.declared.record.Refusal.TheVariants.{Fen, Tag as OfTag}
 use Rattle.dgt_replay.specs.declared.words.FollowWishes.{FollowWishes}
 use Rattle.dgt_replay.specs.declared.words.Wishes.{Wishes}
-use Rattle.dgt_replay.specs.Telling.{fen_words, tag_words}
+use Rattle.dgt_replay.specs.Messages.{fen_words, tag_words}
 
 -- the text of a flag
 abbrev pub flag_text : Bool → Text

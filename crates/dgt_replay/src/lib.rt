@@ -1,17 +1,12 @@
 //! The subcommands of the program, over any streams.
 #![tactic(auto)]
 
-mod checking;
-mod follower;
+mod check;
 pub mod laws;
-mod lines;
-mod listed;
-mod lister;
-mod listing;
+mod messages;
 mod moves;
 mod program;
-mod recording;
-mod saying;
+mod record;
 mod starting;
 mod words;
 

@@ -1,22 +1,34 @@
 //! The subcommand `moves`.
-ghost use Rattle.std.specs.Prelude.{◌≡◌, ◌≢◌, ◌≤◌, ◌⊎◌, ℕ, List, All, OnErr, OnOk, false, true};
+ghost use Rattle.std.specs.Prelude.{◌≡◌, ◌≢◌, ◌≤◌, ◌⊎◌, ◌+◌, ◌++◌, ℕ, List, All, OnErr, OnOk, codes, false, true};
 ghost use Rattle.std.specs.Io.KnownBytes.{Appends, Keeps};
+ghost use Rattle.arrayvec.specs.ArrayVec.{array_vec_len};
 ghost use Rattle.chess_rules.specs.declared.men.Parts.{Parts as PartsOf};
 ghost use Rattle.chess_rules.specs.Legal.{Legal};
+ghost use Rattle.chess_text.specs.San.{San};
 ghost use Rattle.dgt_frame.specs.Watched.{inner_of, has_failed};
 ghost use Rattle.dgt_replay.specs.Printed.{PrintsMoves, TellsMoves};
 ghost use Rattle.dgt_replay.specs.SettingUp.{HasNoStart, RefusesStart, StartsAt, given};
-ghost use Rattle.dgt_replay.specs.Telling.{Tells};
+ghost use Rattle.dgt_replay.specs.Messages.{Tells};
 
-use crate::lines::{GATHERED, LONGEST, Lines, add_san};
-use crate::saying::{refused, refused_fen, refused_run};
+use crate::messages::{refused, refused_fen, refused_run};
 use crate::starting::start_of;
+use board_listing::{GATHERED, LONGEST, Lines, add};
 use chess_rules::{Move, Position};
 use chess_text::write_san;
 use dgt_frame::Watch;
 use pgn_book::{WriteFault, put};
 use std::alloc::Global;
 use std::io::Write;
+
+// Adds a legal move in SAN, as a line.
+fn add_san(lines: &mut Lines, position: &Position, m: Move)
+    requires room { array_vec_len lines.old + LONGEST ≤ GATHERED }
+    requires legal { Legal position.now m }
+    ensures { (san : List ℕ) × San position.now m san × (lines.new.items ≡ lines.old.items ++ san ++ codes "\n") }
+{
+    add(lines, write_san(position, m).as_str().as_bytes());
+    add(lines, b"\n");
+}
 
 // Writes one SAN move a line.
 fn put_moves<O: Write>(

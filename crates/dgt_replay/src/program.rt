@@ -11,25 +11,24 @@ ghost use Rattle.clap.specs.Walk.{Row, first_of};
 ghost use Rattle.dgt_frame.specs.Watched.{inner_of, has_failed};
 ghost use Rattle.dgt_replay.specs.Checked.{ChecksGame, RefusesText, text_limit};
 ghost use Rattle.dgt_replay.specs.Choosing.{AreMistaken, Asks, AsksForHelp, AsksForMoves, AsksForNoMoves, AsksToFollow, AsksToFollowNothing, AsksToRecord, AsksToRecordNothing, IsCheck, IsPictures, IsRefused, IsShow};
-ghost use Rattle.dgt_replay.specs.declared.listed.Listed.{Listed};
-ghost use Rattle.dgt_replay.specs.Listing.{ListingEnds, ReadsWithin};
-ghost use Rattle.dgt_replay.specs.Lines.{rest_line};
-ghost use Rattle.dgt_replay.specs.OneText.{TextEnds, event_lines, no_line, picture_lines};
+ghost use Rattle.board_listing.specs.declared.listing.Listing.{Listing};
+ghost use Rattle.board_listing.specs.Listings.{ListingEnds, ReadsWithin};
+ghost use Rattle.board_listing.specs.EventLines.{rest_line};
+ghost use Rattle.board_listing.specs.OneText.{TextEnds, event_lines, no_line, picture_lines};
 ghost use Rattle.dgt_replay.specs.Printed.{PrintsMoves};
 ghost use Rattle.dgt_replay.specs.declared.words.FollowWishes.{FollowWishes as FollowWishesOf};
 ghost use Rattle.dgt_replay.specs.declared.words.Wishes.{Wishes};
 ghost use Rattle.dgt_replay.specs.Recorded.{EndsFor, Fails, RecordsAndTells, Untouched};
 ghost use Rattle.dgt_replay.specs.SettingUp.{HasNoStart, Meets, MeetsNothing, MeetsToFollow, RefusesSetup, RefusesStart, SetsUpNothing, StartsAt, given, option_of, wished};
-ghost use Rattle.dgt_replay.specs.Telling.{GivesHelp, IsTooLong, RefusesWords, Says, Tells};
+ghost use Rattle.dgt_replay.specs.Messages.{GivesHelp, IsTooLong, RefusesWords, Says, Tells};
 
-use crate::checking::check;
-use crate::listed::Listed;
-use crate::listing::list_stream;
+use crate::check::check;
+use crate::messages::{refused, refused_fen};
 use crate::moves::moves;
-use crate::recording::record_game;
-use crate::saying::{refused, refused_fen};
+use crate::record::record_game;
 use crate::starting::start_of;
 use crate::words::{Choice, FollowWishes, read_words};
+use board_listing::{Listing, list_stream};
 use clap::Error;
 use clap::error::ErrorKind;
 use dgt_frame::Watch;
@@ -73,7 +72,7 @@ fn refused_words<O: Write, E: Write>(
 
 fn list<R: Read, O: Write, E: Write>(
     alloc: Global,
-    listed: Listed,
+    listing: Listing,
     reader: &mut Watch<R>,
     out: &mut Watch<O>,
     err: &mut Watch<E>,
@@ -81,14 +80,14 @@ fn list<R: Read, O: Write, E: Write>(
     requires reading { has_failed reader.old ≡ false }
     requires working { has_failed out.old ≡ false }
     requires erring { has_failed err.old ≡ false }
-    ensures ends { ListingEnds listed result (R.remaining (inner_of reader.old)) (R.remaining (inner_of reader.new))
+    ensures ends { ListingEnds listing result (R.remaining (inner_of reader.old)) (R.remaining (inner_of reader.new))
         (O.contents (inner_of out.old)) (O.contents (inner_of out.new)) (has_failed reader.new) (has_failed out.new) }
     ensures tells { Tells result IsTooLong (E.contents (inner_of err.old)) (E.contents (inner_of err.new)) (has_failed reader.new) (has_failed out.new) (has_failed err.new) }
     ensures works { result ≡ 0 → (has_failed reader.new ≡ false) × ((has_failed out.new ≡ false) × (has_failed err.new ≡ false)) }
     ensures known { result ≤ 4 }
     ensures status { result ≢ 2 }
 {
-    let done = list_stream(alloc, listed, reader, out);
+    let done = list_stream(alloc, listing, reader, out);
     if out.failed() || out.flush().is_err() {
         return refused(err, b"write fault\n", 3);
     }
@@ -109,7 +108,7 @@ fn follow<R: Read, O: Write, E: Write>(
     requires reading { has_failed reader.old ≡ false }
     requires working { has_failed out.old ≡ false }
     requires erring { has_failed err.old ≡ false }
-    ensures ends { (setting : Setting) → MeetsToFollow wishes.now setting → ListingEnds (Listed.Game setting.start setting.first setting.rotated) result
+    ensures ends { (setting : Setting) → MeetsToFollow wishes.now setting → ListingEnds (Listing.Game setting.start setting.first setting.rotated) result
         (R.remaining (inner_of reader.old)) (R.remaining (inner_of reader.new))
         (O.contents (inner_of out.old)) (O.contents (inner_of out.new)) (has_failed reader.new) (has_failed out.new) }
     ensures tells { (setting : Setting) → MeetsToFollow wishes.now setting → Tells result IsTooLong
@@ -124,12 +123,12 @@ fn follow<R: Read, O: Write, E: Write>(
 {
     match start_of(wishes.fen) {
         Ok(start) => {
-            let listed = Listed::Game {
+            let listing = Listing::Game {
                 start,
                 first: wishes.first,
                 rotated: wishes.rotated,
             };
-            list(alloc, listed, reader, out, err)
+            list(alloc, listing, reader, out, err)
         }
         Err(error) => refused_fen(err, error),
     }
@@ -146,10 +145,10 @@ fn obey<R: Read, O: Write, E: Write>(
     requires reading { has_failed reader.old ≡ false }
     requires working { has_failed out.old ≡ false }
     requires erring { has_failed err.old ≡ false }
-    ensures lists { (listed : Listed) → choice.now ≡ Choice.List listed → ListingEnds listed result
+    ensures lists { (listing : Listing) → choice.now ≡ Choice.List listing → ListingEnds listing result
         (R.remaining (inner_of reader.old)) (R.remaining (inner_of reader.new))
         (O.contents (inner_of out.old)) (O.contents (inner_of out.new)) (has_failed reader.new) (has_failed out.new) }
-    ensures lists_tell { (listed : Listed) → choice.now ≡ Choice.List listed → Tells result IsTooLong
+    ensures lists_tell { (listing : Listing) → choice.now ≡ Choice.List listing → Tells result IsTooLong
         (E.contents (inner_of err.old)) (E.contents (inner_of err.new)) (has_failed reader.new) (has_failed out.new) (has_failed err.new) }
     ensures records { (setup : Setup) (wishes : Wishes) → choice.now ≡ Choice.Record wishes → Meets wishes setup → result ≡ 0 → RecordsAndTells setup (R.remaining (inner_of reader.old))
         (E.contents (inner_of err.old)) (E.contents (inner_of err.new)) (O.contents (inner_of out.old)) (O.contents (inner_of out.new)) }
@@ -166,7 +165,7 @@ fn obey<R: Read, O: Write, E: Write>(
         × Untouched (R.remaining (inner_of reader.old)) (R.remaining (inner_of reader.new)) (O.contents (inner_of out.old)) (O.contents (inner_of out.new)) }
     ensures refusal_tells { (wishes : Wishes) → choice.now ≡ Choice.Record wishes → MeetsNothing wishes → Tells result (RefusesSetup (given wishes.fen) (wished wishes))
         (E.contents (inner_of err.old)) (E.contents (inner_of err.new)) false false (has_failed err.new) }
-    ensures follows { (wishes : FollowWishesOf) (setting : Setting) → choice.now ≡ Choice.Follow wishes → MeetsToFollow wishes setting → ListingEnds (Listed.Game setting.start setting.first setting.rotated) result
+    ensures follows { (wishes : FollowWishesOf) (setting : Setting) → choice.now ≡ Choice.Follow wishes → MeetsToFollow wishes setting → ListingEnds (Listing.Game setting.start setting.first setting.rotated) result
         (R.remaining (inner_of reader.old)) (R.remaining (inner_of reader.new))
         (O.contents (inner_of out.old)) (O.contents (inner_of out.new)) (has_failed reader.new) (has_failed out.new) }
     ensures follow_tells { (wishes : FollowWishesOf) (setting : Setting) → choice.now ≡ Choice.Follow wishes → MeetsToFollow wishes setting → Tells result IsTooLong
@@ -193,7 +192,7 @@ fn obey<R: Read, O: Write, E: Write>(
     ensures status { result ≢ 2 }
 {
     match choice {
-        Choice::List(listed) => list(alloc, *listed, reader, out, err),
+        Choice::List(listing) => list(alloc, *listing, reader, out, err),
         Choice::Record(wishes) => record_game(alloc, wishes, reader, out, err),
         Choice::Follow(wishes) => follow(alloc, wishes, reader, out, err),
         Choice::Check => check(alloc, reader, out, err),
@@ -256,7 +255,7 @@ pub fn run<R: Read, O: Write, E: Write>(
 
     // `follow` with any options: the lines of what each event makes of the game, from the start that they say. What it says, by
     // its status. Where no position has the FEN, nothing is read, and nothing written to the output; the reason is said.
-    ensures follow { (setting : Setting) → AsksToFollow (map string_bytes words.now) setting → ListingEnds (Listed.Game setting.start setting.first setting.rotated) result
+    ensures follow { (setting : Setting) → AsksToFollow (map string_bytes words.now) setting → ListingEnds (Listing.Game setting.start setting.first setting.rotated) result
         (R.remaining (inner_of reader.old)) (R.remaining (inner_of reader.new))
         (O.contents (inner_of out.old)) (O.contents (inner_of out.new)) (has_failed reader.new) (has_failed out.new) }
     ensures follow_tells { (setting : Setting) → AsksToFollow (map string_bytes words.now) setting → Tells result IsTooLong

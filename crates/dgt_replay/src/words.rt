@@ -10,7 +10,7 @@ ghost use Rattle.dgt_replay.specs.Command.{AddsRule, AddsApp, IsApp, Makes, chec
 ghost use Rattle.dgt_replay.specs.Choosing.{AsksFor, Chooses, IsRefused};
 ghost use Rattle.dgt_replay.specs.SettingUp.{Wants, WantsToFollow, side_in};
 
-use crate::listed::Listed;
+use board_listing::Listing;
 use clap::error::ErrorKind;
 use clap::{Arg, ArgAction, ArgMatches, Command, Error};
 use dgt_frame::First;
@@ -20,7 +20,7 @@ use std::alloc::{AllocError, Global};
 #[derive(Clone, Copy, Debug)]
 pub enum Choice<'a> {
     /// The lines of a capture.
-    List(Listed),
+    List(Listing),
     /// The PGN of a capture.
     Record(Wishes<'a>),
     /// What each event of a capture makes of the game.
@@ -277,8 +277,8 @@ fn choice_named<'a>(name: &str, matches: &ArgMatches<'a>) -> Option<Choice<'a>>
     ensures { Chooses name.now (rows_of (found_of matches.now)) result }
 {
     match name {
-        "show" => Some(Choice::List(Listed::Events)),
-        "pictures" => Some(Choice::List(Listed::Pictures {
+        "show" => Some(Choice::List(Listing::Events)),
+        "pictures" => Some(Choice::List(Listing::Pictures {
             rotated: matches.get_flag("rotated"),
         })),
         "record" => match wishes_of(matches) {

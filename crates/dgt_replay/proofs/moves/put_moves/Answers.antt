@@ -1,7 +1,7 @@
 use Rattle.std.proofs.Common.{◌++◌, ◌∙◌, codes, rules, append_assoc, arith}
 use Rattle.dgt_frame.specs.Watched.{inner_of}
-use Rattle.dgt_replay.specs.Listing.{Gathers}
-use Rattle.dgt_replay.proofs.GatherLemmas.{gathers_sent, on_ok}
+use Rattle.board_listing.specs.Listings.{Gathers}
+use Rattle.board_listing.proofs.GatherLemmas.{gathers_sent, on_ok}
 use Rattle.dgt_replay.proofs.MoveLemmas.{all_written, continues_more, continues_to_end, gathers_more}
 use Rattle.dgt_replay.proofs.moves.put_moves.Goals as goal
 use Rattle.dgt_replay.proofs.moves.put_moves.Goals.{then-len-gt-GATHERED+in_ok-put, else-len-gt-GATHERED}

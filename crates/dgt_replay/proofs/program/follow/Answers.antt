@@ -1,7 +1,7 @@
 use Rattle.std.proofs.Common.{◌∙◌, sym}
 use Rattle.dgt_replay.specs.SettingUp.{RefusesStart, given}
-use Rattle.dgt_replay.specs.Telling.{fen_words}
-use Rattle.dgt_replay.proofs.SayingLemmas.{tells_refused}
+use Rattle.dgt_replay.specs.Messages.{fen_words}
+use Rattle.dgt_replay.proofs.MessageLemmas.{tells_refused}
 use Rattle.dgt_replay.proofs.SettingLemmas.{game_wished, ok_same, start_refused}
 use Rattle.dgt_replay.proofs.program.follow.Goals as goal
 

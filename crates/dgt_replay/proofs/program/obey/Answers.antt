@@ -2,7 +2,7 @@ use Rattle.std.proofs.Common.{◌≡◌, false, subst}
 use Rattle.dgt_frame.specs.Watched.{inner_of, has_failed}
 use Rattle.dgt_replay.specs.declared.words.Wishes.{Wishes}
 use Rattle.dgt_replay.specs.SettingUp.{MeetsNothing, RefusesSetup, given, wished}
-use Rattle.dgt_replay.specs.Telling.{Tells}
+use Rattle.dgt_replay.specs.Messages.{Tells}
 use Rattle.dgt_replay.proofs.program.obey.Goals as goal
 
 pub returns-in-Record-clause-refusal_tells : goal.returns-in-Record-clause-refusal_tells

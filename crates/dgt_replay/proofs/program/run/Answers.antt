@@ -3,14 +3,14 @@ use Rattle.clap.specs.Values.{kind_of}
 use Rattle.clap.specs.Walk.{first_of}
 use Rattle.std.proofs.KnownBytes.{Keeps-refl}
 use Rattle.dgt_frame.specs.Watched.{inner_of, has_failed}
-use Rattle.dgt_replay.specs.declared.listed.Listed.TheVariants.{Events, Game, Pictures}
+use Rattle.board_listing.specs.declared.listing.Listing.TheVariants.{Events, Game, Pictures}
 use Rattle.pgn_book.specs.declared.values.Tag.{Tag}
 use Rattle.dgt_replay.specs.Checked.{RefusesText}
 use Rattle.dgt_replay.specs.SettingUp.{HasNoStart, RefusesSetup, RefusesStart, given, option_of, wished}
-use Rattle.dgt_replay.specs.Telling.{IsTooLong}
+use Rattle.dgt_replay.specs.Messages.{IsTooLong}
 use Rattle.dgt_replay.proofs.EndLemmas.{ends_for_memory}
 use Rattle.dgt_replay.proofs.FaultLemmas.{help_has_fault, help_kind, mistaken_asks_nothing, mistaken_kind}
-use Rattle.dgt_replay.proofs.SayingLemmas.{help_out_of_memory, tells_alike, tells_memory}
+use Rattle.dgt_replay.proofs.MessageLemmas.{help_out_of_memory, tells_alike, tells_memory}
 use Rattle.dgt_replay.proofs.SettingLemmas.{meets_nothing, refuses_alike, refuses_start_alike}
 use Rattle.dgt_replay.proofs.TextLemmas.{events_end, pictures_end}
 use Rattle.dgt_replay.proofs.WordLemmas.{check_unrefused, chooses_check, chooses_follow, chooses_list, chooses_moves, chooses_no_follow, chooses_no_moves, chooses_no_setup, chooses_pictures, chooses_record, chooses_show, follow_chosen, follow_unrefused, lists_unrefused, moves_chosen, moves_unrefused, no_follow_unrefused, no_moves_unrefused, no_setup_unrefused, or_refused, pictures_unrefused, record_chosen, record_unrefused, show_unrefused, unrefused}

@@ -3,7 +3,7 @@ use Rattle.std.proofs.Common.{Some, ap, codes, sym, ◌∙◌, refl, rules}
 use Rattle.std.specs.Prelude.{is_some}
 use Rattle.clap.specs.Matches.{found_of}
 use Rattle.clap.specs.Walk.{rows_of}
-use Rattle.dgt_replay.specs.declared.listed.Listed.TheVariants.{Pictures}
+use Rattle.board_listing.specs.declared.listing.Listing.TheVariants.{Pictures}
 use Rattle.dgt_replay.specs.declared.words.Choice.TheVariants.{List as ListOf}
 use Rattle.dgt_replay.specs.SettingUp.{Wants, WantsToFollow}
 use Rattle.dgt_replay.proofs.WordLemmas.{flag_reads, if_some_at, follow_not_check, follow_not_moves, pictures_not_check, pictures_not_follow, pictures_not_moves, pictures_not_record, record_not_check, record_not_follow, record_not_moves, side_known, text_given}

@@ -1,0 +1,9 @@
+pub mod FollowLemmas
+pub mod GatherLemmas
+pub mod GivenGameLemmas
+pub mod LineLemmas
+pub mod OnceLemmas
+pub mod PieceLemmas
+pub mod PrinterLemmas
+pub mod SquareLemmas
+pub mod StreamLemmas

@@ -1,0 +1,68 @@
+-- The squares on which a picture differs, one square at a time.
+use Rattle.std.proofs.Common.{◌≡◌, ℕ, ◌+◌, ◌<◌, ◌==◌, List, [], ◌∷◌, ◌++◌, slice_index, refl, ◌∙◌, ap, inl, inr, append-nil, append_assoc, arith, zero, suc}
+use Rattle.std.specs.Prelude.{if◌then◌else◌}
+use Rattle.std.specs.List.{flat_map, range_with_len}
+use Rattle.std.specs.Int.{bit_at}
+use Rattle.std.proofs.lemmas.Bool.{ne_eqb}
+use Rattle.std.proofs.lemmas.Bool.Decides.{eqb_tells}
+use Rattle.std.proofs.lemmas.Grind.{flat_map-append}
+use Rattle.chess_text.specs.Squares.{square_text}
+use Rattle.settle_core.specs.Masks.{IsDiff}
+use Rattle.board_listing.specs.GameLines.{differing, squares_text}
+
+-- what is said of one square
+abbrev pub told : List ℕ → List ℕ → ℕ → List ℕ
+told stands seen s = if slice_index stands s == slice_index seen s then [] else 32 ∷ square_text s
+
+last : (a n j : ℕ) → a + n ≡ j → range_with_len a (suc n) ≡ range_with_len a n ++ j ∷ []
+last a zero j e = let same : a ≡ j = omega arith in ap (λ k. k ∷ []) same
+last a (suc n) j e = ap (λ l. a ∷ l) (last (a + 1) n j (omega arith))
+
+counting_more : (n : ℕ) → range_with_len 0 (n + 1) ≡ range_with_len 0 n ++ n ∷ []
+counting_more n = let on : n + 1 ≡ suc n = omega arith in ap (range_with_len 0) on ∙ last 0 n n (omega arith)
+
+differing_more : (n : ℕ) (stands seen : List ℕ) → differing (n + 1) stands seen ≡ differing n stands seen ++ told stands seen n
+differing_more n stands seen = ap (flat_map (told stands seen)) (counting_more n)
+    ∙ flat_map-append (told stands seen) (range_with_len 0 n) (n ∷ [])
+    ∙ ap (λ text. differing n stands seen ++ text) (append-nil (told stands seen n))
+
+-- the picture differs there
+pub differs_there : (mask n : ℕ) (stands seen : List ℕ) → n < 64 → IsDiff mask stands seen → bit_at mask n ≡ 1
+    → differing (n + 1) stands seen ≡ differing n stands seen ++ 32 ∷ square_text n
+differs_there mask n stands seen low diff set = differing_more n stands seen
+    ∙ ap (λ b. differing n stands seen ++ (if b then [] else 32 ∷ square_text n)) (ne_eqb (slice_index stands n) (slice_index seen n) ((diff n low).0 set))
+
+-- it doesn't
+pub same_there : (mask n : ℕ) (stands seen : List ℕ) → n < 64 → IsDiff mask stands seen → (bit_at mask n ≡ 1 → ⊥)
+    → differing (n + 1) stands seen ≡ differing n stands seen
+same_there mask n stands seen low diff clear = elim (eqb_tells (slice_index stands n) (slice_index seen n)) [
+  | inl same ↦ differing_more n stands seen ∙ ap (λ b. differing n stands seen ++ (if b then [] else 32 ∷ square_text n)) same.0 ∙ append-nil (differing n stands seen)
+  | inr other ↦ absurd (clear ((diff n low).1 other.1))
+]
+
+pub all_squares : (stands seen : List ℕ) → differing 64 stands seen ≡ squares_text stands seen
+unfolding squares_text
+all_squares stands seen = refl
+
+pub three_pushed : (a b c d : List ℕ) (x y z : ℕ) → b ≡ a ++ x ∷ [] → c ≡ b ++ y ∷ [] → d ≡ c ++ z ∷ [] → d ≡ a ++ x ∷ y ∷ z ∷ []
+three_pushed a b c d x y z first second third = third
+    ∙ ap (λ text. text ++ z ∷ []) (second ∙ ap (λ text. text ++ y ∷ []) first ∙ append_assoc a (x ∷ []) (y ∷ []))
+    ∙ append_assoc a (x ∷ y ∷ []) (z ∷ [])
+
+-- one more behind a text that was added
+more_added : (front l l' a b : List ℕ) → l ≡ front ++ a → l' ≡ l ++ b → l' ≡ front ++ (a ++ b)
+more_added front l l' a b e e' = e' ∙ ap (λ text. text ++ b) e ∙ append_assoc front a b
+
+-- Texts that are added one behind the other, and the line that they make.
+pub words_added : (l0 l1 l2 l3 l4 l5 l6 l7 l8 offset space word number san clock end : List ℕ)
+    → l1 ≡ l0 ++ offset ++ space → l2 ≡ l1 ++ word → l3 ≡ l2 ++ space → l4 ≡ l3 ++ number → l5 ≡ l4 ++ space → l6 ≡ l5 ++ san → l7 ≡ l6 ++ clock → l8 ≡ l7 ++ end
+    → l8 ≡ l0 ++ (offset ++ space ++ (word ++ space ++ number ++ space ++ san ++ clock) ++ end)
+words_added l0 l1 l2 l3 l4 l5 l6 l7 l8 offset space word number san clock end e1 e2 e3 e4 e5 e6 e7 e8 =
+    let t3 = more_added l1 l2 l3 word space e2 e3 in
+    let t4 = more_added l1 l3 l4 (word ++ space) number t3 e4 in
+    let t5 = more_added l1 l4 l5 (word ++ space ++ number) space t4 e5 in
+    let t6 = more_added l1 l5 l6 (word ++ space ++ number ++ space) san t5 e6 in
+    let t7 = more_added l1 l6 l7 (word ++ space ++ number ++ space ++ san) clock t6 e7 in
+    let here : l1 ≡ l0 ++ (offset ++ space) = e1 ∙ append_assoc l0 offset space in
+    let all = more_added l0 l1 l7 (offset ++ space) (word ++ space ++ number ++ space ++ san ++ clock) here t7 in
+    more_added l0 l7 l8 (offset ++ space ++ (word ++ space ++ number ++ space ++ san ++ clock)) end all e8

@@ -1,0 +1,287 @@
+-- What stands when a stream has been listed, wholly or in part.
+use Rattle.std.proofs.Common.{◌≡◌, ◌⊎◌, inl, inr, ℕ, ◌+◌, ◌-◌, ◌<◌, ◌≤◌, List, [], ◌∷◌, ◌++◌, length, take, drop, Option, Some, None, Result, Ok, Err, OnErr, OnOk, false, refl, sym, ◌∙◌, ap, subst, append_assoc, append-nil, length-append, length-drop, take-add, arith}
+use Rattle.std.specs.Prelude.{if◌then◌else◌, is_err, is_ok}
+use Rattle.std.proofs.KnownBytes.{Appends-trans, Consumes-kept, Consumes-trans}
+use Rattle.std.proofs.lemmas.List.{length-take-le}
+use Rattle.std.specs.Io.KnownBytes.{Appends, Consumes, IsAtEnd, Keeps}
+use Rattle.dgt_frame.specs.declared.decode.Decoder.{Decoder}
+use Rattle.dgt_frame.specs.Decoding.{Decoded}
+use Rattle.dgt_frame.specs.Streams.{Shows, Timed}
+use Rattle.board_session.specs.Recording.{limit}
+use Rattle.board_listing.specs.declared.printer.Printer.{Printer}
+use Rattle.board_listing.specs.declared.listing.Listing.{Listing}
+use Rattle.board_listing.specs.Printers.{HasBegun}
+use Rattle.board_listing.specs.Listings.{Gathers, Leaves, ListsAll, ListsFirst, ListsFront, ListsRead, ListsRefused, ReadsWithin, WritesFront, last_line}
+use Rattle.board_listing.specs.Progress.{BreaksOff, FinishBreaksOff, Finishes, HasListed, HasTaken, ListsPiece, Stops}
+use Rattle.board_listing.specs.declared.stream.ListError.{ListError}
+use Rattle.board_listing.specs.declared.stream.ListError.TheVariants.{Memory, Read, TooLong, Write}
+
+pub if_ok : {T E : Type 0} (r : Result T E) (xs ys : List ℕ) → is_err r ≡ false → (if is_ok r then xs else ys) ≡ xs
+if_ok (Ok v) xs ys h = refl
+if_ok (Err e) xs ys h = absurd (cc)
+
+-- the bytes that were read, in two parts
+pub cut_within : (buffer : List ℕ) (within n : ℕ) → within ≤ n → take n buffer ≡ take within buffer ++ take (n - within) (drop within buffer)
+cut_within buffer within n inside =
+    let sum : n ≡ within + (n - within) = omega arith in
+    ap (λ k. take k buffer) sum ∙ take-add within (n - within) buffer
+
+pub left_over : (buffer : List ℕ) (within n : ℕ) → within < n → n ≤ length buffer → 0 < length (take (n - within) (drop within buffer))
+left_over buffer within n some fits =
+    let room : n - within ≤ length (drop within buffer) = omega (arith, length-drop within buffer) in
+    omega (arith, length-take-le (n - within) (drop within buffer) room)
+
+-- the decoder was given so many bytes
+pub has_taken : (decoder : Decoder) (printer : Printer) (listing : Listing) (count : ℕ) (input now written so_far : Option (List ℕ))
+    → HasListed decoder printer listing count input now written so_far → HasTaken decoder count
+has_taken decoder printer listing count input now written so_far done = (done.0, done.1, done.4.decoded, done.2)
+
+-- What is known of a decoder that tells the rest.
+abbrev pub Concludes : Decoder → ℕ → Type 0
+Concludes decoder rest = (bytes : List ℕ) (events : List Timed) → Decoded decoder bytes events → Shows bytes events rest
+
+written_all : (written written' : Option (List ℕ)) (text : List ℕ) → Gathers written written' [] text → Appends written written' text
+written_all written written' text gathered =
+    let P : List ℕ → Type 0 = λ bs. Appends written written' bs in
+    subst P (sym (append-nil gathered.0) ∙ sym gathered.1) gathered.2
+
+-- All that was read was listed, up to the last line.
+pub read_so_far : (decoder : Decoder) (printer : Printer) (listing : Listing) (count rest : ℕ) (input now left written so_far : Option (List ℕ))
+    → HasListed decoder printer listing count input now written so_far → Keeps now left → Concludes decoder rest → ListsRead listing input left written so_far
+read_so_far decoder printer listing count rest input now left written so_far done kept concludes =
+    (done.0, done.1, rest, done.4.text, Consumes-kept input now left done.0 done.3 kept, concludes done.0 done.1 done.4.decoded, done.4.lines, written_all written so_far done.4.text done.4.gathers)
+
+pub front_of_read : (listing : Listing) (input left written so_far : Option (List ℕ)) → ListsRead listing input left written so_far → ListsFront listing input left written so_far
+front_of_read listing input left written so_far read = (
+  read.0,
+  [],
+  read.1,
+  [],
+  read.2,
+  read.3,
+  (let P : List ℕ → Type 0 = λ bs. Consumes input left bs in subst P (sym (append-nil read.0)) read.4),
+  (let P : List Timed → Type 0 = λ es. Shows read.0 es read.2 in subst P (sym (append-nil read.1)) read.5),
+  tt,
+  read.6,
+  (last_line listing read.2, (read.3, refl, read.7)),
+)
+
+-- a front of a text is one of a longer text
+front_longer : (written written' : Option (List ℕ)) (text more : List ℕ) → WritesFront written written' text → WritesFront written written' (text ++ more)
+front_longer written written' text more front = (front.0 ++ more, (front.1.0, ap (λ bs. bs ++ more) front.1.1 ∙ append_assoc front.1.0 front.0 more, front.1.2))
+
+-- what stands after a refusal is a front
+front_stopped : (error : ListError) (extra : List Timed) (written written' : Option (List ℕ)) (text : List ℕ) → Stops error extra written written' text → WritesFront written written' text
+front_stopped Memory extra written written' text stops = ([], (text, sym (append-nil text), stops.1))
+front_stopped Write extra written written' text stops = stops
+front_stopped Read extra written written' text stops = absurd stops
+front_stopped TooLong extra written written' text stops = absurd stops
+
+cut_bytes : (bytes piece taken unread dropped : List ℕ) → piece ≡ taken ++ unread → bytes ++ (piece ++ dropped) ≡ (bytes ++ taken) ++ (unread ++ dropped)
+cut_bytes bytes piece taken unread dropped is = ap (λ bs. bytes ++ (bs ++ dropped)) is ∙ ap (λ bs. bytes ++ bs) (append_assoc taken unread dropped) ∙ sym (append_assoc bytes taken (unread ++ dropped))
+
+-- A refusal came amid a piece.
+pub front_at_piece : (error : ListError) (old new : Decoder) (printer : Printer) (listing : Listing) (count rest : ℕ) (piece dropped : List ℕ) (input now left written so_far after : Option (List ℕ))
+    → HasListed old printer listing count input now written so_far → Consumes now left (piece ++ dropped) → BreaksOff error old printer count piece new so_far after → Concludes new rest
+    → ListsFront listing input left written after
+front_at_piece error old new printer listing count rest piece dropped input now left written so_far after done read breaks concludes =
+    let bytes = done.0 in
+    let events = done.1 in
+    let cut = breaks listing bytes events written done.2 done.4 in
+    let broken = cut.5 in
+    let consumed : Consumes input left (bytes ++ (piece ++ dropped)) = Consumes-trans input now left bytes (piece ++ dropped) done.3 read in
+    let P : List ℕ → Type 0 = λ bs. Consumes input left bs in
+    let Q : List Timed → Type 0 = λ es. Shows (bytes ++ cut.0) es rest in (
+      bytes ++ cut.0,
+      cut.1 ++ dropped,
+      broken.taken,
+      broken.extra,
+      rest,
+      broken.text,
+      subst P (cut_bytes bytes piece cut.0 cut.1 dropped cut.3) consumed,
+      subst Q broken.parts (concludes (bytes ++ cut.0) (events ++ cut.2) cut.4),
+      broken.leaves,
+      broken.lines,
+      front_longer written after broken.text (last_line listing rest) (front_stopped error broken.extra written after broken.text broken.stops),
+    )
+
+-- Memory was refused amid a piece.
+pub refused_at_piece : (old new : Decoder) (printer : Printer) (listing : Listing) (count rest : ℕ) (piece dropped : List ℕ) (input now left written so_far after : Option (List ℕ))
+    → HasListed old printer listing count input now written so_far → Consumes now left (piece ++ dropped) → BreaksOff Memory old printer count piece new so_far after → Concludes new rest
+    → ListsRefused listing input left written after
+refused_at_piece old new printer listing count rest piece dropped input now left written so_far after done read breaks concludes =
+    let bytes = done.0 in
+    let events = done.1 in
+    let cut = breaks listing bytes events written done.2 done.4 in
+    let broken = cut.5 in
+    let refused = broken.stops.0.0 in
+    let only : broken.extra ≡ refused ∷ [] = broken.stops.0.1 in
+    let consumed : Consumes input left (bytes ++ (piece ++ dropped)) = Consumes-trans input now left bytes (piece ++ dropped) done.3 read in
+    let P : List ℕ → Type 0 = λ bs. Consumes input left bs in
+    let Q : List Timed → Type 0 = λ es. Shows (bytes ++ cut.0) es rest in
+    let L : List Timed → Type 0 = λ es. Leaves listing broken.taken es in (
+      bytes ++ cut.0,
+      cut.1 ++ dropped,
+      broken.taken,
+      refused,
+      rest,
+      broken.text,
+      subst P (cut_bytes bytes piece cut.0 cut.1 dropped cut.3) consumed,
+      subst Q (broken.parts ∙ ap (λ es. broken.taken ++ es) only) (concludes (bytes ++ cut.0) (events ++ cut.2) cut.4),
+      subst L only broken.leaves,
+      broken.lines,
+      broken.stops.1,
+    )
+
+-- A piece was listed.
+pub listed_more : (old new : Decoder) (printer printer' : Printer) (listing : Listing) (count : ℕ) (piece : List ℕ) (input now left written so_far after : Option (List ℕ))
+    → HasListed old printer listing count input now written so_far → Consumes now left piece → ListsPiece old printer count piece new printer' so_far after []
+    → HasListed new printer' listing (count + length piece) input left written after
+listed_more old new printer printer' listing count piece input now left written so_far after done read pieces =
+    let given = pieces listing done.0 done.1 written done.2 done.4 in (
+      done.0 ++ piece,
+      done.1 ++ given.0,
+      length-append done.0 piece ∙ ap (λ n. n + length piece) done.2,
+      Consumes-trans input now left done.0 piece done.3 read,
+      given.1,
+    )
+
+-- The lines of a piece were written, and more bytes had been read.
+pub front_past_limit : (old new : Decoder) (printer printer' : Printer) (listing : Listing) (count rest : ℕ) (piece dropped : List ℕ) (input now left written so_far after : Option (List ℕ))
+    → HasListed old printer listing count input now written so_far → Consumes now left (piece ++ dropped) → ListsPiece old printer count piece new printer' so_far after [] → Concludes new rest
+    → ListsFront listing input left written after
+front_past_limit old new printer printer' listing count rest piece dropped input now left written so_far after done read pieces concludes =
+    let given = pieces listing done.0 done.1 written done.2 done.4 in
+    let events = done.1 ++ given.0 in
+    let consumed : Consumes input left (done.0 ++ (piece ++ dropped)) = Consumes-trans input now left done.0 (piece ++ dropped) done.3 read in (
+      done.0 ++ piece,
+      dropped,
+      events,
+      [],
+      rest,
+      given.1.text,
+      (let P : List ℕ → Type 0 = λ bs. Consumes input left bs in subst P (sym (append_assoc done.0 piece dropped)) consumed),
+      (let P : List Timed → Type 0 = λ es. Shows (done.0 ++ piece) es rest in subst P (sym (append-nil events)) (concludes (done.0 ++ piece) events given.1.decoded)),
+      tt,
+      given.1.lines,
+      (last_line listing rest, (given.1.text, refl, written_all written after given.1.text given.1.gathers)),
+    )
+
+-- There are more bytes than may be.
+pub first_at_limit : (old new : Decoder) (printer printer' : Printer) (listing : Listing) (count rest : ℕ) (piece dropped : List ℕ) (input now left written so_far after : Option (List ℕ))
+    → count + length piece ≡ limit → 0 < length dropped
+    → HasListed old printer listing count input now written so_far → Consumes now left (piece ++ dropped) → ListsPiece old printer count piece new printer' so_far after [] → Concludes new rest
+    → ListsFirst listing input written after
+first_at_limit old new printer printer' listing count rest piece dropped None now left written so_far after long some done read pieces concludes = tt
+first_at_limit old new printer printer' listing count rest piece dropped (Some all) None left written so_far after long some done read pieces concludes = absurd done.3
+first_at_limit old new printer printer' listing count rest piece dropped (Some all) (Some ahead) None written so_far after long some done read pieces concludes = absurd read
+first_at_limit old new printer printer' listing count rest piece dropped (Some all) (Some ahead) (Some left) written so_far after long some done read pieces concludes =
+    let bytes = done.0 in
+    let given = pieces listing bytes done.1 written done.2 done.4 in
+    let events = done.1 ++ given.0 in (
+      bytes ++ piece,
+      dropped ++ left,
+      events,
+      rest,
+      given.1.text,
+      done.3 ∙ ap (λ bs. bytes ++ bs) (read ∙ append_assoc piece dropped left) ∙ sym (append_assoc bytes piece (dropped ++ left)),
+      length-append bytes piece ∙ ap (λ n. n + length piece) done.2 ∙ long,
+      omega (arith, length-append dropped left),
+      concludes (bytes ++ piece) events given.1.decoded,
+      given.1.lines,
+      written_all written after given.1.text given.1.gathers,
+    )
+
+-- How many bytes were read.
+pub reads_within : (decoder : Decoder) (printer : Printer) (listing : Listing) (count : ℕ) (piece : List ℕ) (input now left written so_far : Option (List ℕ)) → count + length piece ≤ limit + 1
+    → HasListed decoder printer listing count input now written so_far → Consumes now left piece → ReadsWithin limit input left
+reads_within decoder printer listing count piece input now left written so_far within done read =
+    (done.0 ++ piece, Consumes-trans input now left done.0 piece done.3 read, omega (arith, length-append done.0 piece, done.2, within))
+
+pub reads_no_more : (decoder : Decoder) (printer : Printer) (listing : Listing) (count : ℕ) (input now left written so_far : Option (List ℕ)) → count ≤ limit
+    → HasListed decoder printer listing count input now written so_far → Keeps now left → ReadsWithin limit input left
+reads_no_more decoder printer listing count input now left written so_far within done kept = (done.0, Consumes-kept input now left done.0 done.3 kept, omega (arith, done.2, within))
+
+-- The input ended, and the last line was written, or a front of it.
+pub front_at_end : {T E : Type 0} (r : Result T E) (decoder : Decoder) (printer : Printer) (listing : Listing) (count : ℕ) (input now left written so_far after : Option (List ℕ))
+    → HasListed decoder printer listing count input now written so_far → Consumes now left [] → OnOk r (Finishes decoder printer so_far after) → OnErr r (FinishBreaksOff decoder printer so_far after)
+    → ListsFront listing input left written after
+front_at_end (Ok v) decoder printer listing count input now left written so_far after done read whole broken =
+    let last = whole listing done.0 done.1 done.4.decoded done.4.follows in
+    let text = done.4.text in (
+      done.0,
+      [],
+      done.1,
+      [],
+      last.0,
+      text,
+      Consumes-trans input now left done.0 [] done.3 read,
+      (let P : List Timed → Type 0 = λ es. Shows done.0 es last.0 in subst P (sym (append-nil done.1)) last.1),
+      tt,
+      done.4.lines,
+      (
+        [],
+        (
+          text ++ last_line listing last.0,
+          sym (append-nil (text ++ last_line listing last.0)),
+          Appends-trans written so_far after text (last_line listing last.0) (written_all written so_far text done.4.gathers) last.2,
+        ),
+      ),
+    )
+front_at_end (Err e) decoder printer listing count input now left written so_far after done read whole broken =
+    let last = broken listing done.0 done.1 done.4.decoded done.4.follows in
+    let text = done.4.text in
+    let front = last.2 in (
+      done.0,
+      [],
+      done.1,
+      [],
+      last.0,
+      text,
+      Consumes-trans input now left done.0 [] done.3 read,
+      (let P : List Timed → Type 0 = λ es. Shows done.0 es last.0 in subst P (sym (append-nil done.1)) last.1),
+      tt,
+      done.4.lines,
+      (
+        front.0,
+        (
+          text ++ front.1.0,
+          ap (λ bs. text ++ bs) front.1.1 ∙ sym (append_assoc text front.1.0 front.0),
+          Appends-trans written so_far after text front.1.0 (written_all written so_far text done.4.gathers) front.1.2,
+        ),
+      ),
+    )
+
+pub all_at_end : (decoder : Decoder) (printer : Printer) (listing : Listing) (count : ℕ) (input now left written so_far after : Option (List ℕ)) → count ≤ limit
+    → HasListed decoder printer listing count input now written so_far → Consumes now left [] → IsAtEnd left → Finishes decoder printer so_far after → ListsAll listing input written after
+all_at_end decoder printer listing count None now left written so_far after within done read end whole = tt
+all_at_end decoder printer listing count (Some all) None left written so_far after within done read end whole = absurd done.3
+all_at_end decoder printer listing count (Some all) (Some ahead) None written so_far after within done read end whole = absurd read
+all_at_end decoder printer listing count (Some all) (Some ahead) (Some left) written so_far after within done read end whole =
+    let last = whole listing done.0 done.1 done.4.decoded done.4.follows in
+    let bytes_are : done.0 ≡ all = sym (done.3 ∙ ap (λ bs. done.0 ++ bs) (read ∙ end) ∙ append-nil done.0) in (
+      done.1,
+      last.0,
+      done.4.text,
+      omega (arith, done.2, within, ap length bytes_are),
+      (let P : List ℕ → Type 0 = λ bs. Shows bs done.1 last.0 in subst P bytes_are last.1),
+      done.4.lines,
+      Appends-trans written so_far after done.4.text (last_line listing last.0) (written_all written so_far done.4.text done.4.gathers) last.2,
+    )
+
+-- The printer was given some events.
+pub has_begun : (decoder : Decoder) (printer : Printer) (listing : Listing) (count : ℕ) (input now written so_far : Option (List ℕ))
+    → HasListed decoder printer listing count input now written so_far → HasBegun printer
+has_begun decoder printer listing count input now written so_far done = (listing, done.1, done.4.follows)
+
+never : (error : ListError) (extra : List Timed) (written written' : Option (List ℕ)) (text : List ℕ) → Stops error extra written written' text → (error ≡ Read) ⊎ (error ≡ TooLong) → ⊥
+never error extra written written' text stops (inl is) = (let P : ListError → Type 0 = λ e. Stops e extra written written' text in subst P is stops)
+never error extra written written' text stops (inr is) = (let P : ListError → Type 0 = λ e. Stops e extra written written' text in subst P is stops)
+
+-- Amid a piece only a write or memory is refused.
+pub no_other : (error : ListError) (old new : Decoder) (printer : Printer) (listing : Listing) (count : ℕ) (piece : List ℕ) (input now written so_far after : Option (List ℕ))
+    → HasListed old printer listing count input now written so_far → BreaksOff error old printer count piece new so_far after → (error ≡ Read) ⊎ (error ≡ TooLong) → ⊥
+no_other error old new printer listing count piece input now written so_far after done breaks is =
+    let cut = breaks listing done.0 done.1 written done.2 done.4 in
+    let broken = cut.5 in
+    never error broken.extra written after broken.text broken.stops is

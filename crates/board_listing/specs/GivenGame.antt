@@ -1,0 +1,90 @@
+-- The game that the lines of `follow` give. Lines, events and plies are listed with the latest first.
+use Rattle.std.specs.Prelude.{◌≡◌, ◌⊎◌, ℕ, List, [], ◌∷◌, ◌++◌, codes, map, reverse, Option, Some, None}
+use Rattle.std.specs.Io.KnownBytes.{Appends}
+use Rattle.chess_rules.specs.declared.men.Parts.{Parts}
+use Rattle.chess_rules.specs.Legal.{Legal}
+use Rattle.chess_text.specs.San.{San}
+use Rattle.dgt_frame.specs.declared.events.FaultKind.{FaultKind}
+use Rattle.dgt_frame.specs.Streams.{Timed}
+use Rattle.settle_core.specs.declared.game.Outcome.{Outcome}
+use Rattle.settle_core.specs.declared.game.Ply.{Ply}
+use Rattle.settle_core.specs.Ending.{IsResult}
+use Rattle.settle_core.specs.Folding.{moves_of}
+use Rattle.settle_core.specs.Settling.{reached}
+use Rattle.pgn_book.specs.Games.{Content}
+use Rattle.pgn_book.specs.Values.{TagValues}
+use Rattle.chess_rules.specs.Valid.{Valid}
+use Rattle.board_session.specs.declared.recording.Report.{Report}
+use Rattle.board_session.specs.declared.recording.Setup.{Setup}
+use Rattle.board_session.specs.Gaming.{IsGameOf}
+use Rattle.board_session.specs.Recording.{RecordsGame}
+use Rattle.board_session.specs.Settings.{Setting}
+use Rattle.board_listing.specs.declared.listing.Listing.TheVariants.{Game}
+use Rattle.board_listing.specs.GameText.{TellsEvents}
+use Rattle.board_listing.specs.GameLines.{line, move_words, result_words, waiting_words}
+use Rattle.board_listing.specs.EventLines.{kind_text, rest_line}
+use Rattle.board_listing.specs.Listings.{ListsAll}
+
+-- A line: the offset of the byte at which its event came, and what is said of it.
+pub record GameLine : Type 0 where
+  pub offset : ℕ
+  pub words : List ℕ
+
+-- The words tell this ply, which is legal where these stand before it: this word, its number, its SAN and its clock.
+pub record TellsLegal (start : Parts) (before : List Ply) (word : List ℕ) (ply : Ply) (words : List ℕ) : Type 0 where
+  pub san : List ℕ
+  pub legal : Legal (reached start (moves_of before)) ply.mv
+  pub san_is : San (reached start (moves_of before)) ply.mv san
+  pub words_are : words ≡ move_words word (reached start (moves_of before)) san ply.clock
+
+-- A move adds a ply.
+abbrev pub AddsPly : Parts → List Ply → List ℕ → List Ply → Type 0
+AddsPly start before words after = (ply : Ply) × (after ≡ ply ∷ before) × TellsLegal start before (codes "move") ply words
+
+-- A correction puts a ply in the place of the last one.
+abbrev pub CorrectsPly : Parts → List Ply → List ℕ → List Ply → Type 0
+CorrectsPly start [] words after = ⊥
+CorrectsPly start (last ∷ earlier) words after = (ply : Ply) × (after ≡ ply ∷ earlier) × TellsLegal start earlier (codes "correction") ply words
+
+-- Of a picture that waits, and of a fault, nothing changes.
+abbrev pub IsOther : List ℕ → Type 0
+IsOther words = ((squares : List ℕ) × (words ≡ waiting_words squares)) ⊎ ((kind : FaultKind) × (words ≡ codes "fault " ++ kind_text kind))
+
+-- These words make the second plies and result of the first ones.
+abbrev pub Changes : Parts → List ℕ → List Ply → Option Outcome → List Ply → Option Outcome → Type 0
+Changes start words before old after new = (AddsPly start before words after × (new ≡ old))
+    ⊎ ((CorrectsPly start before words after × (new ≡ old))
+    ⊎ (((after ≡ before) × (words ≡ result_words new))
+    ⊎ ((after ≡ before) × (new ≡ old) × IsOther words)))
+
+-- The lines, taken in order, give these plies and this result. Before the first one there is no ply, and the result is that of
+-- the start: `*`, but where that is checkmate or stalemate.
+abbrev pub Gives : Parts → List GameLine → List Ply → Option Outcome → Type 0
+Gives start [] plies result = (plies ≡ []) × IsResult start None result
+Gives start (told ∷ earlier) plies result = (before : List Ply) × (old : Option Outcome) × Gives start earlier before old
+    × Changes start told.words before old plies result
+
+-- the text of lines
+abbrev pub text_of : List GameLine → List ℕ
+text_of [] = []
+text_of (told ∷ earlier) = text_of earlier ++ line told.offset told.words
+
+-- Lines give one list of plies and one result at most.
+abbrev pub LinesGiveOneGame : Type 0
+LinesGiveOneGame = (start : Parts) (lines : List GameLine) (plies others : List Ply) (result other : Option Outcome) → Valid start
+    → Gives start lines plies result → Gives start lines others other → (plies ≡ others) × (result ≡ other)
+
+-- What is told of events are lines that give their game.
+abbrev pub LinesGiveTheGame : Type 0
+LinesGiveTheGame = (setting : Setting) (tags : TagValues) (events : List Timed) (text : List ℕ) (game : Content) → Valid setting.start
+    → TellsEvents setting events text → IsGameOf game setting tags (map (λ t. t.event) events)
+    → (lines : List GameLine) × (text ≡ text_of lines) × Gives setting.start lines (reverse game.plies) game.result
+
+-- Where `record` writes the PGN text of a game of a whole stream, `follow` writes, of the same bytes and as it is set up, lines
+-- that give this game, and the line of the rest.
+abbrev pub FollowTellsTheGame : Type 0
+FollowTellsTheGame = (setup : Setup) (report : Report) (bytes : List ℕ) (sent sent' written written' told told' : Option (List ℕ))
+    → (recorded : RecordsGame setup report bytes sent sent' written written')
+    → ListsAll (Game setup.start setup.first setup.rotated) (Some bytes) told told'
+    → (lines : List GameLine) × (rest : ℕ) × Appends told told' (text_of lines ++ rest_line rest)
+    × Gives setup.start lines (reverse recorded.game.plies) recorded.game.result

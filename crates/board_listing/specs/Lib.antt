@@ -1,0 +1,12 @@
+pub mod EventLines
+pub mod Followers
+pub mod GameLines
+pub mod GameText
+pub mod GivenGame
+pub mod Listings
+pub mod News
+pub mod OneText
+pub mod PictureLines
+pub mod Printers
+pub mod Progress
+pub mod Status

@@ -1,0 +1,16 @@
+//! What `show`, `pictures` and `follow` print of a stream of board bytes.
+#![tactic(auto)]
+
+mod events;
+mod follower;
+mod game;
+pub mod laws;
+mod listing;
+mod pictures;
+mod printer;
+mod stream;
+mod text;
+
+pub use listing::Listing;
+pub use stream::{ListError, list_stream};
+pub use text::{GATHERED, LONGEST, Lines, add, add_number};

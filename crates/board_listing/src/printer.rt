@@ -1,0 +1,82 @@
+//! Events to lines.
+ghost use Rattle.std.specs.Prelude.{◌≡◌, ◌≤◌, ◌+◌, ◌∷◌, [], ◌++◌, List, OnErr, OnOk};
+ghost use Rattle.arrayvec.specs.ArrayVec.{array_vec_len};
+ghost use Rattle.dgt_frame.specs.Streams.{HasFrame, Timed};
+ghost use Rattle.board_listing.specs.declared.listing.Listing.{Listing};
+ghost use Rattle.board_listing.specs.Listings.{Refuses, last_line};
+ghost use Rattle.board_listing.specs.Printers.{AddsLines, Follows, HasBegun};
+
+use crate::events::{add_line, add_rest};
+use crate::follower::Follower;
+use crate::listing::Listing;
+use crate::pictures::add_placement;
+use crate::text::{GATHERED, LONGEST, Lines};
+use board_session::View;
+use dgt_frame::Event;
+use std::alloc::{AllocError, Global};
+
+/// Follows the events of a stream, and makes the lines that are listed of them.
+#[derive(Drop)]
+pub enum Printer {
+    Events,
+    Pictures(View),
+    Game(Follower),
+}
+
+impl Printer {
+    /// A printer that has followed no event.
+    pub fn new(alloc: Global, listing: Listing) -> Printer
+        ensures { Follows result listing [] }
+    {
+        match listing {
+            Listing::Events => Printer::Events,
+            Listing::Pictures { rotated } => Printer::Pictures(View::new(rotated)),
+            Listing::Game {
+                start,
+                first,
+                rotated,
+            } => { Printer::Game(Follower::new(alloc, start, first, rotated)) }
+        }
+    }
+
+    /// Adds the lines of an event at this offset: two, one or none.
+    ///
+    /// # Errors
+    ///
+    /// Memory is taken only under `Game`, where the event gives a move. Where that is refused, no line is added.
+    pub fn add(&mut self, lines: &mut Lines, offset: u32, event: &Event) -> Result<(), AllocError>
+        requires room { array_vec_len lines.old + LONGEST ≤ GATHERED }
+        requires frame { HasFrame event.now }
+        requires begun { HasBegun self.old }
+        ensures ok { OnOk result (AddsLines self.old lines.old.items (record { offset = offset; event = event.now }) self.new lines.new.items) }
+        ensures err { OnErr result (lines.new.items ≡ lines.old.items) }
+        ensures memory { (listing : Listing) (events : List Timed) → Follows self.old listing events
+            → OnErr result (Refuses listing events (record { offset = offset; event = event.now })) }
+    {
+        match self {
+            Printer::Events => {
+                add_line(lines, offset, event);
+                Ok(())
+            }
+            Printer::Pictures(view) => {
+                if let Some(picture) = view.take(*event) {
+                    add_placement(lines, &picture);
+                }
+                Ok(())
+            }
+            Printer::Game(follower) => follower.add(lines, offset, event),
+        }
+    }
+
+    /// Adds the last line, if there is one.
+    pub fn end(&self, lines: &mut Lines, rest: u16)
+        requires { array_vec_len lines.old + LONGEST ≤ GATHERED }
+        ensures { (listing : Listing) (events : List Timed) → Follows self.now listing events
+            → lines.new.items ≡ lines.old.items ++ last_line listing rest }
+    {
+        match self {
+            Printer::Events | Printer::Game(_) => add_rest(lines, rest),
+            Printer::Pictures(_) => {}
+        }
+    }
+}

@@ -1,0 +1,209 @@
+//! Streams to lines: the subcommands `show`, `pictures` and `follow`.
+ghost use Rattle.std.specs.Prelude.{◌≡◌, ◌<◌, ◌≤◌, ◌+◌, ◌^◌, [], length, IfErr, OnOk, OnErr, Err, true, false};
+ghost use Rattle.dgt_frame.specs.Streams.{HasFrame};
+ghost use Rattle.dgt_frame.specs.Watched.{inner_of, has_failed};
+ghost use Rattle.board_listing.specs.Listings.{ListsAll, ListsFirst, ListsFront, ListsRead, ListsRefused, ReadsWithin};
+ghost use Rattle.arrayvec.specs.ArrayVec.{array_vec_len};
+ghost use Rattle.board_listing.specs.Printers.{HasBegun};
+ghost use Rattle.board_listing.specs.Progress.{BreaksLines, BreaksOff, FinishBreaksOff, Finishes, GathersEvent, HasTaken, ListsPiece};
+ghost use Rattle.board_listing.specs.Status.{status_of, words_of};
+
+use crate::listing::Listing;
+use crate::printer::Printer;
+use crate::text::{GATHERED, LONGEST, Lines};
+use dgt_frame::{Decoder, Event, Watch};
+use pgn_book::{WriteFault, put};
+use std::alloc::Global;
+use std::io::{Read, Write};
+
+/// The most bytes of a stream.
+pub const LIMIT: u32 = 67_108_864;
+
+const PIECE: usize = 4096;
+
+/// Why a listing gave up.
+#[derive(Clone, Copy, Debug, PartialEq, Eq)]
+pub enum ListError {
+    /// A read failed.
+    Read,
+    /// A write failed.
+    Write,
+    /// There is a byte past the limit.
+    TooLong,
+    /// Memory was refused.
+    Memory,
+}
+
+impl ListError {
+    /// What the program says of it.
+    pub fn line(self) -> &'static [u8]
+        ensures { result.now ≡ words_of self }
+    {
+        match self {
+            ListError::Read => b"read fault\n",
+            ListError::Write => b"write fault\n",
+            ListError::TooLong => b"input: too long\n",
+            ListError::Memory => b"memory\n",
+        }
+    }
+
+    /// The exit status that tells of it.
+    pub fn status(self) -> u8
+        ensures { result ≡ status_of self }
+    {
+        match self {
+            ListError::Read | ListError::Write => 3,
+            ListError::TooLong => 1,
+            ListError::Memory => 4,
+        }
+    }
+}
+
+// Adds the lines of an event, and writes those that wait where there is no room for another's. Where memory is refused, those
+// of the events before it are written.
+fn gather<O: Write>(
+    printer: &mut Printer,
+    lines: &mut Lines,
+    offset: u32,
+    event: &Event,
+    out: &mut Watch<O>,
+) -> Result<(), ListError>
+    requires working { has_failed out.old ≡ false }
+    requires frame { HasFrame event.now }
+    requires begun { HasBegun printer.old }
+    requires room { array_vec_len lines.old + LONGEST ≤ GATHERED }
+    ensures ok { OnOk result (GathersEvent printer.old (O.contents (inner_of out.old)) lines.old.items (record { offset = offset; event = event.now })
+        printer.new (O.contents (inner_of out.new)) lines.new.items) }
+    ensures room { OnOk result (array_vec_len lines.new + LONGEST ≤ GATHERED) }
+    ensures begun { OnOk result (HasBegun printer.new) }
+    ensures working { OnOk result (has_failed out.new ≡ false) }
+    ensures broken { IfErr result (λ error. BreaksLines printer.old (O.contents (inner_of out.old)) lines.old.items
+        (record { offset = offset; event = event.now }) error (O.contents (inner_of out.new))) }
+    ensures failed { result ≡ Err ListError.Write → has_failed out.new ≡ true }
+{
+    if printer.add(lines, offset, event).is_err() {
+        return match put(out, lines.as_slice()) {
+            Ok(()) => Err(ListError::Memory),
+            Err(_) => Err(ListError::Write),
+        };
+    }
+    if lines.len() + LONGEST > GATHERED {
+        if put(out, lines.as_slice()).is_err() {
+            return Err(ListError::Write);
+        }
+        lines.clear();
+    }
+    Ok(())
+}
+
+// Gives the decoder a piece of the stream, and writes the lines of its events.
+fn list_piece<O: Write>(
+    decoder: &mut Decoder,
+    printer: &mut Printer,
+    start: u32,
+    piece: &[u8],
+    out: &mut Watch<O>,
+) -> Result<(), ListError>
+    requires working { has_failed out.old ≡ false }
+    requires room { start + length piece.now < 2 ^ 32 }
+    requires taken { HasTaken decoder.old start }
+    requires begun { HasBegun printer.old }
+    ensures ok { OnOk result (ListsPiece decoder.old printer.old start piece.now decoder.new printer.new
+        (O.contents (inner_of out.old)) (O.contents (inner_of out.new)) []) }
+    ensures working { OnOk result (has_failed out.new ≡ false) }
+    ensures broken { IfErr result (λ error. BreaksOff error decoder.old printer.old start piece.now decoder.new
+        (O.contents (inner_of out.old)) (O.contents (inner_of out.new))) }
+    ensures failed { result ≡ Err ListError.Write → has_failed out.new ≡ true }
+{
+    let mut lines = Lines::new();
+    let mut taken = 0;
+    'events: while let Some(arrival) = decoder.push_until(&piece[taken..]) {
+        let last = taken + arrival.taken - 1;
+        if let Err(error) = gather(
+            printer,
+            &mut lines,
+            start + last as u32,
+            &arrival.event,
+            out,
+        ) {
+            return Err(error);
+        }
+        taken += arrival.taken;
+    }
+    match put(out, lines.as_slice()) {
+        Ok(()) => Ok(()),
+        Err(_) => Err(ListError::Write),
+    }
+}
+
+fn finish<O: Write>(
+    decoder: &Decoder,
+    printer: &Printer,
+    out: &mut Watch<O>,
+) -> Result<(), WriteFault>
+    requires working { has_failed out.old ≡ false }
+    ensures ok { OnOk result (Finishes decoder.now printer.now (O.contents (inner_of out.old)) (O.contents (inner_of out.new))) }
+    ensures working { OnOk result (has_failed out.new ≡ false) }
+    ensures front { OnErr result (FinishBreaksOff decoder.now printer.now (O.contents (inner_of out.old)) (O.contents (inner_of out.new))) }
+    ensures failed { OnErr result (has_failed out.new ≡ true) }
+{
+    let mut lines = Lines::new();
+    printer.end(&mut lines, decoder.pending());
+    put(out, lines.as_slice())
+}
+
+/// Writes the lines of a stream. Those of a piece are written before the next read, so that those of a slow board stand
+/// as they come.
+pub fn list_stream<R: Read, O: Write>(
+    alloc: Global,
+    listing: Listing,
+    reader: &mut Watch<R>,
+    out: &mut Watch<O>,
+) -> Result<(), ListError>
+    requires reading { has_failed reader.old ≡ false }
+    requires working { has_failed out.old ≡ false }
+    ensures ok { OnOk result (ListsAll listing (R.remaining (inner_of reader.old))
+        (O.contents (inner_of out.old)) (O.contents (inner_of out.new))) }
+    ensures reading { result ≡ Err ListError.Read → has_failed reader.new ≡ true }
+    ensures working { result ≡ Err ListError.Write → has_failed out.new ≡ true }
+    ensures whole { OnOk result ((has_failed reader.new ≡ false) × (has_failed out.new ≡ false)) }
+    ensures bounded { ReadsWithin LIMIT (R.remaining (inner_of reader.old)) (R.remaining (inner_of reader.new)) }
+
+    // What stands after each refusal, and that nothing but a front of the text is ever written.
+    ensures read { result ≡ Err ListError.Read → ListsRead listing
+        (R.remaining (inner_of reader.old)) (R.remaining (inner_of reader.new))
+        (O.contents (inner_of out.old)) (O.contents (inner_of out.new)) }
+    ensures front { ListsFront listing (R.remaining (inner_of reader.old)) (R.remaining (inner_of reader.new))
+        (O.contents (inner_of out.old)) (O.contents (inner_of out.new)) }
+    ensures long { result ≡ Err ListError.TooLong → ListsFirst listing (R.remaining (inner_of reader.old))
+        (O.contents (inner_of out.old)) (O.contents (inner_of out.new)) }
+    ensures memory { result ≡ Err ListError.Memory → ListsRefused listing
+        (R.remaining (inner_of reader.old)) (R.remaining (inner_of reader.new))
+        (O.contents (inner_of out.old)) (O.contents (inner_of out.new)) }
+{
+    let mut decoder = Decoder::new();
+    let mut printer = Printer::new(alloc, listing);
+    let mut buffer = [0u8; PIECE];
+    let mut total: u32 = 0;
+    'pieces: loop {
+        let room = ((LIMIT + 1 - total) as usize).min(PIECE);
+        let space = &mut buffer[..room];
+        let Ok(n) = reader.read(space) else {
+            decoder.pending();
+            return Err(ListError::Read);
+        };
+        if n == 0 {
+            return finish(&decoder, &printer, out).map_err(|_| ListError::Write);
+        }
+        let within = n.min((LIMIT - total) as usize);
+        if let Err(error) = list_piece(&mut decoder, &mut printer, total, &space[..within], out) {
+            decoder.pending();
+            return Err(error);
+        }
+        if within < n {
+            decoder.pending();
+            return Err(ListError::TooLong);
+        }
+        total += n as u32;
+    }
+}

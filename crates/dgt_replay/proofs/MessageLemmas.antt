@@ -1,0 +1,94 @@
+-- What is said on standard error.
+use Rattle.std.proofs.Common.{inl, inr, ◌≡◌, ◌⊎◌, ℕ, ◌<◌, List, [], length, take, drop, codes, Option, Some, None, Result, Ok, Err, OnErr, OnOk, IfErr, Bool, true, false, refl, sym, ◌∙◌, append-nil, arith}
+use Rattle.std.proofs.lemmas.List.{take-append-drop}
+use Rattle.std.proofs.KnownBytes.{Keeps-refl}
+use Rattle.std.specs.Io.KnownBytes.{Appends, Keeps}
+use Rattle.pgn_book.specs.declared.output.WriteFault.{WriteFault}
+use Rattle.board_session.specs.Recording.{AppendsPart}
+use Rattle.dgt_replay.specs.Messages.{GivesHelp, Says, Tells}
+
+-- What a write says: all, or the first bytes where the stream has failed.
+pub part_put : {T : Type 0} (r : Result T WriteFault) (said said' : Option (List ℕ)) (words : List ℕ) → OnOk r (Appends said said' words)
+    → IfErr r (λ fault. (fault.written < length words) × Appends said said' (take fault.written words)) → AppendsPart said said' words
+part_put (Ok done) said said' words all part = (words, [], sym (append-nil words), all)
+part_put (Err fault) said said' words all part = (take fault.written words, drop fault.written words, sym (take-append-drop fault.written words), part.1)
+
+pub says_put : {T : Type 0} (r : Result T WriteFault) (said said' : Option (List ℕ)) (failed : Bool) (words : List ℕ) → OnOk r (Appends said said' words)
+    → IfErr r (λ fault. (fault.written < length words) × Appends said said' (take fault.written words)) → OnErr r (failed ≡ true) → Says said said' failed words
+says_put {T} (Ok done) said said' failed words all part broken = (part_put {T = T} (Ok done) said said' words all part, λ e. all)
+says_put {T} (Err fault) said said' failed words all part broken =
+    (part_put {T = T} (Err fault) said said' words all part, λ e. let bad : true ≡ false = sym broken ∙ e in cc)
+
+same_bytes : (said : Option (List ℕ)) → Appends said said []
+same_bytes None = tt
+same_bytes (Some bytes) = sym (append-nil bytes)
+
+-- Where the stream has failed before, nothing more is said.
+pub says_nothing : (said : Option (List ℕ)) (failed : Bool) (words : List ℕ) → failed ≡ true → Says said said failed words
+says_nothing said failed words broken = (([], words, refl, same_bytes said), λ e. let bad : true ≡ false = sym broken ∙ e in cc)
+
+-- What is said at each status.
+pub tells_done : (status : ℕ) (May : List ℕ → Type 0) (said : Option (List ℕ)) (reader_failed out_failed err_failed : Bool) → status ≡ 0
+    → Tells status May said said reader_failed out_failed err_failed
+tells_done status May said reader_failed out_failed err_failed zero = record {
+  done = λ e. Keeps-refl said;
+  refused = λ e. absurd (omega arith);
+  fault = λ e. absurd (omega arith);
+  memory = λ e. absurd (omega arith);
+}
+
+pub tells_refused : (status : ℕ) (May : List ℕ → Type 0) (said said' : Option (List ℕ)) (reader_failed out_failed err_failed : Bool) (words : List ℕ) → status ≡ 1
+    → May words → Says said said' err_failed words → Tells status May said said' reader_failed out_failed err_failed
+tells_refused status May said said' reader_failed out_failed err_failed words one may says = record {
+  done = λ e. absurd (omega arith);
+  refused = λ e. (words, may, says);
+  fault = λ e. absurd (omega arith);
+  memory = λ e. absurd (omega arith);
+}
+
+pub tells_fault : (status : ℕ) (May : List ℕ → Type 0) (said said' : Option (List ℕ)) (reader_failed out_failed err_failed : Bool) → status ≡ 3
+    → ((reader_failed ≡ true) × Says said said' err_failed (codes "read fault\n")) ⊎ ((out_failed ≡ true) × Says said said' err_failed (codes "write fault\n"))
+    → Tells status May said said' reader_failed out_failed err_failed
+tells_fault status May said said' reader_failed out_failed err_failed three which = record {
+  done = λ e. absurd (omega arith);
+  refused = λ e. absurd (omega arith);
+  fault = λ e. which;
+  memory = λ e. absurd (omega arith);
+}
+
+pub tells_memory : (status : ℕ) (May : List ℕ → Type 0) (said said' : Option (List ℕ)) (reader_failed out_failed err_failed : Bool) → status ≡ 4
+    → Says said said' err_failed (codes "memory\n") → Tells status May said said' reader_failed out_failed err_failed
+tells_memory status May said said' reader_failed out_failed err_failed four says = record {
+  done = λ e. absurd (omega arith);
+  refused = λ e. absurd (omega arith);
+  fault = λ e. absurd (omega arith);
+  memory = λ e. says;
+}
+
+pub help_out_of_memory : (status : ℕ) (written written' said said' : Option (List ℕ)) (out_failed err_failed : Bool) → status ≡ 4
+    → Keeps written written' → Says said said' err_failed (codes "memory\n") → GivesHelp status written written' said said' out_failed err_failed
+help_out_of_memory status written written' said said' out_failed err_failed four keeps says = record {
+  done = λ e. absurd (omega arith);
+  fault = λ e. absurd (omega arith);
+  memory = λ e. (keeps, says);
+  known = inr (inr four);
+}
+
+-- What is said where the output is flushed first.
+pub tells_or_fault : (status wanted : ℕ) (May : List ℕ → Type 0) (said said' : Option (List ℕ)) (reader_failed out_failed err_failed : Bool) (words : List ℕ)
+    → ((status ≡ wanted) × Says said said' err_failed words) ⊎ ((status ≡ 3) × (out_failed ≡ true) × Says said said' err_failed (codes "write fault\n"))
+    → (status ≡ wanted → Says said said' err_failed words → Tells status May said said' reader_failed out_failed err_failed)
+    → Tells status May said said' reader_failed out_failed err_failed
+tells_or_fault status wanted May said said' reader_failed out_failed err_failed words (inl (is, says)) tells = tells is says
+tells_or_fault status wanted May said said' reader_failed out_failed err_failed words (inr (three, failed, says)) tells =
+    tells_fault status May said said' reader_failed out_failed err_failed three (inr (failed, says))
+
+-- The same with other words that may be said.
+pub tells_alike : (status : ℕ) (May Might : List ℕ → Type 0) (said said' : Option (List ℕ)) (reader_failed out_failed err_failed : Bool) → ((words : List ℕ) → May words → Might words)
+    → Tells status May said said' reader_failed out_failed err_failed → Tells status Might said said' reader_failed out_failed err_failed
+tells_alike status May Might said said' reader_failed out_failed err_failed alike tells = record {
+  done = tells.done;
+  refused = λ e. (let told = tells.refused e in (told.0, alike told.0 told.1, told.2));
+  fault = tells.fault;
+  memory = tells.memory;
+}

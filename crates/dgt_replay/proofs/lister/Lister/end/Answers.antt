@@ -1,6 +1,0 @@
-use Prim.{search}
-use Rattle.std.proofs.Common.{rules}
-use Rattle.dgt_replay.proofs.lister.Lister.end.Goals as goal
-
-pub returns-in-Events : goal.returns-in-Events
-returns-in-Events c = search rules

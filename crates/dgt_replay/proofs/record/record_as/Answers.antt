@@ -1,0 +1,24 @@
+use Rattle.std.proofs.Common.{◌≡◌, ◌++◌, ◌∙◌, List, ℕ, ap, inl, inr, rules, subst}
+use Rattle.dgt_frame.specs.Watched.{inner_of}
+use Rattle.board_session.specs.Recording.{AppendsPart}
+use Rattle.dgt_replay.specs.Recorded.{report_line}
+use Rattle.dgt_replay.proofs.MessageLemmas.{part_put}
+use Rattle.dgt_replay.proofs.record.record_as.Goals as goal
+
+pub returns-in-Err-clause-fails : goal.returns-in-Err-clause-fails
+returns-in-Err-clause-fails g c three =
+    let asked = g.E.Write.contents (inner_of c.record.new.board) in
+    let after = g.E.Write.contents (inner_of c.put.new.out) in
+    let told : AppendsPart asked after c.as_slice.result.now = part_put c.put.result asked after c.as_slice.result.now c.put.ensures.ok c.put.ensures.fault in
+    let line : c.as_slice.result.now ≡ report_line c.in-Ok.report = c.as_slice.ensures.value ∙ c.add_report.ensures ∙ ap (λ bs. bs ++ report_line c.in-Ok.report) c.new-lines.ensures in
+    let P : List ℕ → Type 0 = λ bs. AppendsPart asked after bs in
+    inr (inr (c.in-Err.ensures.failed, inr (c.in-Ok.report, asked, search rules, subst P line told)))
+
+pub returns-in-Err-Read-clause-fails : goal.returns-in-Err-Read-clause-fails
+returns-in-Err-Read-clause-fails g c three = inl (search rules, search rules)
+
+pub returns-in-Err-Board-clause-fails : goal.returns-in-Err-Board-clause-fails
+returns-in-Err-Board-clause-fails g c three = inr (inr (search rules, inl (search rules)))
+
+pub returns-in-Err-Write-clause-fails : goal.returns-in-Err-Write-clause-fails
+returns-in-Err-Write-clause-fails g c three = inr (inl (search rules, search rules))

@@ -1,0 +1,109 @@
+//! The subcommand `check`.
+ghost use Rattle.std.specs.Prelude.{◌≡◌, ◌≢◌, ◌<◌, ◌≤◌, ◌⊎◌, ◌+◌, ◌++◌, Err, IfOk, OnOk, IfSome, false, true, length};
+ghost use Rattle.std.specs.Io.KnownBytes.{Keeps};
+ghost use Rattle.arrayvec.specs.ArrayVec.{array_vec_len};
+ghost use Rattle.dgt_frame.specs.Watched.{inner_of, has_failed};
+ghost use Rattle.dgt_replay.specs.Checked.{ChecksGame, RefusesText, summary_line};
+ghost use Rattle.board_listing.specs.Listings.{ReadsWithin};
+ghost use Rattle.dgt_replay.specs.Messages.{Tells};
+
+use crate::messages::{refused, refused_run};
+use board_listing::{GATHERED, LONGEST, Lines, add};
+use dgt_frame::Watch;
+use itoa::Buffer;
+use pgn_book::{PgnError, put, read_pgn, result_str};
+use settle_core::Outcome;
+use std::alloc::Global;
+use std::io::{Read, Write};
+
+/// The most bytes of a PGN text.
+pub const TEXT_LIMIT: usize = 268_435_456;
+
+const PIECE: usize = 4096;
+
+/// Why a text could not be read.
+enum TextError {
+    Memory,
+    Read,
+    TooLong,
+}
+
+// Reads a text to its end, or one byte past its limit.
+fn read_text<R: Read>(alloc: Global, reader: &mut Watch<R>) -> Result<Vec<u8>, TextError>
+    requires { has_failed reader.old ≡ false }
+    ensures whole { IfOk result (λ text. IfSome (R.remaining (inner_of reader.old)) (λ bytes. text.items ≡ bytes)) }
+    ensures within { IfOk result (λ text. length text.items ≤ TEXT_LIMIT) }
+    ensures bounded { ReadsWithin TEXT_LIMIT (R.remaining (inner_of reader.old)) (R.remaining (inner_of reader.new)) }
+    ensures read { result ≡ Err TextError.Read → has_failed reader.new ≡ true }
+    ensures works { OnOk result (has_failed reader.new ≡ false) }
+    ensures long { result ≡ Err TextError.TooLong → IfSome (R.remaining (inner_of reader.old)) (λ bytes. TEXT_LIMIT < length bytes) }
+{
+    let mut text = Vec::new(alloc);
+    let mut buffer = [0u8; PIECE];
+    'pieces: loop {
+        let room = (TEXT_LIMIT + 1 - text.len()).min(PIECE);
+        let space = &mut buffer[..room];
+        let Ok(n) = reader.read(space) else {
+            return Err(TextError::Read);
+        };
+        if n == 0 {
+            return Ok(text);
+        }
+        if n > TEXT_LIMIT - text.len() {
+            return Err(TextError::TooLong);
+        }
+        if text.extend_from_slice(&space[..n]).is_err() {
+            return Err(TextError::Memory);
+        }
+    }
+}
+
+// Adds how many moves a game has, and its result.
+fn add_summary(lines: &mut Lines, moves: u64, outcome: Option<Outcome>)
+    requires { array_vec_len lines.old + LONGEST ≤ GATHERED }
+    ensures { lines.new.items ≡ lines.old.items ++ summary_line moves outcome }
+{
+    let mut buffer = Buffer::new();
+    add(lines, b"moves ");
+    add(lines, buffer.format(moves).as_bytes());
+    add(lines, b", result ");
+    add(lines, result_str(outcome).as_bytes());
+    add(lines, b"\n");
+}
+
+/// Says whether the input is a game in PGN export form, and answers the status.
+pub fn check<R: Read, O: Write, E: Write>(
+    alloc: Global,
+    reader: &mut Watch<R>,
+    out: &mut Watch<O>,
+    err: &mut Watch<E>,
+) -> u8
+    requires reading { has_failed reader.old ≡ false }
+    requires working { has_failed out.old ≡ false }
+    ensures passes { result ≡ 0 → ChecksGame (R.remaining (inner_of reader.old)) (O.contents (inner_of out.old)) (O.contents (inner_of out.new)) }
+    ensures tells { Tells result (RefusesText (R.remaining (inner_of reader.old))) (E.contents (inner_of err.old)) (E.contents (inner_of err.new))
+        (has_failed reader.new) (has_failed out.new) (has_failed err.new) }
+    ensures bounded { ReadsWithin TEXT_LIMIT (R.remaining (inner_of reader.old)) (R.remaining (inner_of reader.new)) }
+    ensures silent { (result ≡ 1) ⊎ (result ≡ 4) → Keeps (O.contents (inner_of out.old)) (O.contents (inner_of out.new)) }
+    ensures works { result ≡ 0 → (has_failed reader.new ≡ false) × ((has_failed out.new ≡ false) × (err.new ≡ err.old)) }
+    ensures known { result ≤ 4 }
+    ensures status { result ≢ 2 }
+{
+    let text = match read_text(alloc, reader) {
+        Ok(text) => text,
+        Err(TextError::Memory) => return refused_run(out, err, b"memory\n", 4),
+        Err(TextError::Read) => return refused_run(out, err, b"read fault\n", 3),
+        Err(TextError::TooLong) => return refused_run(out, err, b"input: too long\n", 1),
+    };
+    let game = match read_pgn(alloc, text.as_slice()) {
+        Ok(game) => game,
+        Err(PgnError::Memory) => return refused_run(out, err, b"memory\n", 4),
+        Err(PgnError::NotExport) => return refused_run(out, err, b"pgn: not export\n", 1),
+    };
+    let mut lines = Lines::new();
+    add_summary(&mut lines, game.plies().len() as u64, game.result());
+    if put(out, lines.as_slice()).is_err() || out.flush().is_err() {
+        return refused(err, b"write fault\n", 3);
+    }
+    0
+}

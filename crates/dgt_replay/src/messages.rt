@@ -1,0 +1,104 @@
+//! What the program says on standard error when it refuses.
+ghost use Rattle.std.specs.Prelude.{◌≡◌, ◌≢◌, ◌≤◌, ◌++◌, ◌⊎◌, codes, length, false, true};
+ghost use Rattle.std.specs.Io.KnownBytes.{Keeps};
+ghost use Rattle.dgt_frame.specs.Watched.{inner_of, has_failed};
+ghost use Rattle.dgt_replay.specs.Messages.{Says, fen_words, tag_name, tag_words};
+
+use board_listing::{Lines, add};
+use chess_text::FenError;
+use dgt_frame::Watch;
+use pgn_book::{Tag, TagError, put};
+use std::io::Write;
+
+/// Says the words about a refusal, unless standard error has failed before, and answers its status.
+pub fn refused<E: Write>(err: &mut Watch<E>, words: &[u8], status: u8) -> u8
+    ensures status { result ≡ status }
+    ensures says { Says (E.contents (inner_of err.old)) (E.contents (inner_of err.new)) (has_failed err.new) words.now }
+{
+    if !err.failed() {
+        let _ = put(err, words);
+    }
+    status
+}
+
+/// Flushes the output, and says these words about a refusal, or that the output has failed; answers the status.
+pub fn refused_run<O: Write, E: Write>(
+    out: &mut Watch<O>,
+    err: &mut Watch<E>,
+    words: &[u8],
+    status: u8,
+) -> u8
+    requires { has_failed out.old ≡ false }
+    ensures ended { ((result ≡ status) × Says (E.contents (inner_of err.old)) (E.contents (inner_of err.new)) (has_failed err.new) words.now)
+        ⊎ ((result ≡ 3) × (has_failed out.new ≡ true) × Says (E.contents (inner_of err.old)) (E.contents (inner_of err.new)) (has_failed err.new) (codes "write fault\n")) }
+    ensures kept { Keeps (O.contents (inner_of out.old)) (O.contents (inner_of out.new)) }
+{
+    if out.flush().is_err() {
+        return refused(err, b"write fault\n", 3);
+    }
+    refused(err, words, status)
+}
+
+fn words_of(error: FenError) -> &'static [u8]
+    ensures { result.now ≡ fen_words error }
+{
+    match error {
+        FenError::Form => b"fen: form\n",
+        FenError::Counters => b"fen: counters\n",
+        FenError::Placement => b"fen: placement\n",
+        FenError::Kings => b"fen: kings\n",
+        FenError::Pawns => b"fen: pawns\n",
+        FenError::Rights => b"fen: rights\n",
+        FenError::EnPassant => b"fen: en passant\n",
+        FenError::Check => b"fen: check\n",
+    }
+}
+
+/// Says why a FEN is refused, and answers the status.
+pub fn refused_fen<E: Write>(err: &mut Watch<E>, error: FenError) -> u8
+    ensures status { result ≡ 1 }
+    ensures says { Says (E.contents (inner_of err.old)) (E.contents (inner_of err.new)) (has_failed err.new) (fen_words error) }
+{
+    refused(err, words_of(error), 1)
+}
+
+fn name_of(tag: Tag) -> &'static [u8]
+    ensures name { result.now ≡ tag_name tag }
+    ensures len { length result.now ≤ 5 }
+{
+    match tag {
+        Tag::Event => b"Event",
+        Tag::Site => b"Site",
+        Tag::Date => b"Date",
+        Tag::Round => b"Round",
+        Tag::White => b"White",
+        Tag::Black => b"Black",
+    }
+}
+
+fn refused_value<E: Write>(err: &mut Watch<E>, tag: Tag, reason: &[u8]) -> u8
+    requires { length reason.now ≤ 10 }
+    ensures status { result ≡ 1 }
+    ensures says { Says (E.contents (inner_of err.old)) (E.contents (inner_of err.new)) (has_failed err.new)
+        (codes "tag " ++ tag_name tag ++ reason.now) }
+{
+    let mut line = Lines::new();
+    add(&mut line, b"tag ");
+    add(&mut line, name_of(tag));
+    add(&mut line, reason);
+    refused(err, line.as_slice(), 1)
+}
+
+/// Says why the value of a tag is refused, and answers the status.
+pub fn refused_tag<E: Write>(err: &mut Watch<E>, tag: Tag, error: TagError) -> u8
+    ensures memory { error ≡ TagError.Memory → result ≡ 4 }
+    ensures value { error ≢ TagError.Memory → result ≡ 1 }
+    ensures says { Says (E.contents (inner_of err.old)) (E.contents (inner_of err.new)) (has_failed err.new) (tag_words tag error) }
+{
+    match error {
+        TagError::Text => refused_value(err, tag, b": text\n"),
+        TagError::Long => refused_value(err, tag, b": long\n"),
+        TagError::Date => refused_value(err, tag, b": date\n"),
+        TagError::Memory => refused(err, b"memory\n", 4),
+    }
+}
