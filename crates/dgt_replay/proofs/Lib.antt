@@ -1,9 +1,9 @@
 pub mod CheckLemmas
-pub mod CommandLemmas
 pub mod EndLemmas
 pub mod FaultLemmas
 pub mod MessageLemmas
 pub mod MoveLemmas
-pub mod SettingLemmas
+pub mod RefusalLemmas
+pub mod SetupLemmas
+pub mod SubcommandLemmas
 pub mod TextLemmas
-pub mod WordLemmas

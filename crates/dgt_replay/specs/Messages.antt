@@ -61,9 +61,9 @@ pub record Tells (status : ℕ) (May : List ℕ → Type 0) (said said' : Option
       ⊎ ((out_failed ≡ true) × Says said said' err_failed (codes "write fault\n"))
   pub memory : status ≡ 4 → Says said said' err_failed (codes "memory\n")
 
--- What becomes of mistaken words, by the status: the reason is said, in a text of the parser's, or that memory ran out.
-abbrev pub RefusesWords : ℕ → Option (List ℕ) → Option (List ℕ) → Bool → Type 0
-RefusesWords status said said' err_failed = ((status ≡ 2) × ((text : List ℕ) × Says said said' err_failed text))
+-- What becomes of mistaken arguments, by the status: the reason is said, in a text of the parser's, or that memory ran out.
+abbrev pub RefusesArguments : ℕ → Option (List ℕ) → Option (List ℕ) → Bool → Type 0
+RefusesArguments status said said' err_failed = ((status ≡ 2) × ((text : List ℕ) × Says said said' err_failed text))
     ⊎ ((status ≡ 4) × Says said said' err_failed (codes "memory\n"))
 
 -- What becomes of a request for help, by the status: a text is written, and nothing said; or it is said that the output has failed,

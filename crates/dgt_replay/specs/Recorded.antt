@@ -1,9 +1,6 @@
 -- What `record` does.
 use Rattle.std.specs.Prelude.{◌≡◌, ◌⊎◌, ℕ, List, ◌++◌, codes, decimal, Bool, Option, Err, true}
 use Rattle.std.specs.Io.KnownBytes.{Appends, Keeps}
-use Rattle.chess_rules.specs.Initial.{initial}
-use Rattle.dgt_frame.specs.declared.time.First.TheVariants.{White}
-use Rattle.pgn_book.specs.Values.{unknown_values}
 use Rattle.board_session.specs.declared.recording.RecordError.{RecordError}
 use Rattle.board_session.specs.declared.recording.RecordError.TheVariants.{Read, Board, Write}
 use Rattle.board_session.specs.declared.recording.Report.{Report}
@@ -15,10 +12,6 @@ use Rattle.dgt_replay.specs.Messages.{Says, end_words}
 abbrev pub report_line : Report → List ℕ
 report_line report = codes "\nmessages " ++ decimal report.messages ++ codes ", faults " ++ decimal report.faults
     ++ codes ", moves " ++ decimal report.moves ++ codes ", rest " ++ decimal report.rest ++ codes "\n"
-
--- the setup without options but that one: the initial position, White's time first, unknown tags
-abbrev pub plain_setup : Bool → Setup
-plain_setup rotated = record { start = initial; first = White; rotated = rotated; tags = unknown_values }
 
 -- The whole of the stream was recorded so, and the line about it stands after the bytes for the board.
 abbrev pub RecordsAndTells : Setup → Option (List ℕ) → Option (List ℕ) → Option (List ℕ) → Option (List ℕ) → Option (List ℕ) → Type 0

@@ -2,12 +2,9 @@
 #![tactic(auto)]
 
 mod check;
-pub mod laws;
 mod messages;
 mod moves;
 mod program;
 mod record;
-mod starting;
-mod words;
 
 pub use program::run;

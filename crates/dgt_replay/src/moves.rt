@@ -7,16 +7,17 @@ ghost use Rattle.chess_rules.specs.Legal.{Legal};
 ghost use Rattle.chess_text.specs.San.{San};
 ghost use Rattle.dgt_frame.specs.Watched.{inner_of, has_failed};
 ghost use Rattle.dgt_replay.specs.Printed.{PrintsMoves, TellsMoves};
-ghost use Rattle.dgt_replay.specs.SettingUp.{HasNoStart, RefusesStart, StartsAt, given};
+ghost use Rattle.replay_arguments.specs.Setups.{HasNoStart, StartsAt, given};
+ghost use Rattle.dgt_replay.specs.Refusals.{RefusesStart};
 ghost use Rattle.dgt_replay.specs.Messages.{Tells};
 
 use crate::messages::{refused, refused_fen, refused_run};
-use crate::starting::start_of;
 use board_listing::{GATHERED, LONGEST, Lines, add};
 use chess_rules::{Move, Position};
 use chess_text::write_san;
 use dgt_frame::Watch;
 use pgn_book::{WriteFault, put};
+use replay_arguments::start_of;
 use std::alloc::Global;
 use std::io::Write;
 

@@ -1,80 +1,22 @@
 //! The subcommand `record`.
-ghost use Rattle.std.specs.Prelude.{◌≡◌, ◌≢◌, ◌≤◌, ◌⊎◌, ◌+◌, ◌++◌, codes, false, IfErr, OnOk, MatchOption, MatchResult};
+ghost use Rattle.std.specs.Prelude.{◌≡◌, ◌≢◌, ◌≤◌, ◌⊎◌, ◌+◌, ◌++◌, codes, false};
 ghost use Rattle.arrayvec.specs.ArrayVec.{array_vec_len};
 ghost use Rattle.board_session.specs.declared.recording.Setup.{Setup as SetupOf};
-ghost use Rattle.pgn_book.specs.declared.values.TagError.{TagError as ErrorOf};
 ghost use Rattle.dgt_frame.specs.Watched.{inner_of, has_failed};
-ghost use Rattle.pgn_book.specs.Values.{Refuses};
 ghost use Rattle.dgt_replay.specs.Messages.{Says, Tells};
 ghost use Rattle.dgt_replay.specs.Recorded.{EndsFor, Fails, RecordsAndTells, Untouched, report_line};
-ghost use Rattle.dgt_replay.specs.SettingUp.{ForMemory, HasValues, IsFirst, MayHave, Meets, MeetsNothing, OfFirstTag, RefusesSetup, given, refusal_words, wished, with_given};
+ghost use Rattle.replay_arguments.specs.Setups.{ForMemory, Meets, MeetsNothing, given, tag_text};
+ghost use Rattle.dgt_replay.specs.Refusals.{RefusesSetup, refusal_words};
 
 use crate::messages::{refused, refused_fen, refused_tag};
-use crate::starting::start_of;
-use crate::words::Wishes;
 use board_listing::{GATHERED, LONGEST, Lines, add, add_number};
 use board_session::{RecordError, Report, Setup, record};
-use chess_text::FenError;
 use chess_text::laws::texts_tell_positions;
 use dgt_frame::Watch;
-use pgn_book::{Tag, TagError, Tags, put};
+use pgn_book::put;
+use replay_arguments::{RecordArguments, Refusal, setup_of};
 use std::alloc::Global;
 use std::io::{Read, Write};
-
-/// Why a recording can't be set up as is wished.
-#[derive(Clone, Copy, Debug)]
-enum Refusal {
-    Fen(FenError),
-    Tag { tag: Tag, error: TagError },
-}
-
-fn set(tags: &mut Tags, tag: Tag, value: Option<&str>) -> Result<(), Refusal>
-    ensures set { OnOk result (tags.new ≡ with_given tag (given value.entry) tags.old) }
-    ensures may { OnOk result (MayHave tag (given value.entry)) }
-    ensures refused { IfErr result (λ refusal. (error : ErrorOf) × (refusal ≡ Refusal.Tag tag error)
-        × MatchOption (given value.entry) ⊥ (λ value. Refuses tag value error)) }
-{
-    match value {
-        None => Ok(()),
-        Some(value) => match tags.set(tag, value) {
-            Ok(()) => Ok(()),
-            Err(error) => Err(Refusal::Tag { tag, error }),
-        },
-    }
-}
-
-fn tags_of(alloc: Global, wishes: &Wishes<'_>) -> Result<Tags, Refusal>
-    ensures { MatchResult result (HasValues wishes.now) (OfFirstTag (wished wishes.now)) }
-{
-    let mut tags = Tags::new(alloc);
-    set(&mut tags, Tag::Event, wishes.event)?;
-    set(&mut tags, Tag::Site, wishes.site)?;
-    set(&mut tags, Tag::Date, wishes.date)?;
-    set(&mut tags, Tag::Round, wishes.round)?;
-    set(&mut tags, Tag::White, wishes.white)?;
-    set(&mut tags, Tag::Black, wishes.black)?;
-    Ok(tags)
-}
-
-fn setup_of(alloc: Global, wishes: &Wishes<'_>) -> Result<Setup, Refusal>
-    ensures meets { MatchResult result (Meets wishes.now) (λ refusal. ForMemory refusal ⊎ MeetsNothing wishes.now) }
-    ensures first { IfErr result (IsFirst wishes.now) }
-{
-    let start = match start_of(wishes.fen) {
-        Ok(start) => start,
-        Err(error) => return Err(Refusal::Fen(error)),
-    };
-    let tags = match tags_of(alloc, wishes) {
-        Ok(tags) => tags,
-        Err(refusal) => return Err(refusal),
-    };
-    Ok(Setup {
-        start,
-        first: wishes.first,
-        rotated: wishes.rotated,
-        tags,
-    })
-}
 
 // Says why a recording can't be set up, and answers the status.
 fn refused_setup<E: Write>(err: &mut Watch<E>, refusal: Refusal) -> u8
@@ -149,7 +91,7 @@ fn record_as<R: Read, O: Write, E: Write>(
 /// more line after them.
 pub fn record_game<R: Read, O: Write, E: Write>(
     alloc: Global,
-    wishes: &Wishes<'_>,
+    options: &RecordArguments<'_>,
     reader: &mut Watch<R>,
     out: &mut Watch<O>,
     err: &mut Watch<E>,
@@ -157,28 +99,28 @@ pub fn record_game<R: Read, O: Write, E: Write>(
     requires reading { has_failed reader.old ≡ false }
     requires working { has_failed out.old ≡ false }
     requires erring { has_failed err.old ≡ false }
-    ensures all { (setup : SetupOf) → Meets wishes.now setup → result ≡ 0 → RecordsAndTells setup (R.remaining (inner_of reader.old))
+    ensures all { (setup : SetupOf) → Meets options.now setup → result ≡ 0 → RecordsAndTells setup (R.remaining (inner_of reader.old))
         (E.contents (inner_of err.old)) (E.contents (inner_of err.new)) (O.contents (inner_of out.old)) (O.contents (inner_of out.new)) }
-    ensures long { (setup : SetupOf) → Meets wishes.now setup → result ≡ 1 → EndsFor RecordError.TooLong setup (R.remaining (inner_of reader.old)) (R.remaining (inner_of reader.new))
+    ensures long { (setup : SetupOf) → Meets options.now setup → result ≡ 1 → EndsFor RecordError.TooLong setup (R.remaining (inner_of reader.old)) (R.remaining (inner_of reader.new))
         (E.contents (inner_of err.old)) (E.contents (inner_of err.new)) (has_failed err.new) (O.contents (inner_of out.old)) (O.contents (inner_of out.new)) }
-    ensures fails { (setup : SetupOf) → Meets wishes.now setup → result ≡ 3 → Fails setup (R.remaining (inner_of reader.old)) (R.remaining (inner_of reader.new))
+    ensures fails { (setup : SetupOf) → Meets options.now setup → result ≡ 3 → Fails setup (R.remaining (inner_of reader.old)) (R.remaining (inner_of reader.new))
         (E.contents (inner_of err.old)) (E.contents (inner_of err.new)) (O.contents (inner_of out.old)) (O.contents (inner_of out.new))
         (has_failed reader.new) (has_failed out.new) (has_failed err.new) }
-    ensures memory { (setup : SetupOf) → Meets wishes.now setup → result ≡ 4 → EndsFor RecordError.Memory setup (R.remaining (inner_of reader.old)) (R.remaining (inner_of reader.new))
+    ensures memory { (setup : SetupOf) → Meets options.now setup → result ≡ 4 → EndsFor RecordError.Memory setup (R.remaining (inner_of reader.old)) (R.remaining (inner_of reader.new))
         (E.contents (inner_of err.old)) (E.contents (inner_of err.new)) (has_failed err.new) (O.contents (inner_of out.old)) (O.contents (inner_of out.new))
         ⊎ (Untouched (R.remaining (inner_of reader.old)) (R.remaining (inner_of reader.new)) (O.contents (inner_of out.old)) (O.contents (inner_of out.new))
         × Says (E.contents (inner_of err.old)) (E.contents (inner_of err.new)) (has_failed err.new) (codes "memory\n")) }
-    ensures refuses { MeetsNothing wishes.now → ((result ≡ 1) ⊎ (result ≡ 4))
+    ensures refuses { MeetsNothing options.now → ((result ≡ 1) ⊎ (result ≡ 4))
         × Untouched (R.remaining (inner_of reader.old)) (R.remaining (inner_of reader.new)) (O.contents (inner_of out.old)) (O.contents (inner_of out.new)) }
-    ensures tells { MeetsNothing wishes.now → Tells result (RefusesSetup (given wishes.now.fen) (wished wishes.now))
+    ensures tells { MeetsNothing options.now → Tells result (RefusesSetup (given options.now.fen) (tag_text options.now))
         (E.contents (inner_of err.old)) (E.contents (inner_of err.new)) false false (has_failed err.new) }
     ensures works { result ≡ 0 → (has_failed reader.new ≡ false) × ((has_failed out.new ≡ false) × (has_failed err.new ≡ false)) }
     ensures known { result ≤ 4 }
     ensures status { result ≢ 2 }
 {
-    // The setup that is wished is the only one: no two positions share a FEN.
+    // No two setups are as the arguments say, since no two positions share a FEN.
     texts_tell_positions();
-    match setup_of(alloc, wishes) {
+    match setup_of(alloc, options) {
         Ok(setup) => record_as(alloc, setup, reader, out, err),
         Err(refusal) => refused_setup(err, refusal),
     }

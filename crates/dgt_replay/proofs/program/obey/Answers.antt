@@ -1,14 +1,15 @@
 use Rattle.std.proofs.Common.{◌≡◌, false, subst}
 use Rattle.dgt_frame.specs.Watched.{inner_of, has_failed}
-use Rattle.dgt_replay.specs.declared.words.Wishes.{Wishes}
-use Rattle.dgt_replay.specs.SettingUp.{MeetsNothing, RefusesSetup, given, wished}
+use Rattle.replay_arguments.specs.declared.arguments.RecordArguments.{RecordArguments}
+use Rattle.replay_arguments.specs.Setups.{MeetsNothing, given, tag_text}
+use Rattle.dgt_replay.specs.Refusals.{RefusesSetup}
 use Rattle.dgt_replay.specs.Messages.{Tells}
 use Rattle.dgt_replay.proofs.program.obey.Goals as goal
 
 pub returns-in-Record-clause-refusal_tells : goal.returns-in-Record-clause-refusal_tells
-returns-in-Record-clause-refusal_tells g c wishes is nothing =
+returns-in-Record-clause-refusal_tells g c options is nothing =
     let chosen = c.in-Record.is in
-    let same : c.in-Record.wishes ≡ wishes = cc in
-    let P : Wishes → Type 0 = λ w. MeetsNothing w → Tells c.record_game.result (RefusesSetup (given w.fen) (wished w))
+    let same : c.in-Record.options ≡ options = cc in
+    let P : RecordArguments → Type 0 = λ w. MeetsNothing w → Tells c.record_game.result (RefusesSetup (given w.fen) (tag_text w))
     (g.E.Write.contents (inner_of c.args.err.now)) (g.E.Write.contents (inner_of c.record_game.new.err)) false false (has_failed c.record_game.new.err) in
     subst P same c.record_game.ensures.tells nothing

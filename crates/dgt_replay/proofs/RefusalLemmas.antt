@@ -1,0 +1,86 @@
+-- What is said of arguments that are refused.
+use Rattle.std.proofs.Common.{◌≡◌, ◌≢◌, ℕ, Bool, false, List, Option, Some, None, codes, inl, inr, refl, subst}
+use Rattle.std.specs.Prelude.{IfSome, MatchOption, slice_index_or}
+use Rattle.clap.specs.Walk.{Text}
+use Rattle.chess_rules.specs.declared.men.Parts.{Parts}
+use Rattle.chess_rules.specs.Initial.{initial}
+use Rattle.chess_text.specs.declared.fen.FenError.{FenError}
+use Rattle.chess_text.specs.Fen.{RefusedFirst}
+use Rattle.pgn_book.specs.declared.values.Tag.{Tag}
+use Rattle.pgn_book.specs.declared.values.TagError.{TagError}
+use Rattle.pgn_book.specs.declared.values.TagError.TheVariants.{Text as NoText, Long, Date as NoDate, Memory}
+use Rattle.pgn_book.specs.Values.{Refuses}
+use Rattle.replay_arguments.specs.declared.setup.Refusal.{Refusal}
+use Rattle.replay_arguments.specs.declared.setup.Refusal.TheVariants.{Fen, Tag as OfTag}
+use Rattle.replay_arguments.specs.declared.arguments.RecordArguments.{RecordArguments}
+use Rattle.replay_arguments.specs.Setups.{ForMemory, IsFirst, MayHave, StartsAt, given, tag_text}
+use Rattle.dgt_replay.specs.Refusals.{RefusesSetup, RefusesStart, RefusesValue, refusal_words}
+use Rattle.dgt_replay.specs.Messages.{Says, Tells, fen_words, tag_words}
+use Rattle.dgt_replay.proofs.MessageLemmas.{tells_memory, tells_refused}
+
+match_map : {A : Type 0} (o : Option A) (P Q : A → Type 0) → ((a : A) → P a → Q a) → MatchOption o ⊥ P → MatchOption o ⊥ Q
+match_map None P Q f none = none
+match_map (Some a) P Q f p = f a p
+
+pub start_refused : (fen : Option Text) (error : FenError) → IfSome fen (λ text. RefusedFirst text error) → ((start : Parts) → StartsAt fen start → ⊥) → RefusesStart fen (fen_words error)
+start_refused None error refused none = none initial refl
+start_refused (Some text) error refused none = (error, refused, refl)
+
+-- What is said of the first refusal.
+tells_value : (options : RecordArguments) (tag : Tag) (error : TagError) (status : ℕ) (said said' : Option (List ℕ)) (err_failed : Bool) → (error ≢ Memory) → IsFirst options (OfTag tag error)
+    → status ≡ 1 → Says said said' err_failed (tag_words tag error) → Tells status (RefusesSetup (given options.fen) (tag_text options)) said said' false false err_failed
+tells_value options tag error status said said' err_failed value first one says =
+    let tagged = first.1 in
+    tells_refused status (RefusesSetup (given options.fen) (tag_text options)) said said' false false err_failed (tag_words tag error) one
+    (inr (
+      first.0,
+      (
+        tagged.0,
+        tagged.1,
+        tag,
+        tagged.2,
+        tagged.3,
+        match_map (tag_text options tag) (λ text. Refuses tag text error) (λ text. (e : TagError) × (e ≢ Memory) × Refuses tag text e × (tag_words tag error ≡ tag_words tag e))
+            (λ text refused. (error, value, refused, refl)) tagged.4,
+      ),
+    )) says
+
+pub tells_refusal : (options : RecordArguments) (refusal : Refusal) (status : ℕ) (said said' : Option (List ℕ)) (err_failed : Bool) → IsFirst options refusal → (ForMemory refusal → status ≡ 4)
+    → (¬ ForMemory refusal → status ≡ 1) → Says said said' err_failed (refusal_words refusal) → Tells status (RefusesSetup (given options.fen) (tag_text options)) said said' false false err_failed
+tells_refusal options (Fen error) status said said' err_failed first memory refused says =
+    tells_refused status (RefusesSetup (given options.fen) (tag_text options)) said said' false false err_failed (fen_words error) (refused (λ m. m))
+    (inl (match_map (given options.fen) (λ text. RefusedFirst text error) (λ text. (e : FenError) × RefusedFirst text e × (fen_words error ≡ fen_words e)) (λ text first. (error, first, refl)) first)) says
+tells_refusal options (OfTag tag NoText) status said said' err_failed first memory refused says =
+    let value : NoText ≢ Memory = λ e. cc in tells_value options tag NoText status said said' err_failed value first (refused value) says
+tells_refusal options (OfTag tag Long) status said said' err_failed first memory refused says =
+    let value : Long ≢ Memory = λ e. cc in tells_value options tag Long status said said' err_failed value first (refused value) says
+tells_refusal options (OfTag tag NoDate) status said said' err_failed first memory refused says =
+    let value : NoDate ≢ Memory = λ e. cc in tells_value options tag NoDate status said said' err_failed value first (refused value) says
+tells_refusal options (OfTag tag Memory) status said said' err_failed first memory refused says =
+    tells_memory status (RefusesSetup (given options.fen) (tag_text options)) said said' false false err_failed (memory refl) says
+
+pub says_memory : (refusal : Refusal) (said said' : Option (List ℕ)) (err_failed : Bool) → ForMemory refusal → Says said said' err_failed (refusal_words refusal)
+    → Says said said' err_failed (codes "memory\n")
+says_memory (Fen error) said said' err_failed memory says = absurd memory
+says_memory (OfTag tag error) said said' err_failed memory says = let P : TagError → Type 0 = λ e. Says said said' err_failed (tag_words tag e) in subst P memory says
+
+-- The same reasons where the texts are the same.
+pub refuses_start_alike : (fen fen' : Option Text) (arguments : List ℕ) → fen ≡ fen' → RefusesStart fen arguments → RefusesStart fen' arguments
+refuses_start_alike fen fen' arguments same refuses = let P : Option Text → Type 0 = λ f. RefusesStart f arguments in subst P same refuses
+
+pub refuses_alike : (fen fen' : Option Text) (text text' : Tag → Option Text) → fen ≡ fen' → ((tag : Tag) → text tag ≡ text' tag) → (arguments : List ℕ) → RefusesSetup fen text arguments → RefusesSetup fen' text' arguments
+refuses_alike fen fen' text text' same alike arguments (inl refuses) = inl (refuses_start_alike fen fen' arguments same refuses)
+refuses_alike fen fen' text text' same alike arguments (inr (starts, tagged)) =
+    let P : Option Text → Type 0 = λ f. (start : Parts) × StartsAt f start in
+    let Q : Option Text → Type 0 = λ t. RefusesValue tagged.2 t arguments in
+    inr (
+      subst P same starts,
+      (
+        tagged.0,
+        tagged.1,
+        tagged.2,
+        tagged.3,
+        (λ k d lt. let t = slice_index_or tagged.0 k d in (let R : Option Text → Type 0 = λ o. MayHave t o in subst R (alike t) (tagged.4 k d lt))),
+        subst Q (alike tagged.2) tagged.5,
+      ),
+    )

@@ -1,0 +1,91 @@
+-- Setups that are as the arguments say.
+use Rattle.std.proofs.Common.{◌≡◌, ◌⊎◌, ◌∙◌, ℕ, List, Option, Some, None, Result, Ok, inl, inr, refl, subst, sym}
+use Rattle.clap.specs.Walk.{Row, Text}
+use Rattle.chess_rules.specs.declared.men.Parts.{Parts}
+use Rattle.chess_text.specs.Laws.{TextsTellPositions}
+use Rattle.pgn_book.specs.declared.values.Tag.{Tag}
+use Rattle.pgn_book.specs.declared.values.Tag.TheVariants.{Event, Site, Date, Round, White, Black}
+use Rattle.pgn_book.specs.Values.{TagValues, value_of}
+use Rattle.board_session.specs.declared.recording.Setup.{Setup}
+use Rattle.board_session.specs.Settings.{Setting}
+use Rattle.replay_arguments.specs.declared.setup.Refusal.{Refusal}
+use Rattle.board_listing.specs.declared.listing.Listing.TheVariants.{Game}
+use Rattle.replay_arguments.specs.declared.arguments.FollowArguments.{FollowArguments}
+use Rattle.replay_arguments.specs.declared.arguments.RecordArguments.{RecordArguments}
+use Rattle.replay_arguments.specs.Setups.{ForMemory, HasNoStart, HasNoValue, HasValue, HasValues, Meets, MeetsNothing, MeetsToFollow, SetsFollowingUp, SetsUp, SetsUpNothing, StartsAt, Wants, WantsToFollow, given, tags, tag_text}
+
+-- What the rows of a parse set up is what the fields want.
+pub meets : (rows : List Row) (options : RecordArguments) (setup : Setup) → Wants rows options → SetsUp rows setup → Meets options setup
+meets rows options setup wants sets =
+    let first : Some setup.first ≡ Some options.first = sym sets.first ∙ wants.first in
+    let P : Option Text → Type 0 = λ fen. StartsAt fen setup.start in
+    record {
+      rotated = sym (wants.rotated setup.rotated sets.rotated);
+      first = cc;
+      start = subst P (sym wants.fen) sets.start;
+      tags = λ tag. (let Q : Option Text → Type 0 = λ text. HasValue tag text (value_of tag setup.tags) in subst Q (sym (wants.tags tag)) (sets.tags tag));
+    }
+
+pub meets_to_follow : (rows : List Row) (options : FollowArguments) (setting : Setting) → WantsToFollow rows options → SetsFollowingUp rows setting → MeetsToFollow options setting
+meets_to_follow rows options setting wants sets =
+    let first : Some setting.first ≡ Some options.first = sym sets.first ∙ wants.first in
+    let P : Option Text → Type 0 = λ fen. StartsAt fen setting.start in
+    record {
+      rotated = sym (wants.rotated setting.rotated sets.rotated);
+      first = cc;
+      start = subst P (sym wants.fen) sets.start;
+    }
+
+-- The setting that has this start is the one that the arguments say.
+pub same_game : (options : FollowArguments) (setting : Setting) (start : Parts) → MeetsToFollow options setting → start ≡ setting.start
+    → Game start options.first options.rotated ≡ Game setting.start setting.first setting.rotated
+same_game options setting start meets same =
+    let first : options.first ≡ setting.first = sym meets.first in
+    let rotated : options.rotated ≡ setting.rotated = sym meets.rotated in
+    rw (same, first, rotated) refl
+
+pub ok_same : {A E : Type 0} (r : Result A E) (a b : A) → r ≡ Ok a → r ≡ Ok b → a ≡ b
+ok_same r a b x y = let e : Ok a ≡ Ok b = sym x ∙ y in cc
+
+pub meets_nothing : (rows : List Row) (options : RecordArguments) → Wants rows options → SetsUpNothing rows → MeetsNothing options
+meets_nothing rows options wants (inl none) = inl (subst HasNoStart (sym wants.fen) none)
+meets_nothing rows options wants (inr (tag, none)) = inr (tag, subst (HasNoValue tag) (sym (wants.tags tag)) none)
+
+value_one : (tag : Tag) (text : Option Text) (a b : List ℕ) → HasValue tag text a → HasValue tag text b → a ≡ b
+value_one tag None a b x y = x ∙ sym y
+value_one tag (Some text) a b x y = x.0 ∙ sym y.0
+
+values_one : (options : RecordArguments) (a b : TagValues) → HasValues options a → HasValues options b → a ≡ b
+values_one options a b x y =
+    let one : (tag : Tag) → value_of tag a ≡ value_of tag b = λ tag. value_one tag (tag_text options tag) (value_of tag a) (value_of tag b) (x tag) (y tag) in
+    let event : a.event ≡ b.event = one Event in
+    let site : a.site ≡ b.site = one Site in
+    let date : a.date ≡ b.date = one Date in
+    let round : a.round ≡ b.round = one Round in
+    let white : a.white ≡ b.white = one White in
+    let black : a.black ≡ b.black = one Black in
+    let e : record { event = a.event; site = a.site; date = a.date; round = a.round; white = a.white; black = a.black }
+    ≡ record { event = b.event; site = b.site; date = b.date; round = b.round; white = b.white; black = b.black } = cc in e
+
+starts_one : TextsTellPositions → (fen : Option Text) (p q : Parts) → StartsAt fen p → StartsAt fen q → p ≡ q
+starts_one law None p q x y = x ∙ sym y
+starts_one law (Some text) p q x y = law p q text x.0 y.0 x.1 y.1
+
+-- At most one setup is as the arguments say.
+pub one_setup : TextsTellPositions → (options : RecordArguments) (a b : Setup) → Meets options a → Meets options b → a ≡ b
+one_setup law options a b x y =
+    let start : a.start ≡ b.start = starts_one law (given options.fen) a.start b.start x.start y.start in
+    let first : a.first ≡ b.first = x.first ∙ sym y.first in
+    let rotated : a.rotated ≡ b.rotated = x.rotated ∙ sym y.rotated in
+    let tags : a.tags ≡ b.tags = values_one options a.tags b.tags x.tags y.tags in
+    let e : record { start = a.start; first = a.first; rotated = a.rotated; tags = a.tags }
+    ≡ record { start = b.start; first = b.first; rotated = b.rotated; tags = b.tags } = cc in e
+
+pub met_by_none : {A : Type 0} (options : RecordArguments) (setup : Setup) → Meets options setup → MeetsNothing options → A
+met_by_none options setup meets (inl none) = absurd (none setup.start meets.start)
+met_by_none options setup meets (inr (tag, none)) = absurd (none (value_of tag setup.tags) (meets.tags tag))
+
+-- Where a setup is as the arguments say, only want of memory prevents it.
+pub only_for_memory : (options : RecordArguments) (setup : Setup) (refusal : Refusal) → Meets options setup → ForMemory refusal ⊎ MeetsNothing options → ForMemory refusal
+only_for_memory options setup refusal meets (inl memory) = memory
+only_for_memory options setup refusal meets (inr none) = met_by_none options setup meets none

@@ -1,0 +1,139 @@
+-- What the arguments ask for, by the subcommand that was read.
+use Rattle.std.proofs.Common.{◌≡◌, ◌⊎◌, ◌∙◌, Bool, true, false, List, Option, Some, None, ap, refl, sym, inl, inr, codes, subst, arith}
+use Rattle.std.specs.Prelude.{MatchOption}
+use Rattle.std.specs.Option.{option_map_or}
+use Rattle.std.specs.Borrow.{Bor}
+use Rattle.clap.specs.Walk.{Row, Text, first_of}
+use Rattle.clap.specs.Simple.{subcommand_of}
+use Rattle.chess_rules.specs.declared.men.Parts.{Parts}
+use Rattle.board_session.specs.declared.recording.Setup.{Setup}
+use Rattle.board_session.specs.Settings.{Setting}
+use Rattle.replay_arguments.specs.declared.arguments.Subcommand.{Subcommand}
+use Rattle.replay_arguments.specs.declared.arguments.Subcommand.TheVariants.{Show, Pictures, Record, Follow, Check, Moves}
+use Rattle.replay_arguments.specs.declared.arguments.FollowArguments.{FollowArguments}
+use Rattle.replay_arguments.specs.declared.arguments.RecordArguments.{RecordArguments}
+use Rattle.replay_arguments.specs.Command.{replay}
+use Rattle.replay_arguments.specs.Subcommands.{Asks, AsksForPictures, AsksToCheck, AsksToShow, AsksFor, AsksForMoves, AsksForNoMoves, AsksToFollow, AsksToFollowNothing, AsksToRecord, AsksToRecordNothing, Chooses, IsRefused, is_subcommand}
+use Rattle.replay_arguments.specs.Setups.{HasNoStart, Meets, MeetsNothing, MeetsToFollow, StartsAt, Wants, WantsToFollow, given}
+use Rattle.dgt_replay.proofs.SetupLemmas.{meets, meets_nothing, meets_to_follow}
+
+-- what the arguments of this name ask for
+chosen_with : (found : Option (Text × List Row)) (name : Text) (rows : List Row) (subcommand : Subcommand) → found ≡ Some (name, rows)
+    → MatchOption found ⊥ (λ f. Chooses f.0 f.1 (Some subcommand)) → Chooses name rows (Some subcommand)
+chosen_with found name rows subcommand is asks =
+    let P : Option (Text × List Row) → Type 0 = λ f. MatchOption f ⊥ (λ f. Chooses f.0 f.1 (Some subcommand)) in subst P is asks
+
+chosen : (arguments : List Text) (name : Text) (rows : List Row) (subcommand : Subcommand) → Asks arguments name rows → AsksFor arguments subcommand → Chooses name rows (Some subcommand)
+chosen arguments name rows subcommand asks found = chosen_with (subcommand_of replay arguments) name rows subcommand asks.found found
+
+pub unrefused : (arguments : List Text) (name : Text) (rows : List Row) → Asks arguments name rows → IsRefused arguments → ⊥
+unrefused arguments name rows asks refused = elim refused [
+  | inl untaken ↦ (let bad : true ≡ false = sym asks.taken ∙ untaken in cc)
+  | inr unknown ↦ (let bad : true ≡ false = sym asks.known ∙ sym (ap (λ found. option_map_or (λ f. is_subcommand f.0 f.1) found false) asks.found) ∙ unknown in cc)
+]
+
+same_subcommand : (a b : Subcommand) → Some a ≡ Some b → a ≡ b
+same_subcommand a b e = cc
+
+-- `show` asks for the messages and faults
+pub chooses_show : (arguments : List Text) (subcommand : Subcommand) → AsksToShow arguments → AsksFor arguments subcommand → subcommand ≡ Show
+chooses_show arguments subcommand (rows, asks) asked = same_subcommand subcommand Show ((chosen arguments (codes "show") rows subcommand asks asked).show refl)
+
+-- `pictures` asks for the pictures, turned or not
+pub chooses_pictures : (rotated : Bool) (arguments : List Text) (subcommand : Subcommand) → AsksForPictures rotated arguments → AsksFor arguments subcommand → subcommand ≡ Pictures rotated
+chooses_pictures rotated arguments subcommand (rows, asks, turned) asked =
+    same_subcommand subcommand (Pictures rotated) ((chosen arguments (codes "pictures") rows subcommand asks asked).pictures rotated refl turned)
+
+-- `check` asks for a check
+pub chooses_check : (arguments : List Text) (subcommand : Subcommand) → AsksToCheck arguments → AsksFor arguments subcommand → subcommand ≡ Check
+chooses_check arguments subcommand (rows, asks) asked = same_subcommand subcommand Check ((chosen arguments (codes "check") rows subcommand asks asked).check refl)
+
+-- `record` asks for a recording as its options say
+pub record_chosen : (arguments : List Text) (rows : List Row) (subcommand : Subcommand) → Asks arguments (codes "record") rows → AsksFor arguments subcommand
+    → (options : RecordArguments) × (subcommand ≡ Record options) × Wants rows options
+record_chosen arguments rows subcommand asks asked =
+    let found = (chosen arguments (codes "record") rows subcommand asks asked).record_is refl in
+    (found.0, found.1, found.2)
+
+pub chooses_record : (arguments : List Text) (setup : Setup) (subcommand : Subcommand) → AsksToRecord arguments setup → AsksFor arguments subcommand
+    → (options : RecordArguments) × (subcommand ≡ Record options) × Meets options setup
+chooses_record arguments setup subcommand (rows, asks, sets) asked =
+    let found = record_chosen arguments rows subcommand asks asked in
+    (found.0, found.1, meets rows found.0 setup found.2 sets)
+
+pub chooses_no_setup : (arguments : List Text) (subcommand : Subcommand) → AsksToRecordNothing arguments → AsksFor arguments subcommand
+    → (options : RecordArguments) × (subcommand ≡ Record options) × MeetsNothing options
+chooses_no_setup arguments subcommand (rows, asks, nothing) asked =
+    let found = record_chosen arguments rows subcommand asks asked in
+    (found.0, found.1, meets_nothing rows found.0 found.2 nothing)
+
+-- `follow` asks that a game be followed as its options say
+pub follow_chosen : (arguments : List Text) (rows : List Row) (subcommand : Subcommand) → Asks arguments (codes "follow") rows → AsksFor arguments subcommand
+    → (options : FollowArguments) × (subcommand ≡ Follow options) × WantsToFollow rows options
+follow_chosen arguments rows subcommand asks asked =
+    let found = (chosen arguments (codes "follow") rows subcommand asks asked).follow refl in
+    (found.0, found.1, found.2)
+
+pub chooses_follow : (arguments : List Text) (setting : Setting) (subcommand : Subcommand) → AsksToFollow arguments setting → AsksFor arguments subcommand
+    → (options : FollowArguments) × (subcommand ≡ Follow options) × MeetsToFollow options setting
+chooses_follow arguments setting subcommand (rows, asks, sets) asked =
+    let found = follow_chosen arguments rows subcommand asks asked in
+    (found.0, found.1, meets_to_follow rows found.0 setting found.2 sets)
+
+pub chooses_no_follow : (arguments : List Text) (subcommand : Subcommand) → AsksToFollowNothing arguments → AsksFor arguments subcommand
+    → (options : FollowArguments) × (subcommand ≡ Follow options) × HasNoStart (given options.fen)
+chooses_no_follow arguments subcommand (rows, asks, none) asked =
+    let found = follow_chosen arguments rows subcommand asks asked in
+    (found.0, found.1, subst HasNoStart (sym found.2.fen) none)
+
+-- `moves` asks for those of the position that its option says
+pub moves_chosen : (arguments : List Text) (rows : List Row) (subcommand : Subcommand) → Asks arguments (codes "moves") rows → AsksFor arguments subcommand
+    → (fen : Option (Bor Text)) × (subcommand ≡ Moves fen) × (given fen ≡ first_of (codes "fen") rows)
+moves_chosen arguments rows subcommand asks asked =
+    let found = (chosen arguments (codes "moves") rows subcommand asks asked).moves refl in
+    (found.0, same_subcommand subcommand (Moves found.0) found.1, found.2)
+
+pub chooses_moves : (arguments : List Text) (start : Parts) (subcommand : Subcommand) → AsksForMoves arguments start → AsksFor arguments subcommand
+    → (fen : Option (Bor Text)) × (subcommand ≡ Moves fen) × StartsAt (given fen) start
+chooses_moves arguments start subcommand (rows, asks, starts) asked =
+    let found = moves_chosen arguments rows subcommand asks asked in
+    let P : Option Text → Type 0 = λ fen. StartsAt fen start in
+    (found.0, found.1, subst P (sym found.2) starts)
+
+pub chooses_no_moves : (arguments : List Text) (subcommand : Subcommand) → AsksForNoMoves arguments → AsksFor arguments subcommand
+    → (fen : Option (Bor Text)) × (subcommand ≡ Moves fen) × HasNoStart (given fen)
+chooses_no_moves arguments subcommand (rows, asks, none) asked =
+    let found = moves_chosen arguments rows subcommand asks asked in
+    (found.0, found.1, subst HasNoStart (sym found.2) none)
+
+-- None of them is refused.
+pub show_unrefused : (arguments : List Text) → AsksToShow arguments → IsRefused arguments → ⊥
+show_unrefused arguments (rows, asks) = unrefused arguments (codes "show") rows asks
+
+pub pictures_unrefused : (rotated : Bool) (arguments : List Text) → AsksForPictures rotated arguments → IsRefused arguments → ⊥
+pictures_unrefused rotated arguments (rows, asks, turned) = unrefused arguments (codes "pictures") rows asks
+
+pub check_unrefused : (arguments : List Text) → AsksToCheck arguments → IsRefused arguments → ⊥
+check_unrefused arguments (rows, asks) = unrefused arguments (codes "check") rows asks
+
+pub record_unrefused : (arguments : List Text) (setup : Setup) → AsksToRecord arguments setup → IsRefused arguments → ⊥
+record_unrefused arguments setup (rows, asks, sets) = unrefused arguments (codes "record") rows asks
+
+pub no_setup_unrefused : (arguments : List Text) → AsksToRecordNothing arguments → IsRefused arguments → ⊥
+no_setup_unrefused arguments (rows, asks, nothing) = unrefused arguments (codes "record") rows asks
+
+pub follow_unrefused : (arguments : List Text) (setting : Setting) → AsksToFollow arguments setting → IsRefused arguments → ⊥
+follow_unrefused arguments setting (rows, asks, sets) = unrefused arguments (codes "follow") rows asks
+
+pub no_follow_unrefused : (arguments : List Text) → AsksToFollowNothing arguments → IsRefused arguments → ⊥
+no_follow_unrefused arguments (rows, asks, none) = unrefused arguments (codes "follow") rows asks
+
+pub moves_unrefused : (arguments : List Text) (start : Parts) → AsksForMoves arguments start → IsRefused arguments → ⊥
+moves_unrefused arguments start (rows, asks, starts) = unrefused arguments (codes "moves") rows asks
+
+pub no_moves_unrefused : (arguments : List Text) → AsksForNoMoves arguments → IsRefused arguments → ⊥
+no_moves_unrefused arguments (rows, asks, none) = unrefused arguments (codes "moves") rows asks
+
+pub or_refused : {P Q : Type 0} → P ⊎ Q → (Q → ⊥) → P
+or_refused (inl p) k = p
+or_refused (inr q) k = absurd (k q)

@@ -1,9 +1,0 @@
-use Rattle.std.proofs.Common.{codes}
-use Rattle.clap.specs.Simple.{with_rule}
-use Rattle.dgt_replay.specs.Command.{rotated_rule, with_text}
-use Rattle.dgt_replay.proofs.words.with_board.Goals as goal
-
-pub returns : goal.returns
-returns c app is =
-    let rotated = with_rule app rotated_rule in
-    c.with_text.ensures (with_text rotated (codes "first")) (c.with_text-command.ensures rotated (c.with_rotated-command.ensures app is))

@@ -1,0 +1,36 @@
+-- Why arguments are refused, in words.
+use Rattle.std.specs.Prelude.{◌≡◌, ◌≢◌, ◌⊎◌, List, ◌∷◌, ◌++◌, All, ℕ, Option, MatchOption}
+use Rattle.clap.specs.Walk.{Text}
+use Rattle.chess_rules.specs.declared.men.Parts.{Parts}
+use Rattle.chess_text.specs.declared.fen.FenError.{FenError}
+use Rattle.chess_text.specs.Fen.{RefusedFirst}
+use Rattle.pgn_book.specs.declared.values.Tag.{Tag}
+use Rattle.pgn_book.specs.declared.values.TagError.{TagError}
+use Rattle.pgn_book.specs.declared.values.TagError.TheVariants.{Memory}
+use Rattle.pgn_book.specs.Values.{Refuses}
+use Rattle.replay_arguments.specs.declared.setup.Refusal.{Refusal}
+use Rattle.replay_arguments.specs.declared.setup.Refusal.TheVariants.{Fen, Tag as OfTag}
+use Rattle.replay_arguments.specs.Setups.{MayHave, StartsAt, tags}
+use Rattle.dgt_replay.specs.Messages.{fen_words, tag_words}
+
+-- Why a FEN is refused, in words.
+abbrev pub RefusesStart : Option Text → List ℕ → Type 0
+RefusesStart fen arguments = MatchOption fen ⊥ (λ text. (error : FenError) × RefusedFirst text error × (arguments ≡ fen_words error))
+
+-- Why the value of a tag is refused, in words.
+abbrev pub RefusesValue : Tag → Option Text → List ℕ → Type 0
+RefusesValue tag text arguments = MatchOption text ⊥ (λ value. (error : TagError) × (error ≢ Memory) × Refuses tag value error × (arguments ≡ tag_words tag error))
+
+-- Why texts for tags are refused: the first that a tag may not have, in the order of the tags.
+abbrev pub RefusesTags : (Tag → Option Text) → List ℕ → Type 0
+RefusesTags text arguments = (before after : List Tag) × (tag : Tag) × (tags ≡ before ++ tag ∷ after)
+    × All (λ t. MayHave t (text t)) before × RefusesValue tag (text tag) arguments
+
+-- Why arguments set nothing up, in words: the FEN is refused, or, where it isn't, a tag.
+abbrev pub RefusesSetup : Option Text → (Tag → Option Text) → List ℕ → Type 0
+RefusesSetup fen text arguments = RefusesStart fen arguments ⊎ (((start : Parts) × StartsAt fen start) × RefusesTags text arguments)
+
+-- the words of a refusal
+abbrev pub refusal_words : Refusal → List ℕ
+refusal_words (Fen error) = fen_words error
+refusal_words (OfTag tag error) = tag_words tag error

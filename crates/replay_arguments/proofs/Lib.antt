@@ -1,0 +1,4 @@
+pub mod ArgumentLemmas
+pub mod CommandLemmas
+pub mod FaultLemmas
+pub mod SetupLemmas

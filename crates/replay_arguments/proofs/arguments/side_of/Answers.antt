@@ -1,0 +1,6 @@
+use Prim.{search}
+use Rattle.std.proofs.Common.{rules}
+use Rattle.replay_arguments.proofs.arguments.side_of.Goals as goal
+
+pub returns-in-None : goal.returns-in-None
+returns-in-None c = search rules

@@ -1,0 +1,78 @@
+use Prim.{search}
+use Rattle.std.proofs.Common.{Some, ap, codes, sym, ◌∙◌, refl, rules}
+use Rattle.std.specs.Prelude.{is_some}
+use Rattle.clap.specs.Matches.{found_of}
+use Rattle.clap.specs.Walk.{rows_of}
+use Rattle.replay_arguments.specs.declared.arguments.Subcommand.TheVariants.{Pictures}
+use Rattle.replay_arguments.specs.Setups.{Wants, WantsToFollow}
+use Rattle.replay_arguments.proofs.ArgumentLemmas.{flag_reads, if_some_at, follow_not_check, follow_not_moves, pictures_not_check, pictures_not_follow, pictures_not_moves, pictures_not_record, record_not_check, record_not_follow, record_not_moves, side_known, text_given}
+use Rattle.replay_arguments.proofs.arguments.subcommand_named.Goals as goal
+
+pub returns-in-show : goal.returns-in-show
+returns-in-show c = search rules
+
+pub returns-in-pictures : goal.returns-in-pictures
+returns-in-pictures c = record {
+  show = λ e. absurd (c.in-pictures.not-show e);
+  pictures = λ rotated e given. ap (λ b. Some (Pictures b)) (flag_reads (found_of c.args.matches.now) c.get_flag.result rotated c.get_flag.ensures.value c.get_flag.ensures.other given);
+  record_is = λ e. absurd (pictures_not_record c.args.name.now c.in-pictures.is e);
+  follow = λ e. absurd (pictures_not_follow c.args.name.now c.in-pictures.is e);
+  check = λ e. absurd (pictures_not_check c.args.name.now c.in-pictures.is e);
+  moves = λ e. absurd (pictures_not_moves c.args.name.now c.in-pictures.is e);
+  known = rw c.in-pictures.is refl;
+}
+
+pub returns-in-Some : goal.returns-in-Some
+returns-in-Some c = record {
+  show = λ e. absurd (c.in-record.not-show e);
+  pictures = λ rotated e given. absurd (c.in-record.not-pictures e);
+  record_is = λ e. (c.in-Some.options, refl, if_some_at (Wants (rows_of (found_of c.args.matches.now))) c.record_arguments_of.result c.in-Some.options c.in-Some.is c.record_arguments_of.ensures.wants);
+  follow = λ e. absurd (record_not_follow c.args.name.now c.in-record.is e);
+  check = λ e. absurd (record_not_check c.args.name.now c.in-record.is e);
+  moves = λ e. absurd (record_not_moves c.args.name.now c.in-record.is e);
+  known = rw c.in-record.is (ap is_some (sym c.in-Some.is) ∙ side_known (found_of c.args.matches.now) c.record_arguments_of.result c.record_arguments_of.ensures.known);
+}
+
+pub returns-in-None : goal.returns-in-None
+returns-in-None c = record {
+  show = λ e. absurd (c.in-record.not-show e);
+  pictures = λ rotated e given. absurd (c.in-record.not-pictures e);
+  record_is = λ e. tt;
+  follow = λ e. absurd (record_not_follow c.args.name.now c.in-record.is e);
+  check = λ e. absurd (record_not_check c.args.name.now c.in-record.is e);
+  moves = λ e. absurd (record_not_moves c.args.name.now c.in-record.is e);
+  known = rw c.in-record.is (ap is_some (sym c.in-None.is) ∙ side_known (found_of c.args.matches.now) c.record_arguments_of.result c.record_arguments_of.ensures.known);
+}
+
+pub returns-in-moves : goal.returns-in-moves
+returns-in-moves c = record {
+  show = λ e. absurd (c.in-moves.not-show e);
+  pictures = λ rotated e given. absurd (c.in-moves.not-pictures e);
+  record_is = λ e. absurd (c.in-moves.not-record e);
+  follow = λ e. absurd (c.in-moves.not-follow e);
+  check = λ e. absurd (c.in-moves.not-check e);
+  moves = λ e. (c.get_str.result, refl, text_given (found_of c.args.matches.now) (codes "fen") c.get_str.result c.get_str.ensures);
+  known = rw c.in-moves.is refl;
+}
+
+pub returns-in-Some-follow_arguments_of : goal.returns-in-Some-follow_arguments_of
+returns-in-Some-follow_arguments_of c = record {
+  show = λ e. absurd (c.in-follow.not-show e);
+  pictures = λ rotated e given. absurd (c.in-follow.not-pictures e);
+  record_is = λ e. absurd (c.in-follow.not-record e);
+  follow = λ e. (c.in-Some-follow_arguments_of.follow, refl, if_some_at (WantsToFollow (rows_of (found_of c.args.matches.now))) c.follow_arguments_of.result c.in-Some-follow_arguments_of.follow c.in-Some-follow_arguments_of.is c.follow_arguments_of.ensures.wants);
+  check = λ e. absurd (follow_not_check c.args.name.now c.in-follow.is e);
+  moves = λ e. absurd (follow_not_moves c.args.name.now c.in-follow.is e);
+  known = rw c.in-follow.is (ap is_some (sym c.in-Some-follow_arguments_of.is) ∙ side_known (found_of c.args.matches.now) c.follow_arguments_of.result c.follow_arguments_of.ensures.known);
+}
+
+pub returns-in-None-follow_arguments_of : goal.returns-in-None-follow_arguments_of
+returns-in-None-follow_arguments_of c = record {
+  show = λ e. absurd (c.in-follow.not-show e);
+  pictures = λ rotated e given. absurd (c.in-follow.not-pictures e);
+  record_is = λ e. absurd (c.in-follow.not-record e);
+  follow = λ e. tt;
+  check = λ e. absurd (follow_not_check c.args.name.now c.in-follow.is e);
+  moves = λ e. absurd (follow_not_moves c.args.name.now c.in-follow.is e);
+  known = rw c.in-follow.is (ap is_some (sym c.in-None-follow_arguments_of.is) ∙ side_known (found_of c.args.matches.now) c.follow_arguments_of.result c.follow_arguments_of.ensures.known);
+}

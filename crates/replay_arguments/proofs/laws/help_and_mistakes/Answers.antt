@@ -1,0 +1,11 @@
+use Rattle.replay_arguments.proofs.FaultLemmas.{help_asked, nothing_is_mistaken, unknown_is_mistaken}
+use Rattle.replay_arguments.proofs.laws.help_and_mistakes.Goals as goal
+
+pub returns-clause-help : goal.returns-clause-help
+returns-clause-help c = help_asked
+
+pub returns-clause-nothing : goal.returns-clause-nothing
+returns-clause-nothing c = nothing_is_mistaken
+
+pub returns-clause-unknown : goal.returns-clause-unknown
+returns-clause-unknown c = unknown_is_mistaken

@@ -1,0 +1,157 @@
+-- What the arguments of `record`, of `follow` and of `moves` mean.
+use Rattle.std.specs.Prelude.{◌≡◌, ◌≢◌, ◌⊎◌, Bool, List, [], ◌∷◌, ◌++◌, All, ℕ, codes, Option, Some, None, MatchOption, option_map, true, false, if◌then◌else◌, ⊤}
+use Rattle.std.specs.Borrow.{Bor}
+use Rattle.std.specs.Str.{bytes_eq}
+use Rattle.clap.specs.Walk.{Row, Text, first_of, one_of}
+use Rattle.chess_rules.specs.declared.men.Parts.{Parts}
+use Rattle.chess_rules.specs.Initial.{initial}
+use Rattle.chess_rules.specs.Valid.{Valid}
+use Rattle.chess_text.specs.declared.fen.FenError.{FenError}
+use Rattle.chess_text.specs.Fen.{RefusedFirst, Tells}
+use Rattle.dgt_frame.specs.declared.time.First.{First}
+use Rattle.dgt_frame.specs.declared.time.First.TheVariants as first
+use Rattle.pgn_book.specs.declared.values.Tag.{Tag}
+use Rattle.pgn_book.specs.declared.values.Tag.TheVariants.{Event, Site, Date, Round, White, Black}
+use Rattle.pgn_book.specs.declared.values.TagError.{TagError}
+use Rattle.pgn_book.specs.declared.values.TagError.TheVariants.{Memory}
+use Rattle.pgn_book.specs.Values.{IsValue, Refuses, TagValues, unknown_of, unknown_values, value_of, with_value}
+use Rattle.board_session.specs.declared.recording.Setup.{Setup}
+use Rattle.board_session.specs.Settings.{Setting}
+use Rattle.replay_arguments.specs.declared.setup.Refusal.{Refusal}
+use Rattle.replay_arguments.specs.declared.setup.Refusal.TheVariants.{Fen, Tag as OfTag}
+use Rattle.replay_arguments.specs.declared.arguments.FollowArguments.{FollowArguments}
+use Rattle.replay_arguments.specs.declared.arguments.RecordArguments.{RecordArguments}
+
+-- the text of a flag
+abbrev pub flag_text : Bool → Text
+flag_text true = codes "true"
+flag_text false = codes "false"
+
+-- the side that the text after `--first` names, or White where there is none
+abbrev pub side_in : Option Text → Option First
+side_in None = Some first.White
+side_in (Some text) = if bytes_eq text (codes "white") then Some first.White else (if bytes_eq text (codes "black") then Some first.Black else None)
+
+-- The start: the position that the FEN tells, or the initial position where none is given.
+abbrev pub StartsAt : Option Text → Parts → Type 0
+StartsAt None start = start ≡ initial
+StartsAt (Some text) start = Valid start × Tells text start
+
+-- The value of a tag: the text that is given, if the tag may have it, or the unknown value where none is given.
+abbrev pub HasValue : Tag → Option Text → List ℕ → Type 0
+HasValue tag None value = value ≡ unknown_of tag
+HasValue tag (Some text) value = (value ≡ text) × IsValue tag text
+
+-- the option that gives a tag's value
+abbrev pub option_of : Tag → Text
+option_of Event = codes "event"
+option_of Site = codes "site"
+option_of Date = codes "date"
+option_of Round = codes "round"
+option_of White = codes "white"
+option_of Black = codes "black"
+
+-- The options set a recording up so.
+pub record SetsUp (rows : List Row) (setup : Setup) : Type 0 where
+  pub rotated : one_of (codes "rotated") rows ≡ Some (flag_text setup.rotated)
+  pub first : side_in (first_of (codes "first") rows) ≡ Some setup.first
+  pub start : StartsAt (first_of (codes "fen") rows) setup.start
+  pub tags : (tag : Tag) → HasValue tag (first_of (option_of tag) rows) (value_of tag setup.tags)
+
+-- The options set following up so.
+pub record SetsFollowingUp (rows : List Row) (setting : Setting) : Type 0 where
+  pub rotated : one_of (codes "rotated") rows ≡ Some (flag_text setting.rotated)
+  pub first : side_in (first_of (codes "first") rows) ≡ Some setting.first
+  pub start : StartsAt (first_of (codes "fen") rows) setting.start
+
+-- the setup without options but that one: the initial position, White's time first, unknown tags
+abbrev pub plain_setup : Bool → Setup
+plain_setup rotated = record { start = initial; first = first.White; rotated = rotated; tags = unknown_values }
+
+-- No position has the FEN.
+abbrev pub HasNoStart : Option Text → Type 0
+HasNoStart fen = (start : Parts) → StartsAt fen start → ⊥
+
+-- The tag may not have the text.
+abbrev pub HasNoValue : Tag → Option Text → Type 0
+HasNoValue tag text = (value : List ℕ) → HasValue tag text value → ⊥
+
+-- No position has the FEN that is given, or a tag may not have the text that is given for it.
+abbrev pub SetsUpNothing : List Row → Type 0
+SetsUpNothing rows = HasNoStart (first_of (codes "fen") rows) ⊎ ((tag : Tag) × HasNoValue tag (first_of (option_of tag) rows))
+
+-- The tag may have the text, where one is given.
+abbrev pub MayHave : Tag → Option Text → Type 0
+MayHave tag None = ⊤
+MayHave tag (Some text) = IsValue tag text
+
+abbrev pub tags : List Tag
+tags = Event ∷ Site ∷ Date ∷ Round ∷ White ∷ Black ∷ []
+
+-- the text that is given, where one is
+abbrev pub given : Option (Bor Text) → Option Text
+given = option_map (λ text. text.now)
+
+-- the text that is given for a tag
+abbrev pub tag_text : RecordArguments → Tag → Option Text
+tag_text options Event = given options.event
+tag_text options Site = given options.site
+tag_text options Date = given options.date
+tag_text options Round = given options.round
+tag_text options White = given options.white
+tag_text options Black = given options.black
+
+-- The fields are what the rows of a parse say.
+pub record Wants (rows : List Row) (options : RecordArguments) : Type 0 where
+  pub rotated : (rotated : Bool) → one_of (codes "rotated") rows ≡ Some (flag_text rotated) → options.rotated ≡ rotated
+  pub first : side_in (first_of (codes "first") rows) ≡ Some options.first
+  pub fen : given options.fen ≡ first_of (codes "fen") rows
+  pub tags : (tag : Tag) → tag_text options tag ≡ first_of (option_of tag) rows
+
+-- The fields of the arguments of `follow` are what the rows of a parse say.
+pub record WantsToFollow (rows : List Row) (options : FollowArguments) : Type 0 where
+  pub rotated : (rotated : Bool) → one_of (codes "rotated") rows ≡ Some (flag_text rotated) → options.rotated ≡ rotated
+  pub first : side_in (first_of (codes "first") rows) ≡ Some options.first
+  pub fen : given options.fen ≡ first_of (codes "fen") rows
+
+-- The tags have the values that are given.
+abbrev pub HasValues : RecordArguments → TagValues → Type 0
+HasValues options values = (tag : Tag) → HasValue tag (tag_text options tag) (value_of tag values)
+
+-- The setup is as the arguments say.
+pub record Meets (options : RecordArguments) (setup : Setup) : Type 0 where
+  pub rotated : setup.rotated ≡ options.rotated
+  pub first : setup.first ≡ options.first
+  pub start : StartsAt (given options.fen) setup.start
+  pub tags : HasValues options setup.tags
+
+-- The setting in which a game is followed is as the arguments say.
+pub record MeetsToFollow (options : FollowArguments) (setting : Setting) : Type 0 where
+  pub rotated : setting.rotated ≡ options.rotated
+  pub first : setting.first ≡ options.first
+  pub start : StartsAt (given options.fen) setting.start
+
+-- No position has the FEN, or a tag may not have its text.
+abbrev pub MeetsNothing : RecordArguments → Type 0
+MeetsNothing options = HasNoStart (given options.fen) ⊎ ((tag : Tag) × HasNoValue tag (tag_text options tag))
+
+-- the values with a tag's changed to the text, where one is given
+abbrev pub with_given : Tag → Option Text → TagValues → TagValues
+with_given tag None values = values
+with_given tag (Some text) values = with_value tag text values
+
+-- The refusal is for want of memory.
+abbrev pub ForMemory : Refusal → Type 0
+ForMemory (Fen error) = ⊥
+ForMemory (OfTag tag error) = error ≡ Memory
+
+-- The refusal is that of a tag whose text is refused, and the tags before it may have theirs.
+abbrev pub OfFirstTag : (Tag → Option Text) → Refusal → Type 0
+OfFirstTag text (Fen error) = ⊥
+OfFirstTag text (OfTag tag error) = (before after : List Tag) × (tags ≡ before ++ tag ∷ after)
+    × All (λ t. MayHave t (text t)) before × MatchOption (text tag) ⊥ (λ value. Refuses tag value error)
+
+-- The refusal is the first one.
+abbrev pub IsFirst : RecordArguments → Refusal → Type 0
+IsFirst options (Fen error) = MatchOption (given options.fen) ⊥ (λ text. RefusedFirst text error)
+IsFirst options (OfTag tag error) = ((start : Parts) × StartsAt (given options.fen) start) × OfFirstTag (tag_text options) (OfTag tag error)

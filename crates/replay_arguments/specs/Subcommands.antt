@@ -1,0 +1,124 @@
+-- What the arguments of the command line ask for. The first one is the program's name.
+use Rattle.std.specs.Prelude.{◌≡◌, ◌≢◌, ◌⊎◌, ◌||◌, Bool, List, [], ◌∷◌, codes, Option, Some, MatchOption, IfSome, is_some, true, false, if◌then◌else◌}
+use Rattle.std.specs.Option.{option_map_or}
+use Rattle.std.specs.Borrow.{Bor}
+use Rattle.std.specs.Str.{bytes_eq}
+use Rattle.clap.specs.Walk.{Row, Text, first_of, one_of}
+use Rattle.clap.specs.Simple.{subcommand_of}
+use Rattle.clap.specs.Takes.{takes}
+use Rattle.clap.specs.Faults.{fault_of}
+use Rattle.clap.specs.Kinds.{IsAmong}
+use Rattle.clap.specs.declared.error.kind.ErrorKind.TheVariants as kind
+use Rattle.chess_rules.specs.declared.men.Parts.{Parts}
+use Rattle.board_session.specs.declared.recording.Setup.{Setup}
+use Rattle.board_session.specs.Settings.{Setting}
+use Rattle.replay_arguments.specs.declared.arguments.Subcommand.{Subcommand}
+use Rattle.replay_arguments.specs.declared.arguments.Subcommand.TheVariants.{Show, Pictures, Record, Follow, Check, Moves}
+use Rattle.replay_arguments.specs.declared.arguments.FollowArguments.{FollowArguments}
+use Rattle.replay_arguments.specs.declared.arguments.RecordArguments.{RecordArguments}
+use Rattle.replay_arguments.specs.Command.{replay}
+use Rattle.replay_arguments.specs.Setups.{HasNoStart, SetsFollowingUp, SetsUp, SetsUpNothing, StartsAt, Wants, WantsToFollow, flag_text, given, side_in}
+
+-- whether the subcommand is one of the program's, and the side after `--first`, if there is one, is white or black
+abbrev pub is_subcommand : Text → List Row → Bool
+is_subcommand name rows = if bytes_eq name (codes "record") || bytes_eq name (codes "follow") then is_some (side_in (first_of (codes "first") rows))
+    else (bytes_eq name (codes "show") || bytes_eq name (codes "pictures") || bytes_eq name (codes "check") || bytes_eq name (codes "moves"))
+
+-- what a subcommand with these arguments asks for
+pub record Chooses (name : Text) (rows : List Row) (subcommand : Option Subcommand) : Type 0 where
+  pub show : name ≡ codes "show" → subcommand ≡ Some Show
+  pub pictures : (rotated : Bool) → name ≡ codes "pictures" → one_of (codes "rotated") rows ≡ Some (flag_text rotated) → subcommand ≡ Some (Pictures rotated)
+  pub record_is : name ≡ codes "record" → IfSome subcommand (λ chosen. (options : RecordArguments) × (chosen ≡ Record options) × Wants rows options)
+  pub follow : name ≡ codes "follow" → IfSome subcommand (λ chosen. (options : FollowArguments) × (chosen ≡ Follow options) × WantsToFollow rows options)
+  pub check : name ≡ codes "check" → subcommand ≡ Some Check
+  pub moves : name ≡ codes "moves" → (fen : Option (Bor Text)) × (subcommand ≡ Some (Moves fen)) × (given fen ≡ first_of (codes "fen") rows)
+  pub known : is_some subcommand ≡ is_subcommand name rows
+
+-- a parse finds this in the arguments
+abbrev pub AsksFor : List Text → Subcommand → Type 0
+AsksFor arguments subcommand = MatchOption (subcommand_of replay arguments) ⊥ (λ found. Chooses found.0 found.1 (Some subcommand))
+
+-- A parse refuses the arguments, or they ask for nothing that the program does.
+abbrev pub IsRefused : List Text → Type 0
+IsRefused arguments = (takes replay arguments ≡ false) ⊎ (option_map_or (λ found. is_subcommand found.0 found.1) (subcommand_of replay arguments) false ≡ false)
+
+-- The arguments ask for help.
+abbrev pub AsksForHelp : List Text → Type 0
+AsksForHelp arguments = fault_of replay arguments ≡ kind.DisplayHelp ∷ []
+
+-- The arguments are mistaken: a parse finds fault with them, or they ask for nothing that the program does; and they don't ask for
+-- help or for a version.
+pub record AreMistaken (arguments : List Text) : Type 0 where
+  pub fault : (fault_of replay arguments ≢ []) ⊎ (option_map_or (λ found. is_subcommand found.0 found.1) (subcommand_of replay arguments) false ≡ false)
+  pub no_help : IsAmong kind.DisplayHelp (fault_of replay arguments) → ⊥
+  pub no_version : IsAmong kind.DisplayVersion (fault_of replay arguments) → ⊥
+
+-- The arguments ask for this subcommand with these arguments, and are not refused.
+pub record Asks (arguments : List Text) (name : Text) (rows : List Row) : Type 0 where
+  pub taken : takes replay arguments ≡ true
+  pub found : subcommand_of replay arguments ≡ Some (name, rows)
+  pub known : is_subcommand name rows ≡ true
+
+-- The arguments ask for the messages and faults of a stream.
+abbrev pub AsksToShow : List Text → Type 0
+AsksToShow arguments = (rows : List Row) × Asks arguments (codes "show") rows
+
+-- The arguments ask for the pictures of a stream, turned or not.
+abbrev pub AsksForPictures : Bool → List Text → Type 0
+AsksForPictures rotated arguments = (rows : List Row) × Asks arguments (codes "pictures") rows × (one_of (codes "rotated") rows ≡ Some (flag_text rotated))
+
+-- The arguments ask whether a text is PGN in export form.
+abbrev pub AsksToCheck : List Text → Type 0
+AsksToCheck arguments = (rows : List Row) × Asks arguments (codes "check") rows
+
+-- The arguments ask for a recording that is set up so.
+abbrev pub AsksToRecord : List Text → Setup → Type 0
+AsksToRecord arguments setup = (rows : List Row) × Asks arguments (codes "record") rows × SetsUp rows setup
+
+-- The arguments ask for a recording, and no setup is what they say.
+abbrev pub AsksToRecordNothing : List Text → Type 0
+AsksToRecordNothing arguments = (rows : List Row) × Asks arguments (codes "record") rows × SetsUpNothing rows
+
+-- The arguments ask that a game be followed that is set up so.
+abbrev pub AsksToFollow : List Text → Setting → Type 0
+AsksToFollow arguments setting = (rows : List Row) × Asks arguments (codes "follow") rows × SetsFollowingUp rows setting
+
+-- The arguments ask that a game be followed, and no position has the FEN.
+abbrev pub AsksToFollowNothing : List Text → Type 0
+AsksToFollowNothing arguments = (rows : List Row) × Asks arguments (codes "follow") rows × HasNoStart (first_of (codes "fen") rows)
+
+-- The arguments ask for the moves of this position.
+abbrev pub AsksForMoves : List Text → Parts → Type 0
+AsksForMoves arguments start = (rows : List Row) × Asks arguments (codes "moves") rows × StartsAt (first_of (codes "fen") rows) start
+
+-- The arguments ask for the moves of a position, and no position has the FEN.
+abbrev pub AsksForNoMoves : List Text → Type 0
+AsksForNoMoves arguments = (rows : List Row) × Asks arguments (codes "moves") rows × HasNoStart (first_of (codes "fen") rows)
+
+-- The arguments are a program's name, whatever it is, and `show`.
+abbrev pub IsShow : List Text → Type 0
+IsShow arguments = (name : Text) × (arguments ≡ name ∷ codes "show" ∷ [])
+
+-- The arguments are a program's name, whatever it is, and `pictures`, with or without `--rotated`.
+abbrev pub IsPictures : Bool → List Text → Type 0
+IsPictures rotated arguments = (name : Text) × (arguments ≡ name ∷ codes "pictures" ∷ (if rotated then codes "--rotated" ∷ [] else []))
+
+-- The arguments are a program's name, whatever it is, and `record`, with or without `--rotated`.
+abbrev pub IsRecord : Bool → List Text → Type 0
+IsRecord rotated arguments = (name : Text) × (arguments ≡ name ∷ codes "record" ∷ (if rotated then codes "--rotated" ∷ [] else []))
+
+-- The arguments are a program's name, whatever it is, and `follow`, with or without `--rotated`.
+abbrev pub IsFollow : Bool → List Text → Type 0
+IsFollow rotated arguments = (name : Text) × (arguments ≡ name ∷ codes "follow" ∷ (if rotated then codes "--rotated" ∷ [] else []))
+
+-- The arguments are a program's name, whatever it is, and `check`.
+abbrev pub IsCheck : List Text → Type 0
+IsCheck arguments = (name : Text) × (arguments ≡ name ∷ codes "check" ∷ [])
+
+-- The arguments are a program's name, whatever it is, and `moves`.
+abbrev pub IsMoves : List Text → Type 0
+IsMoves arguments = (name : Text) × (arguments ≡ name ∷ codes "moves" ∷ [])
+
+-- The arguments are a program's name, whatever it is, and `--help` or `-h`.
+abbrev pub IsHelp : List Text → Type 0
+IsHelp arguments = (name : Text) × ((arguments ≡ name ∷ codes "--help" ∷ []) ⊎ (arguments ≡ name ∷ codes "-h" ∷ []))

@@ -1,0 +1,188 @@
+//! What the arguments of the command line ask for.
+ghost use Rattle.std.specs.Prelude.{◌≡◌, ◌⊎◌, Some, None, map, string_bytes, codes, IfOk, IfErr, IfSome, MatchOption, OnOk, [], is_some, option_map};
+ghost use Rattle.clap.specs.Faults.{fault_of};
+ghost use Rattle.clap.specs.Kinds.{IsAmong};
+ghost use Rattle.clap.specs.Values.{kind_of};
+ghost use Rattle.clap.specs.Matches.{first_value, found_of};
+ghost use Rattle.clap.specs.Simple.{subcommand_rows_of};
+ghost use Rattle.clap.specs.Walk.{rows_of};
+ghost use Rattle.replay_arguments.specs.Command.{replay};
+ghost use Rattle.replay_arguments.specs.Subcommands.{AsksFor, Chooses, IsRefused};
+ghost use Rattle.replay_arguments.specs.Setups.{Wants, WantsToFollow, side_in};
+
+use crate::command::command;
+use clap::error::ErrorKind;
+use clap::{ArgMatches, Command, Error};
+use dgt_frame::First;
+use std::alloc::Global;
+
+/// What the arguments ask for.
+#[derive(Clone, Copy, Debug)]
+pub enum Subcommand<'a> {
+    /// The messages and faults of a stream.
+    Show,
+    /// The pictures of a stream. With `rotated`, field n means square 63 - n.
+    Pictures { rotated: bool },
+    /// The game of a stream as PGN.
+    Record(RecordArguments<'a>),
+    /// What each event of a stream makes of the game.
+    Follow(FollowArguments<'a>),
+    /// Whether a text is PGN in export form.
+    Check,
+    /// The legal moves of a position.
+    Moves { fen: Option<&'a str> },
+}
+
+/// How a game is to be recorded.
+#[derive(Clone, Copy, Debug)]
+pub struct RecordArguments<'a> {
+    /// Whether field n means square 63 - n.
+    pub rotated: bool,
+    /// Whose time comes first in a time message.
+    pub first: First,
+    /// The position at the start, or none for the initial position.
+    pub fen: Option<&'a str>,
+    /// The value of the tag Event, or none for the unknown value, as of the tags below.
+    pub event: Option<&'a str>,
+    /// The value of the tag Site.
+    pub site: Option<&'a str>,
+    /// The value of the tag Date.
+    pub date: Option<&'a str>,
+    /// The value of the tag Round.
+    pub round: Option<&'a str>,
+    /// The value of the tag White.
+    pub white: Option<&'a str>,
+    /// The value of the tag Black.
+    pub black: Option<&'a str>,
+}
+
+/// How a game is to be followed.
+#[derive(Clone, Copy, Debug)]
+pub struct FollowArguments<'a> {
+    /// Whether field n means square 63 - n.
+    pub rotated: bool,
+    /// Whose time comes first in a time message.
+    pub first: First,
+    /// The position at the start, or none for the initial position.
+    pub fen: Option<&'a str>,
+}
+
+fn side_named(name: &str) -> Option<First>
+    ensures { result ≡ side_in (Some name.now) }
+{
+    match name {
+        "white" => Some(First::White),
+        "black" => Some(First::Black),
+        _ => None,
+    }
+}
+
+// The side that the text names, or White.
+fn side_of(text: Option<&str>) -> Option<First>
+    ensures { result ≡ side_in (option_map (λ text. text.now) text.entry) }
+{
+    match text {
+        None => Some(First::White),
+        Some(name) => side_named(name),
+    }
+}
+
+fn record_arguments_of<'a>(matches: &ArgMatches<'a>) -> Option<RecordArguments<'a>>
+    ensures wants { IfSome result (λ options. Wants (rows_of (found_of matches.now)) options) }
+    ensures known { is_some result ≡ is_some (side_in (first_value (found_of matches.now) (codes "first"))) }
+{
+    let Some(first) = side_of(matches.get_str("first")) else {
+        return None;
+    };
+    Some(RecordArguments {
+        rotated: matches.get_flag("rotated"),
+        first,
+        fen: matches.get_str("fen"),
+        event: matches.get_str("event"),
+        site: matches.get_str("site"),
+        date: matches.get_str("date"),
+        round: matches.get_str("round"),
+        white: matches.get_str("white"),
+        black: matches.get_str("black"),
+    })
+}
+
+fn follow_arguments_of<'a>(matches: &ArgMatches<'a>) -> Option<FollowArguments<'a>>
+    ensures wants { IfSome result (λ options. WantsToFollow (rows_of (found_of matches.now)) options) }
+    ensures known { is_some result ≡ is_some (side_in (first_value (found_of matches.now) (codes "first"))) }
+{
+    let Some(first) = side_of(matches.get_str("first")) else {
+        return None;
+    };
+    Some(FollowArguments {
+        rotated: matches.get_flag("rotated"),
+        first,
+        fen: matches.get_str("fen"),
+    })
+}
+
+fn subcommand_named<'a>(name: &str, matches: &ArgMatches<'a>) -> Option<Subcommand<'a>>
+    ensures { Chooses name.now (rows_of (found_of matches.now)) result }
+{
+    match name {
+        "show" => Some(Subcommand::Show),
+        "pictures" => Some(Subcommand::Pictures {
+            rotated: matches.get_flag("rotated"),
+        }),
+        "record" => match record_arguments_of(matches) {
+            Some(options) => Some(Subcommand::Record(options)),
+            None => None,
+        },
+        "follow" => match follow_arguments_of(matches) {
+            Some(follow) => Some(Subcommand::Follow(follow)),
+            None => None,
+        },
+        "check" => Some(Subcommand::Check),
+        "moves" => Some(Subcommand::Moves {
+            fen: matches.get_str("fen"),
+        }),
+        _ => None,
+    }
+}
+
+fn subcommand_in<'a>(matches: &ArgMatches<'a>) -> Option<Subcommand<'a>>
+    ensures { MatchOption (subcommand_rows_of matches.now) (result ≡ None) (λ found. Chooses found.0 found.1 result) }
+{
+    match matches.subcommand() {
+        Some((name, matches)) => subcommand_named(name, matches),
+        None => None,
+    }
+}
+
+// What is said of a side that is neither.
+fn unknown_side<'a>(command: &mut Command<'a>) -> Error
+    ensures { (kind_of result ≡ ErrorKind.OutOfMemory) ⊎ (kind_of result ≡ ErrorKind.InvalidValue) }
+{
+    match command.error(
+        ErrorKind::InvalidValue,
+        "the side after '--first' is white or black",
+    ) {
+        Ok(error) => error,
+        Err(refused) => Error::from(refused),
+    }
+}
+
+/// Reads the arguments, of which the first is the program's name. An `Err` has the text of `clap`: help that was asked
+/// for, or why the arguments are refused, or that memory ran out.
+pub fn read_arguments<'a>(alloc: Global, arguments: &'a [String]) -> Result<Subcommand<'a>, Error>
+    ensures chooses { IfOk result (λ subcommand. AsksFor (map string_bytes arguments.entry.now) subcommand) }
+    ensures refused { IfErr result (λ error. (kind_of error ≡ ErrorKind.OutOfMemory) ⊎ IsRefused (map string_bytes arguments.entry.now)) }
+    ensures faultless { OnOk result (fault_of replay (map string_bytes arguments.entry.now) ≡ []) }
+    ensures fault { IfErr result (λ error. (kind_of error ≡ ErrorKind.OutOfMemory) ⊎ (IsAmong (kind_of error) (fault_of replay (map string_bytes arguments.entry.now))
+        ⊎ ((fault_of replay (map string_bytes arguments.entry.now) ≡ []) × (kind_of error ≡ ErrorKind.InvalidValue)))) }
+{
+    let mut command = command(alloc)?;
+    let matches = match command.try_get_matches_from_mut(arguments) {
+        Ok(matches) => matches,
+        Err(error) => return Err(error),
+    };
+    match subcommand_in(&matches) {
+        Some(subcommand) => Ok(subcommand),
+        None => Err(unknown_side(&mut command)),
+    }
+}

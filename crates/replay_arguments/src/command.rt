@@ -1,0 +1,174 @@
+//! The command line of the program, as `clap` parses it.
+ghost use Rattle.std.specs.Prelude.{◌≡◌, IfOk};
+ghost use Rattle.clap.specs.Simple.{App, app_of, new_app};
+ghost use Rattle.replay_arguments.specs.Command.{AddsRule, AddsApp, IsApp, Makes, check_app, follow_app, moves_app, pictures_app, record_app, replay, rotated_rule, show_app, text_rule, with_board, with_tags};
+
+use clap::{Arg, ArgAction, Command};
+use std::alloc::{AllocError, Global};
+
+// The command with a flag more. Where memory ran out before, it stays so.
+fn with_rotated<'a>(
+    alloc: Global,
+    command: Result<Command<'a>, AllocError>,
+) -> Result<Command<'a>, AllocError>
+    ensures { AddsRule command.entry rotated_rule result }
+{
+    let command = command?;
+    let rotated = Arg::new(alloc, "rotated")
+        .long("rotated")
+        .action(ArgAction::SetTrue)
+        .help("Field n means square 63 - n: Black has the connector on the left");
+    command.arg(rotated)
+}
+
+// The command with an option more, which has a value. Where memory ran out before, it stays so.
+fn with_text<'a>(
+    alloc: Global,
+    command: Result<Command<'a>, AllocError>,
+    name: &'a str,
+    value: &'a str,
+    help: &'a str,
+) -> Result<Command<'a>, AllocError>
+    ensures { AddsRule command.entry (text_rule name.entry.now) result }
+{
+    let command = command?;
+    let text = Arg::new(alloc, name)
+        .long(name)
+        .value_name(value)
+        .help(help);
+    command.arg(text)
+}
+
+// The command with a subcommand more. Where memory ran out before, for either, it stays so.
+fn with_subcommand<'a>(
+    command: Result<Command<'a>, AllocError>,
+    subcommand: Result<Command<'a>, AllocError>,
+) -> Result<Command<'a>, AllocError>
+    ensures { AddsApp command.entry subcommand.entry result }
+{
+    let command = command?;
+    command.subcommand(subcommand?)
+}
+
+// A command of this name, without arguments.
+fn named<'a>(alloc: Global, name: &'a str, about: &'a str) -> Command<'a>
+    ensures { IsApp result (new_app name.entry.now) }
+{
+    Command::new(alloc, name).about(about)
+}
+
+fn show<'a>(alloc: Global) -> Command<'a>
+    ensures { IsApp result show_app }
+{
+    named(
+        alloc,
+        "show",
+        "Prints one line for each message and fault of a capture on standard input",
+    )
+}
+
+fn pictures<'a>(alloc: Global) -> Result<Command<'a>, AllocError>
+    ensures { IfOk result (λ command. IsApp command pictures_app) }
+{
+    let command = named(
+        alloc,
+        "pictures",
+        "Prints the placement of each picture of a capture on standard input",
+    );
+    with_rotated(alloc, Ok(command))
+}
+
+fn with_tags<'a>(
+    alloc: Global,
+    command: Result<Command<'a>, AllocError>,
+) -> Result<Command<'a>, AllocError>
+    ensures { (app : App) → Makes command.entry app → Makes result (with_tags app) }
+{
+    let command = with_text(alloc, command, "event", "TEXT", "The tag Event");
+    let command = with_text(alloc, command, "site", "TEXT", "The tag Site");
+    let command = with_text(
+        alloc,
+        command,
+        "date",
+        "TEXT",
+        "The tag Date, as 2024.05.31 or 2024.??.??",
+    );
+    let command = with_text(alloc, command, "round", "TEXT", "The tag Round");
+    let command = with_text(alloc, command, "white", "TEXT", "The tag White");
+    with_text(alloc, command, "black", "TEXT", "The tag Black")
+}
+
+// The command with the options that say how a board stands and where its game starts.
+fn with_board<'a>(
+    alloc: Global,
+    command: Result<Command<'a>, AllocError>,
+) -> Result<Command<'a>, AllocError>
+    ensures { (app : App) → Makes command.entry app → Makes result (with_board app) }
+{
+    let command = with_rotated(alloc, command);
+    let command = with_text(
+        alloc,
+        command,
+        "first",
+        "SIDE",
+        "Whose time comes first in a time message: white or black",
+    );
+    with_text(alloc, command, "fen", "TEXT", "The position at the start")
+}
+
+fn record<'a>(alloc: Global) -> Result<Command<'a>, AllocError>
+    ensures { IfOk result (λ command. IsApp command record_app) }
+{
+    let command = named(
+        alloc,
+        "record",
+        "Records the game of a board on standard input as PGN; what the board is sent goes to standard error",
+    );
+    with_tags(alloc, with_board(alloc, Ok(command)))
+}
+
+fn follow<'a>(alloc: Global) -> Result<Command<'a>, AllocError>
+    ensures { IfOk result (λ command. IsApp command follow_app) }
+{
+    let command = named(
+        alloc,
+        "follow",
+        "Prints what each message of a board on standard input makes of the game, as it comes",
+    );
+    with_board(alloc, Ok(command))
+}
+
+fn check<'a>(alloc: Global) -> Command<'a>
+    ensures { IsApp result check_app }
+{
+    named(
+        alloc,
+        "check",
+        "Checks that standard input is a game in PGN export form",
+    )
+}
+
+fn moves<'a>(alloc: Global) -> Result<Command<'a>, AllocError>
+    ensures { IfOk result (λ command. IsApp command moves_app) }
+{
+    let command = named(alloc, "moves", "Prints the legal moves of a position");
+    with_text(alloc, Ok(command), "fen", "TEXT", "The position")
+}
+
+/// The command of the program, with its subcommands.
+pub fn command<'a>(alloc: Global) -> Result<Command<'a>, AllocError>
+    ensures { IfOk result (λ command. app_of command ≡ replay) }
+{
+    let command = named(
+        alloc,
+        "dgt_replay",
+        "Records games of chess from a DGT board",
+    )
+    .subcommand_required(true);
+    let command = with_subcommand(Ok(command), Ok(show(alloc)));
+    let command = with_subcommand(command, pictures(alloc));
+    let command = with_subcommand(command, record(alloc));
+    let command = with_subcommand(command, follow(alloc));
+    let command = with_subcommand(command, Ok(check(alloc)));
+    with_subcommand(command, moves(alloc))
+}

@@ -1,0 +1,25 @@
+//! What arguments without options ask for, each law as the contract of a function that does nothing.
+ghost use Rattle.std.specs.Prelude.{Bool, List, ℕ, [], ◌∷◌, codes};
+ghost use Rattle.board_session.specs.Recording.{setting_of};
+ghost use Rattle.chess_rules.specs.Initial.{initial};
+ghost use Rattle.replay_arguments.specs.Setups.{plain_setup};
+ghost use Rattle.replay_arguments.specs.Subcommands.{AreMistaken, AsksForHelp, AsksForMoves, AsksForPictures, AsksToCheck, AsksToFollow, AsksToRecord, AsksToShow, IsCheck, IsFollow, IsHelp, IsMoves, IsPictures, IsRecord, IsShow};
+
+/// `record` asks for a recording from the initial position, with White's time first and unknown tags, turned where `--rotated`
+/// is given; `follow` asks that a game be followed that is set up so; `moves` asks for those of the initial position; `show`,
+/// `pictures` and `check` ask for what they are called.
+pub fn without_options()
+    ensures shows { (arguments : List (List ℕ)) → IsShow arguments → AsksToShow arguments }
+    ensures pictures { (rotated : Bool) (arguments : List (List ℕ)) → IsPictures rotated arguments → AsksForPictures rotated arguments }
+    ensures records { (rotated : Bool) (arguments : List (List ℕ)) → IsRecord rotated arguments → AsksToRecord arguments (plain_setup rotated) }
+    ensures follows { (rotated : Bool) (arguments : List (List ℕ)) → IsFollow rotated arguments → AsksToFollow arguments (setting_of (plain_setup rotated)) }
+    ensures checks { (arguments : List (List ℕ)) → IsCheck arguments → AsksToCheck arguments }
+    ensures moves { (arguments : List (List ℕ)) → IsMoves arguments → AsksForMoves arguments initial }
+{}
+
+/// `--help` and `-h` ask for help; the program's name alone is mistaken, and so is a subcommand that the program doesn't have.
+pub fn help_and_mistakes()
+    ensures help { (arguments : List (List ℕ)) → IsHelp arguments → AsksForHelp arguments }
+    ensures nothing { (name : List ℕ) → AreMistaken (name ∷ []) }
+    ensures unknown { (name : List ℕ) → AreMistaken (name ∷ codes "fly" ∷ []) }
+{}

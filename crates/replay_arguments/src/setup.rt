@@ -1,0 +1,70 @@
+//! The setup of a recording.
+ghost use Rattle.std.specs.Prelude.{◌≡◌, ◌⊎◌, IfErr, OnOk, MatchOption, MatchResult};
+ghost use Rattle.pgn_book.specs.declared.values.TagError.{TagError as ErrorOf};
+ghost use Rattle.pgn_book.specs.Values.{Refuses};
+ghost use Rattle.replay_arguments.specs.Setups.{ForMemory, HasValues, IsFirst, MayHave, Meets, MeetsNothing, OfFirstTag, given, tag_text, with_given};
+
+use crate::arguments::RecordArguments;
+use crate::start::start_of;
+use board_session::Setup;
+use chess_text::FenError;
+use pgn_book::{Tag, TagError, Tags};
+use std::alloc::Global;
+
+/// Why a recording can't be set up as the arguments say.
+#[derive(Clone, Copy, Debug)]
+pub enum Refusal {
+    /// The FEN is refused.
+    Fen(FenError),
+    /// The value of a tag is refused, or memory for it.
+    Tag { tag: Tag, error: TagError },
+}
+
+fn set(tags: &mut Tags, tag: Tag, value: Option<&str>) -> Result<(), Refusal>
+    ensures set { OnOk result (tags.new ≡ with_given tag (given value.entry) tags.old) }
+    ensures may { OnOk result (MayHave tag (given value.entry)) }
+    ensures refused { IfErr result (λ refusal. (error : ErrorOf) × (refusal ≡ Refusal.Tag tag error)
+        × MatchOption (given value.entry) ⊥ (λ value. Refuses tag value error)) }
+{
+    match value {
+        None => Ok(()),
+        Some(value) => match tags.set(tag, value) {
+            Ok(()) => Ok(()),
+            Err(error) => Err(Refusal::Tag { tag, error }),
+        },
+    }
+}
+
+fn tags_of(alloc: Global, options: &RecordArguments<'_>) -> Result<Tags, Refusal>
+    ensures { MatchResult result (HasValues options.now) (OfFirstTag (tag_text options.now)) }
+{
+    let mut tags = Tags::new(alloc);
+    set(&mut tags, Tag::Event, options.event)?;
+    set(&mut tags, Tag::Site, options.site)?;
+    set(&mut tags, Tag::Date, options.date)?;
+    set(&mut tags, Tag::Round, options.round)?;
+    set(&mut tags, Tag::White, options.white)?;
+    set(&mut tags, Tag::Black, options.black)?;
+    Ok(tags)
+}
+
+/// The setup that the arguments say, or the first reason why there is none.
+pub fn setup_of(alloc: Global, options: &RecordArguments<'_>) -> Result<Setup, Refusal>
+    ensures meets { MatchResult result (Meets options.now) (λ refusal. ForMemory refusal ⊎ MeetsNothing options.now) }
+    ensures first { IfErr result (IsFirst options.now) }
+{
+    let start = match start_of(options.fen) {
+        Ok(start) => start,
+        Err(error) => return Err(Refusal::Fen(error)),
+    };
+    let tags = match tags_of(alloc, options) {
+        Ok(tags) => tags,
+        Err(refusal) => return Err(refusal),
+    };
+    Ok(Setup {
+        start,
+        first: options.first,
+        rotated: options.rotated,
+        tags,
+    })
+}
