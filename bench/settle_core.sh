@@ -12,6 +12,7 @@ program=crates/settling/out/settling
 processor
 heading 'settling, by task' copy
 for task in 'pictures 1000000' 'updates 1000000' 'plies 100000'; do
-    [ "$("$program" $task)" = "$task" ] || { echo "settling $task: another count" >&2; exit 1; }
+    read -r -a words <<< "$task"
+    [ "$("$program" "${words[@]}")" = "$task" ] || { echo "settling $task: another count" >&2; exit 1; }
     beside "$task" - /dev/null "$program $task" "$program copy ${task#* }"
 done

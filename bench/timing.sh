@@ -1,3 +1,4 @@
+# shellcheck shell=bash
 # For the scripts beside it, which source it from the top of the repository. It makes the folder $work, and takes it away.
 work=$(mktemp -d)
 trap 'rm -rf "$work"' EXIT
@@ -5,9 +6,10 @@ trap 'rm -rf "$work"' EXIT
 # beside NAME GOAL INPUT COMMAND YARDSTICK: the median processor time of $runs runs of each, by turns, in a row that begins with
 # the ratio, and the peak memory of one run of the command more. What is to be at most GOAL stands in $work/verdicts; where GOAL is -, nothing is asked.
 beside() {
-    local name=$1 goal=$2 input=$3 command=$4 yardstick=$5
-    python3 bench/turns.py "$runs" "$input" "$command" "$yardstick" > "$work/turns"
-    /usr/bin/time -f %M -o "$work/peak" $command < "$input" > /dev/null 2> /dev/null
+    local name=$1 goal=$2 input=$3 command=$4 yardstick=$5 words
+    read -r -a words <<< "$command"
+    python3 bench/turns.py "${runs:?}" "$input" "$command" "$yardstick" > "$work/turns"
+    /usr/bin/time -f %M -o "$work/peak" "${words[@]}" < "$input" > /dev/null 2> /dev/null
     cat "$work/peak" >> "$work/turns"
     paste -s -d ' ' "$work/turns" | awk -v name="$name" -v goal="$goal" -v verdicts="$work/verdicts" '{
         ratio = $1 / ($2 > 0 ? $2 : 0.001)
