@@ -1,5 +1,5 @@
 // The settler: it takes pictures, and keeps the line that they show.
-ghost use Rattle.std.specs.Prelude.{◌≡◌, ◌<◌, ◌≤◌, ◌↔◌, ◌||◌, ◌∷◌, [], ℕ, List, All, IfOk, OnOk, OnErr, IfSome, IfNone, IsTrue, Some, true, is_ok, length, slice_set, reverse, drop};
+ghost use Rattle.std.specs.Prelude.{◌≡◌, ◌<◌, ◌≤◌, ◌↔◌, ◌||◌, ◌∷◌, [], ℕ, List, All, IfOk, OnOk, OnErr, IfSome, IfNone, IsTrue, None, Some, true, is_ok, length, slice_set, reverse, drop};
 ghost use Rattle.chess_rules.specs.declared.men.Move.{Move as MoveOf};
 ghost use Rattle.chess_rules.specs.declared.men.Parts.{Parts as PartsOf};
 ghost use Rattle.chess_rules.specs.Legal.{Legal};
@@ -316,8 +316,9 @@ impl Settler {
 
     /// The last ply, and the position in which it was made.
     pub fn last_ply(&self) -> Option<(Position, Ply)>
-        ensures { (ply : PlyOf) (earlier : List PlyOf) → self.now.score.plies ≡ ply ∷ earlier
+        ensures last { (ply : PlyOf) (earlier : List PlyOf) → self.now.score.plies ≡ ply ∷ earlier
             → result ≡ Some (reached self.now.start (moves_of earlier), ply) }
+        ensures none { self.now.score.plies ≡ [] → result ≡ None }
     {
         let Some(before) = &self.before else {
             return None;
