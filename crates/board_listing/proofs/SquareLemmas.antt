@@ -1,8 +1,10 @@
 -- The squares on which a picture differs, one square at a time.
-use Rattle.std.proofs.Common.{◌≡◌, ℕ, ◌+◌, ◌<◌, ◌==◌, List, [], ◌∷◌, ◌++◌, slice_index, refl, ◌∙◌, ap, inl, inr, append-nil, append_assoc, arith, zero, suc}
+use Rattle.std.proofs.Common.{◌≡◌, ℕ, ◌+◌, ◌-◌, ◌/◌, ◌%◌, ◌^◌, ◌<◌, ◌≤◌, ◌==◌, List, [], ◌∷◌, ◌++◌, slice_index, refl, sym, ◌∙◌, ap, inl, inr, append-nil, append_assoc, arith, zero, suc, eq-zero-or-pos, w64}
 use Rattle.std.specs.Prelude.{if◌then◌else◌}
 use Rattle.std.specs.List.{flat_map, range_with_len}
-use Rattle.std.specs.Int.{bit_at}
+use Rattle.std.specs.Int.{bit_at, trailing_zeros}
+use Rattle.std.proofs.lemmas.Nat.{shr-shr}
+use Rattle.std.proofs.lemmas.Nat.Bits.{bit_at-trailing_zeros, bit_at-zero, bit_at_above}
 use Rattle.std.proofs.lemmas.Bool.{ne_eqb}
 use Rattle.std.proofs.lemmas.Bool.Decides.{eqb_tells}
 use Rattle.std.proofs.lemmas.Grind.{flat_map-append}
@@ -39,6 +41,65 @@ same_there mask n stands seen low diff clear = elim (eqb_tells (slice_index stan
   | inl same ↦ differing_more n stands seen ∙ ap (λ b. differing n stands seen ++ (if b then [] else 32 ∷ square_text n)) same.0 ∙ append-nil (differing n stands seen)
   | inr other ↦ absurd (clear ((diff n low).1 other.1))
 ]
+
+-- it doesn't on any square from n on below n + t
+pub skipped : (mask n t : ℕ) (stands seen : List ℕ) → n + t ≤ 64 → IsDiff mask stands seen → ((s : ℕ) → n ≤ s → s < n + t → bit_at mask s ≡ 0)
+    → differing (n + t) stands seen ≡ differing n stands seen
+skipped mask n zero stands seen low diff clear = let none : n + 0 ≡ n = omega arith in ap (λ k. differing k stands seen) none
+skipped mask n (suc t) stands seen low diff clear =
+    let on : n + suc t ≡ n + t + 1 = omega arith in
+    let here : bit_at mask (n + t) ≡ 0 = clear (n + t) (omega arith) (omega arith) in
+    ap (λ k. differing k stands seen) on
+    ∙ same_there mask (n + t) stands seen (omega arith) diff (λ set. let never : 0 ≡ 1 = sym here ∙ set in omega arith)
+    ∙ skipped mask n t stands seen (omega arith) diff (λ s from below. clear s from (omega arith))
+
+-- nor below m
+pub skipped_to : (mask n m : ℕ) (stands seen : List ℕ) → n ≤ m → m ≤ 64 → IsDiff mask stands seen → ((s : ℕ) → n ≤ s → s < m → bit_at mask s ≡ 0)
+    → differing n stands seen ≡ differing m stands seen
+skipped_to mask n m stands seen from low diff clear =
+    let up : n + (m - n) ≡ m = omega arith in
+    sym (skipped mask n (m - n) stands seen (omega arith) diff (λ s a b. clear s a (omega arith))) ∙ ap (λ k. differing k stands seen) up
+
+bit_shifted : (n j i : ℕ) → bit_at (n / 2 ^ j) i ≡ bit_at n (j + i)
+bit_shifted n j i = ap (λ q. q % 2) (shr-shr n j i)
+
+-- no bit is set from j on
+pub clear_rest : (mask j : ℕ) → mask / 2 ^ j ≡ 0 → (s : ℕ) → j ≤ s → bit_at mask s ≡ 0
+clear_rest mask j none s from =
+    let up : j + (s - j) ≡ s = omega arith in
+    ap (λ k. bit_at mask k) (sym up) ∙ sym (bit_shifted mask j (s - j)) ∙ ap (λ n. bit_at n (s - j)) none ∙ bit_at-zero (s - j)
+
+shr-le : (n j : ℕ) → n / 2 ^ j ≤ n
+shr-le n zero = omega arith
+shr-le n (suc j) =
+    let halves : n / 2 ^ 1 / 2 ^ j ≡ n / 2 ^ (1 + j) = shr-shr n 1 j in
+    let on : 1 + j ≡ suc j = omega arith in
+    let same : n / 2 ^ (1 + j) ≡ n / 2 ^ suc j = ap (λ k. n / 2 ^ k) on in
+    omega (arith, halves, same, shr-le (n / 2 ^ 1) j)
+
+inside : (mask k : ℕ) → mask < 2 ^ 64 → bit_at mask k ≡ 1 → k < 64
+inside mask k fits set =
+    elim (eq-zero-or-pos (64 - k)) [
+      | inl past ↦ let clear = bit_at_above mask 64 k fits (omega arith) in let never : 0 ≡ 1 = sym clear ∙ set in omega arith
+      | inr within ↦ omega arith
+    ]
+
+-- the lowest that is
+pub lowest_from : (mask j : ℕ) → mask < 2 ^ 64 → 0 < mask / 2 ^ j
+    → (j + trailing_zeros w64 (mask / 2 ^ j) < 64) × ((bit_at mask (j + trailing_zeros w64 (mask / 2 ^ j)) ≡ 1)
+    × ((s : ℕ) → j ≤ s → s < j + trailing_zeros w64 (mask / 2 ^ j) → bit_at mask s ≡ 0))
+lowest_from mask j fits some =
+    let small : mask / 2 ^ j < 2 ^ 64 = omega (arith, shr-le mask j, fits) in
+    let low = bit_at-trailing_zeros w64 (mask / 2 ^ j) some small in
+    let set = sym (bit_shifted mask j (trailing_zeros w64 (mask / 2 ^ j))) ∙ low.1 in (
+      inside mask (j + trailing_zeros w64 (mask / 2 ^ j)) fits set,
+      (
+        set,
+        λ s from below.
+            let up : j + (s - j) ≡ s = omega arith in
+            ap (λ k. bit_at mask k) (sym up) ∙ sym (bit_shifted mask j (s - j)) ∙ low.2 (s - j) (omega arith),
+      ),
+    )
 
 pub all_squares : (stands seen : List ℕ) → differing 64 stands seen ≡ squares_text stands seen
 unfolding squares_text

@@ -1,5 +1,5 @@
 //! Lines of `follow`: moves, corrections, results, and pictures that wait.
-ghost use Rattle.std.specs.Prelude.{◌≡◌, ◌↔◌, ◌<◌, ◌≤◌, ◌+◌, ◌++◌, ℕ, List, IsTrue, length, codes, decimal};
+ghost use Rattle.std.specs.Prelude.{◌≡◌, ◌<◌, ◌≤◌, ◌+◌, ◌++◌, ℕ, List, length, codes, decimal};
 ghost use Rattle.std.specs.Int.{bit_at};
 ghost use Rattle.arrayvec.specs.ArrayVec.{array_vec_len};
 ghost use Rattle.chess_rules.specs.Legal.{Legal};
@@ -100,11 +100,19 @@ pub fn add_result(lines: &mut Lines, offset: u32, ending: Option<Outcome>)
     add(lines, b"\n");
 }
 
-fn has(mask: u64, square: u8) -> bool
+// The first square of a mask from this one on, or 64.
+fn next_square(mask: u64, square: u8) -> u8
     requires { square < 64 }
-    ensures { IsTrue result ↔ (bit_at mask square ≡ 1) }
+    ensures range { result ≤ 64 }
+    ensures from { square ≤ result }
+    ensures clear { (s : ℕ) → square ≤ s → s < result → bit_at mask s ≡ 0 }
+    ensures set { result < 64 → bit_at mask result ≡ 1 }
 {
-    mask >> square & 1 == 1
+    let rest = mask >> square;
+    if rest == 0 {
+        return 64;
+    }
+    square + rest.trailing_zeros() as u8
 }
 
 // The squares of a mask, each behind a space.
@@ -114,12 +122,13 @@ fn squares_of(mask: u64) -> ArrayVec<u8, 192>
     let mut squares = ArrayVec::new();
     let mut square: u8 = 0;
     'squares: while square < 64 {
-        if has(mask, square) {
+        square = next_square(mask, square);
+        if square < 64 {
             squares.push(b' ');
             squares.push(b'a' + square % 8);
             squares.push(b'8' - square / 8);
+            square += 1;
         }
-        square += 1;
     }
     squares
 }

@@ -31,6 +31,13 @@ pub fn add_number(lines: &mut Lines, n: u32)
     ensures items { lines.new.items ≡ lines.old.items ++ decimal n }
     ensures len { array_vec_len lines.new ≤ array_vec_len lines.old + 10 }
 {
-    let mut buffer = Buffer::new();
-    add(lines, buffer.format(n).as_bytes());
+    if n < 10 {
+        lines.push(b'0' + n as u8);
+    } else if n < 100 {
+        lines.push(b'0' + (n / 10) as u8);
+        lines.push(b'0' + (n % 10) as u8);
+    } else {
+        let mut buffer = Buffer::new();
+        add(lines, buffer.format(n).as_bytes());
+    }
 }
