@@ -10,7 +10,7 @@ use Rattle.clap.specs.declared.error.kind.ErrorKind.{ErrorKind}
 use Rattle.clap.specs.declared.error.kind.ErrorKind.TheVariants as kind
 use Rattle.replay_arguments.specs.declared.arguments.Subcommand.{Subcommand}
 use Rattle.replay_arguments.specs.Command.{replay}
-use Rattle.replay_arguments.specs.Subcommands.{AreMistaken, AsksFor, AsksForHelp, Chooses, is_subcommand}
+use Rattle.replay_arguments.specs.Subcommands.{AreMistaken, AsksFor, Chooses, is_subcommand}
 
 -- Mistaken arguments ask for nothing.
 pub mistaken_asks_nothing : (arguments : List Text) (subcommand : Subcommand) → AreMistaken arguments → fault_of replay arguments ≡ [] → AsksFor arguments subcommand → ⊥
@@ -30,16 +30,17 @@ mistaken_kind arguments k m (inl among) =
     ((λ e. m.no_help (subst P e among)), (λ e. m.no_version (subst P e among)))
 mistaken_kind arguments k m (inr own) = ((λ e. let bad : kind.InvalidValue ≡ kind.DisplayHelp = sym own.1 ∙ e in cc), (λ e. let bad : kind.InvalidValue ≡ kind.DisplayVersion = sym own.1 ∙ e in cc))
 
--- Words that ask for help have a fault.
-pub help_has_fault : (arguments : List Text) → AsksForHelp arguments → fault_of replay arguments ≡ [] → ⊥
-help_has_fault arguments asks none = let bad : kind.DisplayHelp ∷ [] ≡ [] = sym asks ∙ none in cc
+-- Arguments that ask for help or for the version have a fault.
+pub one_fault : (arguments : List Text) (asked : ErrorKind) → fault_of replay arguments ≡ asked ∷ [] → fault_of replay arguments ≡ [] → ⊥
+one_fault arguments asked one none = let bad : asked ∷ [] ≡ [] = sym one ∙ none in cc
 
--- The error of arguments that ask for help is help.
-pub help_kind : (arguments : List Text) (k : ErrorKind) → AsksForHelp arguments → (IsAmong k (fault_of replay arguments)) ⊎ ((fault_of replay arguments ≡ []) × (k ≡ kind.InvalidValue)) → k ≡ kind.DisplayHelp
-help_kind arguments k asks (inl among) =
+-- Their error is what they ask for.
+pub one_kind : (arguments : List Text) (asked k : ErrorKind) → fault_of replay arguments ≡ asked ∷ []
+    → (IsAmong k (fault_of replay arguments)) ⊎ ((fault_of replay arguments ≡ []) × (k ≡ kind.InvalidValue)) → k ≡ asked
+one_kind arguments asked k one (inl among) =
     let P : Kinds → Type 0 = λ ks. IsAmong k ks in
-    elim (subst P asks among) [
+    elim (subst P one among) [
       | inl same ↦ same
       | inr none ↦ absurd none
     ]
-help_kind arguments k asks (inr own) = absurd (help_has_fault arguments asks own.0)
+one_kind arguments asked k one (inr own) = absurd (one_fault arguments asked one own.0)

@@ -5,7 +5,7 @@ use Rattle.std.proofs.KnownBytes.{Keeps-refl}
 use Rattle.std.specs.Io.KnownBytes.{Appends, Keeps}
 use Rattle.pgn_book.specs.declared.output.WriteFault.{WriteFault}
 use Rattle.board_session.specs.Recording.{AppendsPart}
-use Rattle.dgt_replay.specs.Messages.{GivesHelp, Says, Tells}
+use Rattle.dgt_replay.specs.Messages.{GivesText, Says, Tells}
 
 -- What a write says: all, or the first bytes where the stream has failed.
 pub part_put : {T : Type 0} (r : Result T WriteFault) (said said' : Option (List ℕ)) (words : List ℕ) → OnOk r (Appends said said' words)
@@ -65,9 +65,9 @@ tells_memory status May said said' reader_failed out_failed err_failed four says
   memory = λ e. says;
 }
 
-pub help_out_of_memory : (status : ℕ) (written written' said said' : Option (List ℕ)) (out_failed err_failed : Bool) → status ≡ 4
-    → Keeps written written' → Says said said' err_failed (codes "memory\n") → GivesHelp status written written' said said' out_failed err_failed
-help_out_of_memory status written written' said said' out_failed err_failed four keeps says = record {
+pub text_out_of_memory : (status : ℕ) (written written' said said' : Option (List ℕ)) (out_failed err_failed : Bool) → status ≡ 4
+    → Keeps written written' → Says said said' err_failed (codes "memory\n") → GivesText status written written' said said' out_failed err_failed
+text_out_of_memory status written written' said said' out_failed err_failed four keeps says = record {
   done = λ e. absurd (omega arith);
   fault = λ e. absurd (omega arith);
   memory = λ e. (keeps, says);

@@ -1,5 +1,5 @@
 -- What the arguments ask for, by the subcommand that was read.
-use Rattle.std.proofs.Common.{◌≡◌, ◌⊎◌, ◌∙◌, Bool, true, false, List, Option, Some, None, ap, refl, sym, inl, inr, codes, subst, arith}
+use Rattle.std.proofs.Common.{◌≡◌, ◌⊎◌, ◌∙◌, Bool, true, false, List, Option, Some, ap, refl, sym, inl, inr, codes, subst}
 use Rattle.std.specs.Prelude.{MatchOption}
 use Rattle.std.specs.Option.{option_map_or}
 use Rattle.std.specs.Borrow.{Bor}

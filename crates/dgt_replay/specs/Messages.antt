@@ -66,9 +66,9 @@ abbrev pub RefusesArguments : ℕ → Option (List ℕ) → Option (List ℕ) �
 RefusesArguments status said said' err_failed = ((status ≡ 2) × ((text : List ℕ) × Says said said' err_failed text))
     ⊎ ((status ≡ 4) × Says said said' err_failed (codes "memory\n"))
 
--- What becomes of a request for help, by the status: a text is written, and nothing said; or it is said that the output has failed,
--- or that memory ran out.
-pub record GivesHelp (status : ℕ) (written written' said said' : Option (List ℕ)) (out_failed err_failed : Bool) : Type 0 where
+-- What becomes of a request for help or for the version, by the status: a text is written, and nothing said; or it is said that
+-- the output has failed, or that memory ran out.
+pub record GivesText (status : ℕ) (written written' said said' : Option (List ℕ)) (out_failed err_failed : Bool) : Type 0 where
   pub done : status ≡ 0 → ((text : List ℕ) × Appends written written' text) × Keeps said said'
   pub fault : status ≡ 3 → (out_failed ≡ true) × Says said said' err_failed (codes "write fault\n")
   pub memory : status ≡ 4 → Keeps written written' × Says said said' err_failed (codes "memory\n")

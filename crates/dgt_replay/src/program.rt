@@ -10,7 +10,7 @@ ghost use Rattle.clap.specs.Values.{kind_of};
 ghost use Rattle.clap.specs.Walk.{Row, first_of};
 ghost use Rattle.dgt_frame.specs.Watched.{inner_of, has_failed};
 ghost use Rattle.dgt_replay.specs.Checked.{ChecksGame, RefusesText, text_limit};
-ghost use Rattle.replay_arguments.specs.Subcommands.{AreMistaken, Asks, AsksForHelp, AsksForMoves, AsksForNoMoves, AsksToFollow, AsksToFollowNothing, AsksToRecord, AsksToRecordNothing, IsCheck, IsPictures, IsRefused, IsShow};
+ghost use Rattle.replay_arguments.specs.Subcommands.{AreMistaken, Asks, AsksForHelp, AsksForMoves, AsksForNoMoves, AsksForVersion, AsksToFollow, AsksToFollowNothing, AsksToRecord, AsksToRecordNothing, IsCheck, IsPictures, IsRefused, IsShow};
 ghost use Rattle.board_listing.specs.declared.listing.Listing.{Listing};
 ghost use Rattle.board_listing.specs.Listings.{ListingEnds, ReadsWithin};
 ghost use Rattle.board_listing.specs.EventLines.{rest_line};
@@ -21,7 +21,7 @@ ghost use Rattle.replay_arguments.specs.declared.arguments.RecordArguments.{Reco
 ghost use Rattle.dgt_replay.specs.Recorded.{EndsFor, Fails, RecordsAndTells, Untouched};
 ghost use Rattle.replay_arguments.specs.Setups.{HasNoStart, Meets, MeetsNothing, MeetsToFollow, SetsUpNothing, StartsAt, given, option_of, tag_text};
 ghost use Rattle.dgt_replay.specs.Refusals.{RefusesSetup, RefusesStart};
-ghost use Rattle.dgt_replay.specs.Messages.{GivesHelp, IsTooLong, RefusesArguments, Says, Tells};
+ghost use Rattle.dgt_replay.specs.Messages.{GivesText, IsTooLong, RefusesArguments, Says, Tells};
 
 use crate::check::check;
 use crate::messages::{refused, refused_fen};
@@ -51,7 +51,9 @@ fn refused_arguments<O: Write, E: Write>(
     ensures memory_unwritten { kind_of error.now ≡ ErrorKind.OutOfMemory → out.new ≡ out.old }
     ensures refuses { kind_of error.now ≢ ErrorKind.DisplayHelp → kind_of error.now ≢ ErrorKind.DisplayVersion → (out.new ≡ out.old)
         × RefusesArguments result (E.contents (inner_of err.old)) (E.contents (inner_of err.new)) (has_failed err.new) }
-    ensures help { kind_of error.now ≡ ErrorKind.DisplayHelp → GivesHelp result (O.contents (inner_of out.old)) (O.contents (inner_of out.new))
+    ensures help { kind_of error.now ≡ ErrorKind.DisplayHelp → GivesText result (O.contents (inner_of out.old)) (O.contents (inner_of out.new))
+        (E.contents (inner_of err.old)) (E.contents (inner_of err.new)) (has_failed out.new) (has_failed err.new) }
+    ensures version { kind_of error.now ≡ ErrorKind.DisplayVersion → GivesText result (O.contents (inner_of out.old)) (O.contents (inner_of out.new))
         (E.contents (inner_of err.old)) (E.contents (inner_of err.new)) (has_failed out.new) (has_failed err.new) }
     ensures works { result ≡ 0 → (has_failed out.new ≡ false) × (has_failed err.new ≡ false) }
     ensures known { result ≤ 4 }
@@ -210,9 +212,9 @@ fn obey<R: Read, O: Write, E: Write>(
     }
 }
 
-/// Does what the arguments ask for, of which the first is the program's name, and answers the exit status: 0 where all was done
-/// or help was asked for, 1 where the input is refused, 2 where the arguments are, 3 where a stream has failed, 4 where memory ran
-/// out. Under `record` the bytes for the board go to `err`. No stream may have failed before.
+/// Does what the arguments ask for, of which the first is the program's name, and answers the exit status: 0 where all was
+/// done, or help or the version was asked for, 1 where the input is refused, 2 where the arguments are, 3 where a stream has
+/// failed, 4 where memory ran out. Under `record` the bytes for the board go to `err`. No stream may have failed before.
 pub fn run<R: Read, O: Write, E: Write>(
     alloc: Global,
     arguments: &[String],
@@ -299,10 +301,13 @@ pub fn run<R: Read, O: Write, E: Write>(
     // `moves` reads nothing.
     ensures moves_unread { (rows : List Row) → Asks (map string_bytes arguments.now) (codes "moves") rows → reader.new ≡ reader.old }
 
-    // Mistaken arguments: nothing is read, nothing is written to the output, and the reason alone is said. Help reads nothing.
+    // Mistaken arguments: nothing is read, nothing is written to the output, and the reason alone is said. Help and the version
+    // read nothing.
     ensures mistaken { AreMistaken (map string_bytes arguments.now) → (reader.new ≡ reader.old) × ((out.new ≡ out.old)
         × RefusesArguments result (E.contents (inner_of err.old)) (E.contents (inner_of err.new)) (has_failed err.new)) }
-    ensures help { AsksForHelp (map string_bytes arguments.now) → (reader.new ≡ reader.old) × GivesHelp result (O.contents (inner_of out.old)) (O.contents (inner_of out.new))
+    ensures help { AsksForHelp (map string_bytes arguments.now) → (reader.new ≡ reader.old) × GivesText result (O.contents (inner_of out.old)) (O.contents (inner_of out.new))
+        (E.contents (inner_of err.old)) (E.contents (inner_of err.new)) (has_failed out.new) (has_failed err.new) }
+    ensures version { AsksForVersion (map string_bytes arguments.now) → (reader.new ≡ reader.old) × GivesText result (O.contents (inner_of out.old)) (O.contents (inner_of out.new))
         (E.contents (inner_of err.old)) (E.contents (inner_of err.new)) (has_failed out.new) (has_failed err.new) }
 
     // Whatever was asked for, status 0 comes only where no stream has failed.

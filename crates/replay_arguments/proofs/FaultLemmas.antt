@@ -10,7 +10,7 @@ use Rattle.clap.specs.declared.error.kind.ErrorKind.{ErrorKind}
 use Rattle.clap.specs.declared.error.kind.ErrorKind.TheVariants as kind
 use Rattle.clap.proofs.OnLiterals.{clap_on_literals}
 use Rattle.replay_arguments.specs.Command.{replay}
-use Rattle.replay_arguments.specs.Subcommands.{AreMistaken, AsksForHelp, IsHelp}
+use Rattle.replay_arguments.specs.Subcommands.{AreMistaken, AsksForHelp, AsksForVersion, IsHelp, IsVersion}
 
 replay_is_free : is_simple_and_free replay ≡ true
 unfolding clap_on_literals
@@ -79,4 +79,18 @@ pub help_asked : (arguments : List Text) → IsHelp arguments → AsksForHelp ar
 help_asked arguments (name, is) = elim is [
   | inl long ↦ subst AsksForHelp (sym long) (long_help name)
   | inr short ↦ subst AsksForHelp (sym short) (short_help name)
+]
+
+long_version : (name : Text) → AsksForVersion (name ∷ codes "--version" ∷ [])
+unfolding clap_on_literals
+long_version name = refl
+
+short_version : (name : Text) → AsksForVersion (name ∷ codes "-V" ∷ [])
+unfolding clap_on_literals
+short_version name = refl
+
+pub version_asked : (arguments : List Text) → IsVersion arguments → AsksForVersion arguments
+version_asked arguments (name, is) = elim is [
+  | inl long ↦ subst AsksForVersion (sym long) (long_version name)
+  | inr short ↦ subst AsksForVersion (sym short) (short_version name)
 ]

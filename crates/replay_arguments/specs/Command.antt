@@ -44,12 +44,13 @@ moves_app = with_text (new_app (codes "moves")) (codes "fen")
 abbrev pub follow_app : App
 follow_app = with_board (new_app (codes "follow"))
 
-abbrev pub requiring : App → App
-requiring app = record app { top = record app.top { subcommand_required = true } }
+-- a version, and a subcommand that must be given
+abbrev pub with_version : App → App
+with_version app = record app { top = record app.top { has_version = true; subcommand_required = true } }
 
 -- the command with its subcommands
 abbrev pub replay : App
-replay = with_subcommand (with_subcommand (with_subcommand (with_subcommand (with_subcommand (with_subcommand (requiring (new_app (codes "dgt_replay")))
+replay = with_subcommand (with_subcommand (with_subcommand (with_subcommand (with_subcommand (with_subcommand (with_version (new_app (codes "dgt_replay")))
     show_app.top) pictures_app.top) record_app.top) follow_app.top) check_app.top) moves_app.top
 
 -- The command is read so by a parse.

@@ -1,18 +1,16 @@
 -- What the arguments of `record`, of `follow` and of `moves` mean.
-use Rattle.std.specs.Prelude.{◌≡◌, ◌≢◌, ◌⊎◌, Bool, List, [], ◌∷◌, ◌++◌, All, ℕ, codes, Option, Some, None, MatchOption, option_map, true, false, if◌then◌else◌, ⊤}
+use Rattle.std.specs.Prelude.{◌≡◌, ◌⊎◌, Bool, List, [], ◌∷◌, ◌++◌, All, ℕ, codes, Option, Some, None, MatchOption, option_map, true, false, if◌then◌else◌, ⊤}
 use Rattle.std.specs.Borrow.{Bor}
 use Rattle.std.specs.Str.{bytes_eq}
 use Rattle.clap.specs.Walk.{Row, Text, first_of, one_of}
 use Rattle.chess_rules.specs.declared.men.Parts.{Parts}
 use Rattle.chess_rules.specs.Initial.{initial}
 use Rattle.chess_rules.specs.Valid.{Valid}
-use Rattle.chess_text.specs.declared.fen.FenError.{FenError}
 use Rattle.chess_text.specs.Fen.{RefusedFirst, Tells}
 use Rattle.dgt_frame.specs.declared.time.First.{First}
 use Rattle.dgt_frame.specs.declared.time.First.TheVariants as first
 use Rattle.pgn_book.specs.declared.values.Tag.{Tag}
 use Rattle.pgn_book.specs.declared.values.Tag.TheVariants.{Event, Site, Date, Round, White, Black}
-use Rattle.pgn_book.specs.declared.values.TagError.{TagError}
 use Rattle.pgn_book.specs.declared.values.TagError.TheVariants.{Memory}
 use Rattle.pgn_book.specs.Values.{IsValue, Refuses, TagValues, unknown_of, unknown_values, value_of, with_value}
 use Rattle.board_session.specs.declared.recording.Setup.{Setup}

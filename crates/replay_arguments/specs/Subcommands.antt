@@ -46,6 +46,10 @@ IsRefused arguments = (takes replay arguments ≡ false) ⊎ (option_map_or (λ 
 abbrev pub AsksForHelp : List Text → Type 0
 AsksForHelp arguments = fault_of replay arguments ≡ kind.DisplayHelp ∷ []
 
+-- The arguments ask for the version.
+abbrev pub AsksForVersion : List Text → Type 0
+AsksForVersion arguments = fault_of replay arguments ≡ kind.DisplayVersion ∷ []
+
 -- The arguments are mistaken: a parse finds fault with them, or they ask for nothing that the program does; and they don't ask for
 -- help or for a version.
 pub record AreMistaken (arguments : List Text) : Type 0 where
@@ -122,3 +126,7 @@ IsMoves arguments = (name : Text) × (arguments ≡ name ∷ codes "moves" ∷ [
 -- The arguments are a program's name, whatever it is, and `--help` or `-h`.
 abbrev pub IsHelp : List Text → Type 0
 IsHelp arguments = (name : Text) × ((arguments ≡ name ∷ codes "--help" ∷ []) ⊎ (arguments ≡ name ∷ codes "-h" ∷ []))
+
+-- The arguments are a program's name, whatever it is, and `--version` or `-V`.
+abbrev pub IsVersion : List Text → Type 0
+IsVersion arguments = (name : Text) × ((arguments ≡ name ∷ codes "--version" ∷ []) ⊎ (arguments ≡ name ∷ codes "-V" ∷ []))

@@ -6,6 +6,9 @@ ghost use Rattle.replay_arguments.specs.Command.{AddsRule, AddsApp, IsApp, Makes
 use clap::{Arg, ArgAction, Command};
 use std::alloc::{AllocError, Global};
 
+/// The version of the program.
+const VERSION: &str = "0.1.0";
+
 // The command with a flag more. Where memory ran out before, it stays so.
 fn with_rotated<'a>(
     alloc: Global,
@@ -164,6 +167,7 @@ pub fn command<'a>(alloc: Global) -> Result<Command<'a>, AllocError>
         "dgt_replay",
         "Records games of chess from a DGT board",
     )
+    .version(VERSION)
     .subcommand_required(true);
     let command = with_subcommand(Ok(command), Ok(show(alloc)));
     let command = with_subcommand(command, pictures(alloc));

@@ -3,7 +3,7 @@ ghost use Rattle.std.specs.Prelude.{Bool, List, ℕ, [], ◌∷◌, codes};
 ghost use Rattle.board_session.specs.Recording.{setting_of};
 ghost use Rattle.chess_rules.specs.Initial.{initial};
 ghost use Rattle.replay_arguments.specs.Setups.{plain_setup};
-ghost use Rattle.replay_arguments.specs.Subcommands.{AreMistaken, AsksForHelp, AsksForMoves, AsksForPictures, AsksToCheck, AsksToFollow, AsksToRecord, AsksToShow, IsCheck, IsFollow, IsHelp, IsMoves, IsPictures, IsRecord, IsShow};
+ghost use Rattle.replay_arguments.specs.Subcommands.{AreMistaken, AsksForHelp, AsksForMoves, AsksForPictures, AsksForVersion, AsksToCheck, AsksToFollow, AsksToRecord, AsksToShow, IsCheck, IsFollow, IsHelp, IsMoves, IsPictures, IsRecord, IsShow, IsVersion};
 
 /// `record` asks for a recording from the initial position, with White's time first and unknown tags, turned where `--rotated`
 /// is given; `follow` asks that a game be followed that is set up so; `moves` asks for those of the initial position; `show`,
@@ -17,9 +17,11 @@ pub fn without_options()
     ensures moves { (arguments : List (List ℕ)) → IsMoves arguments → AsksForMoves arguments initial }
 {}
 
-/// `--help` and `-h` ask for help; the program's name alone is mistaken, and so is a subcommand that the program doesn't have.
+/// `--help` and `-h` ask for help, `--version` and `-V` for the version; the program's name alone is mistaken, and so is a
+/// subcommand that the program doesn't have.
 pub fn help_and_mistakes()
     ensures help { (arguments : List (List ℕ)) → IsHelp arguments → AsksForHelp arguments }
+    ensures version { (arguments : List (List ℕ)) → IsVersion arguments → AsksForVersion arguments }
     ensures nothing { (name : List ℕ) → AreMistaken (name ∷ []) }
     ensures unknown { (name : List ℕ) → AreMistaken (name ∷ codes "fly" ∷ []) }
 {}

@@ -1155,6 +1155,25 @@ fn are_answered(alloc: Global, words: &[&str]) -> bool {
     }
 }
 
+/// Both words for the version print it.
+const VERSIONS: &[Case<'static>] = &[
+    Case {
+        words: &["--version"],
+        out: &[b"dgt_replay 0.1.0\n"],
+        ..PLAIN
+    },
+    Case {
+        words: &["-V"],
+        out: &[b"dgt_replay 0.1.0\n"],
+        ..PLAIN
+    },
+];
+
+#[test]
+fn versions_are_printed(rt: HostRuntime) {
+    assert_eq!(rt; first_unlike(rt.alloc(), VERSIONS), None);
+}
+
 /// The status without a word, not even the name of the program.
 fn status_without_words(alloc: Global) -> u8 {
     let none: [String; 0] = [];

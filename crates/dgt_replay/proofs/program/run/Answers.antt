@@ -1,6 +1,7 @@
 use Rattle.std.proofs.Common.{ℕ, List, Option, codes, map, string_bytes, inl, inr, refl, subst, sym, arith}
 use Rattle.clap.specs.Values.{kind_of}
 use Rattle.clap.specs.Walk.{first_of}
+use Rattle.clap.specs.declared.error.kind.ErrorKind.TheVariants as kind
 use Rattle.std.proofs.KnownBytes.{Keeps-refl}
 use Rattle.dgt_frame.specs.Watched.{inner_of, has_failed}
 use Rattle.board_listing.specs.declared.listing.Listing.TheVariants.{Events, Game, Pictures}
@@ -11,8 +12,8 @@ use Rattle.replay_arguments.specs.Setups.{HasNoStart, given, option_of, tag_text
 use Rattle.dgt_replay.specs.Refusals.{RefusesSetup, RefusesStart}
 use Rattle.dgt_replay.specs.Messages.{IsTooLong}
 use Rattle.dgt_replay.proofs.EndLemmas.{ends_for_memory}
-use Rattle.dgt_replay.proofs.FaultLemmas.{help_has_fault, help_kind, mistaken_asks_nothing, mistaken_kind}
-use Rattle.dgt_replay.proofs.MessageLemmas.{help_out_of_memory, tells_alike, tells_memory}
+use Rattle.dgt_replay.proofs.FaultLemmas.{mistaken_asks_nothing, mistaken_kind, one_fault, one_kind}
+use Rattle.dgt_replay.proofs.MessageLemmas.{text_out_of_memory, tells_alike, tells_memory}
 use Rattle.dgt_replay.proofs.SetupLemmas.{meets_nothing}
 use Rattle.dgt_replay.proofs.RefusalLemmas.{refuses_alike, refuses_start_alike}
 use Rattle.dgt_replay.proofs.TextLemmas.{events_end, pictures_end}
@@ -36,7 +37,7 @@ returns-in-Err-clause-pictures g c rotated is =
 pub returns-in-Err-clause-usage : goal.returns-in-Err-clause-usage
 returns-in-Err-clause-usage g c two =
     elim c.in-Err.ensures.refused [
-      | inl kind ↦ (let four = (c.refused_arguments.ensures.memory kind).0 in absurd (omega (arith, four)))
+      | inl memory ↦ (let four = (c.refused_arguments.ensures.memory memory).0 in absurd (omega (arith, four)))
       | inr refused ↦ refused
     ]
 
@@ -225,12 +226,23 @@ pub returns-in-Err-clause-help : goal.returns-in-Err-clause-help
 returns-in-Err-clause-help g c asks =
     let arguments = map string_bytes c.args.arguments.now in
     elim c.in-Err.ensures.fault [
-      | inl memory ↦ (let ended = c.refused_arguments.ensures.memory memory in (refl, help_out_of_memory c.refused_arguments.result _ _ _ _ _ _ ended.0 ended.1 ended.2))
-      | inr fault ↦ (refl, c.refused_arguments.ensures.help (help_kind arguments (kind_of c.in-Err.error) asks fault))
+      | inl memory ↦ (let ended = c.refused_arguments.ensures.memory memory in (refl, text_out_of_memory c.refused_arguments.result _ _ _ _ _ _ ended.0 ended.1 ended.2))
+      | inr fault ↦ (refl, c.refused_arguments.ensures.help (one_kind arguments kind.DisplayHelp (kind_of c.in-Err.error) asks fault))
     ]
 
 pub returns-in-Ok-clause-help : goal.returns-in-Ok-clause-help
-returns-in-Ok-clause-help g c asks = absurd (help_has_fault (map string_bytes c.args.arguments.now) asks c.in-Ok.ensures.faultless)
+returns-in-Ok-clause-help g c asks = absurd (one_fault (map string_bytes c.args.arguments.now) kind.DisplayHelp asks c.in-Ok.ensures.faultless)
+
+pub returns-in-Err-clause-version : goal.returns-in-Err-clause-version
+returns-in-Err-clause-version g c asks =
+    let arguments = map string_bytes c.args.arguments.now in
+    elim c.in-Err.ensures.fault [
+      | inl memory ↦ (let ended = c.refused_arguments.ensures.memory memory in (refl, text_out_of_memory c.refused_arguments.result _ _ _ _ _ _ ended.0 ended.1 ended.2))
+      | inr fault ↦ (refl, c.refused_arguments.ensures.version (one_kind arguments kind.DisplayVersion (kind_of c.in-Err.error) asks fault))
+    ]
+
+pub returns-in-Ok-clause-version : goal.returns-in-Ok-clause-version
+returns-in-Ok-clause-version g c asks = absurd (one_fault (map string_bytes c.args.arguments.now) kind.DisplayVersion asks c.in-Ok.ensures.faultless)
 
 pub returns-in-Err-clause-follow : goal.returns-in-Err-clause-follow
 returns-in-Err-clause-follow g c setting asks =

@@ -1,12 +1,12 @@
 use Rattle.std.proofs.Common.{codes, rules}
 use Rattle.clap.specs.Simple.{App, new_app, with_subcommand}
-use Rattle.replay_arguments.specs.Command.{IsApp, check_app, follow_app, moves_app, pictures_app, record_app, replay, requiring, show_app}
+use Rattle.replay_arguments.specs.Command.{IsApp, check_app, follow_app, moves_app, pictures_app, record_app, replay, show_app, with_version}
 use Rattle.replay_arguments.proofs.CommandLemmas.{app_made}
 use Rattle.replay_arguments.proofs.command.command.Goals as goal
 
 pub returns : goal.returns
 returns c =
-    let top : App = requiring (new_app (codes "dgt_replay")) in
+    let top : App = with_version (new_app (codes "dgt_replay")) in
     let base : IsApp c.subcommand_required-command.result top = record { app_is = search rules; local = search rules } in
     let one = with_subcommand top show_app.top in
     let two = with_subcommand one pictures_app.top in
