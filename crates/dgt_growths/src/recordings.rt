@@ -5,8 +5,10 @@ use board_session::RecordError;
 use dgt_vectors::captures::INITIAL;
 use dgt_vectors::captures::Signal::{self, Dump, Lift, Put};
 use dgt_vectors::recording::{Recording, recorded, report_of};
-use dgt_vectors::rows::{Row, commands, kings_pawn_opening, rows_by_subject, text_of};
+use dgt_vectors::row::{Row, commands, kings_pawn_opening};
+use dgt_vectors::rows::rows_by_subject;
 use std::alloc::Global;
+use test_streams::texts::text_of;
 
 const ROOK_FIRST: &[Signal<'static>] = &[
     Dump("4k3/8/8/8/8/8/8/4K2R"),
@@ -97,7 +99,7 @@ fn is_front(got: &Recording, row: &Row<'_>, fronts: &[&str]) -> bool {
         return false;
     }
     for front in fronts {
-        if got.text_shown.get() == text_of(row.start, "*", front).get() {
+        if got.text_shown.get() == text_of(row.start.as_bytes(), b"*", front.as_bytes()).get() {
             return true;
         }
     }

@@ -1,13 +1,11 @@
 //! The program. It is run again where it was refused.
 
 use crate::Outcome;
-use dgt_frame::Watch;
-use dgt_replay::run;
-use dgt_vectors::bytes::Bytes;
 use dgt_vectors::captures::Signal::{self, Dump, Lift, Put, Text};
 use dgt_vectors::captures::{INITIAL, bytes_of};
-use dgt_vectors::streams::{ALWAYS, Sink, Source};
-use std::alloc::{AllocError, Global};
+use dgt_vectors::running::{Left, run_over};
+use std::alloc::Global;
+use test_streams::streams::{Sink, Source};
 
 /// Words after the program's name, an input, and what is left of them.
 #[derive(Clone, Copy)]
@@ -83,52 +81,21 @@ pub fn cases<'a>() -> &'a [Case<'a>] {
     CASES
 }
 
-/// What the program left: its status, the output and the errors.
-#[derive(Drop)]
-struct Run {
-    status: u8,
-    out: Bytes,
-    err: Bytes,
-}
-
-fn words_of(alloc: Global, line: &[&str]) -> Result<Vec<String>, AllocError> {
-    let mut words = Vec::new(alloc);
-    words.push(String::from_str(alloc, "dgt_replay")?)?;
-    for word in line {
-        words.push(String::from_str(alloc, word)?)?;
-    }
-    Ok(words)
-}
-
-/// Runs the program with these words over these bytes.
-fn run_over(alloc: Global, words: &[String], bytes: &Bytes) -> Run {
-    let mut reader = Watch::new(Source::new(bytes.get(), 4096, ALWAYS));
-    let mut out = Watch::new(Sink::new(512, ALWAYS));
-    let mut err = Watch::new(Sink::new(512, ALWAYS));
-    let status = run(alloc, words, &mut reader, &mut out, &mut err);
-    Run {
-        status,
-        out: Bytes::of(&[out.inner().held()]),
-        err: Bytes::of(&[err.inner().held()]),
-    }
-}
-
 /// Runs a case, where there is memory for its words.
-fn run_of(alloc: Global, case: &Case<'_>) -> Option<Run> {
-    match words_of(alloc, case.words) {
-        Ok(words) => Some(run_over(alloc, words.as_slice(), &bytes_of(case.input))),
-        Err(_) => None,
-    }
+fn run_of(alloc: Global, case: &Case<'_>) -> Option<Left> {
+    let bytes = bytes_of(case.input);
+    let source = Source::new(bytes.get());
+    run_over(alloc, case.words, source, Sink::new(512), Sink::new(512))
 }
 
-fn is_done(case: &Case<'_>, left: &Run) -> bool {
+fn is_done(case: &Case<'_>, left: &Left) -> bool {
     left.status == 0
         && left.out.get() == case.out.as_bytes()
         && left.err.get() == case.err.as_bytes()
 }
 
 /// Nothing was written, or the game without a ply: the growth came before the recording or the listing, or in it.
-fn is_refused(case: &Case<'_>, left: &Run) -> bool {
+fn is_refused(case: &Case<'_>, left: &Left) -> bool {
     if left.status != 4 {
         return false;
     }

@@ -1,13 +1,14 @@
 //! Captures that are cut or damaged: nothing is refused, and only what the damage hits is lost.
 
-use crate::bytes::Bytes;
 use crate::recording::recorded;
 use crate::recordings::are_recorded;
-use crate::rows::{Row, kings_pawn_opening, rows_by_subject};
-use crate::streams::{ALWAYS, Sink};
+use crate::row::{Row, kings_pawn_opening};
+use crate::rows::rows_by_subject;
 use dgt_frame::Watch;
 use pgn_book::{Game, read_pgn, write_pgn};
 use std::alloc::Global;
+use test_streams::bytes::Bytes;
+use test_streams::streams::Sink;
 
 /// Damage to the 77 bytes of a dump, e2 lifted and e4 put down.
 #[derive(Clone, Copy)]
@@ -106,7 +107,7 @@ fn is_front_of(cut: &Game, whole: &Game) -> bool {
 
 /// Whether writing this game gives this text.
 fn is_written_as(game: &Game, text: &[u8]) -> bool {
-    let mut out = Watch::new(Sink::new(512, ALWAYS));
+    let mut out = Watch::new(Sink::new(512));
     write_pgn(game, &mut out).is_ok() && out.inner().held() == text
 }
 

@@ -1,6 +1,7 @@
 //! Captures: what a board sends, built from placements and the names of squares.
 
-use crate::bytes::Bytes;
+use test_streams::boards::{code_of, codes_of};
+use test_streams::bytes::Bytes;
 
 /// The initial position.
 pub const INITIAL: &str = "rnbqkbnr/pppppppp/8/8/8/8/PPPPPPPP/RNBQKBNR";
@@ -28,20 +29,6 @@ pub enum Signal<'a> {
     Raw(&'a [u8]),
 }
 
-/// The letters of the piece codes 0 to 13, `.` for an empty square.
-const LETTERS: &[u8] = b".PRNBKQprnbkq*";
-
-fn code_of(letter: u8) -> u8 {
-    let mut code: u8 = 0;
-    for other in LETTERS {
-        if *other == letter {
-            return code;
-        }
-        code = code.saturating_add(1);
-    }
-    0
-}
-
 /// The field of a square, as `e4`; that of a8 where there is no such square.
 fn field_of(square: &str) -> u8 {
     let (Some(file), Some(rank)) = (square.as_bytes().get(0), square.as_bytes().get(1)) else {
@@ -50,24 +37,6 @@ fn field_of(square: &str) -> u8 {
     let column = file.saturating_sub(b'a').min(7);
     let row = b'8'.saturating_sub(*rank).min(7);
     row * 8 + column
-}
-
-/// The codes of a placement, in the order of the squares from a8 to h1.
-fn codes_of(placement: &str) -> [u8; 64] {
-    let mut codes = [0; 64];
-    let mut at: usize = 0;
-    for letter in placement.as_bytes() {
-        let digit = letter.saturating_sub(b'0');
-        if *letter == b'/' {} else if *letter >= b'1' && digit <= 8 {
-            at = at.saturating_add(digit as usize);
-        } else {
-            if let Some(code) = codes.get_mut(at) {
-                *code = code_of(*letter);
-            }
-            at = at.saturating_add(1);
-        }
-    }
-    codes
 }
 
 fn man_of(man: &str) -> u8 {
@@ -90,10 +59,10 @@ pub fn add_signal(bytes: &mut Bytes, signal: Signal<'_>) {
     match signal {
         Signal::Dump(placement) => {
             bytes.add(&[0x86, 0x00, 0x43]);
-            bytes.add(&codes_of(placement));
+            bytes.add(&codes_of(placement.as_bytes()));
         }
         Signal::TurnedDump(placement) => {
-            let mut codes = codes_of(placement);
+            let mut codes = codes_of(placement.as_bytes());
             codes.reverse();
             bytes.add(&[0x86, 0x00, 0x43]);
             bytes.add(&codes);

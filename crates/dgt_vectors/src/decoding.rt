@@ -1,6 +1,7 @@
 //! The decoder against a slow reading of the protocol.
 
-use crate::rows::{Row, rows_by_subject};
+use crate::row::Row;
+use crate::rows::rows_by_subject;
 use crate::slow::last_event;
 use dgt_frame::Decoder;
 

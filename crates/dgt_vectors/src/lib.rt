@@ -1,25 +1,35 @@
-//! Captures built in code with the texts expected of them, streams in memory that fail, and the conformance tests over the
-//! public calls of the other crates. No contract rests on these helpers.
+//! Captures built in code with the texts expected of them, recordings and runs of the program over streams in memory, and the
+//! conformance tests over the public calls of the other crates. No contract rests on these helpers.
 #![tactic(auto)]
 
 #[cfg(test)]
 mod broken_input;
-pub mod bytes;
 pub mod captures;
 #[cfg(test)]
 mod decoding;
+pub mod message_rows;
+pub mod move_rows;
 #[cfg(test)]
 mod orders;
 #[cfg(test)]
 mod program;
+#[cfg(test)]
+mod program_games;
+#[cfg(test)]
+mod program_limits;
+#[cfg(test)]
+mod program_lists;
+#[cfg(test)]
+mod program_texts;
 pub mod recording;
 #[cfg(test)]
 mod recordings;
 #[cfg(test)]
 mod refusals;
+pub mod row;
 pub mod rows;
+pub mod running;
 #[cfg(test)]
 mod settling;
 #[cfg(test)]
 mod slow;
-pub mod streams;

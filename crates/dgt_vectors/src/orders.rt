@@ -2,7 +2,7 @@
 
 use crate::captures::Signal::{self, Dump, Lift, Put};
 use crate::recordings::row_holds;
-use crate::rows::{Row, kings_pawn_opening};
+use crate::row::{Row, kings_pawn_opening};
 use crate::settling::settling_failing;
 use std::alloc::Global;
 

@@ -1,14 +1,14 @@
 //! Recordings over streams in memory.
 
-use crate::bytes::Bytes;
-use crate::rows::Row;
-use crate::streams::{ALWAYS, Sink, Source};
+use crate::row::Row;
 use board_session::{RecordError, Report, Setup, record};
 use chess_rules::Position;
 use chess_text::{FenError, read_fen};
 use dgt_frame::Watch;
 use pgn_book::Tags;
 use std::alloc::Global;
+use test_streams::bytes::Bytes;
+use test_streams::streams::{Sink, Source};
 
 pub fn start_of(row: &Row<'_>) -> Result<Position, FenError> {
     if row.start.is_empty() {
@@ -67,14 +67,8 @@ pub fn recorded(
     bytes: &[u8],
     piece: usize,
 ) -> Result<Recording, FenError> {
-    let source = Source::new(bytes, piece, ALWAYS);
-    recorded_over(
-        alloc,
-        row,
-        source,
-        Sink::new(512, ALWAYS),
-        Sink::new(512, ALWAYS),
-    )
+    let source = Source::new(bytes).in_pieces(piece);
+    recorded_over(alloc, row, source, Sink::new(512), Sink::new(512))
 }
 
 pub fn report_of(numbers: (u32, u32, u32, u16)) -> Report {

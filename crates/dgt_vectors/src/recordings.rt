@@ -1,7 +1,8 @@
 //! What is recorded of whole captures.
 
 use crate::recording::{Recording, recorded, report_of};
-use crate::rows::{Row, rows_by_subject};
+use crate::row::Row;
+use crate::rows::rows_by_subject;
 use std::alloc::Global;
 
 /// The answer, and what the board's stream and the output show, are what the row says.

@@ -2,11 +2,12 @@
 
 use crate::recording::{Recording, recorded_over, setup_of};
 use crate::recordings::is_told;
-use crate::rows::{Row, commands, cut_and_dump, kings_pawn_opening, text_of};
-use crate::streams::{ALWAYS, Alike, Sink, Source};
+use crate::row::{Row, commands, cut_and_dump, kings_pawn_opening};
 use board_session::{RecordError, Report, record};
 use dgt_frame::Watch;
 use std::alloc::Global;
+use test_streams::streams::{ALWAYS, Sink, Source};
+use test_streams::texts::text_of;
 
 const ROOM: usize = 512;
 
@@ -37,9 +38,11 @@ const WORKING: Streams = Streams {
 /// Records a row's capture over these streams. None is for a start that isn't read.
 fn recording(alloc: Global, row: &Row<'_>, streams: Streams) -> Option<Recording> {
     let bytes = row.bytes();
-    let source = Source::new(bytes.get(), streams.piece, streams.reads);
-    let board = Sink::new(streams.board_room, streams.board_calls);
-    let out = Sink::new(streams.out_room, streams.out_calls);
+    let source = Source::new(bytes.get())
+        .in_pieces(streams.piece)
+        .answering(streams.reads);
+    let board = Sink::new(streams.board_room).answering(streams.board_calls);
+    let out = Sink::new(streams.out_room).answering(streams.out_calls);
     match recorded_over(alloc, row, source, board, out) {
         Ok(got) => Some(got),
         Err(_) => None,
@@ -77,7 +80,7 @@ fn stops_at_read(alloc: Global, row: &Row<'_>, reads: u32) -> bool {
     let text = if read > 137 {
         row.text()
     } else {
-        text_of("", "*", "*")
+        text_of(b"", b"*", b"*")
     };
     match recording(alloc, row, streams) {
         Some(got) => shows(&got, RecordError::Read, commands(faults).get(), text.get()),
@@ -135,7 +138,12 @@ fn stops_at_board(
 ) -> bool {
     match recording(alloc, row, streams) {
         Some(got) => got.board_held.get() == held
-            && shows(&got, RecordError::Board, shown, text_of("", "*", "*").get()),
+            && shows(
+                &got,
+                RecordError::Board,
+                shown,
+                text_of(b"", b"*", b"*").get(),
+            ),
         None => false,
     }
 }
@@ -327,17 +335,14 @@ fn zeros_are_recorded(
     let Ok(setup) = setup_of(alloc, &kings_pawn_opening()) else {
         return false;
     };
-    let mut reader = Watch::new(Alike {
-        byte: 0,
-        left: zeros,
-    });
-    let mut board = Watch::new(Sink::new(ROOM, ALWAYS));
-    let mut out = Watch::new(Sink::new(ROOM, ALWAYS));
+    let mut reader = Watch::new(Source::new(&[]).and_then(zeros, 0));
+    let mut board = Watch::new(Sink::new(ROOM));
+    let mut out = Watch::new(Sink::new(ROOM));
     let got = record(alloc, setup, &mut reader, &mut board, &mut out);
     got == *answer
-        && reader.inner().left == unread
+        && reader.inner().left() == unread
         && board.inner().shown() == commands(1).get()
-        && out.inner().shown() == text_of("", "*", "*").get()
+        && out.inner().shown() == text_of(b"", b"*", b"*").get()
 }
 
 /// The number of zeros of which something else is recorded.

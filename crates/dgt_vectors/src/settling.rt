@@ -3,7 +3,8 @@ ghost use Rattle.board_session.specs.Looking.{IsInRange};
 ghost use Rattle.std.specs.Prelude.{IfSome};
 
 use crate::recording::{recorded, start_of};
-use crate::rows::{Row, rows_by_subject};
+use crate::row::Row;
+use crate::rows::rows_by_subject;
 use crate::slow::last_event;
 use board_session::{Session, Taken};
 use chess_rules::{Kind, Move, Position, Side, Square, Status};

@@ -1,13 +1,16 @@
 //! Recordings over streams in memory. The expected texts, reports and board bytes are worked by hand from the formats.
 ghost use Rattle.board_session.specs.Looking.{IsInRange};
 
-use crate::streams::{Bytes, OPENING, Sink, Source, Streams, WORKING, answer_leaving, setup, text};
+use crate::streams::{OPENING, Streams, WORKING, answer_leaving, setup};
 use board_session::laws::read_recorded;
 use board_session::{RecordError, Report, Session, Taken, record};
 use chess_rules::Position;
 use dgt_frame::{Event, FaultKind, First, Message, Watch};
 use settle_core::Seen;
 use std::alloc::Global;
+use test_streams::bytes::Bytes;
+use test_streams::streams::{Sink, Source};
+use test_streams::texts::text_of;
 
 const INITIAL: [u8; 67] = [
     0x86, 0x00, 0x43, 8, 9, 10, 12, 11, 10, 9, 8, 7, 7, 7, 7, 7, 7, 7, 7, 0, 0, 0, 0, 0, 0, 0, 0,
@@ -76,7 +79,7 @@ impl Row<'_> {
     }
 
     fn text(&self) -> Bytes {
-        text(b"", self.marker, self.movetext)
+        text_of(b"", self.marker, self.movetext)
     }
 
     fn report(&self) -> Report {
@@ -371,12 +374,12 @@ fn what_was_taken_stands_after_a_fault(rt: HostRuntime) {
 fn fills(alloc: Global, fails: bool, room: usize) -> bool {
     let row = KINGS_PAWN_OPENING;
     let bytes = row.bytes();
-    let mut reader = Watch::new(Source::new(&bytes, 4096, fails));
+    let mut reader = Watch::new(Source::new(bytes.get()).failing(fails));
     let mut board = Watch::new(Sink::new(512));
     let mut out = Watch::new(Sink::new(room));
     let setup = setup(alloc, Position::initial(), row.first, row.rotated);
     let got = record(alloc, setup, &mut reader, &mut board, &mut out);
-    got == Err(RecordError::Write) && out.inner().holds(row.text().front(room))
+    got == Err(RecordError::Write) && out.inner().held() == row.text().front(room)
 }
 
 /// The least room for which an output has something else, all bytes being read and then a read failing or not.

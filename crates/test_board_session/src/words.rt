@@ -11,43 +11,14 @@
 //! | `01:30:00-01:29:59` | a time message, White's time first |
 //! | `,` | nothing: it divides the words for a reader |
 
-use crate::streams::{Bytes, OPENING, WORKING, answer_leaving, setup, text};
+use crate::streams::{OPENING, WORKING, answer_leaving, setup};
 use chess_rules::Position;
 use chess_text::read_fen;
 use dgt_frame::First;
 use std::alloc::Global;
-
-/// The letters of the piece codes from 0 on.
-const LETTERS: &[u8] = b"-PRNBKQprnbkq";
-
-fn code_of(letter: u8) -> u8 {
-    let mut code: u8 = 0;
-    for other in LETTERS {
-        if *other == letter {
-            return code;
-        }
-        code = code.saturating_add(1);
-    }
-    0
-}
-
-/// The codes of a placement, in the order of the squares from a8 to h1.
-fn codes_of(placement: &[u8]) -> [u8; 64] {
-    let mut codes = [0; 64];
-    let mut at: usize = 0;
-    for letter in placement {
-        let digit = letter.saturating_sub(b'0');
-        if *letter == b'/' {} else if *letter >= b'1' && digit <= 8 {
-            at = at.saturating_add(digit as usize);
-        } else {
-            if let Some(code) = codes.get_mut(at) {
-                *code = code_of(*letter);
-            }
-            at = at.saturating_add(1);
-        }
-    }
-    codes
-}
+use test_streams::boards::{code_of, codes_of};
+use test_streams::bytes::Bytes;
+use test_streams::texts::text_of;
 
 /// Adds the bytes of two times: each two digits are one byte.
 fn add_times(bytes: &mut Bytes, times: &[u8]) {
@@ -106,7 +77,7 @@ fn text_with(fen: &[u8], movetext: &str) -> Bytes {
     for word in movetext.split_whitespace() {
         marker = word.as_bytes();
     }
-    text(fen, marker, movetext.as_bytes())
+    text_of(fen, marker, movetext.as_bytes())
 }
 
 /// The game that is recorded of these bytes has this movetext, and no dump was asked for.

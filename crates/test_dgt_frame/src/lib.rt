@@ -2,4 +2,8 @@
 #![tactic(auto)]
 
 #[cfg(test)]
-mod tests;
+mod frames;
+#[cfg(test)]
+mod times;
+#[cfg(test)]
+mod watching;

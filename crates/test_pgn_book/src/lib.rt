@@ -2,4 +2,12 @@
 #![tactic(auto)]
 
 #[cfg(test)]
-mod tests;
+mod failed_writes;
+#[cfg(test)]
+mod games;
+#[cfg(test)]
+mod refused_texts;
+#[cfg(test)]
+mod tag_values;
+#[cfg(test)]
+mod written_games;

@@ -2,4 +2,24 @@
 #![tactic(auto)]
 
 #[cfg(test)]
-mod tests;
+mod candidates;
+#[cfg(test)]
+mod clocks;
+#[cfg(test)]
+mod corrections;
+#[cfg(test)]
+mod endings;
+#[cfg(test)]
+mod games;
+#[cfg(test)]
+mod moves;
+#[cfg(test)]
+mod starts;
+#[cfg(test)]
+mod told;
+#[cfg(test)]
+mod trying;
+#[cfg(test)]
+mod waits;
+#[cfg(test)]
+mod ways;

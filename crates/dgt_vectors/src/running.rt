@@ -1,0 +1,60 @@
+//! Runs of the program over streams in memory.
+
+use dgt_frame::Watch;
+use dgt_replay::run;
+use std::alloc::{AllocError, Global};
+use test_streams::bytes::Bytes;
+use test_streams::streams::{Sink, Source};
+
+/// What a run has left.
+#[derive(Drop)]
+pub struct Left {
+    pub status: u8,
+    /// What was written to the output and flushed.
+    pub shown: Bytes,
+    /// What was written to the output.
+    pub out: Bytes,
+    /// What was written to standard error.
+    pub err: Bytes,
+    /// So many of the like bytes at the end of the input weren't read.
+    pub unread: u32,
+}
+
+/// The texts as words of the command line, after the name of the program.
+fn words_of(alloc: Global, texts: &[&str]) -> Result<Vec<String>, AllocError> {
+    let mut words = Vec::new(alloc);
+    words.push(String::from_str(alloc, "dgt_replay")?)?;
+    for text in texts {
+        words.push(String::from_str(alloc, text)?)?;
+    }
+    Ok(words)
+}
+
+/// Runs the program with these words, its name among them, over these streams.
+pub fn run_with(alloc: Global, words: &[String], source: Source<'_>, out: Sink, err: Sink) -> Left {
+    let mut reader = Watch::new(source);
+    let mut out = Watch::new(out);
+    let mut err = Watch::new(err);
+    let status = run(alloc, words, &mut reader, &mut out, &mut err);
+    Left {
+        status,
+        shown: Bytes::of(&[out.inner().shown()]),
+        out: Bytes::of(&[out.inner().held()]),
+        err: Bytes::of(&[err.inner().held()]),
+        unread: reader.inner().left(),
+    }
+}
+
+/// Runs the program with these words after its name, where there is memory for them.
+pub fn run_over(
+    alloc: Global,
+    texts: &[&str],
+    source: Source<'_>,
+    out: Sink,
+    err: Sink,
+) -> Option<Left> {
+    match words_of(alloc, texts) {
+        Ok(words) => Some(run_with(alloc, words.as_slice(), source, out, err)),
+        Err(_) => None,
+    }
+}

@@ -1,0 +1,148 @@
+//! Streams that fail as a script says, and what a `Watch` tells of them.
+ghost use Rattle.std.specs.Prelude.{◌≤◌, IfOk};
+
+use dgt_frame::Watch;
+use std::io::{self, ErrorKind, Read, Write};
+
+/// A stream whose calls do in turn what the script says, and which counts the calls.
+#[derive(Drop)]
+struct Scripted<'a> {
+    answers: &'a [Result<usize, ErrorKind>],
+    calls: usize,
+}
+
+impl Scripted<'_> {
+    fn answer(&mut self, most: usize) -> io::Result<usize>
+        ensures { IfOk result (λ n. n ≤ most) }
+    {
+        let answer = self.answers.get(self.calls).copied();
+        self.calls = self.calls.saturating_add(1);
+        match answer {
+            Some(Ok(n)) => Ok(n.min(most)),
+            Some(Err(kind)) => Err(io::Error::from(kind)),
+            None => Ok(0),
+        }
+    }
+}
+
+impl Read for Scripted<'_> {
+    fn read(&mut self, buf: &mut [u8]) -> io::Result<usize> {
+        self.answer(buf.len())
+    }
+}
+
+impl Write for Scripted<'_> {
+    fn write(&mut self, buf: &[u8]) -> io::Result<usize> {
+        self.answer(buf.len())
+    }
+
+    fn flush(&mut self) -> io::Result<()> {
+        match self.answer(0) {
+            Ok(_) => Ok(()),
+            Err(error) => Err(error),
+        }
+    }
+}
+
+/// Whether a call gave this number, or an error of this kind.
+fn is_answer(given: io::Result<usize>, answer: Result<usize, ErrorKind>) -> bool {
+    match (given, answer) {
+        (Ok(n), Ok(expected)) => n == expected,
+        (Err(error), Err(kind)) => error.kind() == kind,
+        _ => false,
+    }
+}
+
+/// Whether so many calls came to the stream that is watched, and one of them failed or none did.
+fn is_after(stream: &Watch<Scripted<'_>>, calls: usize, failed: bool) -> bool {
+    stream.inner().calls == calls && stream.failed() == failed
+}
+
+const READS: [Result<usize, ErrorKind>; 4] = [Ok(3), Ok(0), Err(ErrorKind::Interrupted), Ok(2)];
+
+/// What each read says, and whether one has failed after it.
+const READ_ANSWERS: [(Result<usize, ErrorKind>, bool); 4] = [
+    (Ok(3), false),
+    (Ok(0), false),
+    (Err(ErrorKind::Interrupted), true),
+    (Ok(2), true),
+];
+
+/// The number of the first read that answers otherwise, or after which the stream says otherwise.
+fn first_unlike_read(stream: &mut Watch<Scripted<'_>>) -> Option<usize> {
+    for (i, (answer, failed)) in READ_ANSWERS.iter().enumerate() {
+        let mut buf = [0u8; 4];
+        let given = stream.read(&mut buf);
+        if !is_answer(given, *answer) || !is_after(stream, i + 1, *failed) {
+            return Some(i);
+        }
+    }
+    None
+}
+
+#[test]
+fn reads_are_watched(rt: HostRuntime) {
+    let mut reader = Watch::new(Scripted {
+        answers: &READS,
+        calls: 0,
+    });
+    assert!(rt; !reader.failed());
+    assert_eq!(rt; first_unlike_read(&mut reader), None);
+}
+
+const WRITES: [Result<usize, ErrorKind>; 6] = [
+    Ok(3),
+    Ok(0),
+    Ok(2),
+    Ok(0),
+    Ok(4),
+    Err(ErrorKind::BrokenPipe),
+];
+
+/// What is written, what the write says, and whether one has failed after it. A write of no byte may take none.
+const WRITE_ANSWERS: [(&[u8], Result<usize, ErrorKind>, bool); 5] = [
+    (b"abcd", Ok(3), false),
+    (b"", Ok(0), false),
+    (b"abcd", Ok(2), false),
+    (b"abcd", Ok(0), true),
+    (b"abcd", Ok(4), true),
+];
+
+const FLUSHES: [Result<usize, ErrorKind>; 3] = [Ok(0), Err(ErrorKind::BrokenPipe), Ok(0)];
+
+/// The number of the first write that answers otherwise, or after which the stream says otherwise.
+fn first_unlike_write(stream: &mut Watch<Scripted<'_>>) -> Option<usize> {
+    for (i, (bytes, answer, failed)) in WRITE_ANSWERS.iter().enumerate() {
+        let given = stream.write(bytes);
+        if !is_answer(given, *answer) || !is_after(stream, i + 1, *failed) {
+            return Some(i);
+        }
+    }
+    None
+}
+
+/// The number of the first flush that answers otherwise, or after which the stream says otherwise.
+fn first_unlike_flush(stream: &mut Watch<Scripted<'_>>) -> Option<usize> {
+    for (i, failed) in [false, true, true].iter().enumerate() {
+        let fails = stream.flush().is_err();
+        if fails != (i == 1) || !is_after(stream, i + 1, *failed) {
+            return Some(i);
+        }
+    }
+    None
+}
+
+#[test]
+fn writes_are_watched(rt: HostRuntime) {
+    let mut writer = Watch::new(Scripted {
+        answers: &WRITES,
+        calls: 0,
+    });
+    assert!(rt; !writer.failed());
+    assert_eq!(rt; first_unlike_write(&mut writer), None);
+    let mut flushed = Watch::new(Scripted {
+        answers: &FLUSHES,
+        calls: 0,
+    });
+    assert_eq!(rt; first_unlike_flush(&mut flushed), None);
+}

@@ -1,0 +1,37 @@
+//! Writers that fail.
+
+use crate::games::{EMPTY, game};
+use dgt_frame::Watch;
+use pgn_book::{Game, WriteFault, put, write_pgn};
+use std::alloc::Global;
+use test_streams::streams::Sink;
+
+/// A stream that takes ten bytes, a few at a time, and then fails.
+fn ten() -> Sink {
+    Sink::new(10).in_pieces(3)
+}
+
+/// Over a stream that takes ten bytes, writing this game fails after ten, and the stream says that it failed.
+fn stops_after_ten(game: &Game) -> bool {
+    let mut out = Watch::new(ten());
+    write_pgn(game, &mut out) == Err(WriteFault { written: 10 }) && out.failed()
+}
+
+/// That stream takes ten bytes, and says that nothing failed.
+fn takes_ten() -> bool {
+    let mut out = Watch::new(ten());
+    put(&mut out, b"0123456789") == Ok(()) && !out.failed()
+}
+
+fn empty_game_stops_after_ten(alloc: Global) -> bool {
+    match game(alloc, &EMPTY) {
+        Some(game) => stops_after_ten(&game),
+        None => false,
+    }
+}
+
+#[test]
+fn a_fault_tells_how_much_was_written(rt: HostRuntime) {
+    assert!(rt; empty_game_stops_after_ten(rt.alloc()));
+    assert!(rt; takes_ten());
+}

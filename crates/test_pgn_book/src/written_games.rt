@@ -1,0 +1,179 @@
+//! Games that are written and read back.
+
+use crate::games::{CASTLING, EMPTY, Row, export, game, is_written_as};
+use pgn_book::{Game, read_pgn};
+use settle_core::Outcome;
+use std::alloc::Global;
+
+/// The text reads back as a game with the same text, as many plies and the same result.
+fn reads_back(alloc: Global, text: &[u8], game: &Game) -> bool {
+    match read_pgn(alloc, text) {
+        Ok(read) => is_written_as(alloc, &read, text)
+            && read.plies().len() == game.plies().len()
+            && read.result() == game.result(),
+        Err(_) => false,
+    }
+}
+
+/// The row's game has this text, which reads back.
+fn has_text(alloc: Global, row: &Row<'_>, text: &[u8]) -> bool {
+    match game(alloc, row) {
+        Some(game) => is_written_as(alloc, &game, text) && reads_back(alloc, text, &game),
+        None => false,
+    }
+}
+
+/// The row's game has its text, which reads back.
+fn holds(alloc: Global, row: &Row<'_>) -> bool {
+    match export(alloc, row.outcome, row.start, row.movetext) {
+        Ok(text) => has_text(alloc, row, text.as_bytes()),
+        Err(_) => false,
+    }
+}
+
+/// The number of the first row that doesn't hold, from 0.
+fn first_failing(alloc: Global, rows: &[Row<'_>]) -> Option<usize> {
+    for (number, row) in rows.iter().enumerate() {
+        if !holds(alloc, row) {
+            return Some(number);
+        }
+    }
+    None
+}
+
+const ONE_MOVE: Row<'static> = Row {
+    moves: "e4",
+    movetext: "1. e4 *",
+    ..EMPTY
+};
+
+const GAMES: [Row<'static>; 4] = [
+    EMPTY,
+    ONE_MOVE,
+    Row {
+        sign: Some(Outcome::WhiteWins),
+        outcome: "1-0",
+        movetext: "1-0",
+        ..EMPTY
+    },
+    Row {
+        sign: Some(Outcome::Drawn),
+        outcome: "1/2-1/2",
+        moves: "e4 e5",
+        movetext: "1. e4 e5 1/2-1/2",
+        ..EMPTY
+    },
+];
+
+#[test]
+fn games_are_written_and_read(rt: HostRuntime) {
+    assert_eq!(rt; first_failing(rt.alloc(), &GAMES), None);
+}
+
+const MATED: Row<'static> = Row {
+    outcome: "0-1",
+    moves: "f3 e5 g4 Qh4#",
+    movetext: "1. f3 e5 2. g4 Qh4# 0-1",
+    ..EMPTY
+};
+
+const MATES: [Row<'static>; 3] = [
+    MATED,
+    Row {
+        sign: Some(Outcome::WhiteWins),
+        ..MATED
+    },
+    Row {
+        sign: Some(Outcome::BlackWins),
+        ..MATED
+    },
+];
+
+#[test]
+fn mate_decides_whatever_the_sign(rt: HostRuntime) {
+    assert_eq!(rt; first_failing(rt.alloc(), &MATES), None);
+}
+
+const TIMED: [Row<'static>; 3] = [
+    Row {
+        moves: "e4 e5",
+        clocks: &[Some([1, 30, 0]), Some([1, 29, 59])],
+        movetext: "1. e4 {[%clk 1:30:00]} 1... e5 {[%clk 1:29:59]} *",
+        ..EMPTY
+    },
+    Row {
+        moves: "e4 e5",
+        clocks: &[Some([1, 30, 0])],
+        movetext: "1. e4 {[%clk 1:30:00]} 1... e5 *",
+        ..EMPTY
+    },
+    Row {
+        moves: "e4 e5 Nf3 Nc6",
+        clocks: &[None, Some([0, 0, 7])],
+        movetext: "1. e4 e5 {[%clk 0:00:07]} 2. Nf3 Nc6 *",
+        ..EMPTY
+    },
+];
+
+#[test]
+fn a_clock_comment_asks_for_the_number(rt: HostRuntime) {
+    assert_eq!(rt; first_failing(rt.alloc(), &TIMED), None);
+}
+
+const SET_UP: [Row<'static>; 4] = [
+    Row {
+        start: CASTLING,
+        moves: "O-O",
+        movetext: "1. O-O *",
+        ..EMPTY
+    },
+    Row {
+        start: CASTLING,
+        moves: "Rf1",
+        movetext: "1. Rf1 *",
+        ..EMPTY
+    },
+    Row {
+        start: "4k3/8/8/8/8/8/8/4K3 b - - 9999 9999",
+        moves: "Kd8 Kd1 Kc8",
+        movetext: "9999... Kd8 9999. Kd1 Kc8 *",
+        ..EMPTY
+    },
+    Row {
+        start: "4k3/8/8/3pP3/8/8/8/4K3 w - d6 0 2",
+        moves: "exd6",
+        movetext: "2. exd6 *",
+        ..EMPTY
+    },
+];
+
+#[test]
+fn another_start_is_set_up(rt: HostRuntime) {
+    assert_eq!(rt; first_failing(rt.alloc(), &SET_UP), None);
+}
+
+const FULL: &str =
+    "1. a3 a6 2. b3 b6 3. c3 c6 4. d3 d6 5. e3 e6 6. Nf3 Nf6 7. Ng1 Ng8 8. Nf3 Nf6 *";
+
+const BROKEN: &str =
+    "1. a3 a6 2. b3 b6 3. c3 c6 4. d3 d6 5. e3 Nf6 6. Nf3 Ng8 7. Ng1 Nf6 8. Nf3 Ng8\n*";
+
+const FILLED: [Row<'static>; 2] = [
+    Row {
+        moves: "a3 a6 b3 b6 c3 c6 d3 d6 e3 e6 Nf3 Nf6 Ng1 Ng8 Nf3 Nf6",
+        movetext: FULL,
+        ..EMPTY
+    },
+    Row {
+        moves: "a3 a6 b3 b6 c3 c6 d3 d6 e3 Nf6 Nf3 Ng8 Ng1 Nf6 Nf3 Ng8",
+        movetext: BROKEN,
+        ..EMPTY
+    },
+];
+
+#[test]
+fn lines_are_filled_to_79(rt: HostRuntime) {
+    assert_eq!(rt; FULL.len(), 79);
+    assert_eq!(rt; BROKEN.len(), 80);
+    assert_eq!(rt; first_failing(rt.alloc(), &FILLED), None);
+}

@@ -1,0 +1,214 @@
+//! Games as updates: whole pictures go to one settler, updates to another, and pictures to the one that tries every move.
+ghost use Rattle.std.specs.Prelude.{All, ◌<◌, ◌≡◌, OnOk, true};
+ghost use Rattle.settle_core.specs.Standing.{has_seen};
+
+use crate::told::{Told, WAITS, Way, told_of, way_of};
+use crate::trying::Plain;
+use chess_rules::{Position, Square, Status};
+use settle_core::{Outcome, Settler};
+use std::alloc::{AllocError, Global};
+use std::process::Abort;
+
+fn square(rt: &impl Abort, number: u8) -> Square {
+    Square::new(number).expect(rt, "a square")
+}
+
+/// The picture with this code on one square.
+fn changed(picture: &[u8; 64], at: Square, code: u8) -> [u8; 64]
+    requires codes { All (λ code. code < 16) picture.now }
+    requires code { code < 16 }
+    ensures { All (λ code. code < 16) result }
+{
+    let mut picture = *picture;
+    picture[at.number() as usize] = code;
+    picture
+}
+
+/// The same, where the square goes by its number.
+pub fn with(rt: &impl Abort, picture: &[u8; 64], at: u8, code: u8) -> [u8; 64]
+    requires { All (λ code. code < 16) picture.now }
+    ensures { All (λ code. code < 16) result }
+{
+    assert!(rt; code < 16);
+    changed(picture, square(rt, at), code)
+}
+
+/// Updates of one square each, and what comes of them.
+#[derive(Clone, Copy)]
+pub struct Game<'a> {
+    /// Squares by their numbers, and the codes that they show.
+    pub updates: &'a [(u8, u8)],
+    /// The answer to each update, where the game tells them.
+    pub answers: Option<&'a [Told]>,
+    /// The moves, the sign and the status that the settler holds at the end.
+    pub moves: &'a [Way],
+    pub sign: Option<Outcome>,
+    pub status: Status,
+}
+
+/// Where a game goes otherwise than it tells.
+#[derive(Clone, Copy, Debug, PartialEq, Eq)]
+pub enum Unlike {
+    /// The position to start from, which is none, or its own picture, which the settlers see first.
+    Start,
+    /// The update with this number: its answer, or the sign or the moves after it.
+    Update(usize),
+    /// How many answers the game tells.
+    Answers,
+    /// What the settler holds at the end: the moves, the sign or the status.
+    Moves,
+    Sign,
+    Status,
+}
+
+/// Shows the first picture to each settler: whether all three wait.
+fn wait(
+    by_pictures: &mut Settler,
+    by_updates: &mut Settler,
+    plain: &mut Plain,
+    picture: &[u8; 64],
+) -> Result<bool, AllocError>
+    requires { All (λ code. code < 16) picture.now }
+    ensures { OnOk result (has_seen by_updates.new ≡ true) }
+{
+    let of_pictures = told_of(&by_pictures.see(picture, None)?);
+    let of_updates = told_of(&by_updates.see(picture, None)?);
+    let of_plain = plain.see(picture);
+    Ok(of_pictures == WAITS && of_updates == WAITS && of_plain == WAITS)
+}
+
+/// Shows an update to each settler, as a picture or as it is: the answer, where all three give the same one, and then hold
+/// the same sign and the two the same moves.
+fn show(
+    by_pictures: &mut Settler,
+    by_updates: &mut Settler,
+    plain: &mut Plain,
+    picture: &[u8; 64],
+    at: Square,
+    code: u8,
+) -> Result<Option<Told>, AllocError>
+    requires codes { All (λ code. code < 16) picture.now }
+    requires code { code < 16 }
+    requires seen { has_seen by_updates.old ≡ true }
+    ensures { has_seen by_updates.new ≡ true }
+{
+    let answer = told_of(&by_pictures.see(picture, None)?);
+    let of_updates = told_of(&by_updates.see_field(at, code, None)?);
+    let of_plain = plain.see(picture);
+    if of_updates == answer && of_plain == answer && hold_alike(by_pictures, by_updates, plain) {
+        Ok(Some(answer))
+    } else {
+        Ok(None)
+    }
+}
+
+/// Whether all three hold one sign, and the two the same moves.
+fn hold_alike(by_pictures: &Settler, by_updates: &Settler, plain: &Plain) -> bool {
+    by_updates.sign() == by_pictures.sign()
+        && plain.sign == by_pictures.sign()
+        && by_updates.moves() == by_pictures.moves()
+}
+
+/// Whether this answer to the update with this number was given, and is the one that is told, if one is.
+fn is_told(answers: Option<&[Told]>, i: usize, given: Option<Told>) -> bool {
+    match (answers, given) {
+        (Some(answers), Some(given)) => match answers.get(i) {
+            Some(answer) => *answer == given,
+            None => false,
+        },
+        (None, Some(_)) => true,
+        (_, None) => false,
+    }
+}
+
+/// Whether as many answers are told as there are updates, or none is.
+fn tells_each(game: &Game<'_>) -> bool {
+    match game.answers {
+        Some(answers) => answers.len() == game.updates.len(),
+        None => true,
+    }
+}
+
+/// Plays the game: whole pictures to one settler, updates to another, and pictures to the plain one.
+fn play(
+    by_pictures: &mut Settler,
+    by_updates: &mut Settler,
+    start: Position,
+    game: &Game<'_>,
+) -> Result<Option<Unlike>, AllocError> {
+    let mut plain = Plain::new(start);
+    let mut picture = start.picture();
+    if !wait(by_pictures, by_updates, &mut plain, &picture)? {
+        return Ok(Some(Unlike::Start));
+    }
+    for (i, (field, code)) in game.updates.iter().enumerate() {
+        let Some(at) = Square::new(*field) else {
+            return Ok(Some(Unlike::Update(i)));
+        };
+        if *code >= 16 {
+            return Ok(Some(Unlike::Update(i)));
+        }
+        picture = changed(&picture, at, *code);
+        let given = show(by_pictures, by_updates, &mut plain, &picture, at, *code)?;
+        if !is_told(game.answers, i, given) {
+            return Ok(Some(Unlike::Update(i)));
+        }
+    }
+    Ok(unlike_end(by_pictures, game))
+}
+
+/// What the settler holds otherwise than the game tells of its end.
+fn unlike_end(settler: &Settler, game: &Game<'_>) -> Option<Unlike> {
+    if !tells_each(game) {
+        Some(Unlike::Answers)
+    } else if !has_moves(settler, game.moves) {
+        Some(Unlike::Moves)
+    } else if settler.sign() != game.sign {
+        Some(Unlike::Sign)
+    } else if settler.position().status() != game.status {
+        Some(Unlike::Status)
+    } else {
+        None
+    }
+}
+
+fn has_moves(settler: &Settler, ways: &[Way]) -> bool {
+    let plies = settler.moves();
+    if plies.len() != ways.len() {
+        return false;
+    }
+    for (ply, way) in plies.iter().zip(ways) {
+        if way_of(&ply.mv) != *way {
+            return false;
+        }
+    }
+    true
+}
+
+/// Plays the game with new settlers: the part of it that goes otherwise than it tells.
+pub fn part_unlike(
+    alloc: Global,
+    start: Position,
+    game: &Game<'_>,
+) -> Result<Option<Unlike>, AllocError> {
+    let mut by_pictures = Settler::new(alloc, start);
+    let mut by_updates = Settler::new(alloc, start);
+    play(&mut by_pictures, &mut by_updates, start, game)
+}
+
+/// Plays the games, each with new settlers: the number of the first that goes otherwise than it tells, and where.
+pub fn first_unlike(
+    alloc: Global,
+    start: Option<Position>,
+    games: &[Game<'_>],
+) -> Result<Option<(usize, Unlike)>, AllocError> {
+    let Some(start) = start else {
+        return Ok(Some((0, Unlike::Start)));
+    };
+    for (i, game) in games.iter().enumerate() {
+        if let Some(part) = part_unlike(alloc, start, game)? {
+            return Ok(Some((i, part)));
+        }
+    }
+    Ok(None)
+}

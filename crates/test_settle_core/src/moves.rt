@@ -1,0 +1,190 @@
+//! Steps, captures, promotions, castling and en passant, in each order of their updates.
+
+use crate::games::{Game, Unlike, first_unlike, part_unlike};
+use crate::starts::{
+    KING_FIRST, before_capture, before_castling, before_en_passant, before_promotion,
+};
+use crate::told::{Told, WAITS};
+use crate::ways::{E1_G1, E2_E4, E4_D5, E5_D6, E7_E8_KNIGHT, E7_E8_QUEEN, H1_F1};
+use chess_rules::{Position, Status};
+use std::alloc::{AllocError, Global};
+use std::test::Fail;
+
+/// From the initial position.
+static STEP_GAMES: [Game<'static>; 4] = [
+    Game {
+        updates: &[(52, 0), (36, 1)],
+        answers: Some(&[WAITS, Told::Moved(E2_E4)]),
+        moves: &[E2_E4],
+        sign: None,
+        status: Status::Running,
+    },
+    Game {
+        updates: &[(36, 1), (52, 0)],
+        answers: Some(&[WAITS, Told::Moved(E2_E4)]),
+        moves: &[E2_E4],
+        sign: None,
+        status: Status::Running,
+    },
+    // The pawn is put back, which a dump shows again.
+    Game {
+        updates: &[(52, 0), (52, 1), (52, 1), (52, 0), (36, 1)],
+        answers: Some(&[WAITS, WAITS, Told::Same, WAITS, Told::Moved(E2_E4)]),
+        moves: &[E2_E4],
+        sign: None,
+        status: Status::Running,
+    },
+    // A code that stands for no man.
+    Game {
+        updates: &[(52, 0), (36, 1), (36, 1), (36, 13), (36, 1)],
+        answers: Some(&[WAITS, Told::Moved(E2_E4), Told::Same, WAITS, WAITS]),
+        moves: &[E2_E4],
+        sign: None,
+        status: Status::Running,
+    },
+];
+
+/// The captured pawn is lifted first.
+static CAPTURE_GAMES: [Game<'static>; 1] = [Game {
+    updates: &[(27, 0), (36, 0), (27, 1)],
+    answers: Some(&[WAITS, WAITS, Told::Moved(E4_D5)]),
+    moves: &[E4_D5],
+    sign: None,
+    status: Status::Running,
+}];
+
+#[test]
+fn steps_and_repeats(rt: HostRuntime) -> Result<(), Fail> {
+    assert_eq!(rt;
+        first_unlike(rt.alloc(), Some(Position::initial()), &STEP_GAMES)?,
+        None
+    );
+    assert_eq!(rt;
+        first_unlike(rt.alloc(), before_capture(), &CAPTURE_GAMES)?,
+        None
+    );
+    Ok(())
+}
+
+static PROMOTION_GAMES: [Game<'static>; 2] = [
+    // A pawn on its last square is no queen yet.
+    Game {
+        updates: &[(12, 0), (4, 1), (4, 3)],
+        answers: Some(&[WAITS, WAITS, Told::Moved(E7_E8_KNIGHT)]),
+        moves: &[E7_E8_KNIGHT],
+        sign: None,
+        status: Status::Running,
+    },
+    Game {
+        updates: &[(12, 0), (4, 3), (4, 6)],
+        answers: Some(&[
+            WAITS,
+            Told::Moved(E7_E8_KNIGHT),
+            Told::Replaced(E7_E8_QUEEN),
+        ]),
+        moves: &[E7_E8_QUEEN],
+        sign: None,
+        status: Status::Running,
+    },
+];
+
+#[test]
+fn promotions(rt: HostRuntime) -> Result<(), Fail> {
+    assert_eq!(rt;
+        first_unlike(rt.alloc(), before_promotion(), &PROMOTION_GAMES)?,
+        None
+    );
+    Ok(())
+}
+
+/// Brings the updates into one of their orders: each number below the factorial of their count names another one.
+fn reorder(updates: &mut [(u8, u8)], order: usize) {
+    let mut order = order;
+    for i in 0..updates.len() {
+        let left = updates.len() - i;
+        updates.swap(i, i + order % left);
+        order /= left;
+    }
+}
+
+static CASTLING_GAMES: [Game<'static>; 2] = [
+    Game {
+        updates: &KING_FIRST,
+        answers: Some(&[WAITS, WAITS, WAITS, Told::Moved(E1_G1)]),
+        moves: &[E1_G1],
+        sign: None,
+        status: Status::Running,
+    },
+    Game {
+        updates: &[(63, 0), (61, 2), (60, 0), (62, 5)],
+        answers: Some(&[WAITS, Told::Moved(H1_F1), WAITS, Told::Replaced(E1_G1)]),
+        moves: &[E1_G1],
+        sign: None,
+        status: Status::Running,
+    },
+];
+
+/// Plays king and rook in each order: the number of the first order that doesn't end with castling, and where.
+fn first_order_without_castling(
+    alloc: Global,
+    start: Option<Position>,
+) -> Result<Option<(usize, Unlike)>, AllocError> {
+    let Some(start) = start else {
+        return Ok(Some((0, Unlike::Start)));
+    };
+    for order in 0..24usize {
+        let mut updates = KING_FIRST;
+        reorder(&mut updates, order);
+        let game = Game {
+            updates: &updates,
+            answers: None,
+            moves: &[E1_G1],
+            sign: None,
+            status: Status::Running,
+        };
+        if let Some(part) = part_unlike(alloc, start, &game)? {
+            return Ok(Some((order, part)));
+        }
+    }
+    Ok(None)
+}
+
+#[test]
+fn castling_in_each_order(rt: HostRuntime) -> Result<(), Fail> {
+    let start = before_castling();
+    assert_eq!(rt; first_unlike(rt.alloc(), start, &CASTLING_GAMES)?, None);
+    assert_eq!(rt; first_order_without_castling(rt.alloc(), start)?, None);
+    Ok(())
+}
+
+/// Plays an en passant capture in each order: the number of the first order that goes otherwise, and where.
+fn first_order_without_capture(
+    alloc: Global,
+    start: Option<Position>,
+) -> Result<Option<(usize, Unlike)>, AllocError> {
+    let Some(start) = start else {
+        return Ok(Some((0, Unlike::Start)));
+    };
+    for order in 0..6usize {
+        let mut updates = [(28, 0), (19, 1), (27, 0)];
+        reorder(&mut updates, order);
+        let game = Game {
+            updates: &updates,
+            answers: Some(&[WAITS, WAITS, Told::Moved(E5_D6)]),
+            moves: &[E5_D6],
+            sign: None,
+            status: Status::Running,
+        };
+        if let Some(part) = part_unlike(alloc, start, &game)? {
+            return Ok(Some((order, part)));
+        }
+    }
+    Ok(None)
+}
+
+#[test]
+fn en_passant_in_each_order(rt: HostRuntime) -> Result<(), Fail> {
+    let start = before_en_passant();
+    assert_eq!(rt; first_order_without_capture(rt.alloc(), start)?, None);
+    Ok(())
+}
