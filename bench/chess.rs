@@ -1,5 +1,5 @@
 // The rules of chess for the yardsticks of bench/chess_rules.sh and bench/chess_text.sh, in plain Rust, unverified, with the
-// data of the crate chess_rules and its method: each square that a man may reach is asked for, and a copy of the board is
+// data of the crate chess_rules and its method: each square that a piece may reach is asked for, and a copy of the board is
 // played for each move.
 #![allow(dead_code)] // each yardstick uses a part
 
@@ -19,11 +19,11 @@ pub enum Side {
     Black,
 }
 
-pub type Man = Option<(Side, Kind)>;
+pub type Piece = Option<(Side, Kind)>;
 
 #[derive(Clone, Copy)]
 pub struct Position {
-    pub board: [Man; 64],
+    pub board: [Piece; 64],
     pub side: Side,
     pub rights: [bool; 4],
     pub target: Option<usize>,
@@ -56,7 +56,7 @@ fn at(square: usize, step: (i32, i32), n: i32) -> Option<usize> {
     if (0..8).contains(&file) && (0..8).contains(&row) { Some((8 * row + file) as usize) } else { None }
 }
 
-fn is_attacked(board: &[Man; 64], by: Side, square: usize) -> bool {
+fn is_attacked(board: &[Piece; 64], by: Side, square: usize) -> bool {
     for step in JUMPS {
         if let Some(from) = at(square, step, 1) {
             if board[from] == Some((by, Kind::Knight)) {
@@ -88,14 +88,14 @@ fn is_attacked(board: &[Man; 64], by: Side, square: usize) -> bool {
     false
 }
 
-pub fn in_check(board: &[Man; 64], side: Side) -> bool {
-    match board.iter().position(|man| *man == Some((side, Kind::King))) {
+pub fn in_check(board: &[Piece; 64], side: Side) -> bool {
+    match board.iter().position(|piece| *piece == Some((side, Kind::King))) {
         Some(king) => is_attacked(board, other(side), king),
         None => false,
     }
 }
 
-fn is_clear(board: &[Man; 64], from: usize, to: usize) -> bool {
+fn is_clear(board: &[Piece; 64], from: usize, to: usize) -> bool {
     let files = to as i32 % 8 - from as i32 % 8;
     let rows = to as i32 / 8 - from as i32 / 8;
     let step = (files.signum(), rows.signum());
@@ -147,10 +147,10 @@ fn goes(p: &Position, m: &Move) -> bool {
 
 pub fn after(p: &Position, m: &Move) -> Position {
     let mut next = *p;
-    let man = p.board[m.from];
-    let kind = man.map(|(_, kind)| kind);
+    let piece = p.board[m.from];
+    let kind = piece.map(|(_, kind)| kind);
     next.board[m.from] = None;
-    next.board[m.to] = man.map(|(side, kind)| (side, m.promotion.unwrap_or(kind)));
+    next.board[m.to] = piece.map(|(side, kind)| (side, m.promotion.unwrap_or(kind)));
     if kind == Some(Kind::Pawn) && m.from % 8 != m.to % 8 && p.board[m.to].is_none() {
         next.board[m.from / 8 * 8 + m.to % 8] = None;
     }
@@ -200,9 +200,9 @@ pub fn legal_moves(p: &Position) -> Vec<Move> {
     moves
 }
 
-// The position of these men, from a8 to h1, White to move with every castling right.
-pub fn position_of(men: &[u8; 64]) -> Position {
-    let board = men.map(|letter| {
+// The position of these pieces, from a8 to h1, White to move with every castling right.
+pub fn position_of(pieces: &[u8; 64]) -> Position {
+    let board = pieces.map(|letter| {
         let side = if letter.is_ascii_uppercase() { Side::White } else { Side::Black };
         if letter == b'.' { None } else { Some((side, kind_of(letter.to_ascii_uppercase()))) }
     });

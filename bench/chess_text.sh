@@ -1,6 +1,6 @@
 #!/usr/bin/env bash
-# Times write_san and read_san of the crate chess_text by the program san_bench, five hundred times over a game of 200 plies
-# (crates/san_bench/stdin), from outside, beside the plain Rust program bench/san.rs, which prints the same counts: medians of
+# Times write_san and read_san of the crate chess_text by the program bench_san, five hundred times over a game of 200 plies
+# (crates/bench_san/stdin), from outside, beside the plain Rust program bench/san.rs, which prints the same counts: medians of
 # eleven runs by turns. Before each write_san both ask whether the move is legal. It is to have four fifths of the plain
 # program's speed, so 1.25 of its processor time at most.
 set -euo pipefail
@@ -8,17 +8,17 @@ cd "$(dirname "$0")/.."
 runs=${1:-11}
 rounds=500
 . bench/timing.sh
-game=crates/san_bench/stdin
+game=crates/bench_san/stdin
 
-(cd crates/san_bench && rt run -- write 1 < stdin > "$work/build.log")
+(cd crates/bench_san && rt run -- write 1 < stdin > "$work/build.log")
 rustc -O -o "$work/plain" bench/san.rs
 
 processor
 echo "$(($(wc -w < "$game") * rounds)) moves"
-heading san_bench 'plain Rust'
+heading bench_san 'plain Rust'
 for what in write read; do
-    crates/san_bench/out/san_bench "$what" "$rounds" < "$game" > "$work/counts"
+    crates/bench_san/out/bench_san "$what" "$rounds" < "$game" > "$work/counts"
     "$work/plain" "$what" "$rounds" < "$game" | cmp - "$work/counts"
-    beside "${what}_san" 1.25 "$game" "crates/san_bench/out/san_bench $what $rounds" "$work/plain $what $rounds"
+    beside "${what}_san" 1.25 "$game" "crates/bench_san/out/bench_san $what $rounds" "$work/plain $what $rounds"
 done
 verdicts

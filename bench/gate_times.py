@@ -1,6 +1,6 @@
 """Runs tests/run in a clone and prints where its processor time went. Usage: gate_times.py CLONE FOLDER
 
-Reads /proc four times a second: a check is a process `rattle` with all that it has started, and its words and folder tell
+Reads /proc four times a second: a check is a process `rattle` with all that it has started, and its arguments and folder tell
 its crate and what it proves. Writes FOLDER/checks.tsv, a line a check, and FOLDER/log, what tests/run printed.
 """
 

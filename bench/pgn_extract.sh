@@ -13,8 +13,8 @@ if [ -z "$extract" ]; then
     apt-get install -y pgn-extract > "$work/apt.log"
     extract=$(command -v pgn-extract || command -v /usr/games/pgn-extract)
 fi
-(cd crates/pgn_bench && rt run -- copy < stdin > "$work/build.log")
-program=crates/pgn_bench/out/pgn_bench
+(cd crates/bench_pgn && rt run -- copy < stdin > "$work/build.log")
+program=crates/bench_pgn/out/bench_pgn
 
 "$program" games "$count" > "$work/games.pgn"
 "$program" squares "$count" > "$work/squares"

@@ -1,5 +1,5 @@
 // The yardstick of bench/chess_text.sh: the same work by a plain Rust program, unverified, with the data of the crates
-// chess_rules and chess_text and their method: rivals are sought among the men of one kind, a text is read by looking at
+// chess_rules and chess_text and their method: rivals are sought among the pieces of one kind, a text is read by looking at
 // its kind and target and writing the few moves that are left.
 mod chess;
 

@@ -2,8 +2,8 @@
 """Makes the streams that the benchmarks read, 48 MB each, always the same bytes: streams.py FOLDER [NAME..].
 
 idle     a long game by the knights, with a time each second, and dumps and updates that change nothing
-played   a game of 2,000 moves, one each 24,000 bytes; between two moves times, dumps, and men that are lifted and put back
-fumbled  the same game; a man that is lifted is shown on one to three other empty squares before it is put back
+played   a game of 2,000 moves, one each 24,000 bytes; between two moves times, dumps, and pieces that are lifted and put back
+fumbled  the same game; a piece that is lifted is shown on one to three other empty squares before it is put back
 dumps    the dump of the initial position again and again
 faults   bytes FF, each of which but the first is a fault
 """
@@ -41,7 +41,7 @@ def code_of(side, kind):
 
 
 def targets(board, square, directions, far):
-    """The squares that lie open from a square; each way ends with the first man on it."""
+    """The squares that lie open from a square; each way ends with the first piece on it."""
     rank, file = divmod(square, 8)
     for up, right in directions:
         r, f = rank + up, file + right
@@ -132,7 +132,7 @@ class Game:
 
 def moves(count):
     """A game of so many moves, each as the squares that it changes: a capture each hundred moves at most, a move of a pawn each
-    twenty at most, castling, en passant and promotions where they come; other men else. It never ends."""
+    twenty at most, castling, en passant and promotions where they come; other pieces else. It never ends."""
     chance = random.Random(SEED)
     game = Game()
     captures = pawns = 0
@@ -165,7 +165,7 @@ def hands(fumbles):
     chance = random.Random(SEED)
     pick, draw = chance.random, chance.choice
     board = bytearray(INITIAL)
-    men = [square for square in range(64) if board[square]]
+    pieces = [square for square in range(64) if board[square]]
     empty = [square for square in range(64) if not board[square]]
     stream = bytearray(HEADER + board)
     game = moves(SIZE // MOVE_EACH)
@@ -176,7 +176,7 @@ def hands(fumbles):
             for square, code in next(game):
                 stream += UPDATES[square][code]
                 board[square] = code
-            men = [square for square in range(64) if board[square]]
+            pieces = [square for square in range(64) if board[square]]
             empty = [square for square in range(64) if not board[square]]
         kind = pick()
         if kind < 0.1:
@@ -185,7 +185,7 @@ def hands(fumbles):
             stream += HEADER
             stream += board
         else:
-            square = men[int(pick() * len(men))]
+            square = pieces[int(pick() * len(pieces))]
             code = board[square]
             if pick() < 0.7:
                 stream += UPDATES[square][0]
@@ -203,13 +203,13 @@ def idle():
     board = bytearray(INITIAL)
     round_trip = bytearray()
     for start, end in ((62, 45), (6, 21), (45, 62), (21, 6)):
-        man = board[start]
+        piece = board[start]
         board[start] = 0
         round_trip += UPDATES[start][0] * 2 + HEADER + board
-        board[end] = man
-        round_trip += UPDATES[end][man]
+        board[end] = piece
+        round_trip += UPDATES[end][piece]
         # until the next move: a time each second, and now and then a dump and an update that changes nothing
-        round_trip += 60 * (10 * CLOCK + UPDATES[end][man] + HEADER + board)
+        round_trip += 60 * (10 * CLOCK + UPDATES[end][piece] + HEADER + board)
     stream = HEADER + bytes(INITIAL)
     return stream + round_trip * ((SIZE - len(stream)) // len(round_trip))
 

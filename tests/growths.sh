@@ -1,14 +1,14 @@
 #!/bin/sh
-# Refuses each growth of the calls in crates/dgt_growths in turn. The program is built once, so that its 1,000th growth is
-# refused, and run once for each number: run n spends 1,000 less n growths first, so that the calls' nth is the one. Each run
+# Fails each allocation of the calls in crates/test_growths in turn. The program is built once, so that its 1,000th allocation
+# fails, and run once for each number: run n spends 1,000 less n of them first, so that the calls' nth is the one. Each run
 # must say that one call was refused, left all as it was and was granted when made again, up to a run that meets no refusal;
 # and none after it may meet one.
 #
-# Prints each run that is broken, and last how many growths were refused well, and how many runs are broken:
+# Prints each run that is broken, and last how many failing allocations were met well, and how many runs are broken:
 # 'N passed, M failed'. The status is 0 where none is broken.
 set -eu
 
-cd "$(dirname "$0")/../crates/dgt_growths"
+cd "$(dirname "$0")/../crates/test_growths"
 calls=15
 runs=600
 folder=$(mktemp -d)

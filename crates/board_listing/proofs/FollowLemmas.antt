@@ -1,8 +1,8 @@
 -- What a follower tells.
 use Rattle.std.proofs.Common.{◌≡◌, ◌≢◌, ℕ, Bool, true, false, ◌⊎◌, inl, inr, append-nil, List, [], ◌∷◌, ◌++◌, drop, Option, Some, None, IfSome, refl, sym, ◌∙◌, ap, subst}
 use Rattle.std.specs.Prelude.{if◌then◌else◌, is_some}
-use Rattle.chess_rules.specs.declared.men.Move.{Move}
-use Rattle.chess_rules.specs.declared.men.Parts.{Parts}
+use Rattle.chess_rules.specs.declared.chess_move.Move.{Move}
+use Rattle.chess_rules.specs.declared.parts.Parts.{Parts}
 use Rattle.chess_rules.specs.Legal.{Legal}
 use Rattle.chess_rules.specs.Valid.{Valid}
 use Rattle.chess_text.specs.San.{San}
@@ -12,16 +12,16 @@ use Rattle.dgt_frame.specs.Streams.{Timed}
 use Rattle.settle_core.specs.declared.game.Ply.{Ply}
 use Rattle.settle_core.specs.declared.game.Seen.{Seen}
 use Rattle.settle_core.specs.declared.game.Seen.TheVariants.{Same, Moved, Sign, Replaced, Waits}
-use Rattle.settle_core.specs.Entries.{Entry, repeats, unstuttered}
-use Rattle.settle_core.specs.Folding.{Folds, Replaces, Score, Shows, moves_of, played, score_after}
+use Rattle.settle_core.specs.Entries.{Entry, repeats, deduplicated}
+use Rattle.settle_core.specs.Folding.{Folds, Replaces, Score, SeenAs, moves_of, played, score_after}
 use Rattle.settle_core.specs.Settling.{reached}
-use Rattle.settle_core.specs.Standing.{Answers, AnswersNew, Sheet, StandsFor as Settled}
+use Rattle.settle_core.specs.Settler.{Answers, AnswersNew, Sheet, StandsFor as Settled}
 use Rattle.settle_core.proofs.Once.{folds_once}
 use Rattle.board_session.specs.declared.session.Taken.{Taken}
-use Rattle.board_session.specs.Entering.{entry_at, is_entry}
-use Rattle.board_session.specs.Looking.{is_fault, picture_of}
+use Rattle.board_session.specs.Entries.{entry_at, is_entry}
+use Rattle.board_session.specs.History.{is_fault, picture_of}
 use Rattle.board_session.specs.Settings.{Setting}
-use Rattle.board_session.specs.Standing.{StandsFor, Tells, entries_in}
+use Rattle.board_session.specs.Session.{StandsFor, TellsTaken, entries_in}
 use Rattle.board_session.specs.States.{State}
 use Rattle.board_listing.specs.declared.follower.Follower.{Follower}
 use Rattle.dgt_frame.specs.declared.events.Event.TheVariants.{Message, Fault}
@@ -68,7 +68,7 @@ last_told offset word lines lines' start (last ∷ earlier) found p ply legal at
     let here = subst Q ply_is (subst P position told) in
     (line offset (move_words word (reached start (moves_of earlier)) here.0 last.clock), (here.0, here.1, refl), here.2)
 
--- The answer to a picture that is none that was seen last.
+-- The result for a picture that is none that was seen last.
 pub new_answer : (start : Parts) (past : List Entry) (shown : List ℕ) (seen : Seen) → seen ≢ Same → Answers start past shown seen → AnswersNew start past shown seen
 new_answer start past shown Same other answer = absurd (other refl)
 new_answer start past shown (Moved m) other answer = answer
@@ -76,7 +76,7 @@ new_answer start past shown (Sign outcome) other answer = answer
 new_answer start past shown (Replaced m) other answer = answer
 new_answer start past shown Waits other answer = answer
 
-may_tell : (start : Parts) (before : Score) (reading : Option Reading) (shown : List ℕ) (seen : Seen) → Shows start (moves_of before.plies) shown seen
+may_tell : (start : Parts) (before : Score) (reading : Option Reading) (shown : List ℕ) (seen : Seen) → SeenAs start (moves_of before.plies) shown seen
     → MayTell start (score_after start before reading seen) seen
 may_tell start before reading shown (Moved m) shows = shows.legal
 may_tell start before reading shown (Sign outcome) shows = tt
@@ -91,15 +91,15 @@ may_tell start before reading shown (Replaced m) shows = may_replace start befor
 -- What is known where an entry after these was seen, and its picture is a new one.
 pub record News (sheet : Sheet) (start : Parts) (past : List Entry) (entry : Entry) (seen : Seen) : Type 0 where
   pub before : Score
-  pub folds : Folds start (unstuttered past) before
-  pub shows : Shows start (moves_of before.plies) entry.picture seen
+  pub folds : Folds start (deduplicated past) before
+  pub shows : SeenAs start (moves_of before.plies) entry.picture seen
   pub new : repeats entry.picture past ≡ false
   pub start_is : sheet.start ≡ start
   pub last : sheet.last ≡ Some entry.picture
   pub score_is : sheet.score ≡ score_after start before entry.reading seen
 
-pub without_repeats : (entry : Entry) (past : List Entry) → repeats entry.picture past ≡ false → unstuttered (entry ∷ past) ≡ entry ∷ unstuttered past
-without_repeats entry past new = ap (λ b. if b then unstuttered past else entry ∷ unstuttered past) new
+pub without_repeats : (entry : Entry) (past : List Entry) → repeats entry.picture past ≡ false → deduplicated (entry ∷ past) ≡ entry ∷ deduplicated past
+without_repeats entry past new = ap (λ b. if b then deduplicated past else entry ∷ deduplicated past) new
 
 news_of : (sheet : Sheet) (start : Parts) (past : List Entry) (entry : Entry) (seen : Seen) → Valid start → Settled sheet start (entry ∷ past)
     → AnswersNew start past entry.picture seen → News sheet start past entry seen
@@ -107,8 +107,8 @@ news_of sheet start past entry seen valid stands answer =
     let before = answer.1.0 in
     let after = score_after start before entry.reading seen in
     let P : List Entry → Type 0 = λ es. Folds start es sheet.score in
-    let folded : Folds start (entry ∷ unstuttered past) sheet.score = subst P (without_repeats entry past answer.0) stands.folds in
-    let made : Folds start (entry ∷ unstuttered past) after = (before, seen, answer.1.1, answer.1.2, refl) in
+    let folded : Folds start (entry ∷ deduplicated past) sheet.score = subst P (without_repeats entry past answer.0) stands.folds in
+    let made : Folds start (entry ∷ deduplicated past) after = (before, seen, answer.1.1, answer.1.2, refl) in
     record {
       before = before;
       folds = answer.1.1;
@@ -116,7 +116,7 @@ news_of sheet start past entry seen valid stands answer =
       new = answer.0;
       start_is = stands.start_is;
       last = stands.last;
-      score_is = folds_once start (entry ∷ unstuttered past) sheet.score after valid folded made;
+      score_is = folds_once start (entry ∷ deduplicated past) sheet.score after valid folded made;
     }
 
 pub entries_new : (setting : Setting) (event : Event) (past : List Event) → is_entry event past ≡ true → entries_in setting (event ∷ past) ≡ entry_at setting.first setting.rotated (event ∷ past) ∷ entries_in setting past
@@ -127,7 +127,7 @@ entries_same setting event past is = ap (λ b. if b then entry_at setting.first 
 
 -- A session took an event that gave a new picture.
 pub news : (old : Follower) (new : State) (setting : Setting) (past : List Event) (event : Event) (taken : Taken) (seen : Seen) → HasFollowed old setting past
-    → StandsFor new setting (event ∷ past) → Tells setting past event taken → taken.seen ≡ Some seen → seen ≢ Same
+    → StandsFor new setting (event ∷ past) → TellsTaken setting past event taken → taken.seen ≡ Some seen → seen ≢ Same
     → News new.settler setting.start (entries_in setting past) (entry_at setting.first setting.rotated (event ∷ past)) seen
 news old new setting past event taken seen followed stands tells is other =
     let entry : is_entry event past ≡ true = sym tells.entry ∙ ap is_some is in
@@ -148,7 +148,7 @@ pub told_waits : (old : Follower) (sheet : Sheet) (setting : Setting) (past : Li
     → News sheet setting.start (entries_in setting past) entry seen → seen ≡ Waits → HasResult sheet.start sheet.score old.told
 told_waits old sheet setting past entry seen followed news waits =
     let start = setting.start in
-    let before : followed.score ≡ news.before = folds_once start (unstuttered (entries_in setting past)) followed.score news.before followed.valid followed.folds news.folds in
+    let before : followed.score ≡ news.before = folds_once start (deduplicated (entries_in setting past)) followed.score news.before followed.valid followed.folds news.folds in
     let same : followed.score ≡ sheet.score = before ∙ sym (news.score_is ∙ ap (score_after start news.before entry.reading) waits) in
     let P : Parts → Type 0 = λ p. HasResult p sheet.score old.told in
     let Q : Score → Type 0 = λ s. HasResult start s old.told in
@@ -156,7 +156,7 @@ told_waits old sheet setting past entry seen followed news waits =
 
 -- An event that adds no entry, or one whose picture was seen last, leaves the game.
 pub followed_same : (old : Follower) (new : State) (setting : Setting) (past : List Event) (event : Event) → HasFollowed old setting past → StandsFor new setting (event ∷ past)
-    → unstuttered (entries_in setting (event ∷ past)) ≡ unstuttered (entries_in setting past) → HasFollowed (record { session = new; told = old.told }) setting (event ∷ past)
+    → deduplicated (entries_in setting (event ∷ past)) ≡ deduplicated (entries_in setting past) → HasFollowed (record { session = new; told = old.told }) setting (event ∷ past)
 followed_same old new setting past event followed stands same =
     let P : List Entry → Type 0 = λ es. Folds setting.start es followed.score in
     record {
@@ -179,12 +179,12 @@ abbrev pub Added : Follower → Setting → List Event → Timed → List ℕ �
 Added new setting past x lines lines' = HasFollowed new setting (x.event ∷ past) × ((more : List ℕ) × (lines' ≡ lines ++ more) × TellsEvent setting past x more)
 
 pub added_fault : (old : Follower) (new : State) (setting : Setting) (past : List Event) (x : Timed) (taken : Taken) (lines lines' : List ℕ) → HasFollowed old setting past
-    → StandsFor new setting (x.event ∷ past) → Tells setting past x.event taken → taken.asks_dump ≡ true → lines' ≡ lines ++ line_of x
+    → StandsFor new setting (x.event ∷ past) → TellsTaken setting past x.event taken → taken.asks_dump ≡ true → lines' ≡ lines ++ line_of x
     → Added (record { session = new; told = old.told }) setting past x lines lines'
 added_fault old new setting past x taken lines lines' followed stands tells asks lines_are =
     let fault : is_fault x.event ≡ true = sym tells.asks ∙ asks in
     let none : is_entry x.event past ≡ false = fault_gives_none x.event past fault in (
-      followed_same old new setting past x.event followed stands (ap unstuttered (entries_same setting x.event past none)),
+      followed_same old new setting past x.event followed stands (ap deduplicated (entries_same setting x.event past none)),
       (
         line_of x,
         lines_are,
@@ -198,11 +198,11 @@ added_fault old new setting past x taken lines lines' followed stands tells asks
     )
 
 pub added_nothing : (old : Follower) (new : State) (setting : Setting) (past : List Event) (x : Timed) (taken : Taken) (lines lines' : List ℕ) → HasFollowed old setting past
-    → StandsFor new setting (x.event ∷ past) → Tells setting past x.event taken → taken.asks_dump ≡ false → taken.seen ≡ None → lines' ≡ lines
+    → StandsFor new setting (x.event ∷ past) → TellsTaken setting past x.event taken → taken.asks_dump ≡ false → taken.seen ≡ None → lines' ≡ lines
     → Added (record { session = new; told = old.told }) setting past x lines lines'
 added_nothing old new setting past x taken lines lines' followed stands tells asks seen lines_are =
     let none : is_entry x.event past ≡ false = sym tells.entry ∙ ap is_some seen in (
-      followed_same old new setting past x.event followed stands (ap unstuttered (entries_same setting x.event past none)),
+      followed_same old new setting past x.event followed stands (ap deduplicated (entries_same setting x.event past none)),
       (
         [],
         lines_are ∙ sym (append-nil lines),
@@ -216,16 +216,16 @@ added_nothing old new setting past x taken lines lines' followed stands tells as
     )
 
 pub added_same : (old : Follower) (new : State) (setting : Setting) (past : List Event) (x : Timed) (taken : Taken) (seen : Seen) (lines lines' : List ℕ) → HasFollowed old setting past
-    → StandsFor new setting (x.event ∷ past) → Tells setting past x.event taken → taken.asks_dump ≡ false → taken.seen ≡ Some seen → seen ≡ Same → lines' ≡ lines
+    → StandsFor new setting (x.event ∷ past) → TellsTaken setting past x.event taken → taken.asks_dump ≡ false → taken.seen ≡ Some seen → seen ≡ Same → lines' ≡ lines
     → Added (record { session = new; told = old.told }) setting past x lines lines'
 added_same old new setting past x taken seen lines lines' followed stands tells asks some same lines_are =
     let entry : is_entry x.event past ≡ true = sym tells.entry ∙ ap is_some some in
     let Q : Option Seen → Type 0 = λ s. IfSome s (Answers setting.start (entries_in setting past) (picture_of setting.rotated (x.event ∷ past))) in
     let repeated : repeats (picture_of setting.rotated (x.event ∷ past)) (entries_in setting past) ≡ true = subst Q (some ∙ ap Some same) tells.seen in
     let here = entry_at setting.first setting.rotated (x.event ∷ past) in
-    let shorter : unstuttered (here ∷ entries_in setting past) ≡ unstuttered (entries_in setting past) =
-    ap (λ b. if b then unstuttered (entries_in setting past) else here ∷ unstuttered (entries_in setting past)) repeated in (
-      followed_same old new setting past x.event followed stands (ap unstuttered (entries_new setting x.event past entry) ∙ shorter),
+    let shorter : deduplicated (here ∷ entries_in setting past) ≡ deduplicated (entries_in setting past) =
+    ap (λ b. if b then deduplicated (entries_in setting past) else here ∷ deduplicated (entries_in setting past)) repeated in (
+      followed_same old new setting past x.event followed stands (ap deduplicated (entries_new setting x.event past entry) ∙ shorter),
       (
         [],
         lines_are ∙ sym (append-nil lines),
@@ -239,7 +239,7 @@ added_same old new setting past x taken seen lines lines' followed stands tells 
     )
 
 pub added_news : (old new : Follower) (setting : Setting) (past : List Event) (x : Timed) (taken : Taken) (seen : Seen) (lines lines' : List ℕ) → HasFollowed old setting past
-    → StandsFor new.session setting (x.event ∷ past) → Tells setting past x.event taken → taken.asks_dump ≡ false → taken.seen ≡ Some seen
+    → StandsFor new.session setting (x.event ∷ past) → TellsTaken setting past x.event taken → taken.asks_dump ≡ false → taken.seen ≡ Some seen
     → News new.session.settler setting.start (entries_in setting past) (entry_at setting.first setting.rotated (x.event ∷ past)) seen
     → AddsNews x.offset new.session.settler.start new.session.settler.score (picture_of setting.rotated (x.event ∷ past)) seen old.told new.told lines lines'
     → Added new setting past x lines lines'
@@ -248,15 +248,15 @@ added_news old new setting past x taken seen lines lines' followed stands tells 
     let here = entry_at setting.first setting.rotated (x.event ∷ past) in
     let after = score_after start fresh.before here.reading seen in
     let entry : is_entry x.event past ≡ true = sym tells.entry ∙ ap is_some some in
-    let before : followed.score ≡ fresh.before = folds_once start (unstuttered (entries_in setting past)) followed.score fresh.before followed.valid followed.folds fresh.folds in
+    let before : followed.score ≡ fresh.before = folds_once start (deduplicated (entries_in setting past)) followed.score fresh.before followed.valid followed.folds fresh.folds in
     let B : Score → Type 0 = λ s. HasResult start s old.told in
     let P : Parts → Type 0 = λ p. AddsNews x.offset p new.session.settler.score here.picture seen old.told new.told lines lines' in
     let Q : Score → Type 0 = λ s. AddsNews x.offset start s here.picture seen old.told new.told lines lines' in
     let made : AddsNews x.offset start after here.picture seen old.told new.told lines lines' = subst Q fresh.score_is (subst P fresh.start_is adds) in
     let E : List Entry → Type 0 = λ es. Folds start es after in
-    let folds : Folds start (here ∷ unstuttered (entries_in setting past)) after = (fresh.before, seen, fresh.folds, fresh.shows, refl) in
-    let entries_are : unstuttered (entries_in setting (x.event ∷ past)) ≡ here ∷ unstuttered (entries_in setting past) =
-    ap unstuttered (entries_new setting x.event past entry) ∙ without_repeats here (entries_in setting past) fresh.new in (
+    let folds : Folds start (here ∷ deduplicated (entries_in setting past)) after = (fresh.before, seen, fresh.folds, fresh.shows, refl) in
+    let entries_are : deduplicated (entries_in setting (x.event ∷ past)) ≡ here ∷ deduplicated (entries_in setting past) =
+    ap deduplicated (entries_new setting x.event past entry) ∙ without_repeats here (entries_in setting past) fresh.new in (
       record {
         stands = stands;
         score = after;

@@ -1,4 +1,4 @@
--- Lines that are gathered, and written in pieces.
+-- Lines that are gathered, and written in chunks.
 use Rattle.std.proofs.Common.{◌<◌, ℕ, List, [], ◌∷◌, ◌++◌, take, drop, Option, Result, Ok, Err, OnErr, OnOk, IfErr, refl, sym, subst, true, false, ◌≡◌, ◌∙◌, ap, append_assoc, append-nil}
 use Rattle.std.specs.Prelude.{is_err, is_ok}
 use Rattle.std.proofs.KnownBytes.{Appends-trans}
@@ -86,7 +86,7 @@ written_now begin written written' waiting text gathered sent =
     let P : List ℕ → Type 0 = λ bs. Appends begin written' bs in
     subst P (sym gathered.1) (Appends-trans begin written written' gathered.0 waiting gathered.2 sent)
 
--- Memory was refused, and the lines of the events before were written.
+-- Memory ran out, and the lines of the events before were written.
 pub broken_memory : (old : Printer) (waiting : List ℕ) (x : Timed) (written written' : Option (List ℕ))
     → ((listing : Listing) (events : List Timed) → Follows old listing events → Refuses listing events x) → Appends written written' waiting
     → BreaksLines old written waiting x Memory written'
@@ -100,7 +100,7 @@ broken_memory old waiting x written written' refuses sent listing events text be
   stops = ((x, refl), written_now begin written written' waiting text gathered sent);
 }
 
--- Memory was refused, and then the stream has failed.
+-- Memory ran out, and then the stream has failed.
 pub broken_both : (old : Printer) (waiting : List ℕ) (x : Timed) (n : ℕ) (written written' : Option (List ℕ))
     → ((listing : Listing) (events : List Timed) → Follows old listing events → Refuses listing events x) → Appends written written' (take n waiting)
     → BreaksLines old written waiting x Write written'

@@ -2,8 +2,8 @@
 use Rattle.std.proofs.Common.{◌≡◌, ◌∙◌, ℕ, List, [], ◌∷◌, ◌++◌, drop, Bool, true, false, inl, inr, codes, map, reverse, Option, None, ap, refl, sym, subst, append_assoc, append-nil}
 use Rattle.std.specs.Prelude.{if◌then◌else◌}
 use Rattle.std.proofs.lemmas.List.{reverse-reverse}
-use Rattle.chess_rules.specs.declared.men.Parts.{Parts}
-use Rattle.chess_rules.specs.declared.men.Move.{Move}
+use Rattle.chess_rules.specs.declared.parts.Parts.{Parts}
+use Rattle.chess_rules.specs.declared.chess_move.Move.{Move}
 use Rattle.chess_rules.specs.Picture.{picture}
 use Rattle.chess_rules.specs.Valid.{Valid}
 use Rattle.dgt_frame.specs.declared.events.Event.{Event}
@@ -14,20 +14,20 @@ use Rattle.settle_core.specs.declared.game.Outcome.{Outcome}
 use Rattle.settle_core.specs.declared.game.Ply.{Ply}
 use Rattle.settle_core.specs.declared.game.Seen.{Seen}
 use Rattle.settle_core.specs.declared.game.Seen.TheVariants.{Same, Moved, Sign, Replaced, Waits}
-use Rattle.settle_core.specs.Entries.{Entry, repeats, unstuttered}
-use Rattle.settle_core.specs.Folding.{Folds, Replaces, Score, Shows, moves_of, played, score_after, score_of, time_of}
-use Rattle.settle_core.specs.Ending.{IsResult}
+use Rattle.settle_core.specs.Entries.{Entry, repeats, deduplicated}
+use Rattle.settle_core.specs.Folding.{Folds, Replaces, Score, SeenAs, moves_of, played, score_after, score_of, time_of}
+use Rattle.settle_core.specs.GameResult.{IsResult}
 use Rattle.settle_core.specs.Settling.{position_after, reached}
 use Rattle.settle_core.proofs.Lists.{position_in_order}
 use Rattle.settle_core.proofs.Once.{folds_once}
 use Rattle.std.specs.Io.KnownBytes.{Appends}
-use Rattle.board_session.specs.Gaming.{IsGameOf}
-use Rattle.board_session.specs.Asking.{past_of}
-use Rattle.board_session.specs.Entering.{entry_at, is_entry}
-use Rattle.board_session.specs.Looking.{is_fault}
+use Rattle.board_session.specs.Game.{IsGameOf}
+use Rattle.board_session.specs.Commands.{past_of}
+use Rattle.board_session.specs.Entries.{entry_at, is_entry}
+use Rattle.board_session.specs.History.{is_fault}
 use Rattle.board_session.specs.Recording.{setting_of}
 use Rattle.board_session.specs.Settings.{Setting}
-use Rattle.board_session.specs.Standing.{entries_in}
+use Rattle.board_session.specs.Session.{entries_in}
 use Rattle.board_session.proofs.GameLemmas.{one_result}
 use Rattle.board_listing.specs.GameText.{HasResult, TellsEntry, TellsEvent, TellsEvents, TellsPly, TellsResult, TellsSeen, reached_by}
 use Rattle.board_listing.specs.GivenGame.{FollowTellsTheGame, GameLine, Gives, LinesGiveTheGame, text_of}
@@ -68,7 +68,7 @@ replaced_more offset start (last ∷ earlier) reading m shown text lines old rep
 
 -- The line of what a picture shows.
 seen_more : (offset : ℕ) (start : Parts) (before : Score) (reading : Option Reading) (shown : List ℕ) (seen : Seen) (text : List ℕ) (lines : List GameLine) (old : Option Outcome)
-    → Shows start (moves_of before.plies) shown seen → TellsSeen offset start (score_after start before reading seen) shown seen text → Gives start lines before.plies old
+    → SeenAs start (moves_of before.plies) shown seen → TellsSeen offset start (score_after start before reading seen) shown seen text → Gives start lines before.plies old
     → More start lines text (score_after start before reading seen).plies old
 seen_more offset start before reading shown Same text lines old shows tells gives = absurd shows
 seen_more offset start before reading shown (Sign outcome) text lines old shows tells gives = no_line start lines text before.plies old tells gives
@@ -122,12 +122,12 @@ events_of events = map (λ t. t.event) events
 -- What was told of these events gives the plies of the score to which their entries fold.
 record Given (setting : Setting) (events : List Timed) (text : List ℕ) : Type 0 where
   score : Score
-  folds : Folds setting.start (unstuttered (entries_in setting (events_of events))) score
+  folds : Folds setting.start (deduplicated (entries_in setting (events_of events))) score
   told : (outcome : Option Outcome) → HasResult setting.start score outcome → Told setting.start text score.plies outcome
 
 -- One more event that leaves the game.
 unchanged : (setting : Setting) (events : List Timed) (x : Timed) (before more text : List ℕ) → Given setting events before
-    → unstuttered (entries_in setting (events_of (x ∷ events))) ≡ unstuttered (entries_in setting (events_of events)) → text ≡ before ++ more
+    → deduplicated (entries_in setting (events_of (x ∷ events))) ≡ deduplicated (entries_in setting (events_of events)) → text ≡ before ++ more
     → ((lines : List GameLine) (plies : List Ply) (outcome : Option Outcome) → Gives setting.start lines plies outcome → More setting.start lines more plies outcome)
     → Given setting (x ∷ events) text
 unchanged setting events x before more text g same is adds =
@@ -154,12 +154,12 @@ entered setting events x before more text valid g tells is entry new =
     let here = entry_at setting.first setting.rotated (x.event ∷ events_of events) in
     let e : TellsEntry x.offset start past here more = tells.entry entry new in
     let after = score_after start e.before here.reading e.seen in
-    let entries_are : unstuttered (entries_in setting (events_of (x ∷ events))) ≡ here ∷ unstuttered past =
-    ap unstuttered (entries_new setting x.event (events_of events) entry) ∙ without_repeats here past new in
+    let entries_are : deduplicated (entries_in setting (events_of (x ∷ events))) ≡ here ∷ deduplicated past =
+    ap deduplicated (entries_new setting x.event (events_of events) entry) ∙ without_repeats here past new in
     let E : List Entry → Type 0 = λ es. Folds start es after in
-    let same : g.score ≡ e.before = folds_once start (unstuttered past) g.score e.before valid g.folds e.folds in
+    let same : g.score ≡ e.before = folds_once start (deduplicated past) g.score e.before valid g.folds e.folds in
     let P : Score → Type 0 = λ s. (outcome : Option Outcome) → HasResult start s outcome → Told start before s.plies outcome in
-    let folded : Folds start (here ∷ unstuttered past) after = (e.before, e.seen, e.folds, e.shows, refl) in
+    let folded : Folds start (here ∷ deduplicated past) after = (e.before, e.seen, e.folds, e.shows, refl) in
     let t = subst P same g.told e.old e.old_is in
     record {
       score = after;
@@ -172,16 +172,16 @@ step : (setting : Setting) (events : List Timed) (x : Timed) (before more text :
     → repeats (entry_at setting.first setting.rotated (x.event ∷ events_of events)).picture (entries_in setting (events_of events)) ≡ repeated → Given setting (x ∷ events) text
 step setting events x before more text valid g tells is true entry repeated f i r =
     let none : is_entry x.event (events_of events) ≡ false = fault_gives_none x.event (events_of events) f in
-    unchanged setting events x before more text g (ap unstuttered (entries_same setting x.event (events_of events) none)) is
+    unchanged setting events x before more text g (ap deduplicated (entries_same setting x.event (events_of events) none)) is
     (fault_more setting.start x.offset x.event more f (tells.fault f))
 step setting events x before more text valid g tells is false false repeated f i r =
-    unchanged setting events x before more text g (ap unstuttered (entries_same setting x.event (events_of events) i)) is
+    unchanged setting events x before more text g (ap deduplicated (entries_same setting x.event (events_of events) i)) is
     (λ lines plies outcome gives. no_line setting.start lines more plies outcome (tells.other f i) gives)
 step setting events x before more text valid g tells is false true true f i r =
     let past = entries_in setting (events_of events) in
     let here = entry_at setting.first setting.rotated (x.event ∷ events_of events) in
-    let shorter : unstuttered (here ∷ past) ≡ unstuttered past = ap (λ b. if b then unstuttered past else here ∷ unstuttered past) r in
-    unchanged setting events x before more text g (ap unstuttered (entries_new setting x.event (events_of events) i) ∙ shorter) is
+    let shorter : deduplicated (here ∷ past) ≡ deduplicated past = ap (λ b. if b then deduplicated past else here ∷ deduplicated past) r in
+    unchanged setting events x before more text g (ap deduplicated (entries_new setting x.event (events_of events) i) ∙ shorter) is
     (λ lines plies outcome gives. no_line setting.start lines more plies outcome (tells.repeated i r) gives)
 step setting events x before more text valid g tells is false true false f i r = entered setting events x before more text valid g tells is i r
 
@@ -200,7 +200,7 @@ lines_give_the_game setting tags events text game valid tells is =
     let start = setting.start in
     let g = given setting valid events text tells in
     let wanted = score_of game.plies is.sign in
-    let same : g.score ≡ wanted = folds_once start (unstuttered (entries_in setting (events_of events))) g.score wanted valid g.folds is.folds in
+    let same : g.score ≡ wanted = folds_once start (deduplicated (entries_in setting (events_of events))) g.score wanted valid g.folds is.folds in
     let P : Score → Type 0 = λ s. (outcome : Option Outcome) → HasResult start s outcome → Told start text s.plies outcome in
     let at : position_after start (moves_of game.plies) ≡ reached start (moves_of (reverse game.plies)) =
     ap (λ (ps : List Ply). position_after start (moves_of ps)) (sym (reverse-reverse game.plies)) ∙ position_in_order start (reverse game.plies) in

@@ -5,8 +5,8 @@ use Rattle.std.proofs.lemmas.Grind.{flat_map-append}
 use Rattle.std.proofs.lemmas.List.{map-append, reverse-append}
 use Rattle.dgt_frame.specs.Streams.{Timed}
 use Rattle.dgt_frame.specs.declared.events.Event.{Event}
-use Rattle.board_session.specs.Asking.{past_of}
-use Rattle.board_session.specs.Viewing.{Adds, pictures}
+use Rattle.board_session.specs.Commands.{past_of}
+use Rattle.board_session.specs.Pictures.{Adds, pictures}
 use Rattle.board_session.specs.Settings.{Setting}
 use Rattle.board_listing.specs.GameText.{TellsEvent, TellsEvents}
 use Rattle.board_session.proofs.HearLemmas.{past_more}
@@ -21,7 +21,7 @@ drawn shown = flat_map placement_line (reverse shown)
 pub drawn-append : (new old : List (List ℕ)) → drawn (new ++ old) ≡ drawn old ++ drawn new
 drawn-append new old = ap (flat_map placement_line) (reverse-append new old) ∙ flat_map-append placement_line (reverse old) (reverse new)
 
--- the line of a picture that was answered
+-- the line of a picture that was returned
 abbrev pub placed : Option (List ℕ) → List ℕ
 placed None = []
 placed (Some picture) = placement_line picture

@@ -4,7 +4,7 @@ use Rattle.std.proofs.lemmas.List.{length-take-le}
 use Rattle.std.specs.Io.KnownBytes.{Appends}
 use Rattle.dgt_frame.specs.declared.decode.Decoder.{Decoder}
 use Rattle.dgt_frame.specs.declared.events.Event.{Event}
-use Rattle.dgt_frame.specs.Decoding.{Decoded, TakesAll, TakesUpTo}
+use Rattle.dgt_frame.specs.Decoder.{Decoded, TakesAll, TakesUpTo}
 use Rattle.dgt_frame.specs.Streams.{Timed}
 use Rattle.board_listing.specs.declared.printer.Printer.{Printer}
 use Rattle.board_listing.specs.declared.stream.ListError.{ListError}
@@ -41,7 +41,7 @@ lists_none old now new printer printer' start piece more written written' waitin
       },
     )
 
--- the event that came, after these bytes of the piece and so many more
+-- the event that came, after these bytes of the chunk and so many more
 abbrev pub arrived : List ℕ → List ℕ → ℕ → Event → Timed
 arrived bytes piece count event = record { offset = length (bytes ++ piece) + (count - 1); event = event }
 

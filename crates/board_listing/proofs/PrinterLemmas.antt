@@ -4,10 +4,10 @@ use Rattle.std.proofs.Common.{◌≡◌, ℕ, Bool, List, [], ◌∷◌, None, R
 use Rattle.dgt_frame.specs.declared.events.Event.{Event}
 use Rattle.dgt_frame.specs.Streams.{Timed}
 use Rattle.board_session.specs.declared.view.View.{View}
-use Rattle.board_session.specs.Asking.{past_of}
+use Rattle.board_session.specs.Commands.{past_of}
 use Rattle.board_session.specs.Settings.{Setting}
-use Rattle.board_session.specs.Viewing.{Adds, pictures}
-use Rattle.board_session.specs.Views.{Views}
+use Rattle.board_session.specs.Pictures.{Adds, pictures}
+use Rattle.board_session.specs.View.{Views}
 use Rattle.board_session.proofs.HearLemmas.{past_more}
 use Rattle.board_listing.specs.declared.follower.Follower.{Follower}
 use Rattle.board_listing.specs.declared.printer.Printer.{Printer}
@@ -28,7 +28,7 @@ none_by view new x lines views shown (Pictures rotated) events follows =
       ([], sym (append-nil lines), λ text is. pictures_added rotated events x None text (shown rotated (past_of events) follows) is),
     )
 
--- No picture was answered.
+-- No picture was returned.
 pub none_adds : (old : Printer) (view new : View) (x : Timed) (lines : List ℕ) → old ≡ EachPicture view
     → ((rotated : Bool) (past : List Event) → Views view rotated past → Views new rotated (x.event ∷ past))
     → ((rotated : Bool) (past : List Event) → Views view rotated past → Adds None (pictures rotated past) (pictures rotated (x.event ∷ past)))

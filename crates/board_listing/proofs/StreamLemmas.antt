@@ -5,7 +5,7 @@ use Rattle.std.proofs.KnownBytes.{Appends-trans, Consumes-kept, Consumes-trans}
 use Rattle.std.proofs.lemmas.List.{length-take-le}
 use Rattle.std.specs.Io.KnownBytes.{Appends, Consumes, IsAtEnd, Keeps}
 use Rattle.dgt_frame.specs.declared.decode.Decoder.{Decoder}
-use Rattle.dgt_frame.specs.Decoding.{Decoded}
+use Rattle.dgt_frame.specs.Decoder.{Decoded}
 use Rattle.dgt_frame.specs.Streams.{Shows, Timed}
 use Rattle.board_session.specs.Recording.{limit}
 use Rattle.board_listing.specs.declared.printer.Printer.{Printer}
@@ -80,7 +80,7 @@ front_stopped TooLong extra written written' text stops = absurd stops
 cut_bytes : (bytes piece taken unread dropped : List ℕ) → piece ≡ taken ++ unread → bytes ++ (piece ++ dropped) ≡ (bytes ++ taken) ++ (unread ++ dropped)
 cut_bytes bytes piece taken unread dropped is = ap (λ bs. bytes ++ (bs ++ dropped)) is ∙ ap (λ bs. bytes ++ bs) (append_assoc taken unread dropped) ∙ sym (append_assoc bytes taken (unread ++ dropped))
 
--- A refusal came amid a piece.
+-- A refusal came amid a chunk.
 pub front_at_piece : (error : ListError) (old new : Decoder) (printer : Printer) (listing : Listing) (count rest : ℕ) (piece dropped : List ℕ) (input now left written so_far after : Option (List ℕ))
     → HasListed old printer listing count input now written so_far → Consumes now left (piece ++ dropped) → BreaksOff error old printer count piece new so_far after → Concludes new rest
     → ListsFront listing input left written after
@@ -105,7 +105,7 @@ front_at_piece error old new printer listing count rest piece dropped input now 
       front_longer written after broken.text (last_line listing rest) (front_stopped error broken.extra written after broken.text broken.stops),
     )
 
--- Memory was refused amid a piece.
+-- Memory ran out amid a chunk.
 pub refused_at_piece : (old new : Decoder) (printer : Printer) (listing : Listing) (count rest : ℕ) (piece dropped : List ℕ) (input now left written so_far after : Option (List ℕ))
     → HasListed old printer listing count input now written so_far → Consumes now left (piece ++ dropped) → BreaksOff Memory old printer count piece new so_far after → Concludes new rest
     → ListsRefused listing input left written after
@@ -133,7 +133,7 @@ refused_at_piece old new printer listing count rest piece dropped input now left
       broken.stops.1,
     )
 
--- A piece was listed.
+-- A chunk was listed.
 pub listed_more : (old new : Decoder) (printer printer' : Printer) (listing : Listing) (count : ℕ) (piece : List ℕ) (input now left written so_far after : Option (List ℕ))
     → HasListed old printer listing count input now written so_far → Consumes now left piece → ListsPiece old printer count piece new printer' so_far after []
     → HasListed new printer' listing (count + length piece) input left written after
@@ -146,7 +146,7 @@ listed_more old new printer printer' listing count piece input now left written 
       given.1,
     )
 
--- The lines of a piece were written, and more bytes had been read.
+-- The lines of a chunk were written, and more bytes had been read.
 pub front_past_limit : (old new : Decoder) (printer printer' : Printer) (listing : Listing) (count rest : ℕ) (piece dropped : List ℕ) (input now left written so_far after : Option (List ℕ))
     → HasListed old printer listing count input now written so_far → Consumes now left (piece ++ dropped) → ListsPiece old printer count piece new printer' so_far after [] → Concludes new rest
     → ListsFront listing input left written after
@@ -278,7 +278,7 @@ never : (error : ListError) (extra : List Timed) (written written' : Option (Lis
 never error extra written written' text stops (inl is) = (let P : ListError → Type 0 = λ e. Stops e extra written written' text in subst P is stops)
 never error extra written written' text stops (inr is) = (let P : ListError → Type 0 = λ e. Stops e extra written written' text in subst P is stops)
 
--- Amid a piece only a write or memory is refused.
+-- Amid a chunk only a write fails or memory runs out.
 pub no_other : (error : ListError) (old new : Decoder) (printer : Printer) (listing : Listing) (count : ℕ) (piece : List ℕ) (input now written so_far after : Option (List ℕ))
     → HasListed old printer listing count input now written so_far → BreaksOff error old printer count piece new so_far after → (error ≡ Read) ⊎ (error ≡ TooLong) → ⊥
 no_other error old new printer listing count piece input now written so_far after done breaks is =

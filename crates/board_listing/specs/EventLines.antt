@@ -4,7 +4,7 @@ use Rattle.std.specs.List.{flat_map}
 use Rattle.dgt_frame.specs.declared.events.Message.{Message}
 use Rattle.dgt_frame.specs.declared.events.Message.TheVariants.{Dump, Update, Time, Other}
 use Rattle.dgt_frame.specs.declared.events.Event.{Event}
-use Rattle.dgt_frame.specs.declared.events.Event.TheVariants.{Message as Shown, Fault}
+use Rattle.dgt_frame.specs.declared.events.Event.TheVariants.{Message as MessageEvent, Fault}
 use Rattle.dgt_frame.specs.declared.events.FaultKind.{FaultKind}
 use Rattle.dgt_frame.specs.declared.events.FaultKind.TheVariants.{Cut, Stray, Size, Data}
 use Rattle.dgt_frame.specs.Streams.{Timed}
@@ -24,7 +24,7 @@ kind_text Stray = codes "stray"
 kind_text Size = codes "size"
 kind_text Data = codes "data"
 
--- a dump as its 64 digits, an update as field and code, a time as its seven bytes, an ignored message as identifier and size
+-- a dump as its 64 digits, an update as field and code, a time as its seven bytes, an `Other` message as identifier and size
 abbrev pub message_text : Message → List ℕ
 message_text (Dump pieces) = codes "dump " ++ map hex_digit pieces
 message_text (Update field code) = codes "update " ++ decimal field ++ codes " " ++ decimal code
@@ -33,7 +33,7 @@ message_text (Other id size) = codes "other " ++ two_hex_digits id ++ codes " " 
 
 -- what the line says of an event, after the offset
 abbrev pub event_text : Event → List ℕ
-event_text (Shown message) = message_text message
+event_text (MessageEvent message) = message_text message
 event_text (Fault kind) = codes "fault " ++ kind_text kind
 
 -- the line of an event: the offset of the byte at which it comes, then the event

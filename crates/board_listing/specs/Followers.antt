@@ -3,10 +3,10 @@ use Rattle.std.specs.Prelude.{◌≡◌, ℕ, List, ◌∷◌, ◌++◌}
 use Rattle.chess_rules.specs.Valid.{Valid}
 use Rattle.dgt_frame.specs.declared.events.Event.{Event}
 use Rattle.dgt_frame.specs.Streams.{Timed}
-use Rattle.settle_core.specs.Entries.{unstuttered}
+use Rattle.settle_core.specs.Entries.{deduplicated}
 use Rattle.settle_core.specs.Folding.{Folds, Score}
 use Rattle.board_session.specs.Settings.{Setting}
-use Rattle.board_session.specs.Standing.{StandsFor, entries_in}
+use Rattle.board_session.specs.Session.{StandsFor, entries_in}
 use Rattle.board_listing.specs.declared.follower.Follower.{Follower}
 use Rattle.board_listing.specs.GameText.{HasResult, TellsEvent}
 
@@ -14,7 +14,7 @@ use Rattle.board_listing.specs.GameText.{HasResult, TellsEvent}
 pub record HasFollowed (follower : Follower) (setting : Setting) (past : List Event) : Type 0 where
   pub stands : StandsFor follower.session setting past
   pub score : Score
-  pub folds : Folds setting.start (unstuttered (entries_in setting past)) score
+  pub folds : Folds setting.start (deduplicated (entries_in setting past)) score
   pub told : HasResult setting.start score follower.told
   pub valid : Valid setting.start
 

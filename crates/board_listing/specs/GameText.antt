@@ -1,6 +1,6 @@
 -- What each event makes of the game. Events and entries are listed with the latest first, and plies too.
 use Rattle.std.specs.Prelude.{◌≡◌, ◌≢◌, ◌⊎◌, ℕ, true, false, List, [], ◌∷◌, ◌++◌, codes, map, Option}
-use Rattle.chess_rules.specs.declared.men.Parts.{Parts}
+use Rattle.chess_rules.specs.declared.parts.Parts.{Parts}
 use Rattle.chess_rules.specs.Picture.{picture}
 use Rattle.chess_text.specs.San.{San}
 use Rattle.dgt_frame.specs.declared.events.Event.{Event}
@@ -9,14 +9,14 @@ use Rattle.settle_core.specs.declared.game.Outcome.{Outcome}
 use Rattle.settle_core.specs.declared.game.Ply.{Ply}
 use Rattle.settle_core.specs.declared.game.Seen.{Seen}
 use Rattle.settle_core.specs.declared.game.Seen.TheVariants.{Same, Moved, Sign, Replaced, Waits}
-use Rattle.settle_core.specs.Ending.{IsResult}
-use Rattle.settle_core.specs.Entries.{Entry, repeats, unstuttered}
-use Rattle.settle_core.specs.Folding.{Folds, Score, Shows, moves_of, score_after}
+use Rattle.settle_core.specs.GameResult.{IsResult}
+use Rattle.settle_core.specs.Entries.{Entry, repeats, deduplicated}
+use Rattle.settle_core.specs.Folding.{Folds, Score, SeenAs, moves_of, score_after}
 use Rattle.settle_core.specs.Settling.{reached}
-use Rattle.board_session.specs.Entering.{entry_at, is_entry}
-use Rattle.board_session.specs.Looking.{is_fault}
+use Rattle.board_session.specs.Entries.{entry_at, is_entry}
+use Rattle.board_session.specs.History.{is_fault}
 use Rattle.board_session.specs.Settings.{Setting}
-use Rattle.board_session.specs.Standing.{entries_in}
+use Rattle.board_session.specs.Session.{entries_in}
 use Rattle.board_listing.specs.GameLines.{line, move_words, result_words, squares_text, waiting_words}
 use Rattle.board_listing.specs.EventLines.{line_of}
 
@@ -56,8 +56,8 @@ pub record TellsEntry (offset : ℕ) (start : Parts) (past : List Entry) (entry 
   pub new : Option Outcome
   pub first : List ℕ
   pub second : List ℕ
-  pub folds : Folds start (unstuttered past) before
-  pub shows : Shows start (moves_of before.plies) entry.picture seen
+  pub folds : Folds start (deduplicated past) before
+  pub shows : SeenAs start (moves_of before.plies) entry.picture seen
   pub old_is : HasResult start before old
   pub new_is : HasResult start (score_after start before entry.reading seen) new
   pub first_is : TellsSeen offset start (score_after start before entry.reading seen) entry.picture seen first

@@ -1,14 +1,14 @@
 -- The game that the lines of `follow` give. Lines, events and plies are listed with the latest first.
 use Rattle.std.specs.Prelude.{◌≡◌, ◌⊎◌, ℕ, List, [], ◌∷◌, ◌++◌, codes, map, reverse, Option, Some, None}
 use Rattle.std.specs.Io.KnownBytes.{Appends}
-use Rattle.chess_rules.specs.declared.men.Parts.{Parts}
+use Rattle.chess_rules.specs.declared.parts.Parts.{Parts}
 use Rattle.chess_rules.specs.Legal.{Legal}
 use Rattle.chess_text.specs.San.{San}
 use Rattle.dgt_frame.specs.declared.events.FaultKind.{FaultKind}
 use Rattle.dgt_frame.specs.Streams.{Timed}
 use Rattle.settle_core.specs.declared.game.Outcome.{Outcome}
 use Rattle.settle_core.specs.declared.game.Ply.{Ply}
-use Rattle.settle_core.specs.Ending.{IsResult}
+use Rattle.settle_core.specs.GameResult.{IsResult}
 use Rattle.settle_core.specs.Folding.{moves_of}
 use Rattle.settle_core.specs.Settling.{reached}
 use Rattle.pgn_book.specs.Games.{Content}
@@ -16,7 +16,7 @@ use Rattle.pgn_book.specs.Values.{TagValues}
 use Rattle.chess_rules.specs.Valid.{Valid}
 use Rattle.board_session.specs.declared.recording.Report.{Report}
 use Rattle.board_session.specs.declared.recording.Setup.{Setup}
-use Rattle.board_session.specs.Gaming.{IsGameOf}
+use Rattle.board_session.specs.Game.{IsGameOf}
 use Rattle.board_session.specs.Recording.{RecordsGame}
 use Rattle.board_session.specs.Settings.{Setting}
 use Rattle.board_listing.specs.declared.listing.Listing.TheVariants.{Game}

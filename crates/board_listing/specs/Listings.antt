@@ -3,10 +3,10 @@ use Rattle.std.specs.Prelude.{◌≡◌, ◌<◌, ◌≤◌, ◌+◌, ◌⊎◌,
 use Rattle.std.specs.List.{flat_map}
 use Rattle.std.specs.Io.KnownBytes.{Appends, Consumes, Keeps}
 use Rattle.dgt_frame.specs.Streams.{Shows, Timed}
-use Rattle.board_session.specs.Asking.{past_of}
+use Rattle.board_session.specs.Commands.{past_of}
 use Rattle.board_session.specs.Recording.{limit}
-use Rattle.board_session.specs.Standing.{WantsMemory}
-use Rattle.board_session.specs.Viewing.{pictures}
+use Rattle.board_session.specs.Session.{WantsMemory}
+use Rattle.board_session.specs.Pictures.{pictures}
 use Rattle.board_listing.specs.declared.listing.Listing.{Listing}
 use Rattle.board_listing.specs.declared.listing.Listing.TheVariants.{Events, Pictures, Game}
 use Rattle.board_listing.specs.GameText.{TellsEvents}
@@ -32,7 +32,7 @@ Refuses Events events x = ⊥
 Refuses (Pictures rotated) events x = ⊥
 Refuses (Game start first rotated) events x = WantsMemory (record { start = start; first = first; rotated = rotated }) (past_of events) x.event
 
--- After these events no other was left out, or one for which memory was refused.
+-- After these events no other was left out, or one for which memory ran out.
 abbrev pub Leaves : Listing → List Timed → List Timed → Type 0
 Leaves listing events [] = ⊤
 Leaves listing events (x ∷ []) = Refuses listing events x
@@ -63,7 +63,7 @@ abbrev pub WritesFront : Option (List ℕ) → Option (List ℕ) → List ℕ �
 WritesFront written written' text = (left : List ℕ) × Gathers written written' left text
 
 -- Of the bytes that were read, these show a text of which a front was written. The lines are those of all their events, or of
--- those before one for which memory was refused.
+-- those before one for which memory ran out.
 abbrev pub ListsFront : Listing → Option (List ℕ) → Option (List ℕ) → Option (List ℕ) → Option (List ℕ) → Type 0
 ListsFront listing input input' written written' = (bytes after : List ℕ) × (events extra : List Timed) × (rest : ℕ) × (text : List ℕ)
     × Consumes input input' (bytes ++ after) × Shows bytes (events ++ extra) rest × Leaves listing events extra × HasLines listing events text
@@ -76,7 +76,7 @@ ListsRefused listing input input' written written' = (bytes after : List ℕ) ×
     × Consumes input input' (bytes ++ after) × Shows bytes (events ++ refused ∷ []) rest × Refuses listing events refused × HasLines listing events text
     × Appends written written' text
 
--- For want of memory nothing was read or written; or, under `follow`, a move was refused.
+-- Out of memory, nothing was read or written; or, under `follow`, a move was refused.
 abbrev pub EndsForMemory : Listing → Option (List ℕ) → Option (List ℕ) → Option (List ℕ) → Option (List ℕ) → Type 0
 EndsForMemory Events input input' written written' = Keeps input input' × Keeps written written'
 EndsForMemory (Pictures rotated) input input' written written' = Keeps input input' × Keeps written written'
@@ -96,7 +96,7 @@ pub record ListingEnds (listing : Listing) (status : ℕ) (input input' written 
   -- a stream has failed: where it isn't the reader, a front of the text stands
   pub fault : status ≡ 3 → ((reader_failed ≡ true) × ListsRead listing input input' written written')
       ⊎ ((out_failed ≡ true) × ListsFront listing input input' written written')
-  -- memory was refused
+  -- out of memory
   pub memory : status ≡ 4 → EndsForMemory listing input input' written written'
   pub known : Contains (0 ∷ 1 ∷ 3 ∷ 4 ∷ []) status
   pub bounded : ReadsWithin limit input input'

@@ -3,9 +3,9 @@ use Rattle.std.specs.Prelude.{◌≡◌, ◌<◌, ◌≤◌, ◌⊎◌, ℕ, Lis
 use Rattle.std.specs.List.{flat_map}
 use Rattle.std.specs.Io.KnownBytes.{Appends, Consumes, Keeps}
 use Rattle.dgt_frame.specs.Streams.{Shows, Timed}
-use Rattle.board_session.specs.Asking.{past_of}
+use Rattle.board_session.specs.Commands.{past_of}
 use Rattle.board_session.specs.Recording.{limit}
-use Rattle.board_session.specs.Viewing.{pictures}
+use Rattle.board_session.specs.Pictures.{pictures}
 use Rattle.board_listing.specs.EventLines.{line_of}
 use Rattle.board_listing.specs.Listings.{ReadsWithin, WritesFront}
 use Rattle.board_listing.specs.PictureLines.{placement_line}
@@ -52,7 +52,7 @@ pub record TextEnds (lines : List Timed → List ℕ) (last : ℕ → List ℕ) 
   -- a stream has failed: where it isn't the reader, a front of the text stands
   pub fault : status ≡ 3 → ((reader_failed ≡ true) × WritesRead lines input input' written written')
       ⊎ ((out_failed ≡ true) × WritesPart lines last input input' written written')
-  -- for want of memory nothing was read or written
+  -- out of memory, nothing was read or written
   pub memory : status ≡ 4 → Keeps input input' × Keeps written written'
   pub known : Contains (0 ∷ 1 ∷ 3 ∷ 4 ∷ []) status
   pub bounded : ReadsWithin limit input input'

@@ -2,7 +2,7 @@
 use Rattle.std.specs.Prelude.{◌≡◌, ℕ, List, [], ◌∷◌, ◌++◌, length, Option}
 use Rattle.std.specs.Io.KnownBytes.{Appends, Consumes}
 use Rattle.dgt_frame.specs.declared.decode.Decoder.{Decoder}
-use Rattle.dgt_frame.specs.Decoding.{Decoded}
+use Rattle.dgt_frame.specs.Decoder.{Decoded}
 use Rattle.dgt_frame.specs.Streams.{Shows, Timed}
 use Rattle.board_listing.specs.declared.stream.ListError.{ListError}
 use Rattle.board_listing.specs.declared.stream.ListError.TheVariants.{Memory, Read, TooLong, Write}
@@ -17,14 +17,14 @@ GathersEvent old written waiting x new written' waiting' = (listing : Listing) (
     → Follows old listing events → HasLines listing events text → Gathers begin written waiting text
     → Follows new listing (events ++ x ∷ []) × ((text' : List ℕ) × HasLines listing (events ++ x ∷ []) text' × Gathers begin written' waiting' text')
 
--- What stands of a text after a refusal: all of it, where memory was refused for the last event, or a front of it.
+-- What stands of a text after a refusal: all of it, where memory ran out at the last event, or a front of it.
 abbrev pub Stops : ListError → List Timed → Option (List ℕ) → Option (List ℕ) → List ℕ → Type 0
 Stops Memory extra begin written' text = ((refused : Timed) × (extra ≡ refused ∷ [])) × Appends begin written' text
 Stops Write extra begin written' text = WritesFront begin written' text
 Stops Read extra begin written' text = ⊥
 Stops TooLong extra begin written' text = ⊥
 
--- Of these events the lines of all, or of all but one for which memory was refused, were written, as far as this refusal says.
+-- Of these events the lines of all, or of all but one for which memory ran out, were written, as far as this refusal says.
 pub record Broken (error : ListError) (listing : Listing) (events : List Timed) (begin written' : Option (List ℕ)) : Type 0 where
   pub taken : List Timed
   pub extra : List Timed
@@ -39,7 +39,8 @@ abbrev pub BreaksLines : Printer → Option (List ℕ) → List ℕ → Timed �
 BreaksLines old written waiting x error written' = (listing : Listing) (events : List Timed) (text : List ℕ) (begin : Option (List ℕ))
     → Follows old listing events → HasLines listing events text → Gathers begin written waiting text → Broken error listing (events ++ x ∷ []) begin written'
 
--- A decoder was given these bytes and a printer has followed their events, of which the lines were written but for those that wait.
+-- A decoder was given these bytes and a printer has followed their events, of which the lines were written but for those that
+-- wait.
 pub record Stands (decoder : Decoder) (printer : Printer) (listing : Listing) (bytes : List ℕ) (events : List Timed)
     (begin written : Option (List ℕ)) (waiting : List ℕ) : Type 0 where
   pub decoded : Decoded decoder bytes events
@@ -48,13 +49,13 @@ pub record Stands (decoder : Decoder) (printer : Printer) (listing : Listing) (b
   pub lines : HasLines listing events text
   pub gathers : Gathers begin written waiting text
 
--- Where that stood before this piece, whose first byte has this offset, it stands with the piece.
+-- Where that stood before this chunk, whose first byte has this offset, it stands with the chunk.
 abbrev pub ListsPiece : Decoder → Printer → ℕ → List ℕ → Decoder → Printer → Option (List ℕ) → Option (List ℕ) → List ℕ → Type 0
 ListsPiece old printer start piece new printer' written written' waiting = (listing : Listing) (bytes : List ℕ) (events : List Timed) (begin : Option (List ℕ))
     → length bytes ≡ start → Stands old printer listing bytes events begin written []
     → (later : List Timed) × Stands new printer' listing (bytes ++ piece) (events ++ later) begin written' waiting
 
--- Where that stood before this piece, a part of it was decoded, and this refusal came.
+-- Where that stood before this chunk, a part of it was decoded, and this refusal came.
 abbrev pub BreaksOff : ListError → Decoder → Printer → ℕ → List ℕ → Decoder → Option (List ℕ) → Option (List ℕ) → Type 0
 BreaksOff error old printer start piece new written written' = (listing : Listing) (bytes : List ℕ) (events : List Timed) (begin : Option (List ℕ))
     → length bytes ≡ start → Stands old printer listing bytes events begin written []

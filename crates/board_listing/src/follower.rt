@@ -92,7 +92,7 @@ pub struct Follower {
 impl Follower {
     ghost use Rattle.dgt_frame.specs.declared.events.Event.{Event as EventOf};
     ghost use Rattle.board_session.specs.Settings.{Setting};
-    ghost use Rattle.board_session.specs.Standing.{WantsMemory};
+    ghost use Rattle.board_session.specs.Session.{WantsMemory};
     ghost use Rattle.board_listing.specs.Followers.{AddsEvent, HasFollowed};
 
     /// A follower that was given no event. Takes no memory.
@@ -112,7 +112,7 @@ impl Follower {
     ///
     /// # Errors
     ///
-    /// Memory is taken only where the event gives a move. Where that is refused, no line is added.
+    /// Memory is taken only where the event gives a move. Where there is none, no line is added.
     pub fn add(&mut self, lines: &mut Lines, offset: u32, event: &Event) -> Result<(), AllocError>
         requires room { array_vec_len lines.old + LONGEST ≤ GATHERED }
         requires frame { HasFrame event.now }

@@ -1,7 +1,7 @@
 //! Streams to lines: the subcommands `show`, `pictures` and `follow`.
 ghost use Rattle.std.specs.Prelude.{◌≡◌, ◌<◌, ◌≤◌, ◌+◌, ◌^◌, [], length, IfErr, OnOk, OnErr, Err, true, false};
 ghost use Rattle.dgt_frame.specs.Streams.{HasFrame};
-ghost use Rattle.dgt_frame.specs.Watched.{inner_of, has_failed};
+ghost use Rattle.dgt_frame.specs.Watch.{inner_of, has_failed};
 ghost use Rattle.board_listing.specs.Listings.{ListsAll, ListsFirst, ListsFront, ListsRead, ListsRefused, ReadsWithin};
 ghost use Rattle.arrayvec.specs.ArrayVec.{array_vec_len};
 ghost use Rattle.board_listing.specs.Printers.{HasBegun};
@@ -30,7 +30,7 @@ pub enum ListError {
     Write,
     /// There is a byte past the limit.
     TooLong,
-    /// Memory was refused.
+    /// Memory ran out.
     Memory,
 }
 
@@ -59,7 +59,7 @@ impl ListError {
     }
 }
 
-// Adds the lines of an event, and writes those that wait where there is no room for another's. Where memory is refused, those
+// Adds the lines of an event, and writes those that wait where there is no room for another's. Where memory runs out, those
 // of the events before it are written.
 fn gather<O: Write>(
     printer: &mut Printer,
@@ -96,7 +96,7 @@ fn gather<O: Write>(
     Ok(())
 }
 
-// Gives the decoder a piece of the stream, and writes the lines of its events.
+// Gives the decoder a chunk of the stream, and writes the lines of its events.
 fn list_piece<O: Write>(
     decoder: &mut Decoder,
     printer: &mut Printer,
@@ -152,7 +152,7 @@ fn finish<O: Write>(
     put(out, lines.as_slice())
 }
 
-/// Writes the lines of a stream. Those of a piece are written before the next read, so that those of a slow board stand
+/// Writes the lines of a stream. Those of a chunk are written before the next read, so that those of a slow board stand
 /// as they come.
 pub fn list_stream<R: Read, O: Write>(
     alloc: Global,

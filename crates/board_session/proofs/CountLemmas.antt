@@ -7,10 +7,10 @@ use Rattle.dgt_frame.specs.declared.First.{First}
 use Rattle.dgt_frame.specs.Streams.{Timed}
 use Rattle.board_session.specs.declared.recorder.Recorder.{Recorder}
 use Rattle.board_session.specs.Settings.{Setting}
-use Rattle.board_session.specs.Looking.{is_fault}
-use Rattle.board_session.specs.Entering.{entries, entry_at, is_entry}
-use Rattle.board_session.specs.Asking.{faults_in, messages_in, past_of}
-use Rattle.board_session.specs.Hearing.{Kept, event_count}
+use Rattle.board_session.specs.History.{is_fault}
+use Rattle.board_session.specs.Entries.{entries, entry_at, is_entry}
+use Rattle.board_session.specs.Commands.{faults_in, messages_in, past_of}
+use Rattle.board_session.specs.Recorder.{Kept, event_count}
 
 pub length-entries : (first : First) (rotated : Bool) (past : List Event) → length (entries first rotated past) ≤ length past
 length-entries first rotated [] = omega arith

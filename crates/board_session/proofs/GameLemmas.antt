@@ -1,32 +1,32 @@
 -- The game of a list of events.
 use Rattle.std.proofs.Common.{◌≡◌, ◌≢◌, ◌⊎◌, inl, inr, ◌+◌, ◌≤◌, Bool, true, false, List, [], ◌∷◌, length, reverse, Option, Some, None, ◌++◌, refl, sym, ap, subst, ◌∙◌, arith}
 use Rattle.std.proofs.lemmas.List.{append-nil, length-reverse, reverse-reverse}
-use Rattle.chess_rules.specs.declared.men.Parts.{Parts}
+use Rattle.chess_rules.specs.declared.parts.Parts.{Parts}
 use Rattle.chess_rules.specs.Legal.{Mated, Stale}
 use Rattle.chess_rules.specs.Valid.{Valid}
 use Rattle.dgt_frame.specs.declared.events.Event.{Event}
 use Rattle.settle_core.specs.declared.game.Ply.{Ply}
 use Rattle.settle_core.specs.declared.game.Outcome.{Outcome}
 use Rattle.settle_core.specs.declared.game.Outcome.TheVariants.{WhiteWins, BlackWins, Drawn}
-use Rattle.settle_core.specs.Ending.{IsResult}
-use Rattle.settle_core.specs.Entries.{Entry, repeats, unstuttered}
+use Rattle.settle_core.specs.GameResult.{IsResult}
+use Rattle.settle_core.specs.Entries.{Entry, repeats, deduplicated}
 use Rattle.settle_core.specs.Folding.{Folds, Score, moves_of, score_of}
 use Rattle.settle_core.specs.Laws.{GivesScore, joined}
 use Rattle.settle_core.specs.Settling.{position_after}
 use Rattle.settle_core.proofs.Fronts.{honest_stops}
 use Rattle.settle_core.proofs.Lines.{honest_clocks, honest_play}
 use Rattle.settle_core.proofs.Waiting.{kings_end}
-use Rattle.settle_core.specs.Showing.{HasWhole, shown_plies}
+use Rattle.settle_core.specs.HonestPlay.{HasWhole, shown_plies}
 use Rattle.settle_core.proofs.Once.{folds_once, no_entry_gives_two}
 use Rattle.pgn_book.specs.Games.{Content, Result}
 use Rattle.pgn_book.specs.Values.{TagValues}
-use Rattle.board_session.specs.Entering.{entry_at, is_entry}
-use Rattle.board_session.specs.Gaming.{GivesOneEach}
+use Rattle.board_session.specs.Entries.{entry_at, is_entry}
+use Rattle.board_session.specs.Game.{GivesOneEach}
 use Rattle.board_session.specs.Laws.{EventsTellTheGame, HonestClocksAreRecorded, HonestPlayIsRecorded, HonestStopIsRecorded, KingsEndIsRecorded, NoEventGivesTwo}
 use Rattle.board_session.specs.Settings.{Setting}
-use Rattle.board_session.specs.Standing.{entries_in}
+use Rattle.board_session.specs.Session.{entries_in}
 
--- Two answers are the same or not.
+-- Two results are the same or not.
 same_or_not : (a b : Option Outcome) → (a ≡ b) ⊎ (a ≢ b)
 same_or_not None None = inl refl
 same_or_not None (Some y) = inr (λ e. cc)
@@ -63,7 +63,7 @@ one_content one other tags start plies result = ap (λ (t : TagValues). content 
 
 pub events_tell_the_game : EventsTellTheGame
 events_tell_the_game setting tags past one other valid h k =
-    let score = folds_once setting.start (unstuttered (entries_in setting past)) (score_of one.plies h.sign) (score_of other.plies k.sign) valid h.folds k.folds in
+    let score = folds_once setting.start (deduplicated (entries_in setting past)) (score_of one.plies h.sign) (score_of other.plies k.sign) valid h.folds k.folds in
     let plies : one.plies ≡ other.plies = sym (reverse-reverse one.plies) ∙ ap (λ (s : Score). reverse s.plies) score ∙ reverse-reverse other.plies in
     let sign : h.sign ≡ k.sign = ap (λ (s : Score). s.sign) score in
     let result : Result setting.start one.plies k.sign other.result = rw plies k.result_is in
@@ -73,19 +73,19 @@ events_tell_the_game setting tags past one other valid h k =
 length-score_of : (plies : List Ply) (sign : Option Outcome) → length (score_of plies sign).plies ≡ length plies
 length-score_of plies sign = length-reverse plies
 
--- the entries with one more, unstuttered
+-- the entries with one more, deduplicated
 added : (start : Parts) (entry : Entry) (past : List Entry) (before score : Score) (again : Bool) → repeats entry.picture past ≡ again → Valid start
-    → Folds start (unstuttered past) before → Folds start (unstuttered (entry ∷ past)) score → length score.plies ≤ length before.plies + 1
+    → Folds start (deduplicated past) before → Folds start (deduplicated (entry ∷ past)) score → length score.plies ≤ length before.plies + 1
 added start entry past before score true e valid h k =
-    let same : unstuttered (entry ∷ past) ≡ unstuttered past = rw e refl in
-    let one : score ≡ before = folds_once start (unstuttered past) score before valid (rw same at k) h in
+    let same : deduplicated (entry ∷ past) ≡ deduplicated past = rw e refl in
+    let one : score ≡ before = folds_once start (deduplicated past) score before valid (rw same at k) h in
     rw one (omega arith)
 added start entry past before score false e valid h k =
-    let more : unstuttered (entry ∷ past) ≡ entry ∷ unstuttered past = rw e refl in
-    no_entry_gives_two start entry (unstuttered past) before score valid h (rw more at k)
+    let more : deduplicated (entry ∷ past) ≡ entry ∷ deduplicated past = rw e refl in
+    no_entry_gives_two start entry (deduplicated past) before score valid h (rw more at k)
 
 added_event : (setting : Setting) (past : List Event) (event : Event) (before score : Score) (given : Bool) → is_entry event past ≡ given → Valid setting.start
-    → Folds setting.start (unstuttered (entries_in setting past)) before → Folds setting.start (unstuttered (entries_in setting (event ∷ past))) score
+    → Folds setting.start (deduplicated (entries_in setting past)) before → Folds setting.start (deduplicated (entries_in setting (event ∷ past))) score
     → length score.plies ≤ length before.plies + 1
 added_event setting past event before score true e valid h k =
     let entry = entry_at setting.first setting.rotated (event ∷ past) in
@@ -93,7 +93,7 @@ added_event setting past event before score true e valid h k =
     added setting.start entry (entries_in setting past) before score (repeats entry.picture (entries_in setting past)) refl valid h (rw are at k)
 added_event setting past event before score false e valid h k =
     let are : entries_in setting (event ∷ past) ≡ entries_in setting past = rw e refl in
-    let one : score ≡ before = folds_once setting.start (unstuttered (entries_in setting past)) score before valid (rw are at k) h in
+    let one : score ≡ before = folds_once setting.start (deduplicated (entries_in setting past)) score before valid (rw are at k) h in
     rw one (omega arith)
 
 pub no_event_gives_two : NoEventGivesTwo

@@ -1,4 +1,4 @@
--- How what was heard grows by a byte and by a piece.
+-- How what was heard grows by a byte and by a chunk.
 use Rattle.std.proofs.Common.{arith, zero-add, Bool, true, false, not, cond, count_by, if◌then◌else◌, ◌≡◌, ℕ, ◌+◌, List, [], ◌∷◌, ◌++◌, map, reverse, take, drop, take-add, Option, Result, Ok, Err, MatchResult, refl, sym, ◌∙◌, ap, append_assoc}
 use Rattle.std.proofs.lemmas.List.{append-nil, map-append, reverse-append, take-append-drop}
 use Rattle.std.proofs.lemmas.List.Sums.{sum_by-append}
@@ -6,17 +6,17 @@ use Rattle.std.specs.Prelude.{⊤}
 use Rattle.std.proofs.KnownBytes.{Appends-kept, Appends-trans}
 use Rattle.std.specs.Io.KnownBytes.{Appends}
 use Rattle.dgt_frame.specs.declared.events.Event.{Event}
-use Rattle.dgt_frame.specs.Decoding.{Decoded}
+use Rattle.dgt_frame.specs.Decoder.{Decoded}
 use Rattle.dgt_frame.specs.Streams.{Timed}
 use Rattle.board_session.specs.declared.recording.RecordError.{RecordError}
 use Rattle.board_session.specs.declared.recording.RecordError.TheVariants.{Memory, Read, Board, Write, TooLong}
 use Rattle.board_session.specs.declared.recorder.Recorder.{Recorder}
 use Rattle.board_session.specs.Settings.{Setting}
-use Rattle.board_session.specs.Asking.{asked, asks, commands, faults_in, messages_in, past_of}
-use Rattle.board_session.specs.Looking.{is_fault}
-use Rattle.board_session.specs.Standing.{StandsFor}
+use Rattle.board_session.specs.Commands.{asked, asks, commands, faults_in, messages_in, past_of}
+use Rattle.board_session.specs.History.{is_fault}
+use Rattle.board_session.specs.Session.{StandsFor}
 use Rattle.board_session.specs.Recording.{AppendsPart}
-use Rattle.board_session.specs.Hearing.{Kept, Live, Stopped, TakesEvent}
+use Rattle.board_session.specs.Recorder.{Kept, Live, Stopped, TakesEvent}
 
 -- the event at this offset
 abbrev pub at : ℕ → Event → Timed
@@ -109,12 +109,12 @@ stopped_more error recorder setting before sent read more h = record {
   sends = h.sends;
 }
 
--- a piece, part by part
-pub piece_more : (bytes piece : List ℕ) (i n : ℕ) → (bytes ++ take i piece) ++ take n (drop i piece) ≡ bytes ++ take (i + n) piece
-piece_more bytes piece i n = append_assoc bytes (take i piece) (take n (drop i piece)) ∙ ap (λ (xs : List ℕ). bytes ++ xs) (sym (take-add i n piece))
+-- a chunk, part by part
+pub chunk_more : (bytes chunk : List ℕ) (i n : ℕ) → (bytes ++ take i chunk) ++ take n (drop i chunk) ≡ bytes ++ take (i + n) chunk
+chunk_more bytes chunk i n = append_assoc bytes (take i chunk) (take n (drop i chunk)) ∙ ap (λ (xs : List ℕ). bytes ++ xs) (sym (take-add i n chunk))
 
-pub piece_whole : (bytes piece : List ℕ) (i : ℕ) → (bytes ++ take i piece) ++ drop i piece ≡ bytes ++ piece
-piece_whole bytes piece i = append_assoc bytes (take i piece) (drop i piece) ∙ ap (λ (xs : List ℕ). bytes ++ xs) (take-append-drop i piece)
+pub chunk_whole : (bytes chunk : List ℕ) (i : ℕ) → (bytes ++ take i chunk) ++ drop i chunk ≡ bytes ++ chunk
+chunk_whole bytes chunk i = append_assoc bytes (take i chunk) (drop i chunk) ∙ ap (λ (xs : List ℕ). bytes ++ xs) (take-append-drop i chunk)
 
 pub live_at : (recorder : Recorder) (setting : Setting) (before sent : Option (List ℕ)) (bytes bytes' : List ℕ) (taken taken' : List Timed)
     → bytes ≡ bytes' → taken ≡ taken' → Live recorder setting before sent bytes taken → Live recorder setting before sent bytes' taken'

@@ -5,19 +5,19 @@ use Rattle.chess_rules.specs.Valid.{Valid}
 use Rattle.dgt_frame.specs.declared.events.Event.{Event}
 use Rattle.dgt_frame.specs.Streams.{Shows, Timed}
 use Rattle.settle_core.specs.declared.game.Ply.{Ply}
-use Rattle.settle_core.specs.Entries.{Entry, unstuttered}
+use Rattle.settle_core.specs.Entries.{Entry, deduplicated}
 use Rattle.settle_core.specs.Folding.{score_of}
 use Rattle.settle_core.specs.Laws.{GivesScore, joined}
-use Rattle.settle_core.specs.Showing.{HasWhole, IsFront}
+use Rattle.settle_core.specs.HonestPlay.{HasWhole, IsFront}
 use Rattle.settle_core.proofs.Fronts.{honest_fronts}
 use Rattle.pgn_book.specs.Games.{Content, Result}
 use Rattle.board_session.specs.declared.recording.Setup.{Setup}
-use Rattle.board_session.specs.Asking.{past_of}
-use Rattle.board_session.specs.Entering.{entry_at, is_entry}
+use Rattle.board_session.specs.Commands.{past_of}
+use Rattle.board_session.specs.Entries.{entry_at, is_entry}
 use Rattle.board_session.specs.Laws.{HonestFrontIsWritten, HonestPlayIsWritten, KingsEndIsWritten, ShowsEntries}
 use Rattle.board_session.specs.Recording.{setting_of}
 use Rattle.board_session.specs.Settings.{Setting}
-use Rattle.board_session.specs.Standing.{entries_in}
+use Rattle.board_session.specs.Session.{entries_in}
 use Rattle.board_session.proofs.GameLemmas.{honest_clocks_are_recorded, honest_play_is_recorded, kings_end_is_recorded}
 
 -- a stream shows one list of events
@@ -31,9 +31,9 @@ ShowsFronts = (bytes more : List ℕ) (events all : List Timed) (rest last : ℕ
 
 -- the entries that the stream of a recording shows
 entries_shown : (setting : Setting) (bytes : List ℕ) (shown : List Entry) (events : List Timed) (rest : ℕ) → ShowsOnce
-    → Shows bytes events rest → ShowsEntries setting bytes shown → unstuttered (entries_in setting (past_of events)) ≡ unstuttered (reverse shown)
+    → Shows bytes events rest → ShowsEntries setting bytes shown → deduplicated (entries_in setting (past_of events)) ≡ deduplicated (reverse shown)
 entries_shown setting bytes shown events rest once h s =
-    ap (λ (ts : List Timed). unstuttered (entries_in setting (past_of ts))) (once bytes events s.events rest s.rest h s.shows).0 ∙ ap unstuttered s.are
+    ap (λ (ts : List Timed). deduplicated (entries_in setting (past_of ts))) (once bytes events s.events rest s.rest h s.shows).0 ∙ ap deduplicated s.are
 
 -- the start of a game that was written is valid
 valid_start : (setup : Setup) (game : Content) → game.start ≡ setup.start → Valid game.start → Valid setup.start

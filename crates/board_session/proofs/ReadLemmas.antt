@@ -10,9 +10,9 @@ use Rattle.board_session.specs.declared.recording.RecordError.{RecordError}
 use Rattle.board_session.specs.declared.recording.RecordError.TheVariants.{Memory, Read, Board, Write, TooLong}
 use Rattle.board_session.specs.declared.recorder.Recorder.{Recorder}
 use Rattle.board_session.specs.Settings.{Setting}
-use Rattle.board_session.specs.Asking.{past_of}
+use Rattle.board_session.specs.Commands.{past_of}
 use Rattle.board_session.specs.Recording.{Ends, FailsAsking}
-use Rattle.board_session.specs.Hearing.{EndsAtFault, Listened, Live, Stopped, Stops}
+use Rattle.board_session.specs.Recorder.{EndsAtFault, Listened, Live, Stopped, Stops}
 use Rattle.board_session.proofs.HearLemmas.{stopped_more}
 
 pub read_failed : (recorder : Recorder) (setting : Setting) (input input' input'' before sent : Option (List ℕ)) (bytes : List ℕ) (taken : List Timed)
@@ -51,7 +51,7 @@ read_ended recorder setting input input' input'' before sent bytes taken consume
   sends = live.sends;
 }
 
--- the part of a piece that lies within the limit, and the rest of it
+-- the part of a chunk that lies within the limit, and the rest of it
 parted : (buffer : List ℕ) (within n : ℕ) → within ≤ n → n ≤ length buffer → take within buffer ++ drop within (take n buffer) ≡ take n buffer
 parted buffer within n less fits = grind (arith, common_steps, take-append-drop within (take n buffer))
 
@@ -67,11 +67,11 @@ ends_so Board setting input front back taken extra h = (fails_asking (front ++ b
 ends_so Write setting input front back taken extra h = absurd h
 ends_so TooLong setting input front back taken extra h = absurd h
 
-pub stopped_in_piece : (error : RecordError) (recorder : Recorder) (setting : Setting) (input input' input'' before sent : Option (List ℕ)) (bytes buffer : List ℕ) (within n : ℕ)
+pub stopped_in_chunk : (error : RecordError) (recorder : Recorder) (setting : Setting) (input input' input'' before sent : Option (List ℕ)) (bytes buffer : List ℕ) (within n : ℕ)
     → Consumes input input' bytes → Consumes input' input'' (take n buffer) → within ≤ n → n ≤ length buffer → length bytes + n ≤ 67108865
     → Stopped error recorder setting before sent (bytes ++ take within buffer)
     → Listened (Err error) recorder setting input input'' before sent
-stopped_in_piece error recorder setting input input' input'' before sent bytes buffer within n consumes more less fits room stopped =
+stopped_in_chunk error recorder setting input input' input'' before sent bytes buffer within n consumes more less fits room stopped =
     let all : (bytes ++ take within buffer) ++ drop within (take n buffer) ≡ bytes ++ take n buffer =
     append_assoc bytes (take within buffer) (drop within (take n buffer)) ∙ ap (λ (bs : List ℕ). bytes ++ bs) (parted buffer within n less fits) in
     let whole = stopped_more error recorder setting before sent (bytes ++ take within buffer) (drop within (take n buffer)) stopped in

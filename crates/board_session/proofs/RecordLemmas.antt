@@ -1,4 +1,4 @@
--- What an answer of a recording says.
+-- What the result of a recording says.
 use Rattle.std.proofs.Common.{◌≡◌, ℕ, List, [], ◌++◌, Option, Some, None, Result, Ok, Err, IfOk, IfSome, subst, sym, ◌∙◌, ap}
 use Rattle.std.proofs.lemmas.List.{append-nil}
 use Rattle.std.specs.Prelude.{⊤}
@@ -8,16 +8,16 @@ use Rattle.board_session.specs.declared.recording.RecordError.{RecordError}
 use Rattle.board_session.specs.declared.recording.RecordError.TheVariants.{Memory, Read, Board, Write, TooLong}
 use Rattle.board_session.specs.declared.recording.Report.{Report}
 use Rattle.board_session.specs.declared.recording.Setup.{Setup}
-use Rattle.settle_core.specs.Entries.{unstuttered}
+use Rattle.settle_core.specs.Entries.{deduplicated}
 use Rattle.pgn_book.specs.Games.{Content}
 use Rattle.pgn_book.specs.Laws.{TextsTellGames}
 use Rattle.pgn_book.specs.Pgn.{Pgn}
 use Rattle.pgn_book.specs.Values.{TagValues}
-use Rattle.board_session.specs.Gaming.{IsGameOf}
-use Rattle.board_session.specs.Hearing.{Finished}
+use Rattle.board_session.specs.Game.{IsGameOf}
+use Rattle.board_session.specs.Recorder.{Finished}
 use Rattle.board_session.specs.Settings.{Setting}
-use Rattle.board_session.specs.Asking.{past_of}
-use Rattle.board_session.specs.Standing.{entries_in}
+use Rattle.board_session.specs.Commands.{past_of}
+use Rattle.board_session.specs.Session.{entries_in}
 use Rattle.board_session.proofs.GameLemmas.{one_each}
 use Rattle.board_session.specs.Recording.{AppendsPart, Ends, Leaves, RecordsAll, RecordsGame, Sends, setting_of}
 
@@ -65,7 +65,7 @@ records_known setup report input input' sent sent' written written' bytes h tell
       within = rw front ends.1;
       shows = rw (front, ← events) h.shows;
       game_is = h.game_is;
-      one_each = one_each setup.start (unstuttered (entries_in (setting_of setup) (past_of h.taken))) (rw h.game_is.start_is at h.text_is.is_game.start);
+      one_each = one_each setup.start (deduplicated (entries_in (setting_of setup) (past_of h.taken))) (rw h.game_is.start_is at h.text_is.is_game.start);
       text_is = h.text_is;
       of_no_other = λ other says. tell other h.game h.text says h.text_is;
       writes = h.answers.1;

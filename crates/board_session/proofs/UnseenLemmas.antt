@@ -1,25 +1,25 @@
 -- The game where plies were not seen.
 use Rattle.std.proofs.Common.{◌≡◌, ◌⊎◌, inl, inr, Bool, true, false, List, [], ◌∷◌, ◌++◌, reverse, refl, sym, ap, subst, ◌∙◌}
 use Rattle.std.proofs.lemmas.List.{reverse-append, reverse-reverse}
-use Rattle.chess_rules.specs.declared.men.Parts.{Parts}
-use Rattle.chess_rules.specs.declared.men.Move.{Move}
+use Rattle.chess_rules.specs.declared.parts.Parts.{Parts}
+use Rattle.chess_rules.specs.declared.chess_move.Move.{Move}
 use Rattle.chess_rules.specs.After.{after}
 use Rattle.chess_rules.specs.Legal.{Legal}
 use Rattle.chess_rules.specs.Picture.{picture}
 use Rattle.chess_rules.specs.Valid.{Valid}
 use Rattle.dgt_frame.specs.declared.events.Event.{Event}
 use Rattle.settle_core.specs.declared.game.Ply.{Ply}
-use Rattle.settle_core.specs.Entries.{Entry, repeats, unstuttered}
+use Rattle.settle_core.specs.Entries.{Entry, repeats, deduplicated}
 use Rattle.settle_core.specs.Folding.{Folds, Score, moves_of, score_of}
 use Rattle.settle_core.specs.Laws.{HasAnotherLast as HasAnotherLastPly}
 use Rattle.settle_core.specs.Settling.{position_after, reached}
 use Rattle.settle_core.proofs.Lists.{position_in_order}
 use Rattle.settle_core.proofs.Skipping.{three_unseen_add_nothing as three_add_nothing, two_unseen_change_nothing}
-use Rattle.board_session.specs.Entering.{entry_at, is_entry}
+use Rattle.board_session.specs.Entries.{entry_at, is_entry}
 use Rattle.board_session.specs.Laws.{ThreeUnseenAddNothing, TwoUnseenAreNotRecorded}
-use Rattle.board_session.specs.Looking.{picture_of}
+use Rattle.board_session.specs.History.{picture_of}
 use Rattle.board_session.specs.Settings.{Setting}
-use Rattle.board_session.specs.Standing.{entries_in}
+use Rattle.board_session.specs.Session.{entries_in}
 use Rattle.board_session.proofs.GameLemmas.{events_tell_the_game}
 
 -- the position that plies in their order lead to
@@ -28,25 +28,25 @@ reached_by start plies = ap (λ (ps : List Ply). position_after start (moves_of 
 
 -- an entry with the picture after two unseen plies leaves the score, counted or not
 unseen_entry : (start : Parts) (entry : Entry) (past : List Entry) (before score : Score) (m reply : Move) (again : Bool) → repeats entry.picture past ≡ again
-    → Valid start → Folds start (unstuttered past) before
+    → Valid start → Folds start (deduplicated past) before
     → Legal (reached start (moves_of before.plies)) m → Legal (after (reached start (moves_of before.plies)) m) reply
     → entry.picture ≡ picture (after (after (reached start (moves_of before.plies)) m) reply)
-    → Folds start (unstuttered (entry ∷ past)) score → Folds start (unstuttered past) score
+    → Folds start (deduplicated (entry ∷ past)) score → Folds start (deduplicated past) score
 unseen_entry start entry past before score m reply true e valid h lm ln shows k =
-    let same : unstuttered (entry ∷ past) ≡ unstuttered past = rw e refl in
+    let same : deduplicated (entry ∷ past) ≡ deduplicated past = rw e refl in
     rw same at k
 unseen_entry start entry past before score m reply false e valid h lm ln shows k =
-    let more : unstuttered (entry ∷ past) ≡ entry ∷ unstuttered past = rw e refl in
-    let one : score ≡ before = two_unseen_change_nothing start (unstuttered past) entry before score m reply valid h lm ln shows (rw more at k) in
-    let P : Score → Type 0 = λ s. Folds start (unstuttered past) s in
+    let more : deduplicated (entry ∷ past) ≡ entry ∷ deduplicated past = rw e refl in
+    let one : score ≡ before = two_unseen_change_nothing start (deduplicated past) entry before score m reply valid h lm ln shows (rw more at k) in
+    let P : Score → Type 0 = λ s. Folds start (deduplicated past) s in
     subst P (sym one) h
 
 unseen_event : (setting : Setting) (past : List Event) (event : Event) (before score : Score) (m reply : Move) (given : Bool) → is_entry event past ≡ given
-    → Valid setting.start → Folds setting.start (unstuttered (entries_in setting past)) before
+    → Valid setting.start → Folds setting.start (deduplicated (entries_in setting past)) before
     → Legal (reached setting.start (moves_of before.plies)) m → Legal (after (reached setting.start (moves_of before.plies)) m) reply
     → picture_of setting.rotated (event ∷ past) ≡ picture (after (after (reached setting.start (moves_of before.plies)) m) reply)
-    → Folds setting.start (unstuttered (entries_in setting (event ∷ past))) score
-    → Folds setting.start (unstuttered (entries_in setting past)) score
+    → Folds setting.start (deduplicated (entries_in setting (event ∷ past))) score
+    → Folds setting.start (deduplicated (entries_in setting past)) score
 unseen_event setting past event before score m reply true e valid h lm ln shows k =
     let entry = entry_at setting.first setting.rotated (event ∷ past) in
     let are : entries_in setting (event ∷ past) ≡ entry ∷ entries_in setting past = rw e refl in
@@ -62,7 +62,7 @@ two_unseen_are_not_recorded setting tags past event before game m reply valid h 
     let L : Parts → Type 0 = λ p. Legal p m in
     let R : Parts → Type 0 = λ p. Legal (after p m) reply in
     let S : Parts → Type 0 = λ p. picture_of setting.rotated (event ∷ past) ≡ picture (after (after p m) reply) in
-    let folds : Folds setting.start (unstuttered (entries_in setting past)) (score_of game.plies k.sign) =
+    let folds : Folds setting.start (deduplicated (entries_in setting past)) (score_of game.plies k.sign) =
     unseen_event setting past event (score_of before.plies h.sign) (score_of game.plies k.sign) m reply (is_entry event past) refl valid h.folds
     (subst L at lm) (subst R at ln) (subst S at shows) k.folds in
     events_tell_the_game setting tags past game before valid
@@ -70,29 +70,29 @@ two_unseen_are_not_recorded setting tags past event before game m reply valid h 
 
 -- an entry with the picture after three unseen plies leaves the score, or corrects its last ply
 last_entry : (start : Parts) (entry : Entry) (past : List Entry) (before score : Score) (m reply next : Move) (again : Bool) → repeats entry.picture past ≡ again
-    → Valid start → Folds start (unstuttered past) before
+    → Valid start → Folds start (deduplicated past) before
     → Legal (reached start (moves_of before.plies)) m → Legal (after (reached start (moves_of before.plies)) m) reply
     → Legal (after (after (reached start (moves_of before.plies)) m) reply) next
     → entry.picture ≡ picture (after (after (after (reached start (moves_of before.plies)) m) reply) next)
-    → Folds start (unstuttered (entry ∷ past)) score → Folds start (unstuttered past) score ⊎ HasAnotherLastPly before score
+    → Folds start (deduplicated (entry ∷ past)) score → Folds start (deduplicated past) score ⊎ HasAnotherLastPly before score
 last_entry start entry past before score m reply next true e valid h lm ln lx shows k =
-    let same : unstuttered (entry ∷ past) ≡ unstuttered past = rw e refl in
+    let same : deduplicated (entry ∷ past) ≡ deduplicated past = rw e refl in
     inl (rw same at k)
 last_entry start entry past before score m reply next false e valid h lm ln lx shows k =
-    let more : unstuttered (entry ∷ past) ≡ entry ∷ unstuttered past = rw e refl in
-    let P : Score → Type 0 = λ s. Folds start (unstuttered past) s in
-    elim (three_add_nothing start (unstuttered past) entry before score m reply next valid h lm ln lx shows (rw more at k)) [
+    let more : deduplicated (entry ∷ past) ≡ entry ∷ deduplicated past = rw e refl in
+    let P : Score → Type 0 = λ s. Folds start (deduplicated past) s in
+    elim (three_add_nothing start (deduplicated past) entry before score m reply next valid h lm ln lx shows (rw more at k)) [
       | inl one ↦ inl (subst P (sym one) h)
       | inr last ↦ inr last
     ]
 
 last_event : (setting : Setting) (past : List Event) (event : Event) (before score : Score) (m reply next : Move) (given : Bool) → is_entry event past ≡ given
-    → Valid setting.start → Folds setting.start (unstuttered (entries_in setting past)) before
+    → Valid setting.start → Folds setting.start (deduplicated (entries_in setting past)) before
     → Legal (reached setting.start (moves_of before.plies)) m → Legal (after (reached setting.start (moves_of before.plies)) m) reply
     → Legal (after (after (reached setting.start (moves_of before.plies)) m) reply) next
     → picture_of setting.rotated (event ∷ past) ≡ picture (after (after (after (reached setting.start (moves_of before.plies)) m) reply) next)
-    → Folds setting.start (unstuttered (entries_in setting (event ∷ past))) score
-    → Folds setting.start (unstuttered (entries_in setting past)) score ⊎ HasAnotherLastPly before score
+    → Folds setting.start (deduplicated (entries_in setting (event ∷ past))) score
+    → Folds setting.start (deduplicated (entries_in setting past)) score ⊎ HasAnotherLastPly before score
 last_event setting past event before score m reply next true e valid h lm ln lx shows k =
     let entry = entry_at setting.first setting.rotated (event ∷ past) in
     let are : entries_in setting (event ∷ past) ≡ entry ∷ entries_in setting past = rw e refl in

@@ -1,7 +1,7 @@
 -- What holds of all lists of events. Events have the latest first.
 use Rattle.std.specs.Prelude.{◌≡◌, ◌↔◌, ◌≤◌, ◌⊎◌, ◌+◌, ℕ, Bool, List, [], ◌∷◌, ◌++◌, Option, Some, None, Result as ResultOf, length, reverse, ⊤}
 use Rattle.std.specs.List.{AllByRecursion}
-use Rattle.chess_rules.specs.declared.men.Move.{Move}
+use Rattle.chess_rules.specs.declared.chess_move.Move.{Move}
 use Rattle.chess_rules.specs.After.{after}
 use Rattle.chess_rules.specs.Legal.{Legal}
 use Rattle.chess_rules.specs.Picture.{picture}
@@ -9,14 +9,14 @@ use Rattle.chess_rules.specs.Valid.{Valid}
 use Rattle.dgt_frame.specs.declared.events.FaultKind.{FaultKind}
 use Rattle.dgt_frame.specs.declared.events.Message.TheVariants.{Dump, Update, Time, Other}
 use Rattle.dgt_frame.specs.declared.events.Event.{Event}
-use Rattle.dgt_frame.specs.declared.events.Event.TheVariants.{Message as Shown, Fault}
+use Rattle.dgt_frame.specs.declared.events.Event.TheVariants.{Message as MessageEvent, Fault}
 use Rattle.dgt_frame.specs.declared.First.{First}
 use Rattle.dgt_frame.specs.Streams.{Shows, Timed}
-use Rattle.settle_core.specs.Entries.{Entry, unstuttered}
+use Rattle.settle_core.specs.Entries.{Entry, deduplicated}
 use Rattle.settle_core.specs.Folding.{moves_of}
 use Rattle.settle_core.specs.Laws.{joined}
 use Rattle.settle_core.specs.Settling.{Line, position_after}
-use Rattle.settle_core.specs.Showing.{AllPass, AllRest, HasWhole, IsFront, ShownEach, shown_plies}
+use Rattle.settle_core.specs.HonestPlay.{AllPass, AllRest, HasWhole, IsFront, ShownEach, shown_plies}
 use Rattle.settle_core.specs.Sign.{IsSign}
 use Rattle.settle_core.specs.declared.game.Outcome.{Outcome}
 use Rattle.settle_core.specs.declared.game.Ply.{Ply}
@@ -26,13 +26,13 @@ use Rattle.pgn_book.specs.Values.{TagValues}
 use Rattle.board_session.specs.declared.recording.RecordError.{RecordError}
 use Rattle.board_session.specs.declared.recording.Report.{Report}
 use Rattle.board_session.specs.declared.recording.Setup.{Setup}
-use Rattle.board_session.specs.Asking.{asks, past_of}
-use Rattle.board_session.specs.Entering.{Idle}
-use Rattle.board_session.specs.Gaming.{IsGameOf}
-use Rattle.board_session.specs.Looking.{picture_of}
+use Rattle.board_session.specs.Commands.{asks, past_of}
+use Rattle.board_session.specs.Entries.{Idle}
+use Rattle.board_session.specs.Game.{IsGameOf}
+use Rattle.board_session.specs.History.{picture_of}
 use Rattle.board_session.specs.Recording.{Leaves, RecordsGame, setting_of}
 use Rattle.board_session.specs.Settings.{Setting}
-use Rattle.board_session.specs.Standing.{entries_in}
+use Rattle.board_session.specs.Session.{entries_in}
 
 -- The text is the PGN text of the game of these events.
 abbrev pub IsTextOf : List ℕ → Setting → TagValues → List Event → Type 0
@@ -40,7 +40,7 @@ IsTextOf text setting tags past = (game : Content) × IsGameOf game setting tags
 
 -- Two lists of events have the same pictures, but for those that equal the one before, the same game and the same text.
 pub record TellTheSame (setting : Setting) (one other : List Event) : Type 0 where
-  pub pictures : unstuttered (entries_in setting one) ≡ unstuttered (entries_in setting other)
+  pub pictures : deduplicated (entries_in setting one) ≡ deduplicated (entries_in setting other)
   pub game : (tags : TagValues) (game : Content) → IsGameOf game setting tags one ↔ IsGameOf game setting tags other
   pub text : (tags : TagValues) (text : List ℕ) → IsTextOf text setting tags one ↔ IsTextOf text setting tags other
 
@@ -54,19 +54,19 @@ Thins first rotated (event ∷ past) short = (Idle first rotated past event × T
 abbrev pub IdleEventsCanGo : Type 0
 IdleEventsCanGo = (setting : Setting) (past short : List Event) → Thins setting.first setting.rotated past short → TellTheSame setting past short
 
--- a time or an ignored message
+-- a time or an `Other` message
 abbrev pub IsQuiet : Event → Type 0
-IsQuiet (Shown (Dump codes)) = ⊥
-IsQuiet (Shown (Update field code)) = ⊥
-IsQuiet (Shown (Time times)) = ⊤
-IsQuiet (Shown (Other id size)) = ⊤
+IsQuiet (MessageEvent (Dump codes)) = ⊥
+IsQuiet (MessageEvent (Update field code)) = ⊥
+IsQuiet (MessageEvent (Time times)) = ⊤
+IsQuiet (MessageEvent (Other id size)) = ⊤
 IsQuiet (Fault kind) = ⊥
 
--- A fault can be taken out where the next event, times and ignored messages aside, is a dump.
+-- A fault can be taken out where the next event, times and other messages aside, is a dump.
 abbrev pub FaultsBeforeDumpsCanGo : Type 0
 FaultsBeforeDumpsCanGo = (setting : Setting) (later between before : List Event) (codes : List ℕ) (kind : FaultKind)
     → AllByRecursion IsQuiet between
-    → TellTheSame setting (later ++ Shown (Dump codes) ∷ (between ++ Fault kind ∷ before)) (later ++ Shown (Dump codes) ∷ (between ++ before))
+    → TellTheSame setting (later ++ MessageEvent (Dump codes) ∷ (between ++ Fault kind ∷ before)) (later ++ MessageEvent (Dump codes) ∷ (between ++ before))
 
 -- A fault costs one request for a dump.
 abbrev pub FaultsAskOnce : Type 0
@@ -89,7 +89,7 @@ NoEventGivesTwo = (setting : Setting) (tags : TagValues) (past : List Event) (ev
 abbrev pub HonestPlayIsRecorded : Type 0
 HonestPlayIsRecorded = (setting : Setting) (tags : TagValues) (past : List Event) (game : Content) (moves : List Move) (lists : List (List Entry))
     → Valid setting.start → Line setting.start moves → ShownEach setting.start moves lists
-    → unstuttered (entries_in setting past) ≡ unstuttered (reverse (joined lists))
+    → deduplicated (entries_in setting past) ≡ deduplicated (reverse (joined lists))
     → IsGameOf game setting tags past
     → (moves_of game.plies ≡ moves) × Result setting.start game.plies None game.result
 
@@ -97,22 +97,22 @@ HonestPlayIsRecorded = (setting : Setting) (tags : TagValues) (past : List Event
 abbrev pub HonestClocksAreRecorded : Type 0
 HonestClocksAreRecorded = (setting : Setting) (tags : TagValues) (past : List Event) (game : Content) (moves : List Move) (lists : List (List Entry))
     → Valid setting.start → Line setting.start moves → ShownEach setting.start moves lists
-    → unstuttered (entries_in setting past) ≡ unstuttered (reverse (joined lists))
+    → deduplicated (entries_in setting past) ≡ deduplicated (reverse (joined lists))
     → IsGameOf game setting tags past
     → game.plies ≡ shown_plies setting.start moves lists
 
--- Where the events end between two moves, with men in hand or a king off the board: the game has the plies of the whole moves,
--- or these and one more, of a legal move that takes no man and that was shown; and its result is that of its last position.
+-- Where the events end between two moves, with pieces in hand or a king off the board: the game has the plies of the whole moves,
+-- or these and one more, of a legal move that takes no piece and that was shown; and its result is that of its last position.
 abbrev pub HonestStopIsRecorded : Type 0
 HonestStopIsRecorded = (setting : Setting) (tags : TagValues) (past : List Event) (game : Content) (moves : List Move) (lists : List (List Entry)) (part : List Entry)
     → Valid setting.start → Line setting.start moves → ShownEach setting.start moves lists
     → AllPass (position_after setting.start moves) part
-    → unstuttered (entries_in setting past) ≡ unstuttered (reverse (joined lists ++ part))
+    → deduplicated (entries_in setting past) ≡ deduplicated (reverse (joined lists ++ part))
     → IsGameOf game setting tags past
     → HasWhole setting.start moves lists part game.plies × Result setting.start game.plies None game.result
 
--- The end by the kings: after honest play the men are taken off, the kings are put into the centre, and the men may be set up
--- again. The game has the plies of the line, and its result is that of its last position, else the sign's.
+-- The end by the kings: after honest play the pieces are taken off, the kings are put into the centre, and the pieces may be
+-- set up again. The game has the plies of the line, and its result is that of its last position, else the sign's.
 abbrev pub KingsEndIsRecorded : Type 0
 KingsEndIsRecorded = (setting : Setting) (tags : TagValues) (past : List Event) (game : Content) (moves : List Move) (lists : List (List Entry))
     (clearing later : List Entry) (kings : Entry) (outcome : Outcome)
@@ -120,7 +120,7 @@ KingsEndIsRecorded = (setting : Setting) (tags : TagValues) (past : List Event) 
     → AllRest (position_after setting.start moves) clearing
     → IsSign (position_after setting.start moves) kings.picture outcome
     → AllRest (position_after setting.start moves) later
-    → unstuttered (entries_in setting past) ≡ unstuttered (reverse (joined lists ++ (clearing ++ kings ∷ later)))
+    → deduplicated (entries_in setting past) ≡ deduplicated (reverse (joined lists ++ (clearing ++ kings ∷ later)))
     → IsGameOf game setting tags past
     → (game.plies ≡ shown_plies setting.start moves lists) × Result setting.start game.plies (Some outcome) game.result
 
@@ -172,7 +172,7 @@ HonestPlayIsWritten = (setup : Setup) (report : Report) (bytes : List ℕ) (sent
     × (report.moves ≡ length moves)
 
 -- What a recording has of honest play where it ended: the entries taken are a front of it, and the game has the plies of the
--- whole moves in this front, or these and one more, of a legal move that takes no man and that was shown.
+-- whole moves in this front, or these and one more, of a legal move that takes no piece and that was shown.
 pub record HasFront (setup : Setup) (moves : List Move) (lists : List (List Entry)) (taken : List Entry) (game : Content) : Type 0 where
   pub rest : List Entry
   pub parts : joined lists ≡ reverse taken ++ rest
@@ -189,8 +189,9 @@ HonestFrontIsWritten = (setup : Setup) (answer : ResultOf Report RecordError) (i
     → ShowsEntries (setting_of setup) (recording.front ++ more) (joined lists)
     → HasFront setup moves lists (entries_in (setting_of setup) (past_of recording.taken)) recording.game
 
--- Of `record`: where a whole stream shows a line of moves honestly, then men taken off, the kings put into the centre, and men
--- set up again, the game that was written has exactly the plies of the line, and the result of its last position, else the sign's.
+-- Of `record`: where a whole stream shows a line of moves honestly, then pieces taken off, the kings put into the centre, and
+-- pieces set up again, the game that was written has exactly the plies of the line, and the result of its last position, else
+-- the sign's.
 abbrev pub KingsEndIsWritten : Type 0
 KingsEndIsWritten = (setup : Setup) (report : Report) (bytes : List ℕ) (sent sent' written written' : Option (List ℕ))
     (recording : RecordsGame setup report bytes sent sent' written written') (moves : List Move) (lists : List (List Entry))

@@ -4,18 +4,18 @@ use Rattle.std.specs.Prelude.{◌≡◌, ℕ, ◌+◌, ◌≤◌, List, [], ◌�
 use Rattle.std.specs.Io.KnownBytes.{Appends, Consumes, IsAtEnd}
 use Rattle.dgt_frame.specs.declared.events.Event.{Event}
 use Rattle.dgt_frame.specs.Streams.{Shows, Timed}
-use Rattle.settle_core.specs.Entries.{unstuttered}
+use Rattle.settle_core.specs.Entries.{deduplicated}
 use Rattle.pgn_book.specs.Games.{Content}
 use Rattle.pgn_book.specs.Pgn.{Pgn}
 use Rattle.board_session.specs.declared.recording.RecordError.{RecordError}
 use Rattle.board_session.specs.declared.recording.RecordError.TheVariants.{Memory, Read, Board, Write, TooLong}
 use Rattle.board_session.specs.declared.recording.Report.{Report}
 use Rattle.board_session.specs.declared.recording.Setup.{Setup}
-use Rattle.board_session.specs.Asking.{commands, faults_in, messages_in, past_of}
-use Rattle.board_session.specs.Gaming.{GivesOneEach, IsGameOf}
-use Rattle.board_session.specs.Looking.{is_fault}
+use Rattle.board_session.specs.Commands.{commands, faults_in, messages_in, past_of}
+use Rattle.board_session.specs.Game.{GivesOneEach, IsGameOf}
+use Rattle.board_session.specs.History.{is_fault}
 use Rattle.board_session.specs.Settings.{Setting}
-use Rattle.board_session.specs.Standing.{WantsMemory, entries_in}
+use Rattle.board_session.specs.Session.{WantsMemory, entries_in}
 
 -- the most bytes of a stream
 abbrev pub limit : ℕ
@@ -41,14 +41,14 @@ pub record RecordsGame (setup : Setup) (report : Report) (bytes : List ℕ) (sen
   pub within : length bytes ≤ limit
   pub shows : Shows bytes events rest
   pub game_is : IsGameOf game (setting_of setup) setup.tags (past_of events)
-  pub one_each : GivesOneEach setup.start (unstuttered (entries_in (setting_of setup) (past_of events)))
+  pub one_each : GivesOneEach setup.start (deduplicated (entries_in (setting_of setup) (past_of events)))
   pub text_is : Pgn game text
   pub of_no_other : (other : Content) → Pgn other text → other ≡ game
   pub writes : Appends written written' text
   pub sends : Appends sent sent' (commands events)
   pub reports : Reports report events game rest
 
--- Where the input tells its bytes, the whole of them is recorded.
+-- Where the input's bytes are known, all of them are recorded.
 abbrev pub RecordsAll : Setup → Report → Option (List ℕ) → Option (List ℕ) → Option (List ℕ) → Option (List ℕ) → Option (List ℕ) → Type 0
 RecordsAll setup report input sent sent' written written' =
     IfSome input (λ bytes. RecordsGame setup report bytes sent sent' written written')
@@ -67,7 +67,7 @@ FailsAsking read (event ∷ past) = is_fault event ≡ true
 abbrev pub Ends : Setting → Result ⊤ RecordError → Option (List ℕ) → List ℕ → List ℕ → List Timed → List Timed → Type 0
 -- at the end of the input, which is within the limit
 Ends setting (Ok done) input' front back taken extra = IsAtEnd input' × (length front ≤ limit) × (back ≡ []) × (extra ≡ [])
--- the event after those taken gives a move, and the memory for it was refused
+-- the event after those taken gives a move, for which memory ran out
 Ends setting (Err Memory) input' front back taken extra = (refused : Timed) × (extra ≡ refused ∷ [])
     × WantsMemory setting (past_of taken) refused.event
 -- a read failed: all bytes read before it are decoded, and all their events taken
@@ -88,21 +88,21 @@ Sends (Err Board) sent sent' taken = AppendsPart sent sent' (commands taken)
 Sends (Err Write) sent sent' taken = ⊥
 Sends (Err TooLong) sent sent' taken = Appends sent sent' (commands taken)
 
--- The text was written, and the answer is why reading ended.
-abbrev pub Tells : RecordError → Result ⊤ RecordError → Option (List ℕ) → Option (List ℕ) → List ℕ → Type 0
-Tells error ending written written' text = (ending ≡ Err error) × Appends written written' text
+-- The text was written, and the result says why reading ended.
+abbrev pub TellsEnding : RecordError → Result ⊤ RecordError → Option (List ℕ) → Option (List ℕ) → List ℕ → Type 0
+TellsEnding error ending written written' text = (ending ≡ Err error) × Appends written written' text
 
--- The answer, by why reading ended and by what was written of the text: a part of it is Write, else the whole stands.
+-- The result, by why reading ended and by what was written of the text: a part of it is Write, else the whole stands.
 abbrev pub Answers : Result Report RecordError → Result ⊤ RecordError → List Timed → Content → ℕ → Option (List ℕ) → Option (List ℕ) → List ℕ → Type 0
 Answers (Ok report) ending taken game rest written written' text =
     (ending ≡ Ok tt) × Appends written written' text × Reports report taken game rest
-Answers (Err Memory) ending taken game rest written written' text = Tells Memory ending written written' text
-Answers (Err Read) ending taken game rest written written' text = Tells Read ending written written' text
-Answers (Err Board) ending taken game rest written written' text = Tells Board ending written written' text
+Answers (Err Memory) ending taken game rest written written' text = TellsEnding Memory ending written written' text
+Answers (Err Read) ending taken game rest written written' text = TellsEnding Read ending written written' text
+Answers (Err Board) ending taken game rest written written' text = TellsEnding Board ending written written' text
 Answers (Err Write) ending taken game rest written written' text = AppendsPart written written' text
-Answers (Err TooLong) ending taken game rest written written' text = Tells TooLong ending written written' text
+Answers (Err TooLong) ending taken game rest written written' text = TellsEnding TooLong ending written written' text
 
--- What a recording leaves, whatever it answers: these bytes were read, and of the events that their front shows these were
+-- What a recording leaves, whatever it returns: these bytes were read, and of the events that their front shows these were
 -- taken; the board was sent what they ask for; and the PGN text of their game was written, wholly or as far as it went.
 pub record Leaves (setup : Setup) (answer : Result Report RecordError) (input input' sent sent' written written' : Option (List ℕ)) : Type 0 where
   pub ending : Result ⊤ RecordError

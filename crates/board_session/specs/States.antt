@@ -2,7 +2,7 @@
 use Rattle.std.specs.Prelude.{Bool, Option}
 use Rattle.dgt_frame.specs.declared.First.{First}
 use Rattle.dgt_frame.specs.declared.Reading.{Reading}
-use Rattle.settle_core.specs.Standing.{Sheet}
+use Rattle.settle_core.specs.Settler.{Sheet}
 
 pub record State : Type 0 where
   pub settler : Sheet

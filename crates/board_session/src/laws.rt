@@ -5,7 +5,7 @@ ghost use Rattle.dgt_frame.specs.declared.events.Event.{Event};
 ghost use Rattle.pgn_book.specs.Games.{Content};
 ghost use Rattle.pgn_book.specs.Pgn.{Pgn};
 ghost use Rattle.pgn_book.specs.Values.{TagValues};
-ghost use Rattle.board_session.specs.Gaming.{IsGameOf};
+ghost use Rattle.board_session.specs.Game.{IsGameOf};
 ghost use Rattle.board_session.specs.Laws.{EventsTellTheGame, FaultsAskOnce, FaultsBeforeDumpsCanGo, HonestClocksAreRecorded, HonestFrontIsWritten, HonestPlayIsRecorded, HonestPlayIsWritten, HonestStopIsRecorded, IdleEventsCanGo, KingsEndIsRecorded, KingsEndIsWritten, NoEventGivesTwo, ThreeUnseenAddNothing, TwoUnseenAreNotRecorded};
 ghost use Rattle.board_session.specs.Settings.{Setting};
 
@@ -13,12 +13,12 @@ use dgt_frame::laws::{fronts_show_fronts, shows_once};
 use pgn_book::{Game, PgnError, read_pgn};
 use std::alloc::Global;
 
-/// Idle events can be taken out: repeated updates and dumps, repeated times, updates that aren't trusted, ignored messages.
+/// Idle events can be taken out: repeated updates and dumps, repeated times, updates that aren't trusted, other messages.
 pub fn idle_events_can_go()
     ensures { IdleEventsCanGo }
 {}
 
-/// A fault can be taken out where the next event, times and ignored messages aside, is a dump; and a fault costs one
+/// A fault can be taken out where the next event, times and other messages aside, is a dump; and a fault costs one
 /// request for a dump.
 pub fn faults_before_dumps_can_go()
     ensures same { FaultsBeforeDumpsCanGo }
@@ -45,7 +45,7 @@ pub fn honest_clocks_are_recorded()
     ensures { HonestClocksAreRecorded }
 {}
 
-/// Where honest play stops between two moves, the game has the whole moves, and at most one try that takes no man.
+/// Where honest play stops between two moves, the game has the whole moves, and at most one try that takes no piece.
 pub fn honest_stop_is_recorded()
     ensures { HonestStopIsRecorded }
 {}
@@ -73,7 +73,7 @@ pub fn honest_play_is_written()
 }
 
 /// Wherever a recording of honest play ends, and by whatever: the game has all moves that were shown whole, and at most one try
-/// that takes no man.
+/// that takes no piece.
 pub fn honest_front_is_written()
     ensures { HonestFrontIsWritten }
 {
@@ -87,7 +87,7 @@ pub fn kings_end_is_written()
     shows_once();
 }
 
-/// Reads the text of the game of some events back. The answer is that game; only want of memory can prevent it.
+/// Reads the text of the game of some events back. It returns that game, unless it runs out of memory.
 pub fn read_recorded(alloc: Global, text: &[u8]) -> Result<Game, PgnError>
     ensures { (setting : Setting) (tags : TagValues) (past : List Event) (game : Content)
         → IsGameOf game setting tags past → Pgn game text.now

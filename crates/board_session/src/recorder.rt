@@ -1,13 +1,13 @@
 //! The recorder: bytes of a board in, its session and the bytes for the board out.
 ghost use Rattle.std.specs.Prelude.{◌≡◌, ◌≢◌, ◌<◌, ◌≤◌, ◌+◌, ◌^◌, ◌∷◌, [], List, ℕ, Option, OnOk, OnErr, IfErr, Ok, Err, true, false, length, if◌then◌else◌};
 ghost use Rattle.std.specs.Io.KnownBytes.{Appends};
-ghost use Rattle.dgt_frame.specs.Decoding.{Decoded};
+ghost use Rattle.dgt_frame.specs.Decoder.{Decoded};
 ghost use Rattle.dgt_frame.specs.Streams.{HasFrame, Timed};
-ghost use Rattle.dgt_frame.specs.Watched.{inner_of, has_failed};
+ghost use Rattle.dgt_frame.specs.Watch.{inner_of, has_failed};
 ghost use Rattle.board_session.specs.Settings.{Setting};
-ghost use Rattle.board_session.specs.Looking.{is_fault};
+ghost use Rattle.board_session.specs.History.{is_fault};
 ghost use Rattle.board_session.specs.Recording.{AppendsPart};
-ghost use Rattle.board_session.specs.Hearing.{Hears, IsFed, IsRefusal, Kept, Listened, Live, TakesEvent, event_count};
+ghost use Rattle.board_session.specs.Recorder.{Hears, IsFed, IsRefusal, Kept, Listened, Live, TakesEvent, event_count};
 
 use crate::recording::RecordError;
 use crate::session::Session;
@@ -21,7 +21,7 @@ use std::io::{Read, Write};
 pub const LIMIT: u32 = 67_108_864;
 
 /// The size of the buffer between the stream and the decoder.
-const PIECE: usize = 4096;
+const CHUNK: usize = 4096;
 
 /// The command that asks the board for a dump.
 const SEND_DUMP: u8 = 0x42;
@@ -112,25 +112,25 @@ impl Recorder {
         }
     }
 
-    /// Takes the events of a piece of the stream, each before the byte after it.
-    fn take_piece<B: Write>(
+    /// Takes the events of a chunk of the stream, each before the byte after it.
+    fn take_chunk<B: Write>(
         &mut self,
-        piece: &[u8],
+        chunk: &[u8],
         board: &mut Watch<B>,
     ) -> Result<(), RecordError>
         requires fed { IsFed self.old.decoder }
-        requires room { event_count self.old + length piece.now < 2 ^ 31 }
+        requires room { event_count self.old + length chunk.now < 2 ^ 31 }
         requires working { has_failed board.old ≡ false }
         ensures fed { IsFed self.new.decoder }
-        ensures count { event_count self.new ≤ event_count self.old + length piece.now }
-        ensures hears { Hears self.old self.new piece.now result (B.contents (inner_of board.old)) (B.contents (inner_of board.new)) }
+        ensures count { event_count self.new ≤ event_count self.old + length chunk.now }
+        ensures hears { Hears self.old self.new chunk.now result (B.contents (inner_of board.old)) (B.contents (inner_of board.new)) }
         ensures working { OnOk result (has_failed board.new ≡ false) }
         ensures failed { result ≡ Err RecordError.Board → has_failed board.new ≡ true }
         ensures blamed { has_failed board.new ≡ true → result ≡ Err RecordError.Board }
         ensures refusal { IfErr result IsRefusal }
     {
         let mut at = 0;
-        'events: while let Some(arrival) = self.decoder.push_until(&piece[at..]) {
+        'events: while let Some(arrival) = self.decoder.push_until(&chunk[at..]) {
             self.take_event(arrival.event, board)?;
             at += arrival.taken;
         }
@@ -157,10 +157,10 @@ impl Recorder {
         ensures board_blamed { has_failed board.new ≡ true → result ≡ Err RecordError.Board }
         ensures cause { result ≢ Err RecordError.Write }
     {
-        let mut buffer = [0u8; PIECE];
+        let mut buffer = [0u8; CHUNK];
         let mut total: u32 = 0;
-        'pieces: loop {
-            let room = ((LIMIT + 1 - total) as usize).min(PIECE);
+        'chunks: loop {
+            let room = ((LIMIT + 1 - total) as usize).min(CHUNK);
             let space = &mut buffer[..room];
             let Ok(n) = reader.read(space) else {
                 return Err(RecordError::Read);
@@ -169,7 +169,7 @@ impl Recorder {
                 return Ok(());
             }
             let within = n.min((LIMIT - total) as usize);
-            self.take_piece(&space[..within], board)?;
+            self.take_chunk(&space[..within], board)?;
             if within < n {
                 return Err(RecordError::TooLong);
             }

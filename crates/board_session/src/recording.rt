@@ -1,13 +1,13 @@
 //! Recordings: the game of a stream of board bytes, as PGN text.
 ghost use Rattle.std.specs.Prelude.{◌≡◌, ◌≢◌, ◌≤◌, ◌⊎◌, List, ℕ, MatchResult, OnOk, OnErr, IfErr, IfOk, IsOk, Err, true, false};
 ghost use Rattle.std.specs.Io.KnownBytes.{Appends};
-ghost use Rattle.dgt_frame.specs.Decoding.{Decoded};
+ghost use Rattle.dgt_frame.specs.Decoder.{Decoded};
 ghost use Rattle.dgt_frame.specs.Streams.{Timed};
-ghost use Rattle.dgt_frame.specs.Watched.{inner_of, has_failed};
+ghost use Rattle.dgt_frame.specs.Watch.{inner_of, has_failed};
 ghost use Rattle.pgn_book.specs.Pgn.{Pgn};
 ghost use Rattle.board_session.specs.Settings.{Setting};
 ghost use Rattle.board_session.specs.Recording.{AppendsPart, Leaves, RecordsAll};
-ghost use Rattle.board_session.specs.Hearing.{Finished, Kept, event_count};
+ghost use Rattle.board_session.specs.Recorder.{Finished, Kept, event_count};
 
 use crate::recorder::{LIMIT, Recorder};
 use chess_rules::Position;
@@ -34,7 +34,7 @@ pub struct Setup {
 /// What a recording counted.
 #[derive(Clone, Copy, Debug, PartialEq, Eq)]
 pub struct Report {
-    /// The well-formed frames, those of ignored messages too.
+    /// The well-formed frames, those of other messages too.
     pub messages: u32,
     /// The places where the bytes are no frame; the board was asked for a dump at each of them.
     pub faults: u32,
@@ -45,10 +45,10 @@ pub struct Report {
 }
 
 /// Why a recording gave up. The first of `Memory`, `Read`, `Board` and `TooLong` that comes ends the reading; the text of the
-/// events taken so far is written after it, and where that fails too the answer is `Write`.
+/// events taken so far is written after it, and where that fails too it is `Write`.
 #[derive(Clone, Copy, Debug, PartialEq, Eq, Error)]
 pub enum RecordError {
-    /// The memory for a move was refused.
+    /// There was no memory for a move.
     #[error("out of memory")]
     Memory,
     /// A read from the board failed; one that was interrupted counts as failed.
@@ -81,7 +81,7 @@ fn write_game<W: Write>(game: &Game, out: &mut Watch<W>) -> Result<(), RecordErr
     Ok(())
 }
 
-/// Writes the text of what the recorder has taken, and answers.
+/// Writes the text of what the recorder has taken, and returns what came of it.
 fn finish<W: Write>(
     recorder: Recorder,
     tags: Tags,
@@ -146,7 +146,7 @@ pub fn record<R: Read, B: Write, W: Write>(
     ensures all { IfOk result (λ report. RecordsAll setup report (R.remaining (inner_of reader.old))
         (B.contents (inner_of board.old)) (B.contents (inner_of board.new)) (W.contents (inner_of out.old)) (W.contents (inner_of out.new))) }
 
-    // Whatever the answer, this was read, sent and written.
+    // Whatever is returned, this was read, sent and written.
     ensures leaves { Leaves setup result (R.remaining (inner_of reader.old)) (R.remaining (inner_of reader.new))
         (B.contents (inner_of board.old)) (B.contents (inner_of board.new)) (W.contents (inner_of out.old)) (W.contents (inner_of out.new)) }
 

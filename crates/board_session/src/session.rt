@@ -2,14 +2,14 @@
 ghost use Rattle.std.specs.Prelude.{◌≡◌, ◌<◌, ◌≤◌, ◌-◌, length, ◌∷◌, [], List, ℕ, All, OnOk, OnErr, IfOk, IsOk, Ok, None, false};
 ghost use Rattle.dgt_frame.specs.declared.events.Event.{Event};
 ghost use Rattle.dgt_frame.specs.declared.events.Message.{Message};
-ghost use Rattle.settle_core.specs.Entries.{unstuttered};
+ghost use Rattle.settle_core.specs.Entries.{deduplicated};
 ghost use Rattle.settle_core.specs.Folding.{Folds};
-ghost use Rattle.settle_core.specs.Standing.{StandsFor as Settled};
+ghost use Rattle.settle_core.specs.Settler.{StandsFor as Settled};
 ghost use Rattle.board_session.specs.Settings.{Setting};
-ghost use Rattle.board_session.specs.Looking.{IsInRange, is_trusted, picture_of, reading_at, turned};
-ghost use Rattle.board_session.specs.Entering.{Idle};
-ghost use Rattle.board_session.specs.Gaming.{IsGameOf};
-ghost use Rattle.board_session.specs.Standing.{StandsFor, Takes, Tells, WantsMemory, entries_in};
+ghost use Rattle.board_session.specs.History.{IsInRange, is_trusted, picture_of, reading_at, turned};
+ghost use Rattle.board_session.specs.Entries.{Idle};
+ghost use Rattle.board_session.specs.Game.{IsGameOf};
+ghost use Rattle.board_session.specs.Session.{StandsFor, Takes, TellsTaken, WantsMemory, entries_in};
 
 use chess_rules::{Position, Square};
 use dgt_frame::{Event, First, Message, Reading, read_time};
@@ -48,7 +48,7 @@ pub struct Session {
 
 impl Model for Session {
     ghost use Rattle.std.specs.Prelude.{◌≡◌, true};
-    ghost use Rattle.settle_core.specs.Standing.{has_seen};
+    ghost use Rattle.settle_core.specs.Settler.{has_seen};
     ghost use Rattle.board_session.specs.States.{State};
 
     ghost Value = { State };
@@ -79,13 +79,13 @@ impl Session {
     ///
     /// # Errors
     ///
-    /// Memory is taken only where the event gives a move. Where that is refused, nothing has changed.
+    /// Memory is taken only where the event gives a move. Where there is none, nothing has changed.
     pub fn take(&mut self, event: Event) -> Result<Taken, AllocError>
         requires { IsInRange event }
         ensures stands { (setting : Setting) (past : List Event) → StandsFor self.old setting past
             → OnOk result (StandsFor self.new setting (event ∷ past)) }
         ensures tells { (setting : Setting) (past : List Event) → StandsFor self.old setting past
-            → IfOk result (Tells setting past event) }
+            → IfOk result (TellsTaken setting past event) }
         // An idle event leaves the session as it was.
         ensures idle { (setting : Setting) (past : List Event) → StandsFor self.old setting past
             → Idle setting.first setting.rotated past event → (self.new ≡ self.old) × IsOk result }

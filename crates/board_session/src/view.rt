@@ -3,8 +3,8 @@ ghost use Rattle.std.specs.Prelude.{◌≡◌, ◌≢◌, [], ◌∷◌, List, B
 ghost use Rattle.std.specs.Option.{ForSome};
 ghost use Rattle.dgt_frame.specs.declared.events.Event.{Event};
 ghost use Rattle.dgt_frame.specs.declared.events.Message.{Message};
-ghost use Rattle.board_session.specs.Looking.{IsInRange};
-ghost use Rattle.board_session.specs.Viewing.{Adds, pictures};
+ghost use Rattle.board_session.specs.History.{IsInRange};
+ghost use Rattle.board_session.specs.Pictures.{Adds, pictures};
 
 use crate::session::{picture_of, square_of};
 use dgt_frame::{Event, Message};
@@ -20,7 +20,7 @@ pub struct View {
 }
 
 impl View {
-    ghost use Rattle.board_session.specs.Views.{Views};
+    ghost use Rattle.board_session.specs.View.{Views};
 
     /// A view that has taken no event.
     pub fn new(rotated: bool) -> View
@@ -33,7 +33,7 @@ impl View {
         }
     }
 
-    /// Takes the next event, and answers the picture that it shows where this differs from the one before it. Codes are at
+    /// Takes the next event, and returns the picture that it shows where this differs from the one before it. Codes are at
     /// most 15 and fields at most 63, as the decoder gives them.
     pub fn take(&mut self, event: Event) -> Option<[u8; 64]>
         requires { IsInRange event }
@@ -76,7 +76,7 @@ impl View {
         self.show(picture)
     }
 
-    /// Keeps the picture, and answers it where it differs from the last one.
+    /// Keeps the picture, and returns it where it differs from the last one.
     fn show(&mut self, picture: [u8; 64]) -> Option<[u8; 64]>
         requires { All (λ code. code < 16) picture }
         ensures same { IfNone result (self.old.last ≡ Some picture) }

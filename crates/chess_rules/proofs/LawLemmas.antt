@@ -1,28 +1,28 @@
 -- What holds of all positions and moves: the laws, for the crates that stand on them.
 use Rattle.std.proofs.Common.{◌≡◌, ◌≢◌, ◌⊎◌, ◌<◌, inl, inr, [], ◌∷◌, Option, None, false, map, unwrap_or, refl, sym, ap, subst, ◌∙◌}
 use Rattle.std.proofs.lemmas.Bool.{cond-false}
-use Rattle.chess_rules.specs.declared.men.Kind.{Kind}
-use Rattle.chess_rules.specs.declared.men.Kind.TheVariants.{Pawn, Rook, King}
-use Rattle.chess_rules.specs.declared.men.Piece.{Piece}
-use Rattle.chess_rules.specs.declared.men.Move.{Move}
-use Rattle.chess_rules.specs.declared.men.Parts.{Parts}
+use Rattle.chess_rules.specs.declared.pieces.Kind.{Kind}
+use Rattle.chess_rules.specs.declared.pieces.Kind.TheVariants.{Pawn, Rook, King}
+use Rattle.chess_rules.specs.declared.pieces.Piece.{Piece}
+use Rattle.chess_rules.specs.declared.chess_move.Move.{Move}
+use Rattle.chess_rules.specs.declared.parts.Parts.{Parts}
 use Rattle.chess_rules.specs.declared.lines.Wing.{Wing}
-use Rattle.chess_rules.specs.Board.{Board, on, man, other}
+use Rattle.chess_rules.specs.Board.{Board, on, piece_of, other}
 use Rattle.chess_rules.specs.After.{board_after, moved, taken_pawn, is_castling, is_en_passant, king_home, rook_home, castling_target, crossed}
 use Rattle.chess_rules.specs.Legal.{Goes, step, pawn_step, capture, double_step, en_passant, castling, Captures, TakesEnPassant, Castles, NamesPromotion}
 use Rattle.chess_rules.specs.Valid.{Valid, IsTarget, IsAtHome}
 use Rattle.chess_rules.specs.Picture.{code}
-use Rattle.chess_rules.specs.Laws.{MenTellMoves, PicturesTellMoves, MovesStayValid, CodesTellMen, PicturesTellBoards, MovesOneMan, MovesKingAndRook, MovesMoveMen}
+use Rattle.chess_rules.specs.Laws.{PiecesTellMoves, PicturesTellMoves, MovesStayValid, CodesTellPieces, PicturesTellBoards, MovesOnePiece, MovesKingAndRook, MovesMovePieces}
 use Rattle.chess_rules.proofs.Shifts.{Own}
 use Rattle.chess_rules.proofs.Moving.{Passes, passes, not_own_empty, not_own_other, no_castling, no_castling_pawn, no_passant_officer, no_passant_forward, no_passant_capture, double_row, target_not_last, en_passant_board}
-use Rattle.chess_rules.proofs.Tells.{men_tell, AreHomes, homes}
-use Rattle.chess_rules.proofs.Replacing.{Replaces, replaces_clear, none_man}
+use Rattle.chess_rules.proofs.Tells.{pieces_tell, AreHomes, homes}
+use Rattle.chess_rules.proofs.Replacing.{Replaces, replaces_clear, none_piece}
 use Rattle.chess_rules.proofs.Transfers.{replaces_moved, uncrown}
 use Rattle.chess_rules.proofs.Codes.{decode, decode-code, pictures_tell}
 use Rattle.chess_rules.proofs.Staying.{valid_after, IsCastledTwice, castled_twice}
 
-pub men_tell_moves : MenTellMoves
-men_tell_moves = men_tell
+pub pieces_tell_moves : PiecesTellMoves
+pieces_tell_moves = pieces_tell
 
 pub pictures_tell_moves : PicturesTellMoves
 pictures_tell_moves = pictures_tell
@@ -30,8 +30,8 @@ pictures_tell_moves = pictures_tell
 pub moves_stay_valid : MovesStayValid
 moves_stay_valid = valid_after
 
-pub codes_tell_men : CodesTellMen
-codes_tell_men a b e = sym (decode-code a) ∙ ap (λ n. decode n) e ∙ decode-code b
+pub codes_tell_pieces : CodesTellPieces
+codes_tell_pieces a b e = sym (decode-code a) ∙ ap (λ n. decode n) e ∙ decode-code b
 
 boards_of_codes : (b c : Board) → map code b ≡ map code c → b ≡ c
 boards_of_codes [] [] e = refl
@@ -40,7 +40,7 @@ boards_of_codes (x ∷ xs) [] e = absurd (let never : ⊥ = cc in never)
 boards_of_codes (x ∷ xs) (y ∷ ys) e =
     let first : code x ≡ code y = cc in
     let rest : map code xs ≡ map code ys = cc in
-    let same : x ≡ y = codes_tell_men x y first in
+    let same : x ≡ y = codes_tell_pieces x y first in
     let tails : xs ≡ ys = boards_of_codes xs ys rest in
     ap (λ (o : Option Piece). o ∷ xs) same ∙ ap (λ (b : Board). y ∷ b) tails
 
@@ -51,18 +51,18 @@ pictures_tell_boards p q e = boards_of_codes p.board q.board e
 plain_moves :
     (p : Parts) (m : Move) (k : Kind)
     → Valid p
-    → on p.board m.from ≡ man p.side k
+    → on p.board m.from ≡ piece_of p.side k
     → m.to < 64
     → ¬ Own p.side p.board m.to
     → NamesPromotion p.side k m
     → is_castling p m ≡ false
     → is_en_passant p m ≡ false
-    → ((victim : Kind) → on p.board m.to ≡ man (other p.side) victim → Captures p m)
-    → MovesOneMan p m
+    → ((victim : Kind) → on p.board m.to ≡ piece_of (other p.side) victim → Captures p m)
+    → MovesOnePiece p m
 plain_moves p m k v h low free names c e captures =
     let same : board_after p m ≡ moved p.board m = cond-false _ _ _ c ∙ cond-false _ _ _ e in
-    let P : Board → Type 0 = λ b. Replaces p.board b m.from m.to m.from (man p.side (unwrap_or m.promotion k)) in
-    let r : Replaces p.board (board_after p m) m.from m.to m.from (man p.side (unwrap_or m.promotion k)) =
+    let P : Board → Type 0 = λ b. Replaces p.board b m.from m.to m.from (piece_of p.side (unwrap_or m.promotion k)) in
+    let r : Replaces p.board (board_after p m) m.from m.to m.from (piece_of p.side (unwrap_or m.promotion k)) =
     subst P (sym same) (replaces_moved p.board m p.side k h (rw v.squares low) free) in
     record {
       kind = k;
@@ -80,20 +80,20 @@ plain_moves p m k v h low free names c e captures =
       others = r.others;
     }
 
-none_captured : (p : Parts) (m : Move) → on p.board m.to ≡ None → (victim : Kind) → on p.board m.to ≡ man (other p.side) victim → Captures p m
-none_captured p m empty victim h = absurd (none_man (sym empty ∙ h))
+none_captured : (p : Parts) (m : Move) → on p.board m.to ≡ None → (victim : Kind) → on p.board m.to ≡ piece_of (other p.side) victim → Captures p m
+none_captured p m empty victim h = absurd (none_piece (sym empty ∙ h))
 
-en_passant_moves : (p : Parts) (m : Move) → Valid p → m.to < 64 → TakesEnPassant p m → MovesOneMan p m
+en_passant_moves : (p : Parts) (m : Move) → Valid p → m.to < 64 → TakesEnPassant p m → MovesOnePiece p m
 en_passant_moves p m v low s =
     let target : IsTarget p.board p.side m.to = v.target m.to s.target in
     let q : Passes p.side m = passes p.side m s.attacks.direction s.attacks.distance s.attacks.ranges.1 s.attacks.ranges.0 s.attacks.lies in
     let free : ¬ Own p.side p.board m.to = not_own_empty p.side p.board m.to target.empty in
     let names : NamesPromotion p.side Pawn m =
     record { last = λ l. absurd (target_not_last p.side m.to target.on_row l); before = λ _. s.promotion } in
-    let P : Board → Type 0 = λ b. Replaces p.board b m.from m.to (taken_pawn m) (man p.side (unwrap_or m.promotion Pawn)) in
-    let r : Replaces p.board (board_after p m) m.from m.to (taken_pawn m) (man p.side (unwrap_or m.promotion Pawn)) =
+    let P : Board → Type 0 = λ b. Replaces p.board b m.from m.to (taken_pawn m) (piece_of p.side (unwrap_or m.promotion Pawn)) in
+    let r : Replaces p.board (board_after p m) m.from m.to (taken_pawn m) (piece_of p.side (unwrap_or m.promotion Pawn)) =
     subst P (sym (en_passant_board p m v s))
-    (replaces_clear p.board (moved p.board m) m.from m.to (taken_pawn m) (man p.side (unwrap_or m.promotion Pawn))
+    (replaces_clear p.board (moved p.board m) m.from m.to (taken_pawn m) (piece_of p.side (unwrap_or m.promotion Pawn))
     (replaces_moved p.board m p.side Pawn s.stands (rw v.squares low) free) q.from_differs q.to_differs) in
     record {
       kind = Pawn;
@@ -116,8 +116,8 @@ castling_moves p m wing v c =
     let h : AreHomes p.side wing (king_home p.side) (castling_target p.side wing) (rook_home p.side wing) (crossed p.side wing) = homes p.side wing in
     let home : IsAtHome p.board p.side wing = v.rights p.side wing c.right in
     let t : IsCastledTwice p m wing = castled_twice p m wing v c in
-    let one : Replaces p.board (moved p.board m) m.from m.to m.from (man p.side King) = t.first.replaces in
-    let two : Replaces (moved p.board m) (board_after p m) (rook_home p.side wing) (crossed p.side wing) (rook_home p.side wing) (man p.side Rook) = t.second.replaces in
+    let one : Replaces p.board (moved p.board m) m.from m.to m.from (piece_of p.side King) = t.first.replaces in
+    let two : Replaces (moved p.board m) (board_after p m) (rook_home p.side wing) (crossed p.side wing) (rook_home p.side wing) (piece_of p.side Rook) = t.second.replaces in
     let fr : m.from ≢ rook_home p.side wing = λ e. h.fr (sym c.from ∙ e) in
     let fx : m.from ≢ crossed p.side wing = λ e. h.fx (sym c.from ∙ e) in
     let tr : m.to ≢ rook_home p.side wing = λ e. h.tr (sym c.to ∙ e) in
@@ -137,7 +137,7 @@ castling_moves p m wing v c =
       others = λ s nf nt nr nx. two.others s nr nx nr ∙ one.others s nf nt nf;
     }
 
-goes_moves : (p : Parts) (m : Move) → Valid p → m.to < 64 → Goes p m → MovesOneMan p m ⊎ MovesKingAndRook p m
+goes_moves : (p : Parts) (m : Move) → Valid p → m.to < 64 → Goes p m → MovesOnePiece p m ⊎ MovesKingAndRook p m
 goes_moves p m v low (step s) =
     inl (plain_moves p m s.kind v s.stands low (not_own_empty p.side p.board m.to s.empty) s.promotion
     (no_castling p m s.kind s.stands s.attacks) (no_passant_officer p m s.kind s.stands s.no_pawn) (none_captured p m s.empty))
@@ -154,5 +154,5 @@ goes_moves p m v low (double_step s) =
 goes_moves p m v low (en_passant s) = inl (en_passant_moves p m v low s)
 goes_moves p m v low (castling wing s) = inr (castling_moves p m wing v s)
 
-pub moves_move_men : MovesMoveMen
-moves_move_men p m v l = goes_moves p m v l.on_board l.goes
+pub moves_move_pieces : MovesMovePieces
+moves_move_pieces p m v l = goes_moves p m v l.on_board l.goes

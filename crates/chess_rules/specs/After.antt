@@ -1,16 +1,16 @@
 -- The position after a move.
 use Rattle.std.specs.Prelude.{ℕ, ◌+◌, ◌*◌, ◌/◌, min, Bool, true, false, not, ◌&&◌, ◌||◌, ◌==◌, nat_le, Option, Some, None, is_some, unwrap_or, slice_set, if◌then◌else◌}
-use Rattle.chess_rules.specs.declared.men.Side.{Side}
-use Rattle.chess_rules.specs.declared.men.Side.TheVariants.{White, Black}
-use Rattle.chess_rules.specs.declared.men.Kind.{Kind}
-use Rattle.chess_rules.specs.declared.men.Kind.TheVariants.{Pawn, Rook, King}
-use Rattle.chess_rules.specs.declared.men.Piece.{Piece}
-use Rattle.chess_rules.specs.declared.men.Move.{Move}
-use Rattle.chess_rules.specs.declared.men.Rights.{Rights}
-use Rattle.chess_rules.specs.declared.men.Parts.{Parts}
+use Rattle.chess_rules.specs.declared.pieces.Side.{Side}
+use Rattle.chess_rules.specs.declared.pieces.Side.TheVariants.{White, Black}
+use Rattle.chess_rules.specs.declared.pieces.Kind.{Kind}
+use Rattle.chess_rules.specs.declared.pieces.Kind.TheVariants.{Pawn, Rook, King}
+use Rattle.chess_rules.specs.declared.pieces.Piece.{Piece}
+use Rattle.chess_rules.specs.declared.chess_move.Move.{Move}
+use Rattle.chess_rules.specs.declared.parts.Rights.{Rights}
+use Rattle.chess_rules.specs.declared.parts.Parts.{Parts}
 use Rattle.chess_rules.specs.declared.lines.Wing.{Wing}
 use Rattle.chess_rules.specs.declared.lines.Wing.TheVariants.{KingSide, QueenSide}
-use Rattle.chess_rules.specs.Board.{Board, on, man, other, file, row}
+use Rattle.chess_rules.specs.Board.{Board, on, piece_of, other, file, row}
 use Rattle.chess_rules.specs.Attack.{gap}
 
 -- The squares of castling (Article 3.8.2): the king's home (e1, e8), each rook's home (h1, a1, h8, a8), the king's target
@@ -54,12 +54,12 @@ abbrev pub is_side : Side → Side → Bool
 is_side White side = is_white side
 is_side Black side = not (is_white side)
 
--- whether men of this kind are pawns
+-- whether pieces of this kind are pawns
 abbrev pub is_pawn_kind : Kind → Bool
 is_pawn_kind Pawn = true
 is_pawn_kind _ = false
 
--- whether men of this kind are kings
+-- whether pieces of this kind are kings
 abbrev pub is_king_kind : Kind → Bool
 is_king_kind King = true
 is_king_kind _ = false
@@ -90,22 +90,22 @@ is_castling p m = is_king (on p.board m.from) && (gap (file m.from) (file m.to) 
 abbrev pub wing_of : Move → Wing
 wing_of m = if nat_le (file m.from) (file m.to) then KingSide else QueenSide
 
--- what stands on the square of arrival: the man, or what it is promoted to
+-- what stands on the square of arrival: the piece, or what it is promoted to
 abbrev pub arrival : Option Kind → Option Piece → Option Piece
-arrival promotion (Some piece) = man piece.side (unwrap_or promotion piece.kind)
+arrival promotion (Some piece) = piece_of piece.side (unwrap_or promotion piece.kind)
 arrival promotion None = None
 
 -- the square of the pawn that is taken en passant: on the rank that the move leaves and the file that it goes to
 abbrev pub taken_pawn : Move → ℕ
 taken_pawn m = 8 * row m.from + file m.to
 
--- The man is moved; what stood on the square of arrival is gone (Article 3.1.1).
+-- The piece is moved; what stood on the square of arrival is gone (Article 3.1.1).
 abbrev pub moved : Board → Move → Board
 moved board m = slice_set (slice_set board m.from None) m.to (arrival m.promotion (on board m.from))
 
 -- the rook is put on the square that the king crossed (Article 3.8.2)
 abbrev pub with_rook : Board → Side → Wing → Board
-with_rook board side wing = slice_set (slice_set board (rook_home side wing) None) (crossed side wing) (man side Rook)
+with_rook board side wing = slice_set (slice_set board (rook_home side wing) None) (crossed side wing) (piece_of side Rook)
 
 -- the board after the move
 abbrev pub board_after : Parts → Move → Board

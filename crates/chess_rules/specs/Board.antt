@@ -1,9 +1,9 @@
--- The board (Article 2 of the FIDE Laws of Chess): squares, men, and how squares lie to one another.
+-- The board (Article 2 of the FIDE Laws of Chess): squares, pieces, and how squares lie to one another.
 use Rattle.std.specs.Prelude.{◌≡◌, ℕ, ◌+◌, ◌/◌, ◌%◌, List, Option, Some, None, slice_index_or}
-use Rattle.chess_rules.specs.declared.men.Side.{Side}
-use Rattle.chess_rules.specs.declared.men.Side.TheVariants.{White, Black}
-use Rattle.chess_rules.specs.declared.men.Kind.{Kind}
-use Rattle.chess_rules.specs.declared.men.Piece.{Piece}
+use Rattle.chess_rules.specs.declared.pieces.Side.{Side}
+use Rattle.chess_rules.specs.declared.pieces.Side.TheVariants.{White, Black}
+use Rattle.chess_rules.specs.declared.pieces.Kind.{Kind}
+use Rattle.chess_rules.specs.declared.pieces.Piece.{Piece}
 use Rattle.chess_rules.specs.declared.lines.Direction.{Direction}
 use Rattle.chess_rules.specs.declared.lines.Direction.TheVariants.{North, South, East, West, NorthEast, NorthWest, SouthEast, SouthWest}
 
@@ -15,9 +15,9 @@ Board = List (Option Piece)
 abbrev pub on : Board → ℕ → Option Piece
 on board s = slice_index_or board s None
 
--- a man of this side and kind
-abbrev pub man : Side → Kind → Option Piece
-man side kind = Some (record { side = side; kind = kind })
+-- a piece of this side and kind
+abbrev pub piece_of : Side → Kind → Option Piece
+piece_of side kind = Some (record { side = side; kind = kind })
 
 abbrev pub other : Side → Side
 other White = Black

@@ -1,13 +1,13 @@
 -- Which moves are legal (Article 3), and how a game ends (Article 5).
 use Rattle.std.specs.Prelude.{◌≡◌, ◌≢◌, ℕ, ◌<◌, Option, Some, None, IsTrue}
-use Rattle.chess_rules.specs.declared.men.Side.{Side}
-use Rattle.chess_rules.specs.declared.men.Kind.{Kind}
-use Rattle.chess_rules.specs.declared.men.Kind.TheVariants.{Pawn, Rook, Knight, Bishop, King, Queen}
-use Rattle.chess_rules.specs.declared.men.Move.{Move}
-use Rattle.chess_rules.specs.declared.men.Parts.{Parts}
+use Rattle.chess_rules.specs.declared.pieces.Side.{Side}
+use Rattle.chess_rules.specs.declared.pieces.Kind.{Kind}
+use Rattle.chess_rules.specs.declared.pieces.Kind.TheVariants.{Pawn, Rook, Knight, Bishop, King, Queen}
+use Rattle.chess_rules.specs.declared.chess_move.Move.{Move}
+use Rattle.chess_rules.specs.declared.parts.Parts.{Parts}
 use Rattle.chess_rules.specs.declared.lines.Wing.{Wing}
 use Rattle.chess_rules.specs.declared.lines.Wing.TheVariants.{KingSide, QueenSide}
-use Rattle.chess_rules.specs.Board.{Board, on, man, other, row, Ahead, forward, second_row, last_row}
+use Rattle.chess_rules.specs.Board.{Board, on, piece_of, other, row, Ahead, forward, second_row, last_row}
 use Rattle.chess_rules.specs.Attack.{AttacksFrom, Attacks, InCheck}
 use Rattle.chess_rules.specs.After.{king_home, rook_home, castling_target, crossed, has_right, after}
 
@@ -36,7 +36,7 @@ NamesPromotion side Queen m = m.promotion ≡ None
 -- Step of a piece other than a pawn: to a square that it attacks and that is empty (Articles 3.2 to 3.6, 3.8.1).
 pub record Steps (p : Parts) (m : Move) : Type 0 where
   pub kind : Kind
-  pub stands : on p.board m.from ≡ man p.side kind
+  pub stands : on p.board m.from ≡ piece_of p.side kind
   pub no_pawn : kind ≢ Pawn
   pub attacks : AttacksFrom p.board p.side kind m.from m.to
   pub empty : on p.board m.to ≡ None
@@ -44,7 +44,7 @@ pub record Steps (p : Parts) (m : Move) : Type 0 where
 
 -- Step of a pawn: one square forward to an empty square (Article 3.7.1).
 pub record PawnSteps (p : Parts) (m : Move) : Type 0 where
-  pub stands : on p.board m.from ≡ man p.side Pawn
+  pub stands : on p.board m.from ≡ piece_of p.side Pawn
   pub goes : Ahead (forward p.side) 1 m.from m.to
   pub empty : on p.board m.to ≡ None
   pub promotion : NamesPromotion p.side Pawn m
@@ -52,15 +52,15 @@ pub record PawnSteps (p : Parts) (m : Move) : Type 0 where
 -- Capture: to a square that the piece attacks and that holds a piece of the other side (Articles 3.1.1, 3.7.3).
 pub record Captures (p : Parts) (m : Move) : Type 0 where
   pub kind : Kind
-  pub stands : on p.board m.from ≡ man p.side kind
+  pub stands : on p.board m.from ≡ piece_of p.side kind
   pub attacks : AttacksFrom p.board p.side kind m.from m.to
   pub victim : Kind
-  pub taken : on p.board m.to ≡ man (other p.side) victim
+  pub taken : on p.board m.to ≡ piece_of (other p.side) victim
   pub promotion : NamesPromotion p.side kind m
 
 -- Double step: a pawn on its second rank goes two squares forward; both squares are empty (Article 3.7.2).
 pub record DoubleSteps (p : Parts) (m : Move) : Type 0 where
-  pub stands : on p.board m.from ≡ man p.side Pawn
+  pub stands : on p.board m.from ≡ piece_of p.side Pawn
   pub begins : row m.from ≡ second_row p.side
   pub goes : Ahead (forward p.side) 2 m.from m.to
   pub passed_empty : (x : ℕ) → Ahead (forward p.side) 1 m.from x → on p.board x ≡ None
@@ -69,7 +69,7 @@ pub record DoubleSteps (p : Parts) (m : Move) : Type 0 where
 
 -- En passant: a pawn goes to the position's target square, which it attacks (Article 3.7).
 pub record TakesEnPassant (p : Parts) (m : Move) : Type 0 where
-  pub stands : on p.board m.from ≡ man p.side Pawn
+  pub stands : on p.board m.from ≡ piece_of p.side Pawn
   pub target : p.target ≡ Some m.to
   pub attacks : AttacksFrom p.board p.side Pawn m.from m.to
   pub promotion : m.promotion ≡ None

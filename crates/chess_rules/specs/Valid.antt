@@ -1,13 +1,13 @@
 -- Which positions are valid: six conditions, in the order in which they are tested.
 use Rattle.std.specs.Prelude.{◌≡◌, ℕ, ◌<◌, ◌≤◌, Some, None, IsTrue, length}
-use Rattle.chess_rules.specs.declared.men.Side.{Side}
-use Rattle.chess_rules.specs.declared.men.Side.TheVariants.{White, Black}
-use Rattle.chess_rules.specs.declared.men.Kind.TheVariants.{Pawn, Rook, King}
-use Rattle.chess_rules.specs.declared.men.Parts.{Parts}
-use Rattle.chess_rules.specs.declared.men.Invalid.{Invalid}
-use Rattle.chess_rules.specs.declared.men.Invalid.TheVariants.{Counters, Kings, Pawns, Rights, EnPassant, Check}
+use Rattle.chess_rules.specs.declared.pieces.Side.{Side}
+use Rattle.chess_rules.specs.declared.pieces.Side.TheVariants.{White, Black}
+use Rattle.chess_rules.specs.declared.pieces.Kind.TheVariants.{Pawn, Rook, King}
+use Rattle.chess_rules.specs.declared.parts.Parts.{Parts}
+use Rattle.chess_rules.specs.declared.parts.Invalid.{Invalid}
+use Rattle.chess_rules.specs.declared.parts.Invalid.TheVariants.{Counters, Kings, Pawns, Rights, EnPassant, Check}
 use Rattle.chess_rules.specs.declared.lines.Wing.{Wing}
-use Rattle.chess_rules.specs.Board.{Board, on, man, other, row, Ahead, forward}
+use Rattle.chess_rules.specs.Board.{Board, on, piece_of, other, row, Ahead, forward}
 use Rattle.chess_rules.specs.Attack.{InCheck}
 use Rattle.chess_rules.specs.After.{king_home, rook_home, has_right}
 
@@ -20,20 +20,20 @@ pub record HasCounters (p : Parts) : Type 0 where
 -- Kings: each side has exactly one king.
 pub record HasOneKing (board : Board) (side : Side) : Type 0 where
   pub king : ℕ
-  pub stands : on board king ≡ man side King
-  pub alone : (s : ℕ) → on board s ≡ man side King → s ≡ king
+  pub stands : on board king ≡ piece_of side King
+  pub alone : (s : ℕ) → on board s ≡ piece_of side King → s ≡ king
 
 abbrev pub HasKings : Parts → Type 0
 HasKings p = (side : Side) → HasOneKing p.board side
 
 -- Pawns: no pawn stands on rank 1 or 8.
 abbrev pub HasPawns : Board → Type 0
-HasPawns board = (s : ℕ) (side : Side) → on board s ≡ man side Pawn → (0 < row s) × (row s < 7)
+HasPawns board = (s : ℕ) (side : Side) → on board s ≡ piece_of side Pawn → (0 < row s) × (row s < 7)
 
 -- Rights: a castling right has its king and its rook at home.
 pub record IsAtHome (board : Board) (side : Side) (wing : Wing) : Type 0 where
-  pub king : on board (king_home side) ≡ man side King
-  pub rook : on board (rook_home side wing) ≡ man side Rook
+  pub king : on board (king_home side) ≡ piece_of side King
+  pub rook : on board (rook_home side wing) ≡ piece_of side Rook
 
 abbrev pub HasRights : Parts → Type 0
 HasRights p = (side : Side) (wing : Wing) → IsTrue (has_right p.rights side wing) → IsAtHome p.board side wing
@@ -49,7 +49,7 @@ pub record IsTarget (board : Board) (side : Side) (t : ℕ) : Type 0 where
   pub on_row : row t ≡ target_row side
   pub empty : on board t ≡ None
   pub came_from : (x : ℕ) → Ahead (forward (other side)) 1 x t → on board x ≡ None
-  pub pawn : (x : ℕ) → Ahead (forward (other side)) 1 t x → on board x ≡ man (other side) Pawn
+  pub pawn : (x : ℕ) → Ahead (forward (other side)) 1 t x → on board x ≡ piece_of (other side) Pawn
 
 abbrev pub HasEnPassant : Parts → Type 0
 HasEnPassant p = (t : ℕ) → p.target ≡ Some t → IsTarget p.board p.side t

@@ -4,34 +4,37 @@ ghost use Rattle.chess_rules.specs.Board.{on};
 ghost use Rattle.chess_rules.specs.Attack.{gap};
 ghost use Rattle.chess_rules.specs.After.{after, board_after as board_of, moved, with_rook, arrival, wing_of, right_after, rights_after, counted, is_pawn, is_king, is_castling as castling_test, is_en_passant as en_passant_test, is_double_step as double_step_test};
 
+use crate::chess_move::Move;
 use crate::lines::Wing;
-use crate::men::{Kind, Move, Parts, Piece, Rights, Side, Square};
+use crate::parts::{Parts, Rights};
+use crate::pieces::{Kind, Piece, Side};
 use crate::rules::{crossed_of, holds_right, other_side, rook_home_of};
+use crate::square::Square;
 
 type Board = [Option<Piece>; 64];
 
-fn holds_pawn(man: Option<Piece>) -> bool
-    ensures { result ≡ is_pawn man }
+fn holds_pawn(piece: Option<Piece>) -> bool
+    ensures { result ≡ is_pawn piece }
 {
-    match man {
+    match piece {
         Some(piece) => piece.kind.is(Kind::Pawn),
         None => false,
     }
 }
 
-fn holds_king(man: Option<Piece>) -> bool
-    ensures { result ≡ is_king man }
+fn holds_king(piece: Option<Piece>) -> bool
+    ensures { result ≡ is_king piece }
 {
-    match man {
+    match piece {
         Some(piece) => piece.kind.is(Kind::King),
         None => false,
     }
 }
 
-fn arrived(promotion: Option<Kind>, man: Option<Piece>) -> Option<Piece>
-    ensures { result ≡ arrival promotion man }
+fn arrived(promotion: Option<Kind>, piece: Option<Piece>) -> Option<Piece>
+    ensures { result ≡ arrival promotion piece }
 {
-    match man {
+    match piece {
         Some(piece) => Some(Piece {
             side: piece.side,
             kind: promotion.unwrap_or(piece.kind),
@@ -46,15 +49,15 @@ fn gap_of(a: u8, b: u8) -> u8
     a.abs_diff(b)
 }
 
-/// Moves the man that stands on the move's first square.
-fn move_man(board: &mut Board, m: &Move)
+/// Moves the piece that stands on the move's first square.
+fn move_piece(board: &mut Board, m: &Move)
     ensures { board.new ≡ moved board.old m.now }
 {
     let from = m.from.number() as usize;
     let to = m.to.number() as usize;
-    let man = board[from];
+    let piece = board[from];
     board[from] = None;
-    board[to] = arrived(m.promotion, man);
+    board[to] = arrived(m.promotion, piece);
 }
 
 fn move_rook(board: &mut Board, side: Side, wing: Wing)
@@ -111,7 +114,7 @@ pub fn board_after(parts: &Parts, m: &Move) -> Board
     ensures { result ≡ board_of parts.now m.now }
 {
     let mut board = parts.board;
-    move_man(&mut board, m);
+    move_piece(&mut board, m);
     if is_castling(parts, m) {
         move_rook(&mut board, parts.side, wing_towards(m));
     } else if is_en_passant(parts, m) {

@@ -2,23 +2,23 @@
 ghost use Rattle.std.specs.Prelude.{◌≡◌};
 ghost use Rattle.chess_rules.specs.Initial.{initial_board};
 
-use crate::men::{Kind, Piece, Side};
+use crate::pieces::{Kind, Piece, Side};
 
-/// What stands on a square, by the letter of its man.
-macro_rules! man {
+/// What stands on a square, by the letter of its piece.
+macro_rules! piece {
     (_) => { None };
-    (P) => { man!(White Pawn) };
-    (R) => { man!(White Rook) };
-    (N) => { man!(White Knight) };
-    (B) => { man!(White Bishop) };
-    (K) => { man!(White King) };
-    (Q) => { man!(White Queen) };
-    (p) => { man!(Black Pawn) };
-    (r) => { man!(Black Rook) };
-    (n) => { man!(Black Knight) };
-    (b) => { man!(Black Bishop) };
-    (k) => { man!(Black King) };
-    (q) => { man!(Black Queen) };
+    (P) => { piece!(White Pawn) };
+    (R) => { piece!(White Rook) };
+    (N) => { piece!(White Knight) };
+    (B) => { piece!(White Bishop) };
+    (K) => { piece!(White King) };
+    (Q) => { piece!(White Queen) };
+    (p) => { piece!(Black Pawn) };
+    (r) => { piece!(Black Rook) };
+    (n) => { piece!(Black Knight) };
+    (b) => { piece!(Black Bishop) };
+    (k) => { piece!(Black King) };
+    (q) => { piece!(Black Queen) };
     ($side:ident $kind:ident) => {
         Some(Piece { side: Side::$side, kind: Kind::$kind })
     };
@@ -26,10 +26,10 @@ macro_rules! man {
 
 /// A board from a8 to h1.
 macro_rules! board {
-    ($($man:tt)*) => { [$(man!($man)),*] };
+    ($($piece:tt)*) => { [$(piece!($piece)),*] };
 }
 
-/// The men before the first move (Article 2.3).
+/// The pieces before the first move (Article 2.3).
 pub fn first_board() -> [Option<Piece>; 64]
     ensures { result ≡ initial_board }
 {

@@ -3,16 +3,22 @@
 #![tactic(auto)]
 
 mod advance;
+mod chess_move;
 mod initial;
 pub mod laws;
 mod lines;
-mod men;
 mod moves;
+mod parts;
 mod picture;
+mod pieces;
 mod position;
 mod rules;
+mod square;
 mod walk;
 
+pub use chess_move::Move;
 pub use lines::Wing;
-pub use men::{Invalid, Kind, Move, Parts, Piece, Rights, Side, Square, Status};
+pub use parts::{Invalid, Parts, Rights, Status};
+pub use pieces::{Kind, Piece, Side};
 pub use position::Position;
+pub use square::Square;

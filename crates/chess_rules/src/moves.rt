@@ -1,6 +1,6 @@
-// The legal moves of a position: every man of the mover, every square that it may reach.
+// The legal moves of a position: every piece of the mover, every square that it may reach.
 ghost use Rattle.std.specs.Prelude.{◌≡◌, ◌≢◌, ◌<◌, ◌+◌, IfSome, IfNone, IfOk, OnOk, OnErr, IsTrue, ◌↔◌};
-ghost use Rattle.chess_rules.specs.Board.{on, man, file, row};
+ghost use Rattle.chess_rules.specs.Board.{on, piece_of, file, row};
 ghost use Rattle.chess_rules.specs.Attack.{gap};
 ghost use Rattle.chess_rules.specs.Valid.{Valid};
 ghost use Rattle.chess_rules.specs.Reach.{MayReach, MayPromote};
@@ -8,9 +8,12 @@ ghost use Rattle.chess_rules.specs.Legal.{Legal, Mated, Stale};
 ghost use Rattle.chess_rules.specs.Moves.{ListsLegal, promotion_place};
 ghost use Rattle.chess_rules.specs.Places.{ListsBelow, HasNone, first_place};
 
-use crate::men::{Kind, Move, Parts, Side, Square, Status};
+use crate::chess_move::Move;
+use crate::parts::{Parts, Status};
+use crate::pieces::{Kind, Side};
 use crate::position::is_legal_in;
 use crate::rules::{is_in_check, last_row_of};
+use crate::square::Square;
 use std::alloc::{AllocError, Global};
 
 /// The square of a number that is known to be one.
@@ -24,7 +27,7 @@ fn square_at(number: u8) -> Square
     }
 }
 
-/// Whether the squares lie to one another as some move of such a man wants it.
+/// Whether the squares lie to one another as some move of such a piece wants it.
 fn may_reach(kind: Kind, from: Square, to: Square) -> bool
     ensures { IsTrue result ↔ MayReach kind (gap (file from) (file to)) (gap (row from) (row to)) }
 {
@@ -40,10 +43,10 @@ fn may_reach(kind: Kind, from: Square, to: Square) -> bool
     }
 }
 
-/// The kind of the mover's man on the square.
+/// The kind of the mover's piece on the square.
 fn kind_at(parts: &Parts, square: Square) -> Option<Kind>
-    ensures some { IfSome result (λ kind. on parts.now.board square ≡ man parts.now.side kind) }
-    ensures none { IfNone result ((kind : Kind) → on parts.now.board square ≢ man parts.now.side kind) }
+    ensures some { IfSome result (λ kind. on parts.now.board square ≡ piece_of parts.now.side kind) }
+    ensures none { IfNone result ((kind : Kind) → on parts.now.board square ≢ piece_of parts.now.side kind) }
 {
     if let Some(piece) = parts.board[square.number() as usize]
         && piece.side.is(parts.side)
@@ -54,10 +57,10 @@ fn kind_at(parts: &Parts, square: Square) -> Option<Kind>
     }
 }
 
-/// Whether the man on `from` may go to `to`, as far as the two squares and what stands there show.
+/// Whether the piece on `from` may go to `to`, as far as the two squares and what stands there show.
 fn may_go(parts: &Parts, kind: Kind, from: Square, to: Square) -> bool
     requires valid { Valid parts.now }
-    requires stands { on parts.now.board from ≡ man parts.now.side kind }
+    requires stands { on parts.now.board from ≡ piece_of parts.now.side kind }
     ensures { ¬ IsTrue result
         → HasNone parts.now (first_place from to) (first_place from to + 5) }
 {
@@ -71,10 +74,10 @@ fn may_go(parts: &Parts, kind: Kind, from: Square, to: Square) -> bool
     }
 }
 
-/// Whether the man on `from` is promoted on `to`.
+/// Whether the piece on `from` is promoted on `to`.
 fn promotes(parts: &Parts, kind: Kind, from: Square, to: Square) -> bool
     requires valid { Valid parts.now }
-    requires stands { on parts.now.board from ≡ man parts.now.side kind }
+    requires stands { on parts.now.board from ≡ piece_of parts.now.side kind }
     ensures { ¬ IsTrue result
         → HasNone parts.now (first_place from to + 1) (first_place from to + 5) }
 {
@@ -117,7 +120,7 @@ fn push_legal(
     Ok(())
 }
 
-/// Adds the legal moves of the man on `from` to `to`.
+/// Adds the legal moves of the piece on `from` to `to`.
 fn push_moves_to(
     moves: &mut Vec<Move>,
     parts: &Parts,
@@ -126,7 +129,7 @@ fn push_moves_to(
     to: Square,
 ) -> Result<(), AllocError>
     requires valid { Valid parts.now }
-    requires stands { on parts.now.board from ≡ man parts.now.side kind }
+    requires stands { on parts.now.board from ≡ piece_of parts.now.side kind }
     requires below { ListsBelow parts.now moves.old.items (first_place from to) }
     ensures listed { OnOk result (ListsBelow parts.now moves.new.items (first_place from to + 5)) }
     ensures memory { OnErr result ((m : Move) × Legal parts.now m) }
@@ -144,7 +147,7 @@ fn push_moves_to(
     Ok(())
 }
 
-/// Adds the legal moves from this square, if a man of the mover stands there.
+/// Adds the legal moves from this square, if a piece of the mover stands there.
 fn push_moves_from(moves: &mut Vec<Move>, parts: &Parts, from: Square) -> Result<(), AllocError>
     requires valid { Valid parts.now }
     requires below { ListsBelow parts.now moves.old.items (first_place from 0) }
@@ -190,10 +193,10 @@ fn has_legal(parts: &Parts, from: Square, to: Square, promotion: Option<Kind>) -
     is_legal_in(parts, &m)
 }
 
-/// Whether the man on `from` has a legal move to `to`.
+/// Whether the piece on `from` has a legal move to `to`.
 fn has_move_to(parts: &Parts, kind: Kind, from: Square, to: Square) -> bool
     requires valid { Valid parts.now }
-    requires stands { on parts.now.board from ≡ man parts.now.side kind }
+    requires stands { on parts.now.board from ≡ piece_of parts.now.side kind }
     ensures some { IsTrue result → (m : Move) × Legal parts.now m }
     ensures none { ¬ IsTrue result
         → HasNone parts.now (first_place from to) (first_place from to + 5) }

@@ -1,11 +1,11 @@
 // The codes that the board sends for a position.
 ghost use Rattle.std.specs.Prelude.{◌≡◌, ◌<◌, All, map};
-ghost use Rattle.chess_rules.specs.Picture.{code, code_of_man};
+ghost use Rattle.chess_rules.specs.Picture.{code, code_of_piece};
 
-use crate::men::{Kind, Piece, Side};
+use crate::pieces::{Kind, Piece, Side};
 
-fn man_code(side: Side, kind: Kind) -> u8
-    ensures { result ≡ code_of_man side kind }
+fn piece_code(side: Side, kind: Kind) -> u8
+    ensures { result ≡ code_of_piece side kind }
 {
     let code = match kind {
         Kind::Pawn => 1,
@@ -21,11 +21,11 @@ fn man_code(side: Side, kind: Kind) -> u8
     }
 }
 
-fn code_on(man: Option<Piece>) -> u8
-    ensures { result ≡ code man }
+fn code_on(piece: Option<Piece>) -> u8
+    ensures { result ≡ code piece }
 {
-    match man {
-        Some(piece) => man_code(piece.side, piece.kind),
+    match piece {
+        Some(piece) => piece_code(piece.side, piece.kind),
         None => 0,
     }
 }

@@ -10,11 +10,13 @@ ghost use Rattle.chess_rules.specs.Initial.{initial};
 ghost use Rattle.chess_rules.specs.Valid.{HasCounters, HasOneKing, HasKings, HasPawns, IsAtHome, HasRights, HasEnPassant, HasNoCheck, Valid, FailsFirst, IsTarget, target_row};
 
 use crate::advance::{board_after, parts_after};
+use crate::chess_move::Move;
 use crate::initial::first_board;
 use crate::lines::Wing;
-use crate::men::{Invalid, Move, Parts, Piece, Rights, Side, Status};
 use crate::moves::{legal_moves_in, status_of};
+use crate::parts::{Invalid, Parts, Rights, Status};
 use crate::picture::codes_of;
+use crate::pieces::{Piece, Side};
 use crate::rules::{
     goes, holds_right, is_empty, is_in_check, is_king_attacked, is_king_of, is_pawn_of, is_rook_of,
     king_home_of, other_side, rook_home_of,
@@ -147,7 +149,7 @@ pub struct Position {
 }
 
 impl Model for Position {
-    ghost use Rattle.chess_rules.specs.declared.men.Parts.{Parts};
+    ghost use Rattle.chess_rules.specs.declared.parts.Parts.{Parts};
     ghost use Rattle.chess_rules.specs.Valid.{Valid};
 
     ghost Value = { Parts };
@@ -278,7 +280,7 @@ impl Position {
     ///
     /// # Errors
     ///
-    /// Where the memory for a move was refused; a position with no legal move needs none.
+    /// Where there was no memory for a move; a position with no legal move needs none.
     pub fn legal_moves(&self, alloc: Global) -> Result<Vec<Move>, AllocError>
         ensures listed { IfOk result (λ moves. ListsLegal self.now moves.items) }
         ensures memory { OnErr result ((m : Move) × Legal self.now m) }

@@ -1,14 +1,17 @@
 // Which moves are legal, tested case by case.
 ghost use Rattle.std.specs.Prelude.{◌≡◌, ◌≢◌, ◌<◌, ◌↔◌, ℕ, IfSome, IfNone, IsTrue, None, ◌≤◌, ◌⊎◌};
-ghost use Rattle.chess_rules.specs.Board.{Ahead, on, man, other, forward, second_row, last_row};
+ghost use Rattle.chess_rules.specs.Board.{Ahead, on, piece_of, other, forward, second_row, last_row};
 ghost use Rattle.chess_rules.specs.Attack.{Attacks, InCheck};
 ghost use Rattle.chess_rules.specs.Legal.{IsOfficer, NamesPromotion, Steps, PawnSteps, Captures, DoubleSteps, TakesEnPassant, Castles, Goes, BetweenHomes, IsWaySafe};
 ghost use Rattle.chess_rules.specs.Valid.{HasOneKing};
 ghost use Rattle.chess_rules.specs.Walk.{square_from_home};
 ghost use Rattle.chess_rules.specs.After.{king_home, rook_home, castling_target, crossed, has_right};
 
+use crate::chess_move::Move;
 use crate::lines::Wing;
-use crate::men::{Kind, Move, Parts, Piece, Rights, Side, Square};
+use crate::parts::{Parts, Rights};
+use crate::pieces::{Kind, Piece, Side};
+use crate::square::Square;
 use crate::walk::{attacks_from, is_attacked};
 
 /// The other side.
@@ -21,11 +24,11 @@ pub fn other_side(side: Side) -> Side
     }
 }
 
-/// The kind of this side's man on the square.
+/// The kind of this side's piece on the square.
 pub fn kind_on(board: &[Option<Piece>; 64], side: Side, square: u8) -> Option<Kind>
     requires { square < 64 }
-    ensures some { IfSome result (λ kind. on board.now square ≡ man side kind) }
-    ensures none { IfNone result ((kind : Kind) → on board.now square ≢ man side kind) }
+    ensures some { IfSome result (λ kind. on board.now square ≡ piece_of side kind) }
+    ensures none { IfNone result ((kind : Kind) → on board.now square ≢ piece_of side kind) }
 {
     if let Some(piece) = board[square as usize]
         && piece.side.is(side)
@@ -109,7 +112,7 @@ fn is_forward(side: Side, distance: u8, from: u8, to: u8) -> bool
 /// Whether a pawn of this side stands on the square.
 pub fn is_pawn_of(board: &[Option<Piece>; 64], side: Side, square: u8) -> bool
     requires { square < 64 }
-    ensures { IsTrue result ↔ (on board.now square ≡ man side Kind.Pawn) }
+    ensures { IsTrue result ↔ (on board.now square ≡ piece_of side Kind.Pawn) }
 {
     match kind_on(board, side, square) {
         Some(kind) => kind.is(Kind::Pawn),
@@ -310,7 +313,7 @@ fn pawn_goes(parts: &Parts, m: &Move) -> bool
     is_pawn_step(parts, m) || is_double_step(parts, m) || is_en_passant(parts, m)
 }
 
-/// Whether the man goes so, whether or not its own king is then attacked.
+/// Whether the piece goes so, whether or not its own king is then attacked.
 pub fn goes(parts: &Parts, m: &Move) -> bool
     ensures { IsTrue result ↔ Goes parts.now m.now }
 {
@@ -332,9 +335,9 @@ pub fn goes(parts: &Parts, m: &Move) -> bool
 /// Whether a king of this side stands on the square.
 pub fn is_king_of(board: &[Option<Piece>; 64], side: Side, square: u8) -> bool
     requires { square < 64 }
-    ensures { IsTrue result ↔ (on board.now square ≡ man side Kind.King) }
+    ensures { IsTrue result ↔ (on board.now square ≡ piece_of side Kind.King) }
 {
-    // Few men are kings, and half of them are of a side: so the kind is asked first.
+    // Few pieces are kings, and half of them are of a side: so the kind is asked first.
     if let Some(piece) = board[square as usize]
         && piece.kind.is(Kind::King)
         && piece.side.is(side)
@@ -388,7 +391,7 @@ pub fn is_in_check(board: &[Option<Piece>; 64], side: Side) -> bool
 /// Whether a rook of this side stands on the square.
 pub fn is_rook_of(board: &[Option<Piece>; 64], side: Side, square: u8) -> bool
     requires { square < 64 }
-    ensures { IsTrue result ↔ (on board.now square ≡ man side Kind.Rook) }
+    ensures { IsTrue result ↔ (on board.now square ≡ piece_of side Kind.Rook) }
 {
     match kind_on(board, side, square) {
         Some(kind) => kind.is(Kind::Rook),

@@ -1,11 +1,11 @@
-// Looking outwards from a square: which men of a side attack it.
+// Looking outwards from a square: which pieces of a side attack it.
 ghost use Rattle.std.specs.Prelude.{◌≡◌, ◌≢◌, ◌+◌, ◌%◌, ◌/◌, ◌<◌, ◌↔◌, IsNone, IfSome, IfNone, IsTrue};
-ghost use Rattle.chess_rules.specs.Board.{Ahead, on, man};
+ghost use Rattle.chess_rules.specs.Board.{Ahead, on, piece_of};
 ghost use Rattle.chess_rules.specs.Attack.{Attacks, AttacksFrom, Ranges, IsJump, IsPawnDiagonal};
 ghost use Rattle.chess_rules.specs.Walk.{IsAtEdge, IsOpen, IsFirst, IsHitFrom, IsNotHit, IsJumped, JumpsFrom, NoneJumpsOver, PointsOnly, PointsNowhere, opposite};
 
 use crate::lines::Direction;
-use crate::men::{Kind, Piece, Side};
+use crate::pieces::{Kind, Piece, Side};
 
 const DIRECTIONS: [Direction; 8] = [
     Direction::North,
@@ -55,7 +55,7 @@ fn neighbour(direction: Direction, square: u8) -> Option<u8>
     }
 }
 
-/// Whether such a man attacks along a line in this direction at this distance.
+/// Whether such a piece attacks along a line in this direction at this distance.
 fn ranges(side: Side, kind: Kind, direction: Direction, distance: u8) -> bool
     ensures { IsTrue result ↔ Ranges side kind direction distance }
 {
@@ -82,7 +82,7 @@ fn is_pawn_diagonal(side: Side, direction: Direction) -> bool
     }
 }
 
-/// A man that is seen from a square.
+/// A piece that is seen from a square.
 #[derive(Clone, Copy)]
 struct Seen {
     piece: Piece,
@@ -90,8 +90,8 @@ struct Seen {
     square: u8,
 }
 
-/// The first man from a square in this direction.
-fn first_man(board: &[Option<Piece>; 64], square: u8, direction: Direction) -> Option<Seen>
+/// The first piece from a square in this direction.
+fn first_piece(board: &[Option<Piece>; 64], square: u8, direction: Direction) -> Option<Seen>
     requires { square < 64 }
     ensures none { IfNone result (IsOpen board.now direction square) }
     ensures some { IfSome result (λ seen. IsFirst board.now direction square seen) }
@@ -113,13 +113,13 @@ fn first_man(board: &[Option<Piece>; 64], square: u8, direction: Direction) -> O
     None
 }
 
-/// The square of the first man in this direction, if it is of this side and attacks the square.
+/// The square of the first piece in this direction, if it is of this side and attacks the square.
 fn hit(board: &[Option<Piece>; 64], side: Side, square: u8, direction: Direction) -> Option<u8>
     requires { square < 64 }
     ensures none { IfNone result (IsNotHit board.now side direction square) }
     ensures some { IfSome result (IsHitFrom board.now side direction square) }
 {
-    let seen = first_man(board, square, direction)?;
+    let seen = first_piece(board, square, direction)?;
     if seen.piece.side.is(side)
         && ranges(side, seen.piece.kind, opposite_of(direction), seen.distance)
     {
@@ -188,7 +188,7 @@ fn direction_to(square: u8, other: u8) -> Option<Direction>
     None
 }
 
-/// Whether the man on `from` is seen in this direction, is of this side and attacks the square.
+/// Whether the piece on `from` is seen in this direction, is of this side and attacks the square.
 fn is_hit_from(
     board: &[Option<Piece>; 64],
     side: Side,
@@ -256,7 +256,7 @@ fn is_jumped(board: &[Option<Piece>; 64], side: Side, square: u8) -> bool
     false
 }
 
-/// Whether a man of this side attacks the square.
+/// Whether a piece of this side attacks the square.
 pub fn is_attacked(board: &[Option<Piece>; 64], side: Side, square: u8) -> bool
     requires { square < 64 }
     ensures { IsTrue result ↔ Attacks board.now side square }
@@ -269,11 +269,11 @@ pub fn is_attacked(board: &[Option<Piece>; 64], side: Side, square: u8) -> bool
     is_jumped(board, side, square)
 }
 
-/// Whether the man on the one square, of this side and kind, attacks the other square.
+/// Whether the piece on the one square, of this side and kind, attacks the other square.
 pub fn attacks_from(board: &[Option<Piece>; 64], side: Side, kind: Kind, from: u8, to: u8) -> bool
     requires from { from < 64 }
     requires to { to < 64 }
-    requires stands { on board.now from ≡ man side kind }
+    requires stands { on board.now from ≡ piece_of side kind }
     ensures { IsTrue result ↔ AttacksFrom board.now side kind from to }
 {
     if kind.is(Kind::Knight) {

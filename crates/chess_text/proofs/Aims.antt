@@ -1,11 +1,11 @@
 -- A text aims at each legal move that it names.
 use Rattle.std.proofs.Common.{◌≡◌, ◌≢◌, ℕ, ◌+◌, ◌-◌, ◌*◌, ◌/◌, ◌%◌, ◌<◌, ◌≤◌, ◌==◌, Bool, true, false, List, [], ◌∷◌, ◌++◌, Option, None, Some, get_or, refl, sym, ap, subst, ◌∙◌, append_assoc, arith}
 use Rattle.std.proofs.lemmas.Bool.{cond-false, ne_eqb}
-use Rattle.chess_rules.specs.declared.men.Side.{Side}
-use Rattle.chess_rules.specs.declared.men.Kind.{Kind}
-use Rattle.chess_rules.specs.declared.men.Kind.TheVariants.{Pawn, Rook, Knight, Bishop, King, Queen}
-use Rattle.chess_rules.specs.declared.men.Move.{Move}
-use Rattle.chess_rules.specs.declared.men.Parts.{Parts}
+use Rattle.chess_rules.specs.declared.pieces.Side.{Side}
+use Rattle.chess_rules.specs.declared.pieces.Kind.{Kind}
+use Rattle.chess_rules.specs.declared.pieces.Kind.TheVariants.{Pawn, Rook, Knight, Bishop, King, Queen}
+use Rattle.chess_rules.specs.declared.chess_move.Move.{Move}
+use Rattle.chess_rules.specs.declared.parts.Parts.{Parts}
 use Rattle.chess_rules.specs.declared.lines.Wing.{Wing}
 use Rattle.chess_rules.specs.declared.lines.Wing.TheVariants.{KingSide, QueenSide}
 use Rattle.chess_rules.specs.Legal.{Legal, Castles}
@@ -13,7 +13,7 @@ use Rattle.chess_rules.specs.Valid.{Valid}
 use Rattle.chess_rules.proofs.Tells.{wing-homes}
 use Rattle.chess_text.specs.Squares.{file_byte, rank_byte, square_text}
 use Rattle.chess_text.specs.San.{San, IsBody, castling, pawn, piece, letter, castling_text, cross, pawn_cross, promotion_text, pawn_text, origin_text, piece_text, mark_text, is_capture}
-use Rattle.chess_text.specs.Reading.{last_in, kind_at, target_by, promotion_by, aim_by, castling_aim, aim_at, IsAimedAt}
+use Rattle.chess_text.specs.Aim.{last_in, kind_at, target_by, promotion_by, aim_by, castling_aim, aim_at, IsAimedAt}
 use Rattle.chess_text.specs.declared.aim.Aim.{Aim}
 use Rattle.chess_text.specs.declared.san.Origin.{Origin}
 use Rattle.chess_text.specs.declared.san.Origin.TheVariants.{Nothing, ByFile, ByRank, ByBoth}

@@ -1,36 +1,36 @@
--- The codes of men.
+-- The codes of pieces.
 use Rattle.std.proofs.Common.{◌≡◌, ℕ, zero, suc, ◌<◌, List, [], ◌∷◌, length, map, Option, None, Some, refl, sym, ap, ◌∙◌, arith}
 use Rattle.std.specs.Prelude.{All}
 use Rattle.std.specs.List.{AllByRecursion}
 use Rattle.std.proofs.lemmas.List.Elements.{All-map, recursion_from_All}
 use Rattle.std.proofs.lemmas.List.{length-map}
-use Rattle.chess_rules.specs.declared.men.Side.{Side}
-use Rattle.chess_rules.specs.declared.men.Side.TheVariants.{White, Black}
-use Rattle.chess_rules.specs.declared.men.Kind.{Kind}
-use Rattle.chess_rules.specs.declared.men.Kind.TheVariants.{Pawn, Rook, Knight, Bishop, King, Queen}
-use Rattle.chess_rules.specs.declared.men.Piece.{Piece}
-use Rattle.chess_rules.specs.Picture.{code, code_of_man}
+use Rattle.chess_rules.specs.declared.pieces.Side.{Side}
+use Rattle.chess_rules.specs.declared.pieces.Side.TheVariants.{White, Black}
+use Rattle.chess_rules.specs.declared.pieces.Kind.{Kind}
+use Rattle.chess_rules.specs.declared.pieces.Kind.TheVariants.{Pawn, Rook, Knight, Bishop, King, Queen}
+use Rattle.chess_rules.specs.declared.pieces.Piece.{Piece}
+use Rattle.chess_rules.specs.Picture.{code, code_of_piece}
 use Rattle.chess_rules.specs.Board.{Board}
 use Rattle.chess_text.specs.Placement.{IsBoardPicture}
 use Rattle.chess_text.specs.PlacementReading.{decode}
 
-man_low : (side : Side) (k : Kind) → code_of_man side k < 13
-man_low White Pawn = omega arith
-man_low White Rook = omega arith
-man_low White Knight = omega arith
-man_low White Bishop = omega arith
-man_low White King = omega arith
-man_low White Queen = omega arith
-man_low Black Pawn = omega arith
-man_low Black Rook = omega arith
-man_low Black Knight = omega arith
-man_low Black Bishop = omega arith
-man_low Black King = omega arith
-man_low Black Queen = omega arith
+piece_low : (side : Side) (k : Kind) → code_of_piece side k < 13
+piece_low White Pawn = omega arith
+piece_low White Rook = omega arith
+piece_low White Knight = omega arith
+piece_low White Bishop = omega arith
+piece_low White King = omega arith
+piece_low White Queen = omega arith
+piece_low Black Pawn = omega arith
+piece_low Black Rook = omega arith
+piece_low Black Knight = omega arith
+piece_low Black Bishop = omega arith
+piece_low Black King = omega arith
+piece_low Black Queen = omega arith
 
-code_low : (man : Option Piece) → code man < 13
+code_low : (piece : Option Piece) → code piece < 13
 code_low None = omega arith
-code_low (Some piece) = man_low piece.side piece.kind
+code_low (Some piece) = piece_low piece.side piece.kind
 
 pub codes_low : (board : Board) → All (λ c. c < 13) (map code board)
 codes_low board = All-map (λ (c : ℕ). c < 13) code board (λ k d lt. code_low _)
@@ -64,27 +64,27 @@ picture_back picture is = map_code-decode picture (recursion_from_All (λ (c : �
 pub board_picture : (board : Board) → length board ≡ 64 → IsBoardPicture (map code board)
 board_picture board e = record { squares = length-map board code ∙ e; codes = codes_low board }
 
-decode-code_of_man : (side : Side) (k : Kind) → decode (code_of_man side k) ≡ Some (record { side = side; kind = k })
-decode-code_of_man White Pawn = refl
-decode-code_of_man White Rook = refl
-decode-code_of_man White Knight = refl
-decode-code_of_man White Bishop = refl
-decode-code_of_man White King = refl
-decode-code_of_man White Queen = refl
-decode-code_of_man Black Pawn = refl
-decode-code_of_man Black Rook = refl
-decode-code_of_man Black Knight = refl
-decode-code_of_man Black Bishop = refl
-decode-code_of_man Black King = refl
-decode-code_of_man Black Queen = refl
+decode-code_of_piece : (side : Side) (k : Kind) → decode (code_of_piece side k) ≡ Some (record { side = side; kind = k })
+decode-code_of_piece White Pawn = refl
+decode-code_of_piece White Rook = refl
+decode-code_of_piece White Knight = refl
+decode-code_of_piece White Bishop = refl
+decode-code_of_piece White King = refl
+decode-code_of_piece White Queen = refl
+decode-code_of_piece Black Pawn = refl
+decode-code_of_piece Black Rook = refl
+decode-code_of_piece Black Knight = refl
+decode-code_of_piece Black Bishop = refl
+decode-code_of_piece Black King = refl
+decode-code_of_piece Black Queen = refl
 
-decode-code : (man : Option Piece) → decode (code man) ≡ man
+decode-code : (piece : Option Piece) → decode (code piece) ≡ piece
 decode-code None = refl
-decode-code (Some piece) = decode-code_of_man piece.side piece.kind
+decode-code (Some piece) = decode-code_of_piece piece.side piece.kind
 
 map_decode-code : (board : Board) → map decode (map code board) ≡ board
 map_decode-code [] = refl
-map_decode-code (man ∷ men) = cc (decode-code man, map_decode-code men)
+map_decode-code (piece ∷ pieces) = cc (decode-code piece, map_decode-code pieces)
 
 -- two boards never share a picture
 pub one_board : (a b : Board) → map code a ≡ map code b → a ≡ b

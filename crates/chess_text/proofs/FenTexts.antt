@@ -6,17 +6,17 @@ use Rattle.std.proofs.lemmas.List.Splits.{slice_split_at, slice_split_none, join
 use Rattle.std.proofs.lemmas.Bool.{false≢true}
 use Rattle.std.proofs.lemmas.List.Elements.{All-from_recursion, recursion_from_All}
 use Rattle.std.proofs.lemmas.Fmt.{decimal_by_steps, decimal_digit, decimal_injective}
-use Rattle.chess_rules.specs.declared.men.Side.{Side}
-use Rattle.chess_rules.specs.declared.men.Side.TheVariants.{White, Black}
-use Rattle.chess_rules.specs.declared.men.Rights.{Rights}
-use Rattle.chess_rules.specs.declared.men.Parts.{Parts}
-use Rattle.chess_rules.specs.declared.men.Invalid.{Invalid}
-use Rattle.chess_rules.specs.declared.men.Invalid.TheVariants.{Counters, Kings, Pawns, Rights as RightsFail, EnPassant, Check}
+use Rattle.chess_rules.specs.declared.pieces.Side.{Side}
+use Rattle.chess_rules.specs.declared.pieces.Side.TheVariants.{White, Black}
+use Rattle.chess_rules.specs.declared.parts.Rights.{Rights}
+use Rattle.chess_rules.specs.declared.parts.Parts.{Parts}
+use Rattle.chess_rules.specs.declared.parts.Invalid.{Invalid}
+use Rattle.chess_rules.specs.declared.parts.Invalid.TheVariants.{Counters, Kings, Pawns, Rights as RightsFail, EnPassant, Check}
 use Rattle.chess_rules.specs.Board.{Board, row}
 use Rattle.chess_rules.specs.Picture.{code, picture}
 use Rattle.chess_rules.specs.Valid.{HasCounters, Valid, FailsFirst, target_row}
 use Rattle.chess_text.specs.Placement.{placement}
-use Rattle.chess_text.specs.Fen.{side_text, held, or_dash, castling_text, target_text, Fields, six_fields, four_fields, fields_of, fen, short_fen, Tells, whole, short, IsTargetField, IsDigits, AreFields, IsSplit, six, four, HasForm, ReadsCounters, ReadsBoard, ReadsAs, RefusedFirst}
+use Rattle.chess_text.specs.Fen.{side_text, held, or_dash, castling_text, target_text, Fields, six_fields, four_fields, fields_of, fen, short_fen, TellsPosition, whole, short, IsTargetField, IsDigits, AreFields, IsSplit, six, four, HasForm, ReadsCounters, ReadsBoard, ReadsAs, RefusedFirst}
 use Rattle.chess_text.specs.declared.fen.FenError.{FenError}
 use Rattle.chess_text.specs.declared.fen.FenError.TheVariants as refusal
 use Rattle.chess_text.specs.declared.fields.RawFields.{RawFields}
@@ -239,7 +239,7 @@ parts_fields p l t h =
       fullmove = decimal_digits p.fullmove (omega (arith, h.fullmove));
     }
 
-tells_split : (text : List ℕ) (p : Parts) → Tells text p → IsSplit text (fields_of p)
+tells_split : (text : List ℕ) (p : Parts) → TellsPosition text p → IsSplit text (fields_of p)
 unfolding fen short_fen
 tells_split text p (whole e) = six e
 tells_split text p (short h f e) = four (ap decimal h ∙ decimal_digit 0 (omega arith)) (ap decimal f ∙ decimal_digit 1 (omega arith)) e
@@ -284,11 +284,11 @@ target_of : (side : Side) (target : Option ℕ) → ((t : ℕ) → target ≡ So
 target_of side None h = tt
 target_of side (Some t) h = target_row_is side t (h t refl)
 
-pub valid_reads : (text : List ℕ) (p : Parts) → Valid p → Tells text p → ReadsAs text p
+pub valid_reads : (text : List ℕ) (p : Parts) → Valid p → TellsPosition text p → ReadsAs text p
 valid_reads text p v t = record { squares = v.squares; target = target_of p.side p.target (λ s e. (v.target s e).on_row); counters = v.counters; tells = t }
 
 -- a text tells one position at most
-pub texts_tell_positions : (p q : Parts) (text : List ℕ) → Valid p → Valid q → Tells text p → Tells text q → p ≡ q
+pub texts_tell_positions : (p q : Parts) (text : List ℕ) → Valid p → Valid q → TellsPosition text p → TellsPosition text q → p ≡ q
 texts_tell_positions p q text v w t u = one_reading text p q (valid_reads text p v t) (valid_reads text q w u)
 
 -- ---- refusals
@@ -309,13 +309,13 @@ holds p RightsFail v f = f.3 v.rights
 holds p EnPassant v f = f.4 v.target
 holds p Check v f = f.5 v.no_check
 
-fails_not : (text : List ℕ) (p q : Parts) (i : Invalid) → Valid p → Tells text p → ReadsAs text q → FailsFirst q i → ⊥
+fails_not : (text : List ℕ) (p q : Parts) (i : Invalid) → Valid p → TellsPosition text p → ReadsAs text q → FailsFirst q i → ⊥
 fails_not text p q i v t r f =
     let e = one_reading text p q (valid_reads text p v t) r in
     holds q i (subst Valid e v) f
 
 -- a text that tells a position is not refused
-pub not_refused : (text : List ℕ) (p : Parts) → Valid p → Tells text p → (e : FenError) → RefusedFirst text e → ⊥
+pub not_refused : (text : List ℕ) (p : Parts) → Valid p → TellsPosition text p → (e : FenError) → RefusedFirst text e → ⊥
 not_refused text p v t refusal.Form n = n (fields_of p) (reads_form text p (valid_reads text p v t))
 not_refused text p v t refusal.Counters n =
     let e = one_form text (fields_of p) n.0 (reads_form text p (valid_reads text p v t)) n.1 in
@@ -366,7 +366,7 @@ not_formed text f h (four c d t) a b = a (ap length (ap split t ∙ four_back f 
 pub no_form : (text : List ℕ) (f : Fields) → HasForm text f → (length (split text) ≡ 4 → ⊥) → (length (split text) ≡ 6 → ⊥) → ⊥
 no_form text f h a b = not_formed text f h.are_fields h.split a b
 
-split_tells : (text : List ℕ) (p : Parts) → HasCounters p → IsSplit text (fields_of p) → Tells text p
+split_tells : (text : List ℕ) (p : Parts) → HasCounters p → IsSplit text (fields_of p) → TellsPosition text p
 unfolding fen short_fen
 split_tells text p h (six e) = whole e
 split_tells text p h (four a b e) =

@@ -15,8 +15,8 @@ record IsRun (b : ℕ) : Type 0 where
   pub high : b < 57
   pub shows : expand b ≡ replicate (b - 48) None
 
-run_or_man : (b : ℕ) → IsRun b ⊎ (expand b ≡ Some b ∷ [])
-run_or_man b = elim (cases_lt 48 b) as (λ _. IsRun b ⊎ (expand b ≡ Some b ∷ [])) [
+run_or_piece : (b : ℕ) → IsRun b ⊎ (expand b ≡ Some b ∷ [])
+run_or_piece b = elim (cases_lt 48 b) as (λ _. IsRun b ⊎ (expand b ≡ Some b ∷ [])) [
   | inl low ↦
       let l : ltb 48 b ≡ true = search (rules, tests, arith) in
       elim (cases_lt b 57) as (λ _. IsRun b ⊎ (expand b ≡ Some b ∷ [])) [
@@ -40,7 +40,7 @@ run_shows n le = elim (cases_lt 0 n) as (λ _. flat_map expand (run_text n) ≡ 
 ]
 
 letter_shows : (c : ℕ) → expand (letter c) ≡ Some (letter c) ∷ []
-letter_shows c = elim (run_or_man (letter c)) as (λ _. expand (letter c) ≡ Some (letter c) ∷ []) [
+letter_shows c = elim (run_or_piece (letter c)) as (λ _. expand (letter c) ≡ Some (letter c) ∷ []) [
   | inl r ↦ absurd (letter_other c (omega (arith, r.low), omega (arith, r.high)))
   | inr m ↦ m
 ]
@@ -75,7 +75,7 @@ rest_apart b [] h = tt
 rest_apart b (c ∷ cs) h = h.1
 
 shows_some : (b : ℕ) (bs : List ℕ) → flat_map expand (b ∷ bs) ≡ [] → ⊥
-shows_some b bs e = elim (run_or_man b) as (λ _. ⊥) [
+shows_some b bs e = elim (run_or_piece b) as (λ _. ⊥) [
   | inl r ↦
       let low : 48 < b = r.low in
       let run : List (Option ℕ) = replicate (b - 48) None in
@@ -85,14 +85,14 @@ shows_some b bs e = elim (run_or_man b) as (λ _. ⊥) [
   | inr m ↦ omega (arith, ap length (ap (λ (x : List (Option ℕ)). x ++ flat_map expand bs) (sym m) ∙ e))
 ]
 
-no_man : (n y : ℕ) (xs ys : List (Option ℕ)) → 0 < n → replicate n None ++ xs ≡ Some y ∷ ys → ⊥
-no_man zero y xs ys pos e = omega arith
-no_man (suc n) y xs ys pos e = none-some y (ap (λ (l : List (Option ℕ)). get_or l 0 None) e)
+no_piece : (n y : ℕ) (xs ys : List (Option ℕ)) → 0 < n → replicate n None ++ xs ≡ Some y ∷ ys → ⊥
+no_piece zero y xs ys pos e = omega arith
+no_piece (suc n) y xs ys pos e = none-some y (ap (λ (l : List (Option ℕ)). get_or l 0 None) e)
 
 -- behind a digit no empty square comes first
 no_empty : (a : ℕ) (bs : List ℕ) (zs : List (Option ℕ)) → IsDigit a → HasDigitsApart (a ∷ bs) → flat_map expand bs ≡ None ∷ zs → ⊥
 no_empty a [] zs d h e = omega (arith, ap length e)
-no_empty a (b ∷ bs) zs d h e = elim (run_or_man b) as (λ _. ⊥) [
+no_empty a (b ∷ bs) zs d h e = elim (run_or_piece b) as (λ _. ⊥) [
   | inl r ↦ h.0 d (omega (arith, r.low), omega (arith, r.high))
   | inr m ↦ none-some b (sym (ap (λ (l : List (Option ℕ)). get_or l 0 None) (ap (λ (x : List (Option ℕ)). x ++ flat_map expand bs) (sym m) ∙ e)))
 ]
@@ -120,10 +120,10 @@ one_text (x ∷ xs) (y ∷ ys) g h e =
     let fx = flat_map expand xs in
     let fy = flat_map expand ys in
     let next = one_text xs ys (rest_apart x xs g) (rest_apart y ys h) in
-    elim (run_or_man x) as (λ _. x ∷ xs ≡ y ∷ ys) [
+    elim (run_or_piece x) as (λ _. x ∷ xs ≡ y ∷ ys) [
       | inl r ↦
           let left : replicate (x - 48) None ++ fx ≡ expand y ++ fy = ap (λ (l : List (Option ℕ)). l ++ fx) (sym r.shows) ∙ e in
-          elim (run_or_man y) as (λ _. x ∷ xs ≡ y ∷ ys) [
+          elim (run_or_piece y) as (λ _. x ∷ xs ≡ y ∷ ys) [
             | inl s ↦
                 let runs : replicate (x - 48) None ++ fx ≡ replicate (y - 48) None ++ fy = left ∙ ap (λ (l : List (Option ℕ)). l ++ fy) s.shows in
                 elim (cases_lt x y) as (λ _. x ∷ xs ≡ y ∷ ys) [
@@ -136,15 +136,15 @@ one_text (x ∷ xs) (y ∷ ys) g h e =
                             both x y xs ys same (next (append_cancel_left (replicate (y - 48) None) fx fy (ap (λ (b : ℕ). replicate (b - 48) None ++ fx) (sym same) ∙ runs)))
                       ]
                 ]
-            | inr m ↦ let low : 48 < x = r.low in absurd (no_man (x - 48) y fx fy (omega arith) (left ∙ ap (λ (l : List (Option ℕ)). l ++ fy) m))
+            | inr m ↦ let low : 48 < x = r.low in absurd (no_piece (x - 48) y fx fy (omega arith) (left ∙ ap (λ (l : List (Option ℕ)). l ++ fy) m))
           ]
       | inr n ↦
           let left : Some x ∷ fx ≡ expand y ++ fy = ap (λ (l : List (Option ℕ)). l ++ fx) (sym n) ∙ e in
-          elim (run_or_man y) as (λ _. x ∷ xs ≡ y ∷ ys) [
-            | inl s ↦ let low : 48 < y = s.low in absurd (no_man (y - 48) x fy fx (omega arith) (sym (left ∙ ap (λ (l : List (Option ℕ)). l ++ fy) s.shows)))
+          elim (run_or_piece y) as (λ _. x ∷ xs ≡ y ∷ ys) [
+            | inl s ↦ let low : 48 < y = s.low in absurd (no_piece (y - 48) x fy fx (omega arith) (sym (left ∙ ap (λ (l : List (Option ℕ)). l ++ fy) s.shows)))
             | inr m ↦
-                let men : Some x ∷ fx ≡ Some y ∷ fy = left ∙ ap (λ (l : List (Option ℕ)). l ++ fy) m in
-                both x y xs ys (ap (λ (l : List (Option ℕ)). unwrap_or (get_or l 0 None) 0) men) (next (ap (drop 1) men))
+                let pieces : Some x ∷ fx ≡ Some y ∷ fy = left ∙ ap (λ (l : List (Option ℕ)). l ++ fy) m in
+                both x y xs ys (ap (λ (l : List (Option ℕ)). unwrap_or (get_or l 0 None) 0) pieces) (next (ap (drop 1) pieces))
           ]
     ]
 

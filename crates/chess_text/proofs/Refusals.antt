@@ -1,8 +1,8 @@
 -- A text meets one refusal at most.
 use Rattle.std.proofs.Common.{◌≡◌, ◌∙◌, ℕ, List, refl, sym, ap, subst}
-use Rattle.chess_rules.specs.declared.men.Parts.{Parts}
-use Rattle.chess_rules.specs.declared.men.Invalid.{Invalid}
-use Rattle.chess_rules.specs.declared.men.Invalid.TheVariants.{Counters, Kings, Pawns, Rights as RightsFail, EnPassant, Check}
+use Rattle.chess_rules.specs.declared.parts.Parts.{Parts}
+use Rattle.chess_rules.specs.declared.parts.Invalid.{Invalid}
+use Rattle.chess_rules.specs.declared.parts.Invalid.TheVariants.{Counters, Kings, Pawns, Rights as RightsFail, EnPassant, Check}
 use Rattle.chess_rules.specs.Valid.{FailsFirst}
 use Rattle.chess_text.specs.Fen.{Fields, fields_of, HasForm, ReadsCounters, ReadsBoard, ReadsAs, RefusedFirst}
 use Rattle.chess_text.specs.FieldReading.{refusal_of}

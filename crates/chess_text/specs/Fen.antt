@@ -1,11 +1,11 @@
 -- FEN: the text of a position, and for what a text is refused.
 use Rattle.std.specs.Prelude.{◌≡◌, ◌≢◌, ℕ, ◌<◌, List, [], ◌∷◌, ◌++◌, length, map, decimal, codes, Bool, true, false, Option, None, Some, ◌⊎◌, All}
 use Rattle.std.specs.List.{join_with_byte}
-use Rattle.chess_rules.specs.declared.men.Side.{Side}
-use Rattle.chess_rules.specs.declared.men.Side.TheVariants.{White, Black}
-use Rattle.chess_rules.specs.declared.men.Rights.{Rights}
-use Rattle.chess_rules.specs.declared.men.Parts.{Parts}
-use Rattle.chess_rules.specs.declared.men.Invalid.TheVariants as invalid
+use Rattle.chess_rules.specs.declared.pieces.Side.{Side}
+use Rattle.chess_rules.specs.declared.pieces.Side.TheVariants.{White, Black}
+use Rattle.chess_rules.specs.declared.parts.Rights.{Rights}
+use Rattle.chess_rules.specs.declared.parts.Parts.{Parts}
+use Rattle.chess_rules.specs.declared.parts.Invalid.TheVariants as invalid
 use Rattle.chess_rules.specs.Board.{Board, row}
 use Rattle.chess_rules.specs.Picture.{code, picture}
 use Rattle.chess_rules.specs.Valid.{HasCounters, FailsFirst}
@@ -79,9 +79,9 @@ unfoldable pub short_fen : Parts → List ℕ
 short_fen p = four_fields (fields_of p)
 
 -- A text tells a position: it is its FEN, or the first four fields of its FEN where the counters are 0 and 1.
-pub data Tells (text : List ℕ) (p : Parts) : Type 0 where
-  whole : text ≡ fen p → Tells text p
-  short : p.halfmove ≡ 0 → p.fullmove ≡ 1 → text ≡ short_fen p → Tells text p
+pub data TellsPosition (text : List ℕ) (p : Parts) : Type 0 where
+  whole : text ≡ fen p → TellsPosition text p
+  short : p.halfmove ≡ 0 → p.fullmove ≡ 1 → text ≡ short_fen p → TellsPosition text p
 
 -- ---- refusals
 
@@ -133,7 +133,7 @@ pub record ReadsAs (text : List ℕ) (p : Parts) : Type 0 where
   pub squares : length p.board ≡ 64
   pub target : IsTargetField p.target
   pub counters : HasCounters p
-  pub tells : Tells text p
+  pub tells : TellsPosition text p
 
 -- A text's first refusal: its form, its counters, its placement, or the first condition that its parts fail.
 abbrev pub RefusedFirst : List ℕ → FenError → Type 0

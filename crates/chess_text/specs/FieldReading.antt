@@ -1,12 +1,12 @@
--- How the fields of a FEN are read. The code's own words: the public contracts do not cite them.
+-- How the fields of a FEN are read. Private definitions: the public contracts do not cite them.
 use Rattle.std.specs.Prelude.{◌≡◌, ℕ, List, [], ◌∷◌, Bool, false, true, Option, None, Some, ◌==◌, if◌then◌else◌, codes}
 use Rattle.std.specs.List.{slice_split}
 use denote.Ref.{Bor}
-use Rattle.chess_rules.specs.declared.men.Rights.{Rights}
+use Rattle.chess_rules.specs.declared.parts.Rights.{Rights}
 use Rattle.chess_text.specs.declared.fields.RawFields.{RawFields}
 use Rattle.chess_text.specs.declared.fields.Fields.{Fields as FoundFields}
-use Rattle.chess_rules.specs.declared.men.Invalid.{Invalid}
-use Rattle.chess_rules.specs.declared.men.Invalid.TheVariants as invalid
+use Rattle.chess_rules.specs.declared.parts.Invalid.{Invalid}
+use Rattle.chess_rules.specs.declared.parts.Invalid.TheVariants as invalid
 use Rattle.chess_text.specs.declared.fen.FenError.{FenError}
 use Rattle.chess_text.specs.declared.fen.FenError.TheVariants as refusal
 use Rattle.chess_text.specs.Fen.{Fields}

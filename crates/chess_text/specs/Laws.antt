@@ -1,12 +1,12 @@
 -- What holds of all texts of positions and moves.
 use Rattle.std.specs.Prelude.{◌≡◌, ◌≢◌, ℕ, ◌<◌, ◌≤◌, ◌↔◌, List, length, All}
-use Rattle.chess_rules.specs.declared.men.Move.{Move}
-use Rattle.chess_rules.specs.declared.men.Parts.{Parts}
+use Rattle.chess_rules.specs.declared.chess_move.Move.{Move}
+use Rattle.chess_rules.specs.declared.parts.Parts.{Parts}
 use Rattle.chess_rules.specs.Legal.{Legal}
 use Rattle.chess_rules.specs.Valid.{Valid}
 use Rattle.chess_text.specs.declared.fen.FenError.{FenError}
 use Rattle.chess_text.specs.Placement.{placement, IsBoardPicture, squares, HasDigitsApart, IsPlacement}
-use Rattle.chess_text.specs.Fen.{fen, Tells, RefusedFirst}
+use Rattle.chess_text.specs.Fen.{fen, TellsPosition, RefusedFirst}
 use Rattle.chess_text.specs.San.{San}
 
 -- A text tells one position at most; so two positions never share a FEN.
@@ -15,8 +15,8 @@ TextsTellPositions =
     (p q : Parts) (text : List ℕ)
     → Valid p
     → Valid q
-    → Tells text p
-    → Tells text q
+    → TellsPosition text p
+    → TellsPosition text q
     → p ≡ q
 
 -- A text meets one refusal at most.

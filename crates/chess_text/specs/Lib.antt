@@ -6,4 +6,4 @@ pub mod PlacementReading
 pub mod San
 pub mod Laws
 pub mod Rivals
-pub mod Reading
+pub mod Aim

@@ -1,9 +1,9 @@
 -- The placement field: a picture in text. A picture is 64 codes in reading order from a8 to h1: 0 is empty, 1 to 6 are
--- White's pawn, rook, knight, bishop, king and queen, 7 to 12 Black's, and 13 to 15 stand for no man.
+-- White's pawn, rook, knight, bishop, king and queen, 7 to 12 Black's, and 13 to 15 stand for no piece.
 use Rattle.std.specs.Prelude.{◌≡◌, ℕ, zero, suc, ◌+◌, ◌-◌, ◌*◌, ◌<◌, List, [], ◌∷◌, ◌++◌, length, take, drop, get_or, map, replicate, codes, slice_index_or, position, Option, None, Some, unwrap_or, ◌==◌, nat_lt, ◌&&◌, if◌then◌else◌, All}
 use Rattle.std.specs.List.{flat_map, join_with_byte}
 
--- the letters of the codes 1 to 12 in order; the first byte, `*`, stands for no man
+-- the letters of the codes 1 to 12 in order; the first byte, `*`, stands for no piece
 abbrev pub letters : List ℕ
 letters = codes "*PRNBKQprnbkq"
 
@@ -22,11 +22,11 @@ HasDigitsApart [] = Unit {0}
 HasDigitsApart (b ∷ []) = Unit {0}
 HasDigitsApart (b ∷ c ∷ bs) = (IsDigit b → IsDigit c → ⊥) × HasDigitsApart (c ∷ bs)
 
--- what a byte of a rank's text stands for: a digit from 1 to 8 for so many empty squares, any other byte for a man
+-- what a byte of a rank's text stands for: a digit from 1 to 8 for so many empty squares, any other byte for a piece
 abbrev pub expand : ℕ → List (Option ℕ)
 expand b = if nat_lt 48 b && nat_lt b 57 then replicate (b - 48) None else Some b ∷ []
 
--- what a square is shown by: a man by his letter
+-- what a square is shown by: a piece by its letter
 abbrev pub shown : ℕ → Option ℕ
 shown c = if c == 0 then None else Some (letter c)
 
@@ -73,7 +73,7 @@ pub record IsBoardPicture (picture : List ℕ) : Type 0 where
 abbrev pub code_of : ℕ → ℕ
 code_of b = unwrap_or (position (λ c. c == b) letters) 0
 
--- what a byte of a placement stands for: a letter for its man, a digit for so many empty squares, `/` for nothing
+-- what a byte of a placement stands for: a letter for its piece, a digit for so many empty squares, `/` for nothing
 abbrev pub squares_at : ℕ → List ℕ
 squares_at b = if b == 47 then [] else if nat_lt b 58 then replicate (b - 48) 0 else code_of b ∷ []
 

@@ -1,12 +1,12 @@
--- How a placement is read. The code's own words: the public contracts do not cite them.
+-- How a placement is read. Private definitions: the public contracts do not cite them.
 use Rattle.std.specs.Prelude.{ℕ, [], ◌∷◌, Option, None, slice_index_or}
-use Rattle.chess_rules.specs.declared.men.Side.TheVariants.{White, Black}
-use Rattle.chess_rules.specs.declared.men.Kind.TheVariants.{Pawn, Rook, Knight, Bishop, King, Queen}
-use Rattle.chess_rules.specs.declared.men.Piece.{Piece}
-use Rattle.chess_rules.specs.Board.{man}
+use Rattle.chess_rules.specs.declared.pieces.Side.TheVariants.{White, Black}
+use Rattle.chess_rules.specs.declared.pieces.Kind.TheVariants.{Pawn, Rook, Knight, Bishop, King, Queen}
+use Rattle.chess_rules.specs.declared.pieces.Piece.{Piece}
+use Rattle.chess_rules.specs.Board.{piece_of}
 
 -- what a code stands for
 abbrev pub decode : ℕ → Option Piece
 decode c =
-    slice_index_or (None ∷ man White Pawn ∷ man White Rook ∷ man White Knight ∷ man White Bishop ∷ man White King ∷ man White Queen
-    ∷ man Black Pawn ∷ man Black Rook ∷ man Black Knight ∷ man Black Bishop ∷ man Black King ∷ man Black Queen ∷ []) c None
+    slice_index_or (None ∷ piece_of White Pawn ∷ piece_of White Rook ∷ piece_of White Knight ∷ piece_of White Bishop ∷ piece_of White King ∷ piece_of White Queen
+    ∷ piece_of Black Pawn ∷ piece_of Black Rook ∷ piece_of Black Knight ∷ piece_of Black Bishop ∷ piece_of Black King ∷ piece_of Black Queen ∷ []) c None

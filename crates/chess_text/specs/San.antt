@@ -1,12 +1,12 @@
 -- SAN: the text of a legal move. A text is its list of bytes; what each number means stands beside it.
 use Rattle.std.specs.Prelude.{◌≡◌, ◌≢◌, ℕ, List, [], ◌∷◌, ◌++◌, Bool, true, false, ◌||◌, Option, None, Some, is_some, IsTrue, codes}
-use Rattle.chess_rules.specs.declared.men.Kind.{Kind}
-use Rattle.chess_rules.specs.declared.men.Kind.TheVariants.{Pawn, Rook, Knight, Bishop, King, Queen}
-use Rattle.chess_rules.specs.declared.men.Move.{Move}
-use Rattle.chess_rules.specs.declared.men.Parts.{Parts}
+use Rattle.chess_rules.specs.declared.pieces.Kind.{Kind}
+use Rattle.chess_rules.specs.declared.pieces.Kind.TheVariants.{Pawn, Rook, Knight, Bishop, King, Queen}
+use Rattle.chess_rules.specs.declared.chess_move.Move.{Move}
+use Rattle.chess_rules.specs.declared.parts.Parts.{Parts}
 use Rattle.chess_rules.specs.declared.lines.Wing.{Wing}
 use Rattle.chess_rules.specs.declared.lines.Wing.TheVariants.{KingSide, QueenSide}
-use Rattle.chess_rules.specs.Board.{on, man, other, file, row}
+use Rattle.chess_rules.specs.Board.{on, piece_of, other, file, row}
 use Rattle.chess_rules.specs.Attack.{InCheck}
 use Rattle.chess_rules.specs.After.{after, is_castling, is_en_passant, wing_of}
 use Rattle.chess_rules.specs.Legal.{Legal, Mated}
@@ -30,7 +30,7 @@ abbrev pub castling_text : Wing → List ℕ
 castling_text KingSide = codes "O-O"
 castling_text QueenSide = codes "O-O-O"
 
--- the move takes a man: one stands on its target square, or it takes en passant
+-- the move takes a piece: one stands on its target square, or it takes en passant
 abbrev pub is_capture : Parts → Move → Bool
 is_capture p m = is_some (on p.board m.to) || is_en_passant p m
 
@@ -90,10 +90,10 @@ piece_text kind origin capture m = letter kind ∷ origin_text origin m.from ++ 
 -- the text of a move before its mark
 pub data IsBody (p : Parts) (m : Move) (body : List ℕ) : Type 0 where
   castling : IsTrue (is_castling p m) → body ≡ castling_text (wing_of m) → IsBody p m body
-  pawn : on p.board m.from ≡ man p.side Pawn → body ≡ pawn_text (is_capture p m) m → IsBody p m body
+  pawn : on p.board m.from ≡ piece_of p.side Pawn → body ≡ pawn_text (is_capture p m) m → IsBody p m body
   piece :
       (kind : Kind)
-      → on p.board m.from ≡ man p.side kind
+      → on p.board m.from ≡ piece_of p.side kind
       → kind ≢ Pawn
       → ¬ IsTrue (is_castling p m)
       → (origin : Origin)

@@ -1,9 +1,9 @@
 // FEN: the text of a position.
 ghost use Rattle.std.specs.Prelude.{◌≡◌, ◌++◌, ◌+◌, ◌≤◌, ◌<◌, ◌↔◌, length, decimal, Ok, Err, IfOk, IfErr};
 ghost use Rattle.arrayvec.specs.ArrayString.{array_string_len};
-ghost use Rattle.chess_rules.specs.declared.men.Parts.{Parts as PartsOf};
+ghost use Rattle.chess_rules.specs.declared.parts.Parts.{Parts as PartsOf};
 ghost use Rattle.chess_rules.specs.Valid.{Valid};
-ghost use Rattle.chess_text.specs.Fen.{fen, Tells, RefusedFirst, ReadsAs};
+ghost use Rattle.chess_text.specs.Fen.{fen, TellsPosition, RefusedFirst, ReadsAs};
 ghost use Rattle.chess_text.specs.FieldReading.{refusal_of as refusal_of_lem};
 
 use crate::field_text::{castling_str, side_str, target_str};
@@ -14,7 +14,7 @@ use chess_rules::{Invalid, Parts, Position};
 use itoa::Buffer;
 use thiserror::Error;
 
-/// Why a text is refused, in the order of the tests: the first that fails is answered.
+/// Why a text is refused, in the order of the tests: the first that fails is returned.
 #[derive(Clone, Copy, PartialEq, Eq, Debug, Error)]
 pub enum FenError {
     /// Neither six non-empty fields divided by single spaces nor four; a side other than `w` and `b`; rights other than `-`
@@ -123,7 +123,7 @@ fn refusal_of(invalid: Invalid) -> FenError
 /// The position whose FEN the text is, or the first four fields of whose FEN the text is, where its counters are 0 and 1.
 /// Any other text is refused for the first of `FenError` that applies.
 pub fn read_fen(text: &[u8]) -> Result<Position, FenError>
-    ensures position { (p : PartsOf) → result ≡ Ok p ↔ (Valid p × Tells text.now p) }
+    ensures position { (p : PartsOf) → result ≡ Ok p ↔ (Valid p × TellsPosition text.now p) }
     ensures refusal { IfErr result (RefusedFirst text.now) }
 {
     let parts = match read_parts(text) {

@@ -65,8 +65,8 @@ fn put_rank(out: &mut ArrayString<128>, rank: &[u8])
 }
 
 /// The placement of a picture, in at most 71 bytes (PGN standard, section 16.1.3.1): eight ranks from rank 8 to rank 1 with
-/// `/` between, each from the a-file to the h-file; `PRNBKQ` for White's men and `prnbkq` for Black's, a run of empty
-/// squares as its number. The codes 13 to 15, which stand for no man, are written `*`.
+/// `/` between, each from the a-file to the h-file; `PRNBKQ` for White's pieces and `prnbkq` for Black's, a run of empty
+/// squares as its number. The codes 13 to 15, which stand for no piece, are written `*`.
 pub fn write_placement(picture: &[u8; 64]) -> ArrayString<128>
     requires { All (λ c. c ≤ 15) picture.now }
     ensures text { result.bytes ≡ placement picture.now }
@@ -81,7 +81,7 @@ pub fn write_placement(picture: &[u8; 64]) -> ArrayString<128>
     out
 }
 
-/// The code of a man's letter, where it is one.
+/// The code of a piece's letter, where it is one.
 fn code_of(letter: u8) -> u8
     ensures { result ≡ code_of_lem letter }
 {
@@ -174,7 +174,7 @@ fn read_picture(text: &[u8]) -> Option<[u8; 64]>
     None
 }
 
-fn man_of(code: u8) -> Option<Piece>
+fn piece_of(code: u8) -> Option<Piece>
     ensures { result ≡ decode_lem code }
 {
     let (side, kind) = match code {
@@ -200,7 +200,7 @@ fn board_of(picture: &[u8; 64]) -> [Option<Piece>; 64]
 {
     let mut board = [None; 64];
     for square in 0..64usize {
-        board[square] = man_of(picture[square]);
+        board[square] = piece_of(picture[square]);
     }
     board
 }

@@ -1,10 +1,10 @@
 // Reading SAN.
 ghost use Rattle.std.specs.Prelude.{◌≡◌, ◌<◌, ◌↔◌, Ok, IfOk, IfSome, IfNone, IsTrue};
-ghost use Rattle.chess_rules.specs.Board.{on, man};
+ghost use Rattle.chess_rules.specs.Board.{on, piece_of};
 ghost use Rattle.chess_rules.specs.Legal.{Legal};
-ghost use Rattle.chess_rules.specs.declared.men.Move.{Move};
+ghost use Rattle.chess_rules.specs.declared.chess_move.Move.{Move};
 ghost use Rattle.chess_text.specs.San.{San};
-ghost use Rattle.chess_text.specs.Reading.{aimed_from, IsAimedAt, AimsAt};
+ghost use Rattle.chess_text.specs.Aim.{aimed_from, IsAimedAt, AimsAt};
 
 use crate::aim::{Aim, aim_of};
 use crate::bytes::same_bytes;
@@ -38,7 +38,7 @@ fn named_from(p: &Position, aim: &Aim, square: u8, text: &[u8]) -> Option<Move>
     requires { square < 64 }
     ensures legal { IfSome result (Legal p.now) }
     ensures named { IfSome result (λ m. San p.now m text.now) }
-    ensures none { IfNone result (on p.now.board square ≡ man p.now.side aim.now.kind → Legal p.now (aimed_from aim.now square) → ¬ San p.now (aimed_from aim.now square) text.now) }
+    ensures none { IfNone result (on p.now.board square ≡ piece_of p.now.side aim.now.kind → Legal p.now (aimed_from aim.now square) → ¬ San p.now (aimed_from aim.now square) text.now) }
 {
     let parts = p.parts();
     let kind = kind_on(&parts.board, parts.side, square)?;

@@ -1,7 +1,7 @@
 // Writing SAN.
 ghost use Rattle.std.specs.Prelude.{◌≡◌, ◌≢◌, ◌<◌, ◌≤◌, ◌+◌, ◌++◌, ◌∷◌, [], ◌↔◌, ℕ, List, IsTrue, length};
 ghost use Rattle.arrayvec.specs.ArrayString.{array_string_len};
-ghost use Rattle.chess_rules.specs.Board.{on, man};
+ghost use Rattle.chess_rules.specs.Board.{on, piece_of};
 ghost use Rattle.chess_rules.specs.After.{is_castling as castling_test, wing_of, after};
 ghost use Rattle.chess_rules.specs.Legal.{Legal};
 ghost use Rattle.chess_rules.specs.Valid.{Valid};
@@ -39,7 +39,7 @@ pub enum Line {
     Rank,
 }
 
-/// The letter of a kind of man.
+/// The letter of a kind of piece.
 pub fn letter(kind: Kind) -> u8
     ensures value { result ≡ letter_of kind }
     ensures ascii { result < 128 }
@@ -183,7 +183,7 @@ fn shares(line: Line, s: u8, t: u8) -> bool
 /// Whether a rival of the move, on this line, stands on the square.
 fn is_rival_at(p: &Position, m: &Move, kind: Kind, line: Line, square: u8) -> bool
     requires low { square < 64 }
-    requires kind { on p.now.board m.now.from ≡ man p.now.side kind }
+    requires kind { on p.now.board m.now.from ≡ piece_of p.now.side kind }
     ensures { IsTrue result ↔ IsRivalAt p.now m.now line square }
 {
     let parts = p.parts();
@@ -204,7 +204,7 @@ fn is_rival_at(p: &Position, m: &Move, kind: Kind, line: Line, square: u8) -> bo
 
 /// Whether the move has a rival on this line.
 fn has_rival(p: &Position, m: &Move, kind: Kind, line: Line) -> bool
-    requires { on p.now.board m.now.from ≡ man p.now.side kind }
+    requires { on p.now.board m.now.from ≡ piece_of p.now.side kind }
     ensures { IsTrue result ↔ HasRival p.now m.now line }
 {
     for square in 0..64u8 {
@@ -219,7 +219,7 @@ fn has_rival(p: &Position, m: &Move, kind: Kind, line: Line) -> bool
 fn needed(p: &Position, m: &Move, kind: Kind) -> Origin
     requires valid { Valid p.now }
     requires legal { Legal p.now m.now }
-    requires kind { on p.now.board m.now.from ≡ man p.now.side kind }
+    requires kind { on p.now.board m.now.from ≡ piece_of p.now.side kind }
     requires no_pawn { kind ≢ Kind.Pawn }
     ensures { IsNeeded p.now m.now result }
 {

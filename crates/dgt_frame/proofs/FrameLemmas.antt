@@ -5,15 +5,15 @@ use Rattle.std.proofs.lemmas.Bool.{cases_eq, ne_eqb}
 use Rattle.std.proofs.lemmas.List.{length-replicate}
 use Rattle.dgt_frame.specs.declared.events.Message.{Message}
 use Rattle.dgt_frame.specs.declared.events.Message.TheVariants.{Dump, Update, Time, Other}
-use Rattle.dgt_frame.specs.Frames.{Begun, Frame, IsLow, IsCode, IsIgnored}
+use Rattle.dgt_frame.specs.Frames.{Begun, Frame, IsLow, IsCode, IsOtherId}
 use Rattle.dgt_frame.specs.Layout.{fixed_size, byte_limit, IsIdentifier, FitsHigh, FitsSize, FitsData, IsHeader}
 use Rattle.dgt_frame.specs.Streams.{Breaks}
 
-pub ignored_size : (id : ℕ) → IsIgnored id → fixed_size id ≡ 0
-ignored_size id h = rw (ne_eqb id 0x86 h.2, ne_eqb id 0x8E h.3, ne_eqb id 0x8D h.4) refl
+pub other_size : (id : ℕ) → IsOtherId id → fixed_size id ≡ 0
+other_size id h = rw (ne_eqb id 0x86 h.2, ne_eqb id 0x8E h.3, ne_eqb id 0x8D h.4) refl
 
-pub ignored_limit : (id index : ℕ) → IsIgnored id → byte_limit id index ≡ 128
-ignored_limit id index h = rw (ne_eqb id 0x86 h.2, ne_eqb id 0x8E h.3) refl
+pub other_limit : (id index : ℕ) → IsOtherId id → byte_limit id index ≡ 128
+other_limit id index h = rw (ne_eqb id 0x86 h.2, ne_eqb id 0x8E h.3) refl
 
 fits_codes : (index : ℕ) (codes : List ℕ) → AllByRecursion IsCode codes → FitsData 0x86 index codes
 fits_codes index [] h = tt
@@ -23,9 +23,9 @@ fits_times : (index : ℕ) (times : List ℕ) → AllByRecursion IsLow times →
 fits_times index [] h = tt
 fits_times index (x ∷ xs) h = (h.0, fits_times (index + 1) xs h.1)
 
-fits_ignored : (id index : ℕ) (bytes : List ℕ) → IsIgnored id → AllByRecursion IsLow bytes → FitsData id index bytes
-fits_ignored id index [] i h = tt
-fits_ignored id index (x ∷ xs) i h = (rw (ignored_limit id index i) h.0, fits_ignored id (index + 1) xs i h.1)
+fits_other : (id index : ℕ) (bytes : List ℕ) → IsOtherId id → AllByRecursion IsLow bytes → FitsData id index bytes
+fits_other id index [] i h = tt
+fits_other id index (x ∷ xs) i h = (rw (other_limit id index i) h.0, fits_other id (index + 1) xs i h.1)
 
 codes_fit : (index : ℕ) (codes : List ℕ) → FitsData 0x86 index codes → AllByRecursion IsCode codes
 codes_fit index [] h = tt
@@ -92,9 +92,9 @@ parts_of (Other id size) frame h = record {
   body = h.2;
   bytes = h.3;
   header =
-      let none : fixed_size id ≡ 0 = ignored_size id h.4 in
+      let none : fixed_size id ≡ 0 = other_size id h.4 in
       ((h.4.0, h.4.1), (h.5, λ some. absurd (omega arith)), h.6, h.8, (omega (arith, h.9, ap length h.3), λ some. absurd (omega arith)));
-  fits = fits_ignored id 0 h.2 h.4 h.7;
+  fits = fits_other id 0 h.2 h.4 h.7;
   whole = omega (arith, h.9, ap length h.3);
 }
 
@@ -136,9 +136,9 @@ whole_update high low size (field ∷ code ∷ []) header fits whole =
     (Update field code, (rw (high_is, low_is) refl, fits.0, fits.1.0))
 whole_update high low size (field ∷ code ∷ x ∷ xs) header fits whole = let size_is : size ≡ 5 = header.4.1 (omega arith) in absurd (omega arith)
 
-pub whole_ignored : (id high low size : ℕ) (body : List ℕ) → id ≢ 0x86 → id ≢ 0x8E → id ≢ 0x8D → IsHeader id high low size → FitsData id 0 body → length body + 3 ≡ size
+pub whole_other : (id high low size : ℕ) (body : List ℕ) → id ≢ 0x86 → id ≢ 0x8E → id ≢ 0x8D → IsHeader id high low size → FitsData id 0 body → length body + 3 ≡ size
     → Frame (Other id size) (id ∷ high ∷ low ∷ body)
-whole_ignored id high low size body no_dump no_update no_time header fits whole =
+whole_other id high low size body no_dump no_update no_time header fits whole =
     (high, low, body, refl, (header.0.0, header.0.1, no_dump, no_update, no_time), header.1.0, header.2, data_low id 0 body fits, header.3, omega arith)
 
 -- bytes that fit, as many as the size says, are a frame
@@ -150,7 +150,7 @@ whole_frame id high low size body header fits whole = elim (cases_eq id 0x86) [
     | inl e ↦ rw e (whole_update high low size body (rw e at header) (rw e at fits) whole)
     | inr no_update ↦ elim (cases_eq id 0x8D) [
       | inl e ↦ (Time body, rw e (whole_time high low size body (rw e at header) (rw e at fits) whole))
-      | inr no_time ↦ (Other id size, whole_ignored id high low size body no_dump no_update no_time header fits whole)
+      | inr no_time ↦ (Other id size, whole_other id high low size body no_dump no_update no_time header fits whole)
     ]
   ]
 ]

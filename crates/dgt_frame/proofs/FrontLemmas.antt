@@ -3,7 +3,7 @@ use Rattle.std.proofs.Common.{◌≡◌, ℕ, ◌+◌, List, [], ◌∷◌, ◌+
 use Rattle.std.proofs.lemmas.Bool.{ltb-true, ltb-false}
 use Rattle.std.specs.List.{AllByRecursion}
 use Rattle.dgt_frame.specs.declared.events.Event.{Event}
-use Rattle.dgt_frame.specs.declared.events.Event.TheVariants.{Message as Shown, Fault}
+use Rattle.dgt_frame.specs.declared.events.Event.TheVariants.{Message as MessageEvent, Fault}
 use Rattle.dgt_frame.specs.declared.events.FaultKind.TheVariants.{Cut, Stray, Size, Data}
 use Rattle.dgt_frame.specs.Frames.{IsLow}
 use Rattle.dgt_frame.specs.Streams.{Timed, StartsHigh, Skips, Opens, ShowsFrom}
@@ -56,7 +56,7 @@ skips_on part b front (x ∷ rest) more h =
     (front, (x ∷ rest) ++ more, append_assoc front (x ∷ rest) more, (h.0, h.1, h.2, h.3, h.4), inr (refl, refl))
 
 opens_on : (event : Event) (front rest more : List ℕ) (index : ℕ) → Opens event front rest index → StillOpens event front rest more index
-opens_on (Shown m) front rest more index h =
+opens_on (MessageEvent m) front rest more index h =
     record { front' = front; rest' = rest ++ more; is = append_assoc front rest more; opens = h; same = inr (refl, refl) }
 opens_on (Fault Stray) front rest more index h =
     let s = skips_on [] h.0 front rest more h.1 in

@@ -5,7 +5,7 @@ use Rattle.dgt_frame.specs.Layout.{IsHeader, FitsData}
 use Rattle.dgt_frame.specs.Frames.{Frame}
 use Rattle.dgt_frame.specs.Stored.{message_stored}
 use Rattle.dgt_frame.specs.declared.events.Message.TheVariants.{Dump, Update, Time}
-use Rattle.dgt_frame.proofs.FrameLemmas.{whole_dump, whole_ignored, whole_time}
+use Rattle.dgt_frame.proofs.FrameLemmas.{whole_dump, whole_other, whole_time}
 
 dump_stored : (id high low size : ℕ) (body stored : List ℕ) → id ≡ 0x86 → length stored ≡ 64 → IsHeader id high low size → FitsData id 0 body → length body + 3 ≡ size
     → (length body ≤ 64 → body ≡ take (length body) stored) → Frame (Dump stored) (id ∷ high ∷ low ∷ body)
@@ -74,7 +74,7 @@ frame_stored id high low size body stored long header fits whole kept = elim (ca
     | inl e ↦ rw (ne_eqb id 0x86 no_dump, eq-eqb id 0x8E e) (update_stored id high low size body stored e long header fits whole kept)
     | inr no_update ↦ elim (cases_eq id 0x8D) [
       | inl e ↦ rw (ne_eqb id 0x86 no_dump, ne_eqb id 0x8E no_update, eq-eqb id 0x8D e) (time_stored id high low size body stored e long header fits whole kept)
-      | inr no_time ↦ rw (ne_eqb id 0x86 no_dump, ne_eqb id 0x8E no_update, ne_eqb id 0x8D no_time) (whole_ignored id high low size body no_dump no_update no_time header fits whole)
+      | inr no_time ↦ rw (ne_eqb id 0x86 no_dump, ne_eqb id 0x8E no_update, ne_eqb id 0x8D no_time) (whole_other id high low size body no_dump no_update no_time header fits whole)
     ]
   ]
 ]

@@ -1,5 +1,5 @@
 pub mod Clock
-pub mod Decoding
+pub mod Decoder
 pub mod Encoding
 pub mod Frames
 pub mod Layout
@@ -7,5 +7,5 @@ pub mod Room
 pub mod Stored
 pub mod Streams
 pub mod Times
-pub mod Watched
+pub mod Watch
 pub mod Whole

@@ -54,7 +54,7 @@ enum Progress {
     Ends { id: u8, size: u16 },
 }
 
-/// Finds the messages and faults in a stream of bytes (DGT Electronic Board Protocol), in whatever pieces they come. It
+/// Finds the messages and faults in a stream of bytes (DGT Electronic Board Protocol), in whatever chunks they come. It
 /// takes no memory and refuses nothing.
 #[derive(Clone, Copy, Debug)]
 pub struct Decoder {
@@ -64,7 +64,7 @@ pub struct Decoder {
 }
 
 impl Decoder {
-    ghost use Rattle.dgt_frame.specs.Decoding.{Decoded, Takes, TakesAll, TakesUpTo, answered, timed};
+    ghost use Rattle.dgt_frame.specs.Decoder.{Decoded, Takes, TakesAll, TakesUpTo, answered, timed};
 
     /// A decoder that was given no byte.
     pub fn new() -> Decoder
@@ -89,10 +89,10 @@ impl Decoder {
         }
     }
 
-    /// Takes the next byte, and answers the event that comes at it, if one does.
+    /// Takes the next byte, and returns the event that comes at it, if one does.
     pub fn push(&mut self, byte: u8) -> Option<Event>
-        // Whatever bytes the decoder was given and whatever events it has answered, it has now been given
-        // this byte too, and has answered this event too.
+        // Whatever bytes the decoder was given and whatever events it has returned, it has now been given
+        // this byte too, and has returned this event too.
         ensures decoded { (bytes : List ℕ) (events : List Timed) → Decoded self.old bytes events
             → Decoded self.new (bytes ++ byte ∷ []) (events ++ timed (length bytes) result) }
         ensures frame { (bytes : List ℕ) (events : List Timed) → Decoded self.old bytes events → IfSome result HasFrame }
@@ -104,7 +104,7 @@ impl Decoder {
         }
     }
 
-    /// Takes bytes up to the first at which an event comes, or all of them where none comes and the answer is `None`. It
+    /// Takes bytes up to the first at which an event comes, or all of them where none comes and the result is `None`. It
     /// does what `push` does byte by byte, in less time.
     pub fn push_until(&mut self, bytes: &[u8]) -> Option<Arrival>
         ensures none { IfNone result (TakesAll self.old bytes.now self.new) }

@@ -1,6 +1,6 @@
 //! What a stream of bytes shows: the messages of the DGT Electronic Board Protocol, and this project's faults.
 
-/// What a frame says (DGT Electronic Board Protocol). A decoder answers messages in these ranges alone.
+/// What a frame says (DGT Electronic Board Protocol). A decoder returns messages in these ranges alone.
 #[derive(Clone, Copy, Debug, PartialEq, Eq)]
 pub enum Message {
     /// A board dump: the piece codes of the 64 fields, 0 to 15 each, field 0 first.

@@ -2,14 +2,14 @@
 ghost use Rattle.std.specs.Prelude.{◌≡◌, ◌||◌, ◌&&◌, not, ◌==◌, length, is_err, nat_lt, false};
 ghost use Rattle.std.specs.Io.{ReadsAtMost, WritesAtMost};
 ghost use Rattle.std.specs.Io.KnownBytes.{ReadConsumes, WriteAppends, Keeps};
-ghost use Rattle.dgt_frame.specs.Watched.{inner_of, has_failed, took_none};
+ghost use Rattle.dgt_frame.specs.Watch.{inner_of, has_failed, took_none};
 
 use std::io::{self, Read, Write};
 
 /// A stream that remembers whether a call on it has failed. A write of at least one byte that takes none counts as
 /// failed, and so does an interrupted call.
 ///
-/// It passes each call of `Read` and `Write` on to its stream and gives back what that answers.
+/// It passes each call of `Read` and `Write` on to its stream and returns what that returns.
 #[derive(Debug, Drop)]
 pub struct Watch<T> {
     inner: T,

@@ -30,7 +30,7 @@ all_kept : (listing : Listing) (input written so_far after : Option (List ℕ)) 
 all_kept listing None written so_far after all kept = tt
 all_kept listing (Some bytes) written so_far after all kept = (all.0, all.1, all.2, all.3, all.4, all.5, Appends-kept written so_far after _ all.6 kept)
 
--- Where nothing was read or written, or memory was refused at a move.
+-- Where nothing was read or written, or memory ran out at a move.
 nothing_for_memory : (listing : Listing) (input left written after : Option (List ℕ)) → Keeps input left → Keeps written after → EndsForMemory listing input left written after
 nothing_for_memory Events input left written after read wrote = (read, wrote)
 nothing_for_memory (Pictures rotated) input left written after read wrote = (read, wrote)

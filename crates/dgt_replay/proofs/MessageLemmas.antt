@@ -83,7 +83,7 @@ tells_or_fault status wanted May said said' reader_failed out_failed err_failed 
 tells_or_fault status wanted May said said' reader_failed out_failed err_failed words (inr (three, failed, says)) tells =
     tells_fault status May said said' reader_failed out_failed err_failed three (inr (failed, says))
 
--- The same with other words that may be said.
+-- The same with another message that may be written.
 pub tells_alike : (status : ℕ) (May Might : List ℕ → Type 0) (said said' : Option (List ℕ)) (reader_failed out_failed err_failed : Bool) → ((words : List ℕ) → May words → Might words)
     → Tells status May said said' reader_failed out_failed err_failed → Tells status Might said said' reader_failed out_failed err_failed
 tells_alike status May Might said said' reader_failed out_failed err_failed alike tells = record {

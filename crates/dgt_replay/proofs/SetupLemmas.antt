@@ -1,7 +1,7 @@
 -- Setups that are as the arguments say.
 use Rattle.std.proofs.Common.{◌≡◌, ◌⊎◌, ◌∙◌, ℕ, List, Option, Some, None, Result, Ok, inl, inr, refl, subst, sym}
 use Rattle.clap.specs.Walk.{Row, Text}
-use Rattle.chess_rules.specs.declared.men.Parts.{Parts}
+use Rattle.chess_rules.specs.declared.parts.Parts.{Parts}
 use Rattle.chess_text.specs.Laws.{TextsTellPositions}
 use Rattle.pgn_book.specs.declared.values.Tag.{Tag}
 use Rattle.pgn_book.specs.declared.values.Tag.TheVariants.{Event, Site, Date, Round, White, Black}

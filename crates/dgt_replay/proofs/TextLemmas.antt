@@ -8,7 +8,7 @@ use Rattle.board_listing.specs.EventLines.{rest_line}
 use Rattle.board_listing.specs.Listings.{EndsForMemory, HasLines, Leaves, ListingEnds, ListsAll, ListsFirst, ListsFront, ListsRead, Refuses, WritesFront, last_line}
 use Rattle.board_listing.specs.OneText.{TextEnds, WritesAll, WritesFirst, WritesPart, WritesRead, event_lines, no_line, picture_lines}
 
--- What is listed has one text, and memory is refused for no event.
+-- What is listed has one text, and memory runs out at no event.
 record HasOneText (listing : Listing) (lines : List Timed → List ℕ) (last : ℕ → List ℕ) : Type 0 where
   text : (events : List Timed) (text : List ℕ) → HasLines listing events text → text ≡ lines events
   ending : (rest : ℕ) → last_line listing rest ≡ last rest

@@ -20,7 +20,7 @@ abbrev pub ChecksGame : Option (List ℕ) → Option (List ℕ) → Option (List
 ChecksGame input written written' = IfSome input (λ bytes. (game : Content) × Pgn game bytes × (length bytes ≤ text_limit)
     × Appends written written' (summary_line (length game.plies) game.result))
 
--- Why a text is refused, in words: it is longer than a text may be; or it is not, and is the export text of no game.
+-- The message about a refused text: it is longer than a text may be; or it is not, and is the export text of no game.
 abbrev pub RefusesText : Option (List ℕ) → List ℕ → Type 0
 RefusesText input words = (IfSome input (λ bytes. text_limit < length bytes) × IsTooLong words)
     ⊎ (IfSome input (λ bytes. (length bytes ≤ text_limit) × ((game : Content) → Pgn game bytes → ⊥)) × (words ≡ codes "pgn: not export\n"))

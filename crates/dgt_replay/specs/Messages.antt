@@ -11,7 +11,7 @@ use Rattle.board_session.specs.declared.recording.RecordError.{RecordError}
 use Rattle.board_session.specs.declared.recording.RecordError.TheVariants as record_error
 use Rattle.board_session.specs.Recording.{AppendsPart}
 
--- These words and no other were said, or a front of them where the stream has failed.
+-- This message and no other was written, or a front of it where the stream has failed.
 abbrev pub Says : Option (List ℕ) → Option (List ℕ) → Bool → List ℕ → Type 0
 Says said said' failed words = AppendsPart said said' words × (failed ≡ false → Appends said said' words)
 
@@ -49,11 +49,11 @@ end_words record_error.Board = []
 end_words record_error.Write = codes "\nwrite fault\n"
 end_words record_error.TooLong = codes "\ninput: too long\n"
 
--- the words about a stream past its limit
+-- the message about a stream past its limit
 abbrev pub IsTooLong : List ℕ → Type 0
 IsTooLong words = words ≡ codes "input: too long\n"
 
--- What a subcommand says, by its status; it may refuse its input with these words.
+-- What a subcommand says, by its status; it may refuse its input with this message.
 pub record Tells (status : ℕ) (May : List ℕ → Type 0) (said said' : Option (List ℕ)) (reader_failed out_failed err_failed : Bool) : Type 0 where
   pub done : status ≡ 0 → Keeps said said'
   pub refused : status ≡ 1 → (words : List ℕ) × May words × Says said said' err_failed words

@@ -18,7 +18,8 @@ abbrev pub RecordsAndTells : Setup → Option (List ℕ) → Option (List ℕ) �
 RecordsAndTells setup input sent sent' written written' = (report : Report) × (asked : Option (List ℕ))
     × RecordsAll setup report input sent asked written written' × Appends asked sent' (report_line report)
 
--- The recording has ended for this reason, and left what it leaves then: bytes read, bytes for the board and the reason, and a text.
+-- The recording has ended for this reason, and left what it leaves then: bytes read, bytes for the board and the reason, and a
+-- text.
 abbrev pub EndsFor : RecordError → Setup → Option (List ℕ) → Option (List ℕ) → Option (List ℕ) → Option (List ℕ) → Bool → Option (List ℕ) → Option (List ℕ) → Type 0
 EndsFor reason setup input input' sent sent' err_failed written written' = (asked : Option (List ℕ))
     × Leaves setup (Err reason) input input' sent asked written written' × Says asked sent' err_failed (end_words reason)

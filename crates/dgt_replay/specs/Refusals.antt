@@ -1,7 +1,7 @@
 -- Why arguments are refused, in words.
 use Rattle.std.specs.Prelude.{◌≡◌, ◌≢◌, ◌⊎◌, List, ◌∷◌, ◌++◌, All, ℕ, Option, MatchOption}
 use Rattle.clap.specs.Walk.{Text}
-use Rattle.chess_rules.specs.declared.men.Parts.{Parts}
+use Rattle.chess_rules.specs.declared.parts.Parts.{Parts}
 use Rattle.chess_text.specs.declared.fen.FenError.{FenError}
 use Rattle.chess_text.specs.Fen.{RefusedFirst}
 use Rattle.pgn_book.specs.declared.values.Tag.{Tag}
@@ -13,11 +13,11 @@ use Rattle.replay_arguments.specs.declared.setup.Refusal.TheVariants.{Fen, Tag a
 use Rattle.replay_arguments.specs.Setups.{MayHave, StartsAt, tags}
 use Rattle.dgt_replay.specs.Messages.{fen_words, tag_words}
 
--- Why a FEN is refused, in words.
+-- The message about a refused FEN.
 abbrev pub RefusesStart : Option Text → List ℕ → Type 0
 RefusesStart fen arguments = MatchOption fen ⊥ (λ text. (error : FenError) × RefusedFirst text error × (arguments ≡ fen_words error))
 
--- Why the value of a tag is refused, in words.
+-- The message about a refused value of a tag.
 abbrev pub RefusesValue : Tag → Option Text → List ℕ → Type 0
 RefusesValue tag text arguments = MatchOption text ⊥ (λ value. (error : TagError) × (error ≢ Memory) × Refuses tag value error × (arguments ≡ tag_words tag error))
 
@@ -30,7 +30,7 @@ RefusesTags text arguments = (before after : List Tag) × (tag : Tag) × (tags �
 abbrev pub RefusesSetup : Option Text → (Tag → Option Text) → List ℕ → Type 0
 RefusesSetup fen text arguments = RefusesStart fen arguments ⊎ (((start : Parts) × StartsAt fen start) × RefusesTags text arguments)
 
--- the words of a refusal
+-- the message of a refusal
 abbrev pub refusal_words : Refusal → List ℕ
 refusal_words (Fen error) = fen_words error
 refusal_words (OfTag tag error) = tag_words tag error

@@ -2,7 +2,7 @@
 ghost use Rattle.std.specs.Prelude.{◌≡◌, ◌≢◌, ◌<◌, ◌≤◌, ◌⊎◌, ◌+◌, ◌++◌, Err, IfOk, OnOk, IfSome, false, true, length};
 ghost use Rattle.std.specs.Io.KnownBytes.{Keeps};
 ghost use Rattle.arrayvec.specs.ArrayVec.{array_vec_len};
-ghost use Rattle.dgt_frame.specs.Watched.{inner_of, has_failed};
+ghost use Rattle.dgt_frame.specs.Watch.{inner_of, has_failed};
 ghost use Rattle.dgt_replay.specs.Checked.{ChecksGame, RefusesText, summary_line};
 ghost use Rattle.board_listing.specs.Listings.{ReadsWithin};
 ghost use Rattle.dgt_replay.specs.Messages.{Tells};
@@ -71,7 +71,7 @@ fn add_summary(lines: &mut Lines, moves: u64, outcome: Option<Outcome>)
     add(lines, b"\n");
 }
 
-/// Says whether the input is a game in PGN export form, and answers the status.
+/// Says whether the input is a game in PGN export form, and returns the status.
 pub fn check<R: Read, O: Write, E: Write>(
     alloc: Global,
     reader: &mut Watch<R>,

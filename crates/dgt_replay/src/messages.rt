@@ -1,7 +1,7 @@
 //! What the program says on standard error when it refuses.
 ghost use Rattle.std.specs.Prelude.{◌≡◌, ◌≢◌, ◌≤◌, ◌++◌, ◌⊎◌, codes, length, false, true};
 ghost use Rattle.std.specs.Io.KnownBytes.{Keeps};
-ghost use Rattle.dgt_frame.specs.Watched.{inner_of, has_failed};
+ghost use Rattle.dgt_frame.specs.Watch.{inner_of, has_failed};
 ghost use Rattle.dgt_replay.specs.Messages.{Says, fen_words, tag_name, tag_words};
 
 use board_listing::{Lines, add};
@@ -10,7 +10,7 @@ use dgt_frame::Watch;
 use pgn_book::{Tag, TagError, put};
 use std::io::Write;
 
-/// Says the words about a refusal, unless standard error has failed before, and answers its status.
+/// Writes the message about a refusal, unless standard error has failed before, and returns its status.
 pub fn refused<E: Write>(err: &mut Watch<E>, words: &[u8], status: u8) -> u8
     ensures status { result ≡ status }
     ensures says { Says (E.contents (inner_of err.old)) (E.contents (inner_of err.new)) (has_failed err.new) words.now }
@@ -21,7 +21,7 @@ pub fn refused<E: Write>(err: &mut Watch<E>, words: &[u8], status: u8) -> u8
     status
 }
 
-/// Flushes the output, and says these words about a refusal, or that the output has failed; answers the status.
+/// Flushes the output, and writes this message about a refusal, or that the output has failed; returns the status.
 pub fn refused_run<O: Write, E: Write>(
     out: &mut Watch<O>,
     err: &mut Watch<E>,
@@ -54,7 +54,7 @@ fn words_of(error: FenError) -> &'static [u8]
     }
 }
 
-/// Says why a FEN is refused, and answers the status.
+/// Says why a FEN is refused, and returns the status.
 pub fn refused_fen<E: Write>(err: &mut Watch<E>, error: FenError) -> u8
     ensures status { result ≡ 1 }
     ensures says { Says (E.contents (inner_of err.old)) (E.contents (inner_of err.new)) (has_failed err.new) (fen_words error) }
@@ -89,7 +89,7 @@ fn refused_value<E: Write>(err: &mut Watch<E>, tag: Tag, reason: &[u8]) -> u8
     refused(err, line.as_slice(), 1)
 }
 
-/// Says why the value of a tag is refused, and answers the status.
+/// Says why the value of a tag is refused, and returns the status.
 pub fn refused_tag<E: Write>(err: &mut Watch<E>, tag: Tag, error: TagError) -> u8
     ensures memory { error ≡ TagError.Memory → result ≡ 4 }
     ensures value { error ≢ TagError.Memory → result ≡ 1 }

@@ -2,10 +2,10 @@
 ghost use Rattle.std.specs.Prelude.{◌≡◌, ◌≢◌, ◌≤◌, ◌⊎◌, ◌+◌, ◌++◌, ℕ, List, All, OnErr, OnOk, codes, false, true};
 ghost use Rattle.std.specs.Io.KnownBytes.{Appends, Keeps};
 ghost use Rattle.arrayvec.specs.ArrayVec.{array_vec_len};
-ghost use Rattle.chess_rules.specs.declared.men.Parts.{Parts as PartsOf};
+ghost use Rattle.chess_rules.specs.declared.parts.Parts.{Parts as PartsOf};
 ghost use Rattle.chess_rules.specs.Legal.{Legal};
 ghost use Rattle.chess_text.specs.San.{San};
-ghost use Rattle.dgt_frame.specs.Watched.{inner_of, has_failed};
+ghost use Rattle.dgt_frame.specs.Watch.{inner_of, has_failed};
 ghost use Rattle.dgt_replay.specs.Printed.{PrintsMoves, TellsMoves};
 ghost use Rattle.replay_arguments.specs.Setups.{HasNoStart, StartsAt, given};
 ghost use Rattle.dgt_replay.specs.Refusals.{RefusesStart};
@@ -54,7 +54,7 @@ fn put_moves<O: Write>(
     put(out, lines.as_slice())
 }
 
-/// Writes the legal moves of a position in the order of `legal_moves`, and answers the status.
+/// Writes the legal moves of a position in the order of `legal_moves`, and returns the status.
 pub fn moves<O: Write, E: Write>(
     alloc: Global,
     fen: Option<&str>,

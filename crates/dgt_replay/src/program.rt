@@ -5,10 +5,10 @@ ghost use Rattle.std.specs.Io.KnownBytes.{Keeps};
 ghost use Rattle.board_session.specs.declared.recording.RecordError.{RecordError};
 ghost use Rattle.board_session.specs.declared.recording.Setup.{Setup};
 ghost use Rattle.board_session.specs.Settings.{Setting};
-ghost use Rattle.chess_rules.specs.declared.men.Parts.{Parts as PartsOf};
+ghost use Rattle.chess_rules.specs.declared.parts.Parts.{Parts as PartsOf};
 ghost use Rattle.clap.specs.Values.{kind_of};
 ghost use Rattle.clap.specs.Walk.{Row, first_of};
-ghost use Rattle.dgt_frame.specs.Watched.{inner_of, has_failed};
+ghost use Rattle.dgt_frame.specs.Watch.{inner_of, has_failed};
 ghost use Rattle.dgt_replay.specs.Checked.{ChecksGame, RefusesText, text_limit};
 ghost use Rattle.replay_arguments.specs.Subcommands.{AreMistaken, Asks, AsksForHelp, AsksForMoves, AsksForNoMoves, AsksForVersion, AsksToFollow, AsksToFollowNothing, AsksToRecord, AsksToRecordNothing, IsCheck, IsPictures, IsRefused, IsShow};
 ghost use Rattle.board_listing.specs.declared.listing.Listing.{Listing};
@@ -37,7 +37,7 @@ use replay_arguments::{FollowArguments, Subcommand, read_arguments, start_of};
 use std::alloc::Global;
 use std::io::{Read, Write};
 
-// Writes the text of `clap`, and answers its status.
+// Writes the text of `clap`, and returns its status.
 fn refused_arguments<O: Write, E: Write>(
     alloc: Global,
     error: &Error,
@@ -212,7 +212,7 @@ fn obey<R: Read, O: Write, E: Write>(
     }
 }
 
-/// Does what the arguments ask for, of which the first is the program's name, and answers the exit status: 0 where all was
+/// Does what the arguments ask for, of which the first is the program's name, and returns the exit status: 0 where all was
 /// done, or help or the version was asked for, 1 where the input is refused, 2 where the arguments are, 3 where a stream has
 /// failed, 4 where memory ran out. Under `record` the bytes for the board go to `err`. No stream may have failed before.
 pub fn run<R: Read, O: Write, E: Write>(
@@ -236,7 +236,8 @@ pub fn run<R: Read, O: Write, E: Write>(
         (R.remaining (inner_of reader.old)) (R.remaining (inner_of reader.new))
         (O.contents (inner_of out.old)) (O.contents (inner_of out.new)) (has_failed reader.new) (has_failed out.new) }
 
-    // What they say: nothing where all was done, that the stream is past its limit, which stream has failed, or that memory ran out.
+    // What they say: nothing where all was done, that the stream is past its limit, which stream has failed, or that memory ran
+    // out.
     ensures lists_tell { IsShow (map string_bytes arguments.now) ⊎ ((rotated : Bool) × IsPictures rotated (map string_bytes arguments.now)) → Tells result IsTooLong
         (E.contents (inner_of err.old)) (E.contents (inner_of err.new)) (has_failed reader.new) (has_failed out.new) (has_failed err.new) }
 
@@ -245,7 +246,7 @@ pub fn run<R: Read, O: Write, E: Write>(
         (E.contents (inner_of err.old)) (E.contents (inner_of err.new)) (O.contents (inner_of out.old)) (O.contents (inner_of out.new)) }
 
     // Its other statuses: the stream is past its limit, and the game of what is within it stands; a stream has failed, and what
-    // stands is what `record` says; memory was refused, at a ply, or before anything was read, or written to the output.
+    // stands is what `record` says; memory ran out, at a ply, or before anything was read, or written to the output.
     ensures record_long { (setup : Setup) → AsksToRecord (map string_bytes arguments.now) setup → result ≡ 1 → EndsFor RecordError.TooLong setup (R.remaining (inner_of reader.old)) (R.remaining (inner_of reader.new))
         (E.contents (inner_of err.old)) (E.contents (inner_of err.new)) (has_failed err.new) (O.contents (inner_of out.old)) (O.contents (inner_of out.new)) }
     ensures record_fails { (setup : Setup) → AsksToRecord (map string_bytes arguments.now) setup → result ≡ 3 → Fails setup (R.remaining (inner_of reader.old)) (R.remaining (inner_of reader.new))
@@ -256,8 +257,8 @@ pub fn run<R: Read, O: Write, E: Write>(
         ⊎ (Untouched (R.remaining (inner_of reader.old)) (R.remaining (inner_of reader.new)) (O.contents (inner_of out.old)) (O.contents (inner_of out.new))
         × Says (E.contents (inner_of err.old)) (E.contents (inner_of err.new)) (has_failed err.new) (codes "memory\n")) }
 
-    // Where no position has the FEN, or a tag may not have its text, nothing is read, and nothing written to the output; the first
-    // reason is said.
+    // Where no position has the FEN, or a tag may not have its text, nothing is read, and nothing written to the output; the
+    // first reason is said.
     ensures record_refuses { AsksToRecordNothing (map string_bytes arguments.now) → ((result ≡ 1) ⊎ (result ≡ 4))
         × Untouched (R.remaining (inner_of reader.old)) (R.remaining (inner_of reader.new)) (O.contents (inner_of out.old)) (O.contents (inner_of out.new)) }
 
@@ -281,8 +282,8 @@ pub fn run<R: Read, O: Write, E: Write>(
     // NAME `check`: the input is the export text of a game.
     ensures check { IsCheck (map string_bytes arguments.now) → result ≡ 0 → ChecksGame (R.remaining (inner_of reader.old))
         (O.contents (inner_of out.old)) (O.contents (inner_of out.new)) }
-    // What it says, by its status; it reads at most one byte past its limit, and writes nothing of a text that is refused, or for
-    // want of memory.
+    // What it says, by its status; it reads at most one byte past its limit, and writes nothing of a text that is refused, or
+    // where memory runs out.
     ensures check_tells { IsCheck (map string_bytes arguments.now) → Tells result (RefusesText (R.remaining (inner_of reader.old)))
         (E.contents (inner_of err.old)) (E.contents (inner_of err.new)) (has_failed reader.new) (has_failed out.new) (has_failed err.new) }
     ensures check_bounded { IsCheck (map string_bytes arguments.now) → ReadsWithin text_limit (R.remaining (inner_of reader.old)) (R.remaining (inner_of reader.new)) }

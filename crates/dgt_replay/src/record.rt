@@ -2,7 +2,7 @@
 ghost use Rattle.std.specs.Prelude.{◌≡◌, ◌≢◌, ◌≤◌, ◌⊎◌, ◌+◌, ◌++◌, codes, false};
 ghost use Rattle.arrayvec.specs.ArrayVec.{array_vec_len};
 ghost use Rattle.board_session.specs.declared.recording.Setup.{Setup as SetupOf};
-ghost use Rattle.dgt_frame.specs.Watched.{inner_of, has_failed};
+ghost use Rattle.dgt_frame.specs.Watch.{inner_of, has_failed};
 ghost use Rattle.dgt_replay.specs.Messages.{Says, Tells};
 ghost use Rattle.dgt_replay.specs.Recorded.{EndsFor, Fails, RecordsAndTells, Untouched, report_line};
 ghost use Rattle.replay_arguments.specs.Setups.{ForMemory, Meets, MeetsNothing, given, tag_text};
@@ -18,7 +18,7 @@ use replay_arguments::{RecordArguments, Refusal, setup_of};
 use std::alloc::Global;
 use std::io::{Read, Write};
 
-// Says why a recording can't be set up, and answers the status.
+// Says why a recording can't be set up, and returns the status.
 fn refused_setup<E: Write>(err: &mut Watch<E>, refusal: Refusal) -> u8
     ensures memory { ForMemory refusal → result ≡ 4 }
     ensures refused { ¬ ForMemory refusal → result ≡ 1 }
@@ -46,7 +46,7 @@ fn add_report(lines: &mut Lines, report: &Report)
     add(lines, b"\n");
 }
 
-// Records the game that is set up so, and answers the status.
+// Records the game that is set up so, and returns the status.
 fn record_as<R: Read, O: Write, E: Write>(
     alloc: Global,
     setup: Setup,
@@ -87,7 +87,7 @@ fn record_as<R: Read, O: Write, E: Write>(
     }
 }
 
-/// Records the game of a board whose bytes are read, and answers the status. The bytes for the board go to `err`, and one
+/// Records the game of a board whose bytes are read, and returns the status. The bytes for the board go to `err`, and one
 /// more line after them.
 pub fn record_game<R: Read, O: Write, E: Write>(
     alloc: Global,

@@ -15,11 +15,11 @@ pub enum Signal<'a> {
     TurnedDump(&'a str),
     /// This square is empty now.
     Lift(&'a str),
-    /// This square shows this man now: a letter of the placement, or `*` for a code that no man has.
+    /// This square shows this piece now: a letter of the placement, or `*` for a code that no piece has.
     Put(&'a str, &'a str),
     /// This square is empty now, on a board that stands the other way round.
     TurnedLift(&'a str),
-    /// This square shows this man now, on a board that stands the other way round.
+    /// This square shows this piece now, on a board that stands the other way round.
     TurnedPut(&'a str, &'a str),
     /// The seven data bytes of a time message.
     Time([u8; 7]),
@@ -39,8 +39,8 @@ fn field_of(square: &str) -> u8 {
     row * 8 + column
 }
 
-fn man_of(man: &str) -> u8 {
-    match man.as_bytes().get(0) {
+fn code_of_text(piece: &str) -> u8 {
+    match piece.as_bytes().get(0) {
         Some(letter) => code_of(*letter),
         None => 0,
     }
@@ -68,10 +68,10 @@ pub fn add_signal(bytes: &mut Bytes, signal: Signal<'_>) {
             bytes.add(&codes);
         }
         Signal::Lift(square) => bytes.add(&update(field_of(square), 0)),
-        Signal::Put(square, man) => bytes.add(&update(field_of(square), man_of(man))),
+        Signal::Put(square, piece) => bytes.add(&update(field_of(square), code_of_text(piece))),
         Signal::TurnedLift(square) => bytes.add(&update(turned(field_of(square)), 0)),
-        Signal::TurnedPut(square, man) => {
-            bytes.add(&update(turned(field_of(square)), man_of(man)));
+        Signal::TurnedPut(square, piece) => {
+            bytes.add(&update(turned(field_of(square)), code_of_text(piece)));
         }
         Signal::Time(data) => {
             bytes.add(&[0x8D, 0x00, 0x0A]);

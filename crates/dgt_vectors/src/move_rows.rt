@@ -1,4 +1,4 @@
-//! Captures in which men are moved, with what is recorded of them. All expected values are worked by hand from the protocol,
+//! Captures in which pieces are moved, with what is recorded of them. All expected values are worked by hand from the protocol,
 //! the laws and PGN.
 
 use crate::captures::INITIAL;
@@ -13,7 +13,7 @@ const EN_PASSANT: &str = "4k3/8/8/3pP3/8/8/8/4K3 w - d6 0 2";
 
 const PROMOTION: &str = "8/4P2k/8/8/8/8/8/4K3 w - - 0 1";
 
-/// How men are lifted and put down.
+/// How pieces are lifted and put down.
 const SETTLING: &[Row<'static>] = &[
     Row {
         name: "an empty capture is a game without moves",
@@ -24,7 +24,7 @@ const SETTLING: &[Row<'static>] = &[
     },
     KINGS_PAWN_OPENING,
     Row {
-        name: "a man is put down before it is lifted",
+        name: "a piece is put down before it is lifted",
         capture: &[Dump(INITIAL), Put("e4", "P"), Lift("e2")],
         movetext: "1. e4 *",
         report: (3, 0, 1, 0),
@@ -48,7 +48,7 @@ const SETTLING: &[Row<'static>] = &[
         ..PLAIN
     },
     Row {
-        name: "a man is put back and lifted again",
+        name: "a piece is put back and lifted again",
         capture: &[
             Dump(INITIAL),
             Lift("e2"),
@@ -107,7 +107,7 @@ const SPECIAL: &[Row<'static>] = &[
         ..PLAIN
     },
     Row {
-        name: "a capture, the captured man lifted first",
+        name: "a capture, the captured piece lifted first",
         start: "4k3/8/8/3p4/4P3/8/8/4K3 w - - 0 1",
         capture: &[
             Dump("4k3/8/8/3p4/4P3/8/8/4K3"),
@@ -252,7 +252,7 @@ const LAST_MOVE_CLOSED: &[Row<'static>] = &[
     },
 ];
 
-/// How men are lifted and put down.
+/// How pieces are lifted and put down.
 pub fn settling_rows<'a>() -> &'a [Row<'a>] {
     SETTLING
 }

@@ -5,7 +5,7 @@ use crate::running::{Left, run_over};
 use std::alloc::Global;
 use test_streams::streams::{Sink, Source};
 
-/// Words after the program's name, an input, and what is expected.
+/// Arguments after the program's name, an input, and what is expected.
 #[derive(Clone, Copy)]
 pub struct Case<'a> {
     pub name: &'a str,
@@ -13,7 +13,7 @@ pub struct Case<'a> {
     pub input: &'a [Signal<'a>],
     pub status: u8,
     pub out: &'a str,
-    /// Not compared where the words are refused: clap's text isn't fixed.
+    /// Not compared where the arguments are refused: clap's text isn't fixed.
     pub err: &'a str,
 }
 
@@ -26,7 +26,7 @@ pub fn leaves(left: &Left, status: u8, out: &[u8], err: &[u8]) -> bool {
     left.status == status && left.out.get() == out && left.err.get() == err
 }
 
-/// Runs the program with these words after its name over these bytes, where there is memory for the words.
+/// Runs the program with these arguments after its name over these bytes, where there is memory for the words.
 pub fn run_of(alloc: Global, words: &[&str], bytes: &[u8]) -> Option<Left> {
     run_over(
         alloc,

@@ -176,7 +176,7 @@ const PICTURES: &[Case<'static>] = &[
         err: "",
     },
     Case {
-        name: "a code that no man has",
+        name: "a code that no piece has",
         words: &["pictures"],
         input: &[Dump(INITIAL), Put("e2", "*")],
         status: 0,

@@ -28,7 +28,7 @@ pub fn setup_of(alloc: Global, row: &Row<'_>) -> Result<Setup, FenError> {
     })
 }
 
-/// The answer of a recording, and what the board's stream and the output then show and hold.
+/// The result of a recording, and what the board's stream and the output then show and hold.
 #[derive(Drop)]
 pub struct Recording {
     pub answer: Result<Report, RecordError>,
@@ -65,9 +65,9 @@ pub fn recorded(
     alloc: Global,
     row: &Row<'_>,
     bytes: &[u8],
-    piece: usize,
+    chunk: usize,
 ) -> Result<Recording, FenError> {
-    let source = Source::new(bytes).in_pieces(piece);
+    let source = Source::new(bytes).in_chunks(chunk);
     recorded_over(alloc, row, source, Sink::new(512), Sink::new(512))
 }
 

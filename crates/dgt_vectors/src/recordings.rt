@@ -5,7 +5,7 @@ use crate::row::Row;
 use crate::rows::rows_by_subject;
 use std::alloc::Global;
 
-/// The answer, and what the board's stream and the output show, are what the row says.
+/// The result, and what the board's stream and the output show, are what the row says.
 pub fn is_told(got: &Recording, row: &Row<'_>) -> bool {
     got.answer == Ok(report_of(row.report))
         && got.board_shown.get() == row.sent().get()
@@ -13,23 +13,23 @@ pub fn is_told(got: &Recording, row: &Row<'_>) -> bool {
 }
 
 /// What is recorded of these bytes, with so many a read, is what the row says.
-pub fn are_recorded(alloc: Global, row: &Row<'_>, bytes: &[u8], piece: usize) -> bool {
-    match recorded(alloc, row, bytes, piece) {
+pub fn are_recorded(alloc: Global, row: &Row<'_>, bytes: &[u8], chunk: usize) -> bool {
+    match recorded(alloc, row, bytes, chunk) {
         Ok(got) => is_told(&got, row),
         Err(_) => false,
     }
 }
 
 /// What is recorded of a row's capture is what the row says, with so many bytes a read.
-pub fn row_holds(alloc: Global, row: &Row<'_>, piece: usize) -> bool {
-    are_recorded(alloc, row, row.bytes().get(), piece)
+pub fn row_holds(alloc: Global, row: &Row<'_>, chunk: usize) -> bool {
+    are_recorded(alloc, row, row.bytes().get(), chunk)
 }
 
 /// How many bytes come with a read where the row doesn't hold.
-fn piece_failing(alloc: Global, row: &Row<'_>) -> Option<usize> {
-    for piece in [1, 2, 7, 4096] {
-        if !row_holds(alloc, row, piece) {
-            return Some(piece);
+fn chunk_failing(alloc: Global, row: &Row<'_>) -> Option<usize> {
+    for chunk in [1, 2, 7, 4096] {
+        if !row_holds(alloc, row, chunk) {
+            return Some(chunk);
         }
     }
     None
@@ -38,8 +38,8 @@ fn piece_failing(alloc: Global, row: &Row<'_>) -> Option<usize> {
 /// The name of the first row that doesn't hold, and how many bytes then come with a read.
 fn first_failing<'a>(alloc: Global, rows: &[Row<'a>]) -> Option<(&'a str, usize)> {
     for row in rows {
-        if let Some(piece) = piece_failing(alloc, row) {
-            return Some((row.name, piece));
+        if let Some(chunk) = chunk_failing(alloc, row) {
+            return Some((row.name, chunk));
         }
     }
     None

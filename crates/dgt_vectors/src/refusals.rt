@@ -1,4 +1,4 @@
-//! Streams that fail at each call in turn: what was taken before stands, and the answer says which stream it was.
+//! Streams that fail at each call in turn: what was taken before stands, and the result says which stream it was.
 
 use crate::recording::{Recording, recorded_over, setup_of};
 use crate::recordings::is_told;
@@ -15,10 +15,10 @@ const ROOM: usize = 512;
 #[derive(Clone, Copy)]
 struct Streams {
     /// So many bytes come with a read.
-    piece: usize,
-    /// So many reads are answered.
+    chunk: usize,
+    /// So many reads succeed.
     reads: u32,
-    /// So many bytes find room in the board's stream, and so many calls on it are answered.
+    /// So many bytes find room in the board's stream, and so many calls on it succeed.
     board_room: usize,
     board_calls: u32,
     /// The same of the output.
@@ -27,7 +27,7 @@ struct Streams {
 }
 
 const WORKING: Streams = Streams {
-    piece: ROOM,
+    chunk: ROOM,
     reads: ALWAYS,
     board_room: ROOM,
     board_calls: ALWAYS,
@@ -39,7 +39,7 @@ const WORKING: Streams = Streams {
 fn recording(alloc: Global, row: &Row<'_>, streams: Streams) -> Option<Recording> {
     let bytes = row.bytes();
     let source = Source::new(bytes.get())
-        .in_pieces(streams.piece)
+        .in_chunks(streams.chunk)
         .answering(streams.reads);
     let board = Sink::new(streams.board_room).answering(streams.board_calls);
     let out = Sink::new(streams.out_room).answering(streams.out_calls);
@@ -62,7 +62,7 @@ fn shows(got: &Recording, fault: RecordError, board: &[u8], text: &[u8]) -> bool
 }
 
 /// As many bytes as each read gives where reads fail.
-const PIECE: usize = 7;
+const CHUNK: usize = 7;
 
 /// The reads of 138 bytes: those that give bytes, and one that gives none.
 const READS: u32 = 21;
@@ -70,11 +70,11 @@ const READS: u32 = 21;
 /// A recording whose read fails after so many has the text and the commands of the bytes before it.
 fn stops_at_read(alloc: Global, row: &Row<'_>, reads: u32) -> bool {
     let streams = Streams {
-        piece: PIECE,
+        chunk: CHUNK,
         reads,
         ..WORKING
     };
-    let read = (reads as usize).saturating_mul(PIECE);
+    let read = (reads as usize).saturating_mul(CHUNK);
     // The fault stands at the byte with offset 71, and the move at that with offset 137.
     let faults = if read > 71 { 1 } else { 0 };
     let text = if read > 137 {
@@ -113,14 +113,14 @@ fn each_read_fails_in_turn(rt: HostRuntime) {
     assert_eq!(rt; row.bytes().len(), 138);
     assert_eq!(rt; first_read_untold(rt.alloc(), &row), None);
     let streams = Streams {
-        piece: PIECE,
+        chunk: CHUNK,
         reads: READS,
         ..WORKING
     };
     assert!(rt; is_recorded(rt.alloc(), &row, streams));
 }
 
-/// How many calls on the board's stream are answered, what it then holds, and what of it shows.
+/// How many calls on the board's stream succeed, what it then holds, and what of it shows.
 const BOARD_CALLS: [(u32, &[u8], &[u8]); 4] = [
     (0, &[], &[]),
     (1, &[0x42, 0x4B], &[]),
@@ -175,7 +175,7 @@ fn each_call_on_the_board_fails_in_turn(rt: HostRuntime) {
     assert!(rt; is_recorded(rt.alloc(), &row, streams));
 }
 
-/// What an output leaves that answers so many calls.
+/// What an output leaves on which so many calls succeed.
 #[derive(Clone, Copy)]
 enum Written {
     /// All, and it shows.
@@ -213,7 +213,7 @@ fn written_after(alloc: Global, row: &Row<'_>, out_calls: u32) -> Written {
 }
 
 /// How many bytes are held where the last call fails, each call having failed in turn; or the first number of calls with
-/// another answer.
+/// another result.
 fn held_before_last_call(alloc: Global, row: &Row<'_>) -> Result<usize, u32> {
     let mut held = 0;
     for calls in 0..1000 {
@@ -309,7 +309,7 @@ fn a_board_that_fills_ends_the_reading(rt: HostRuntime) {
     assert!(rt; stops_at_board(rt.alloc(), &row, streams, &commands, &commands));
 }
 
-/// What is answered to so many zeros, and how many of them aren't read.
+/// What is returned for so many zeros, and how many of them aren't read.
 const LONG_STREAMS: [(u32, Result<Report, RecordError>, u32); 3] = [
     (
         67_108_864,
@@ -325,7 +325,7 @@ const LONG_STREAMS: [(u32, Result<Report, RecordError>, u32); 3] = [
     (67_108_870, Err(RecordError::TooLong), 5),
 ];
 
-/// Of so many zeros this is answered and so many aren't read; one fault is told, and the text without a move.
+/// For so many zeros this is returned and so many aren't read; one fault is told, and the text without a move.
 fn zeros_are_recorded(
     alloc: Global,
     zeros: u32,

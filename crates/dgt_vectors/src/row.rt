@@ -79,7 +79,7 @@ pub const PLAIN: Row<'static> = Row {
 
 /// 1. e4, the pawn lifted before it is put down.
 pub const KINGS_PAWN_OPENING: Row<'static> = Row {
-    name: "a man is lifted and put down",
+    name: "a piece is lifted and put down",
     capture: &[Dump(INITIAL), Lift("e2"), Put("e4", "P")],
     movetext: "1. e4 *",
     report: (3, 0, 1, 0),
@@ -95,9 +95,9 @@ pub const CUT_AND_DUMP: Row<'static> = Row {
     ..PLAIN
 };
 
-/// A code that no man has, on e2.
+/// A code that no piece has, on e2.
 pub const UNKNOWN_CODE: Row<'static> = Row {
-    name: "a code that no man has matches no position",
+    name: "a code that no piece has matches no position",
     capture: &[Dump(INITIAL), Put("e2", "*")],
     movetext: "*",
     report: (2, 0, 0, 0),
@@ -114,7 +114,7 @@ pub fn cut_and_dump<'a>() -> Row<'a> {
     CUT_AND_DUMP
 }
 
-/// A code that no man has, on e2.
+/// A code that no piece has, on e2.
 pub fn unknown_code<'a>() -> Row<'a> {
     UNKNOWN_CODE
 }

@@ -20,7 +20,7 @@ pub struct Left {
     pub unread: u32,
 }
 
-/// The texts as words of the command line, after the name of the program.
+/// The texts as arguments of the command line, after the name of the program.
 fn words_of(alloc: Global, texts: &[&str]) -> Result<Vec<String>, AllocError> {
     let mut words = Vec::new(alloc);
     words.push(String::from_str(alloc, "dgt_replay")?)?;
@@ -30,7 +30,7 @@ fn words_of(alloc: Global, texts: &[&str]) -> Result<Vec<String>, AllocError> {
     Ok(words)
 }
 
-/// Runs the program with these words, its name among them, over these streams.
+/// Runs the program with these arguments, its name among them, over these streams.
 pub fn run_with(alloc: Global, words: &[String], source: Source<'_>, out: Sink, err: Sink) -> Left {
     let mut reader = Watch::new(source);
     let mut out = Watch::new(out);
@@ -45,7 +45,7 @@ pub fn run_with(alloc: Global, words: &[String], source: Source<'_>, out: Sink, 
     }
 }
 
-/// Runs the program with these words after its name, where there is memory for them.
+/// Runs the program with these arguments after its name, where there is memory for them.
 pub fn run_over(
     alloc: Global,
     texts: &[&str],

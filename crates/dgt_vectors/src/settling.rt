@@ -1,5 +1,5 @@
 //! Recordings and sessions against a slow settler, which tries every origin, target and promotion for each picture.
-ghost use Rattle.board_session.specs.Looking.{IsInRange};
+ghost use Rattle.board_session.specs.History.{IsInRange};
 ghost use Rattle.std.specs.Prelude.{IfSome};
 
 use crate::recording::{recorded, start_of};
@@ -187,7 +187,7 @@ fn sign_of(position: &Position, picture: &[u8; 64]) -> Option<Outcome> {
     })
 }
 
-/// The cases of an answer.
+/// The cases of what is returned.
 #[derive(Clone, Copy)]
 enum Case {
     Same,
@@ -259,7 +259,7 @@ impl Told {
         Ok(case)
     }
 
-    /// The answer to the picture that was seen last, of this case.
+    /// What is returned for the picture that was seen last, of this case.
     fn answer(&self, case: Case) -> Option<Seen> {
         match case {
             Case::Same => Some(Seen::Same),

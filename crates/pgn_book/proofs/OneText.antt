@@ -2,9 +2,9 @@
 use Rattle.std.proofs.Common.{◌≡◌, ℕ, List, [], ◌∷◌, Option, None, Some, refl, sym, ap, subst, ◌∙◌, inl, inr}
 use Rattle.std.specs.Prelude.{◌⊎◌}
 use Rattle.dgt_frame.specs.declared.Hms.{Hms}
-use Rattle.chess_rules.specs.declared.men.Move.{Move}
-use Rattle.chess_rules.specs.declared.men.Parts.{Parts}
-use Rattle.chess_rules.specs.declared.men.Side.{Side}
+use Rattle.chess_rules.specs.declared.chess_move.Move.{Move}
+use Rattle.chess_rules.specs.declared.parts.Parts.{Parts}
+use Rattle.chess_rules.specs.declared.pieces.Side.{Side}
 use Rattle.chess_rules.specs.After.{after}
 use Rattle.chess_rules.specs.Valid.{Valid}
 use Rattle.chess_rules.proofs.Staying.{valid_after}
@@ -15,23 +15,23 @@ use Rattle.settle_core.specs.declared.game.Outcome.TheVariants.{WhiteWins, Black
 use Rattle.settle_core.specs.declared.game.Ply.{Ply}
 use Rattle.settle_core.specs.Settling.{Line}
 use Rattle.settle_core.specs.Folding.{moves_of}
-use Rattle.settle_core.specs.Ending.{IsResult}
+use Rattle.settle_core.specs.GameResult.{IsResult}
 use Rattle.pgn_book.specs.Values.{TagValues}
 use Rattle.pgn_book.specs.Games.{Content, IsGame}
-use Rattle.pgn_book.specs.Movetext.{Shown, AreShown}
+use Rattle.pgn_book.specs.Movetext.{ShownMove, AreShown}
 use Rattle.pgn_book.specs.Pgn.{Pgn, IsSetUp, at_initial, elsewhere}
 use Rattle.pgn_book.specs.Parse.{Turn, IsTurn, AreTurns, StartsAt, Parses, fen_at, set_up_part, moves_part, words, turns_at}
 use Rattle.pgn_book.proofs.Export.{pieces, pgn_is_pieces}
 
-abbrev make_shown : Side → ℕ → List ℕ → Option Hms → Shown
+abbrev make_shown : Side → ℕ → List ℕ → Option Hms → ShownMove
 make_shown side number san clock = record { side = side; number = number; san = san; clock = clock }
 
-same_shown : (a b : Shown) → a.side ≡ b.side → a.number ≡ b.number → a.san ≡ b.san → a.clock ≡ b.clock → a ≡ b
+same_shown : (a b : ShownMove) → a.side ≡ b.side → a.number ≡ b.number → a.san ≡ b.san → a.clock ≡ b.clock → a ≡ b
 same_shown a b s n t c =
     ap (λ x. make_shown x a.number a.san a.clock) s ∙ ap (λ x. make_shown b.side x a.san a.clock) n
     ∙ ap (λ x. make_shown b.side b.number x a.clock) t ∙ ap (λ x. make_shown b.side b.number b.san x) c
 
-one_shown : MovesTellTexts → (p : Parts) (plies : List Ply) (xs ys : List Shown) → Valid p → Line p (moves_of plies) → AreShown p plies xs → AreShown p plies ys → xs ≡ ys
+one_shown : MovesTellTexts → (p : Parts) (plies : List Ply) (xs ys : List ShownMove) → Valid p → Line p (moves_of plies) → AreShown p plies xs → AreShown p plies ys → xs ≡ ys
 one_shown tell p [] [] [] v line h k = refl
 one_shown tell p [] [] (y ∷ ys) v line h k = absurd k
 one_shown tell p [] (x ∷ xs) ys v line h k = absurd h
@@ -39,7 +39,7 @@ one_shown tell p (ply ∷ plies) [] ys v line h k = absurd h
 one_shown tell p (ply ∷ plies) (x ∷ xs) [] v line h k = absurd k
 one_shown tell p (ply ∷ plies) (x ∷ xs) (y ∷ ys) v line h k =
     let first = same_shown x y (h.0.side ∙ sym k.0.side) (h.0.number ∙ sym k.0.number) (tell p ply.mv x.san y.san v line.0 h.0.san k.0.san) (h.0.clock ∙ sym k.0.clock) in
-    ap (λ (m : Shown). m ∷ xs) first ∙ ap (λ (ms : List Shown). y ∷ ms) (one_shown tell (after p ply.mv) plies xs ys (valid_after p ply.mv v line.0) line.1 h.1 k.1)
+    ap (λ (m : ShownMove). m ∷ xs) first ∙ ap (λ (ms : List ShownMove). y ∷ ms) (one_shown tell (after p ply.mv) plies xs ys (valid_after p ply.mv v line.0) line.1 h.1 k.1)
 
 one_set_up : (start : Parts) (a b : List ℕ) → IsSetUp start a → IsSetUp start b → a ≡ b
 one_set_up start a b (at_initial i e) (at_initial j d) = e ∙ sym d
@@ -51,7 +51,7 @@ pub one_text : TextsArePlain → MovesTellTexts → (game : Content) (a b : List
 one_text plain tell game a b h k =
     let up = one_set_up game.start h.set_up k.set_up h.is_set_up k.is_set_up in
     let moves = one_shown tell game.start game.plies h.moves k.moves h.is_game.start h.is_game.line h.are_moves k.are_moves in
-    pgn_is_pieces plain game a h ∙ ap (λ (x : List ℕ). pieces game x h.moves) up ∙ ap (λ (x : List Shown). pieces game k.set_up x) moves ∙ sym (pgn_is_pieces plain game b k)
+    pgn_is_pieces plain game a h ∙ ap (λ (x : List ℕ). pieces game x h.moves) up ∙ ap (λ (x : List ShownMove). pieces game k.set_up x) moves ∙ sym (pgn_is_pieces plain game b k)
 
 -- ---- one game
 

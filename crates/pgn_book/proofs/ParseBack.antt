@@ -3,7 +3,7 @@ use Rattle.std.proofs.Common.{◌≡◌, ℕ, Bool, true, false, eqb, cond, List
 use Rattle.std.specs.Prelude.{codes, ◌||◌}
 use Rattle.std.specs.List.{AllByRecursion}
 use Rattle.std.proofs.lemmas.List.Elements.{recursion_from_All}
-use Rattle.chess_rules.specs.declared.men.Parts.{Parts}
+use Rattle.chess_rules.specs.declared.parts.Parts.{Parts}
 use Rattle.chess_rules.specs.Initial.{initial}
 use Rattle.chess_rules.specs.After.{after}
 use Rattle.chess_text.specs.Fen.{fen}
@@ -15,7 +15,7 @@ use Rattle.settle_core.specs.Settling.{Line}
 use Rattle.settle_core.specs.Folding.{moves_of}
 use Rattle.pgn_book.specs.Values.{TagValues}
 use Rattle.pgn_book.specs.Games.{Content, IsTimed}
-use Rattle.pgn_book.specs.Movetext.{Shown, AreShown, result_text, game_tokens}
+use Rattle.pgn_book.specs.Movetext.{ShownMove, AreShown, result_text, game_tokens}
 use Rattle.pgn_book.specs.Pgn.{Pgn, IsSetUp, at_initial, elsewhere, escape, escaped, tag_line, roster}
 use Rattle.pgn_book.specs.Flow.{flow}
 use Rattle.pgn_book.specs.Parse.{Turn, AreTurns, StartsAt, Parses, words, turns_at, value_at, after_value, result_at, event_part, next_part, site_part, date_part, round_part, white_part, black_part, result_part, set_up_part, has_fen, fen_part, fen_at, moves_part, tags_at}
@@ -162,7 +162,7 @@ set_up_back start set_up moves bytes (elsewhere i lines) e =
       has_moves = rw with_fen (next_behind 15 (fen_part bytes) (fen start) (behind last) at_fen);
     }
 
-turns_are : (p : Parts) (plies : List Ply) (moves : List Shown) → Line p (moves_of plies) → AllByRecursion IsTimed plies → AreShown p plies moves → AreTurns p plies (map turn_of moves)
+turns_are : (p : Parts) (plies : List Ply) (moves : List ShownMove) → Line p (moves_of plies) → AllByRecursion IsTimed plies → AreShown p plies moves → AreTurns p plies (map turn_of moves)
 turns_are p [] [] line timed are = tt
 turns_are p [] (shown ∷ moves) line timed are = absurd are
 turns_are p (ply ∷ plies) [] line timed are = absurd are

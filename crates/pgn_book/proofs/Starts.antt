@@ -1,6 +1,6 @@
 -- The value of a FEN tag is one that a reader keeps.
 use Rattle.std.proofs.Common.{◌≡◌, ℕ, List, true, false, sym, subst, arith}
-use Rattle.chess_rules.specs.declared.men.Parts.{Parts}
+use Rattle.chess_rules.specs.declared.parts.Parts.{Parts}
 use Rattle.chess_rules.specs.Valid.{Valid}
 use Rattle.chess_text.specs.Fen.{fen}
 use Rattle.chess_text.specs.Laws.{FensArePlain}

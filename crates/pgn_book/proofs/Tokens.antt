@@ -6,12 +6,12 @@ use Rattle.std.specs.Option.{ForSome}
 use Rattle.std.proofs.lemmas.Fmt.{decimal_nonempty, length-decimal-le}
 use Rattle.std.proofs.lemmas.List.Elements.{recursion_from_All}
 use Rattle.dgt_frame.specs.declared.Hms.{Hms}
-use Rattle.chess_rules.specs.declared.men.Kind.{Kind}
-use Rattle.chess_rules.specs.declared.men.Kind.TheVariants.{Pawn, Rook, Knight, Bishop, King, Queen}
-use Rattle.chess_rules.specs.declared.men.Side.{Side}
-use Rattle.chess_rules.specs.declared.men.Side.TheVariants.{White, Black}
-use Rattle.chess_rules.specs.declared.men.Move.{Move}
-use Rattle.chess_rules.specs.declared.men.Parts.{Parts}
+use Rattle.chess_rules.specs.declared.pieces.Kind.{Kind}
+use Rattle.chess_rules.specs.declared.pieces.Kind.TheVariants.{Pawn, Rook, Knight, Bishop, King, Queen}
+use Rattle.chess_rules.specs.declared.pieces.Side.{Side}
+use Rattle.chess_rules.specs.declared.pieces.Side.TheVariants.{White, Black}
+use Rattle.chess_rules.specs.declared.chess_move.Move.{Move}
+use Rattle.chess_rules.specs.declared.parts.Parts.{Parts}
 use Rattle.chess_rules.specs.declared.lines.Wing.{Wing}
 use Rattle.chess_rules.specs.declared.lines.Wing.TheVariants.{KingSide, QueenSide}
 use Rattle.chess_rules.specs.After.{after, wing_of}
@@ -26,7 +26,7 @@ use Rattle.settle_core.specs.Settling.{Line}
 use Rattle.settle_core.specs.Folding.{moves_of}
 use Rattle.pgn_book.specs.Games.{IsTime, IsTimed}
 use Rattle.pgn_book.specs.Lines.{IsToken}
-use Rattle.pgn_book.specs.Movetext.{Shown, AreShown, number_token, number_tokens, clock_tokens, move_tokens, tokens_of, result_text, game_tokens}
+use Rattle.pgn_book.specs.Movetext.{ShownMove, AreShown, number_token, number_tokens, clock_tokens, move_tokens, tokens_of, result_text, game_tokens}
 
 pub All-append : {X : Type 0} (P : X → Type 0) (xs ys : List X) → AllByRecursion P xs → AllByRecursion P ys → AllByRecursion P (xs ++ ys)
 All-append P [] ys h k = k
@@ -64,13 +64,13 @@ san_letter p m text s = subst BeginsWithLetter (sym s.is_text) (body_letter p m 
 
 -- ---- a move that fits
 
-pub record Fits (shown : Shown) : Type 0 where
+pub record Fits (shown : ShownMove) : Type 0 where
   pub number : shown.number < 10000
   pub plain : IsSanText shown.san
   pub letter : BeginsWithLetter shown.san
   pub clock : ForSome shown.clock IsTime
 
-shown_fit : TextsArePlain → (p : Parts) (plies : List Ply) (moves : List Shown) → Valid p → Line p (moves_of plies) → AllByRecursion IsTimed plies
+shown_fit : TextsArePlain → (p : Parts) (plies : List Ply) (moves : List ShownMove) → Valid p → Line p (moves_of plies) → AllByRecursion IsTimed plies
     → AreShown p plies moves → AllByRecursion Fits moves
 shown_fit plain p [] [] v line timed are = tt
 shown_fit plain p [] (shown ∷ moves) v line timed are = absurd are
@@ -86,7 +86,7 @@ shown_fit plain p (ply ∷ plies) (shown ∷ moves) v line timed are =
       shown_fit plain (after p ply.mv) plies moves (valid_after p ply.mv v line.0) line.1 timed.1 are.1,
     )
 
-pub moves_fit : TextsArePlain → (p : Parts) (plies : List Ply) (moves : List Shown) → Valid p → Line p (moves_of plies) → All IsTimed plies
+pub moves_fit : TextsArePlain → (p : Parts) (plies : List Ply) (moves : List ShownMove) → Valid p → Line p (moves_of plies) → All IsTimed plies
     → AreShown p plies moves → AllByRecursion Fits moves
 moves_fit plain p plies moves v line timed are = shown_fit plain p plies moves v line (recursion_from_All IsTimed plies timed) are
 
@@ -111,7 +111,7 @@ clocks_fit : (clock : Option Hms) → AllByRecursion IsToken (clock_tokens clock
 clocks_fit None = tt
 clocks_fit (Some t) = ((omega arith, omega arith), tt)
 
-tokens_fit : (wanted : Bool) (moves : List Shown) → AllByRecursion Fits moves → AllByRecursion IsToken (tokens_of wanted moves)
+tokens_fit : (wanted : Bool) (moves : List ShownMove) → AllByRecursion Fits moves → AllByRecursion IsToken (tokens_of wanted moves)
 tokens_fit wanted [] h = tt
 tokens_fit wanted (shown ∷ moves) h =
     let plain = h.0.plain in
@@ -126,6 +126,6 @@ result_fits (Some BlackWins) = (omega arith, omega arith)
 result_fits (Some Drawn) = (omega arith, omega arith)
 result_fits None = (omega arith, omega arith)
 
-pub game_fits : (moves : List Shown) (result : Option Outcome) → AllByRecursion Fits moves → AllByRecursion IsToken (game_tokens moves result) × (0 < length (game_tokens moves result))
+pub game_fits : (moves : List ShownMove) (result : Option Outcome) → AllByRecursion Fits moves → AllByRecursion IsToken (game_tokens moves result) × (0 < length (game_tokens moves result))
 game_fits moves result h =
     (All-append IsToken (tokens_of true moves) (result_text result ∷ []) (tokens_fit true moves h) (result_fits result, tt), omega (arith, length-append (tokens_of true moves) (result_text result ∷ [])))

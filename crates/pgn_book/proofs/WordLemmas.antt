@@ -11,15 +11,15 @@ use Rattle.std.proofs.lemmas.List.Elements.{recursion_from_All}
 use Rattle.std.proofs.lemmas.List.Concat.{flat_map-append}
 use Rattle.std.proofs.lemmas.List.{append-nil}
 use Rattle.dgt_frame.specs.declared.Hms.{Hms}
-use Rattle.chess_rules.specs.declared.men.Side.{Side}
-use Rattle.chess_rules.specs.declared.men.Side.TheVariants.{White, Black}
+use Rattle.chess_rules.specs.declared.pieces.Side.{Side}
+use Rattle.chess_rules.specs.declared.pieces.Side.TheVariants.{White, Black}
 use Rattle.chess_text.specs.Laws.{IsSanByte, IsSanText}
 use Rattle.settle_core.specs.declared.game.Outcome.{Outcome}
 use Rattle.settle_core.specs.declared.game.Outcome.TheVariants.{WhiteWins, BlackWins, Drawn}
 use Rattle.pgn_book.specs.Games.{IsTime}
 use Rattle.pgn_book.specs.Lines.{IsToken}
 use Rattle.pgn_book.specs.Flow.{piece, column, flow}
-use Rattle.pgn_book.specs.Movetext.{Shown, number_token, number_tokens, clock_text, clock_tokens, two_digits, tokens_of, result_text, game_tokens}
+use Rattle.pgn_book.specs.Movetext.{ShownMove, number_token, number_tokens, clock_text, clock_tokens, two_digits, tokens_of, result_text, game_tokens}
 use Rattle.pgn_book.specs.Parse.{Turn, is_break, words, is_move, is_comment, time_at, clock_at, turns_at}
 use Rattle.pgn_book.proofs.Flowing.{piece-fits, piece-over}
 use Rattle.pgn_book.proofs.Tokens.{All-append, BeginsWithLetter, Fits}
@@ -211,10 +211,10 @@ clock_in None h t e = absurd cc
 clock_in (Some u) h t e = h t e
 
 -- what is read of a move
-abbrev pub turn_of : Shown → Turn
+abbrev pub turn_of : ShownMove → Turn
 turn_of shown = record { san = shown.san; clock = shown.clock }
 
-turns_back : (wanted : Bool) (moves : List Shown) (tail : List (List ℕ)) → AllByRecursion Fits moves → NoComment tail
+turns_back : (wanted : Bool) (moves : List ShownMove) (tail : List (List ℕ)) → AllByRecursion Fits moves → NoComment tail
     → GivesBack (map turn_of moves) (flat_map words (tokens_of wanted moves)) tail
 turns_back wanted [] tail h k = record { turns = refl; front = k }
 turns_back wanted (p ∷ ps) tail h k =
@@ -237,7 +237,7 @@ from_first (t ∷ ts) h some =
     ap words (append_assoc t (flow (length t) ts) (10 ∷ 10 ∷ [])) ∙ words-flow (length t) ts t (10 ∷ []) h.0.0 h.1 ∙ sym (append_assoc (words t) (flat_map words ts) ([] ∷ [] ∷ []))
 
 -- the moves of a movetext are those of the game
-pub movetext_back : (moves : List Shown) (result : Option Outcome) → AllByRecursion Fits moves → AllByRecursion IsToken (game_tokens moves result)
+pub movetext_back : (moves : List ShownMove) (result : Option Outcome) → AllByRecursion Fits moves → AllByRecursion IsToken (game_tokens moves result)
     → turns_at (words (flow 0 (game_tokens moves result) ++ 10 ∷ 10 ∷ [])) ≡ map turn_of moves
 movetext_back moves result h tokens =
     let ts = tokens_of true moves in

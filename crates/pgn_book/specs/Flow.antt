@@ -1,4 +1,4 @@
--- The same text as it is written, token after token. The code's own words: the public contracts do not cite them.
+-- The same text as it is written, token after token. Private definitions: the public contracts do not cite them.
 use Rattle.std.specs.Prelude.{◌≡◌, ℕ, ◌+◌, ◌-◌, ◌^◌, ◌<◌, min, List, [], ◌∷◌, ◌++◌, length, take, Option, Bool, true, false, nat_eq, nat_le, if◌then◌else◌}
 use Rattle.std.specs.Io.KnownBytes.{Appends, Keeps}
 use Rattle.pgn_book.specs.declared.place.Place.{Place}

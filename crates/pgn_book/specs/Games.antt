@@ -2,13 +2,13 @@
 use Rattle.std.specs.Prelude.{◌≤◌, List, Option, All}
 use Rattle.std.specs.Option.{ForSome}
 use Rattle.dgt_frame.specs.declared.Hms.{Hms}
-use Rattle.chess_rules.specs.declared.men.Parts.{Parts}
+use Rattle.chess_rules.specs.declared.parts.Parts.{Parts}
 use Rattle.chess_rules.specs.Valid.{Valid}
 use Rattle.settle_core.specs.declared.game.Outcome.{Outcome}
 use Rattle.settle_core.specs.declared.game.Ply.{Ply}
 use Rattle.settle_core.specs.Settling.{Line, position_after}
 use Rattle.settle_core.specs.Folding.{moves_of}
-use Rattle.settle_core.specs.Ending.{IsResult}
+use Rattle.settle_core.specs.GameResult.{IsResult}
 use Rattle.pgn_book.specs.Values.{TagValues, AreValues}
 
 -- The plies stand in their order.

@@ -1,9 +1,9 @@
 -- The tokens of a movetext. A token is its list of bytes.
 use Rattle.std.specs.Prelude.{◌≡◌, ℕ, ◌+◌, ◌/◌, ◌%◌, Bool, true, false, List, [], ◌∷◌, ◌++◌, codes, decimal, Option, Some, None, is_some}
 use Rattle.dgt_frame.specs.declared.Hms.{Hms}
-use Rattle.chess_rules.specs.declared.men.Side.{Side}
-use Rattle.chess_rules.specs.declared.men.Side.TheVariants.{White, Black}
-use Rattle.chess_rules.specs.declared.men.Parts.{Parts}
+use Rattle.chess_rules.specs.declared.pieces.Side.{Side}
+use Rattle.chess_rules.specs.declared.pieces.Side.TheVariants.{White, Black}
+use Rattle.chess_rules.specs.declared.parts.Parts.{Parts}
 use Rattle.chess_rules.specs.After.{after}
 use Rattle.settle_core.specs.declared.game.Outcome.{Outcome}
 use Rattle.settle_core.specs.declared.game.Outcome.TheVariants.{WhiteWins, BlackWins, Drawn}
@@ -11,21 +11,21 @@ use Rattle.settle_core.specs.declared.game.Ply.{Ply}
 use Rattle.chess_text.specs.San.{San}
 
 -- A move as the movetext shows it: whose it is, the fullmove number before it, its SAN, and the clock's time, if any.
-pub record Shown : Type 0 where
+pub record ShownMove : Type 0 where
   pub side : Side
   pub number : ℕ
   pub san : List ℕ
   pub clock : Option Hms
 
 -- the move of this ply in this position
-pub record IsShown (p : Parts) (ply : Ply) (shown : Shown) : Type 0 where
+pub record IsShown (p : Parts) (ply : Ply) (shown : ShownMove) : Type 0 where
   pub side : shown.side ≡ p.side
   pub number : shown.number ≡ p.fullmove
   pub san : San p ply.mv shown.san
   pub clock : shown.clock ≡ ply.clock
 
 -- The moves of these plies from a position on.
-abbrev pub AreShown : Parts → List Ply → List Shown → Type 0
+abbrev pub AreShown : Parts → List Ply → List ShownMove → Type 0
 AreShown p [] [] = Unit {0}
 AreShown p [] (shown ∷ moves) = ⊥
 AreShown p (ply ∷ plies) [] = ⊥
@@ -55,11 +55,11 @@ clock_tokens None = []
 clock_tokens (Some time) = clock_text time ∷ []
 
 -- the number where it stands, the SAN, and the clock comment where there is one
-abbrev pub move_tokens : Bool → Shown → List (List ℕ)
+abbrev pub move_tokens : Bool → ShownMove → List (List ℕ)
 move_tokens wanted shown = number_tokens shown.side shown.number wanted ++ shown.san ∷ clock_tokens shown.clock
 
 -- A number before Black's move is wanted at the game's first move and after a clock comment.
-abbrev pub tokens_of : Bool → List Shown → List (List ℕ)
+abbrev pub tokens_of : Bool → List ShownMove → List (List ℕ)
 tokens_of wanted [] = []
 tokens_of wanted (shown ∷ moves) = move_tokens wanted shown ++ tokens_of (is_some shown.clock) moves
 
@@ -71,5 +71,5 @@ result_text (Some Drawn) = codes "1/2-1/2"
 result_text None = codes "*"
 
 -- the tokens of a game: those of its moves, and the termination marker
-abbrev pub game_tokens : List Shown → Option Outcome → List (List ℕ)
+abbrev pub game_tokens : List ShownMove → Option Outcome → List (List ℕ)
 game_tokens moves result = tokens_of true moves ++ result_text result ∷ []

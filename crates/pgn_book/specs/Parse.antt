@@ -1,10 +1,10 @@
--- What a text would be the text of. It is no test: the text that is written of the answer is compared with the text.
--- The code's own words: the public contracts do not cite them.
+-- What a text would be the text of. It is no test: the text that is written of the result is compared with the text.
+-- Private definitions: the public contracts do not cite them.
 use Rattle.std.specs.Prelude.{◌≡◌, ℕ, ◌+◌, ◌-◌, ◌*◌, List, [], ◌∷◌, ◌++◌, drop, Option, Some, None, Bool, true, false, not, ◌==◌, ◌||◌, ◌&&◌, nat_lt, slice_index, if◌then◌else◌}
 use Rattle.std.specs.List.{slice_split}
 use denote.Ref.{Bor}
 use Rattle.dgt_frame.specs.declared.Hms.{Hms}
-use Rattle.chess_rules.specs.declared.men.Parts.{Parts}
+use Rattle.chess_rules.specs.declared.parts.Parts.{Parts}
 use Rattle.chess_rules.specs.Initial.{initial}
 use Rattle.chess_rules.specs.After.{after}
 use Rattle.chess_rules.specs.Legal.{Legal}

@@ -1,13 +1,13 @@
 -- The PGN export text of a game.
 use Rattle.std.specs.Prelude.{◌≡◌, ◌≢◌, ℕ, List, [], ◌∷◌, ◌++◌, codes, ◌==◌, ◌||◌, if◌then◌else◌}
 use Rattle.std.specs.List.{flat_map}
-use Rattle.chess_rules.specs.declared.men.Parts.{Parts}
+use Rattle.chess_rules.specs.declared.parts.Parts.{Parts}
 use Rattle.chess_rules.specs.Initial.{initial}
 use Rattle.chess_text.specs.Fen.{fen}
 use Rattle.pgn_book.specs.Values.{TagValues}
 use Rattle.pgn_book.specs.Games.{Content, IsGame}
 use Rattle.pgn_book.specs.Lines.{IsMovetext}
-use Rattle.pgn_book.specs.Movetext.{Shown, AreShown, result_text, game_tokens}
+use Rattle.pgn_book.specs.Movetext.{ShownMove, AreShown, result_text, game_tokens}
 
 -- a quotation mark (34) and a backslash (92) have a backslash before them
 abbrev pub escape : ℕ → List ℕ
@@ -43,7 +43,7 @@ pub record Pgn (game : Content) (text : List ℕ) : Type 0 where
   pub is_game : IsGame game
   pub set_up : List ℕ
   pub is_set_up : IsSetUp game.start set_up
-  pub moves : List Shown
+  pub moves : List ShownMove
   pub are_moves : AreShown game.start game.plies moves
   pub movetext : List ℕ
   pub is_movetext : IsMovetext (game_tokens moves game.result) movetext

@@ -4,7 +4,7 @@ ghost use Rattle.std.specs.Option.{ForSome};
 ghost use Rattle.chess_rules.specs.Board.{other};
 ghost use Rattle.settle_core.specs.Settling.{Line, position_after};
 ghost use Rattle.settle_core.specs.Folding.{moves_of};
-ghost use Rattle.settle_core.specs.Ending.{IsResult, win_of};
+ghost use Rattle.settle_core.specs.GameResult.{IsResult, win_of};
 ghost use Rattle.pgn_book.specs.Games.{IsGame, IsTime, IsTimed, Result};
 
 use crate::tags::Tags;

@@ -3,7 +3,7 @@ ghost use Rattle.std.specs.Prelude.{◌≡◌, ◌↔◌, IsTrue};
 
 use chess_rules::{Parts, Piece, Rights, Square};
 
-fn same_man(a: &Option<Piece>, b: &Option<Piece>) -> bool
+fn same_piece(a: &Option<Piece>, b: &Option<Piece>) -> bool
     ensures { IsTrue result ↔ (a.now ≡ b.now) }
 {
     *a == *b
@@ -13,7 +13,7 @@ fn same_board(a: &[Option<Piece>; 64], b: &[Option<Piece>; 64]) -> bool
     ensures { IsTrue result ↔ (a.now ≡ b.now) }
 {
     for square in 0..64usize {
-        if !same_man(&a[square], &b[square]) {
+        if !same_piece(&a[square], &b[square]) {
             return false;
         }
     }

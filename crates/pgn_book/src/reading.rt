@@ -1,6 +1,6 @@
 //! Reading the export text of a game.
 ghost use Rattle.std.specs.Prelude.{◌≡◌, ◌↔◌, ◌≢◌, false, List, IsTrue, ◌++◌, ◌∷◌, [], OnOk, IfOk, IfSome, MatchResult, Some, None, Err};
-ghost use Rattle.chess_rules.specs.declared.men.Parts.{Parts as PartsOf};
+ghost use Rattle.chess_rules.specs.declared.parts.Parts.{Parts as PartsOf};
 ghost use Rattle.chess_rules.specs.Legal.{Legal};
 ghost use Rattle.chess_rules.specs.Valid.{Valid};
 ghost use Rattle.settle_core.specs.declared.game.Ply.{Ply as PlyOf};

@@ -4,7 +4,7 @@ use Rattle.std.specs.Prelude.{All, IfSome, MatchOption}
 use Rattle.std.proofs.lemmas.List.Elements.{All-cons, All-nil}
 use Rattle.std.specs.Borrow.{Bor}
 use Rattle.clap.specs.Walk.{Row, Text, first_of, one_of}
-use Rattle.chess_rules.specs.declared.men.Parts.{Parts}
+use Rattle.chess_rules.specs.declared.parts.Parts.{Parts}
 use Rattle.chess_rules.specs.Initial.{initial}
 use Rattle.chess_text.specs.declared.fen.FenError.{FenError}
 use Rattle.chess_text.specs.Fen.{RefusedFirst}

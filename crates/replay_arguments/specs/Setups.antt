@@ -3,10 +3,10 @@ use Rattle.std.specs.Prelude.{◌≡◌, ◌⊎◌, Bool, List, [], ◌∷◌, �
 use Rattle.std.specs.Borrow.{Bor}
 use Rattle.std.specs.Str.{bytes_eq}
 use Rattle.clap.specs.Walk.{Row, Text, first_of, one_of}
-use Rattle.chess_rules.specs.declared.men.Parts.{Parts}
+use Rattle.chess_rules.specs.declared.parts.Parts.{Parts}
 use Rattle.chess_rules.specs.Initial.{initial}
 use Rattle.chess_rules.specs.Valid.{Valid}
-use Rattle.chess_text.specs.Fen.{RefusedFirst, Tells}
+use Rattle.chess_text.specs.Fen.{RefusedFirst, TellsPosition}
 use Rattle.dgt_frame.specs.declared.time.First.{First}
 use Rattle.dgt_frame.specs.declared.time.First.TheVariants as first
 use Rattle.pgn_book.specs.declared.values.Tag.{Tag}
@@ -33,7 +33,7 @@ side_in (Some text) = if bytes_eq text (codes "white") then Some first.White els
 -- The start: the position that the FEN tells, or the initial position where none is given.
 abbrev pub StartsAt : Option Text → Parts → Type 0
 StartsAt None start = start ≡ initial
-StartsAt (Some text) start = Valid start × Tells text start
+StartsAt (Some text) start = Valid start × TellsPosition text start
 
 -- The value of a tag: the text that is given, if the tag may have it, or the unknown value where none is given.
 abbrev pub HasValue : Tag → Option Text → List ℕ → Type 0
@@ -138,7 +138,7 @@ abbrev pub with_given : Tag → Option Text → TagValues → TagValues
 with_given tag None values = values
 with_given tag (Some text) values = with_value tag text values
 
--- The refusal is for want of memory.
+-- The refusal is that memory ran out.
 abbrev pub ForMemory : Refusal → Type 0
 ForMemory (Fen error) = ⊥
 ForMemory (OfTag tag error) = error ≡ Memory

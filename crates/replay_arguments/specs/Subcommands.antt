@@ -9,7 +9,7 @@ use Rattle.clap.specs.Takes.{takes}
 use Rattle.clap.specs.Faults.{fault_of}
 use Rattle.clap.specs.Kinds.{IsAmong}
 use Rattle.clap.specs.declared.error.kind.ErrorKind.TheVariants as kind
-use Rattle.chess_rules.specs.declared.men.Parts.{Parts}
+use Rattle.chess_rules.specs.declared.parts.Parts.{Parts}
 use Rattle.board_session.specs.declared.recording.Setup.{Setup}
 use Rattle.board_session.specs.Settings.{Setting}
 use Rattle.replay_arguments.specs.declared.arguments.Subcommand.{Subcommand}
@@ -50,8 +50,8 @@ AsksForHelp arguments = fault_of replay arguments ≡ kind.DisplayHelp ∷ []
 abbrev pub AsksForVersion : List Text → Type 0
 AsksForVersion arguments = fault_of replay arguments ≡ kind.DisplayVersion ∷ []
 
--- The arguments are mistaken: a parse finds fault with them, or they ask for nothing that the program does; and they don't ask for
--- help or for a version.
+-- The arguments are mistaken: a parse finds fault with them, or they ask for nothing that the program does; and they don't ask
+-- for help or for a version.
 pub record AreMistaken (arguments : List Text) : Type 0 where
   pub fault : (fault_of replay arguments ≢ []) ⊎ (option_map_or (λ found. is_subcommand found.0 found.1) (subcommand_of replay arguments) false ≡ false)
   pub no_help : IsAmong kind.DisplayHelp (fault_of replay arguments) → ⊥

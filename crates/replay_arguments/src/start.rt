@@ -1,6 +1,6 @@
 //! The position that a game starts from.
 ghost use Rattle.std.specs.Prelude.{◌≡◌, ◌↔◌, IfErr, IfSome, Ok};
-ghost use Rattle.chess_rules.specs.declared.men.Parts.{Parts as PartsOf};
+ghost use Rattle.chess_rules.specs.declared.parts.Parts.{Parts as PartsOf};
 ghost use Rattle.chess_text.specs.Fen.{RefusedFirst};
 ghost use Rattle.replay_arguments.specs.Setups.{StartsAt, given};
 

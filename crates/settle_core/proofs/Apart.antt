@@ -1,24 +1,24 @@
 -- No honest picture is a sign: two kings in the centre would attack one another.
 use Rattle.std.proofs.Common.{◌≡◌, ◌≢◌, ℕ, ◌<◌, inl, inr, List, get_or, refl, sym, ap, ◌∙◌, arith}
-use Rattle.chess_rules.specs.declared.men.Side.{Side}
-use Rattle.chess_rules.specs.declared.men.Side.TheVariants.{White, Black}
-use Rattle.chess_rules.specs.declared.men.Kind.TheVariants.{King}
-use Rattle.chess_rules.specs.declared.men.Move.{Move}
-use Rattle.chess_rules.specs.declared.men.Parts.{Parts}
+use Rattle.chess_rules.specs.declared.pieces.Side.{Side}
+use Rattle.chess_rules.specs.declared.pieces.Side.TheVariants.{White, Black}
+use Rattle.chess_rules.specs.declared.pieces.Kind.TheVariants.{King}
+use Rattle.chess_rules.specs.declared.chess_move.Move.{Move}
+use Rattle.chess_rules.specs.declared.parts.Parts.{Parts}
 use Rattle.chess_rules.specs.declared.lines.Direction.{Direction}
 use Rattle.chess_rules.specs.declared.lines.Direction.TheVariants.{North, South, East, West, NorthEast, NorthWest, SouthEast, SouthWest}
-use Rattle.chess_rules.specs.Board.{Board, on, man, other, Ahead}
+use Rattle.chess_rules.specs.Board.{Board, on, piece_of, other, Ahead}
 use Rattle.chess_rules.specs.Attack.{Attacks}
 use Rattle.chess_rules.specs.After.{after, board_after}
 use Rattle.chess_rules.specs.Legal.{Legal}
 use Rattle.chess_rules.specs.Valid.{Valid, HasOneKing}
-use Rattle.chess_rules.specs.Picture.{code_of_man, picture}
+use Rattle.chess_rules.specs.Picture.{code_of_piece, picture}
 use Rattle.chess_rules.proofs.LawLemmas.{moves_stay_valid}
 use Rattle.settle_core.specs.declared.game.Outcome.{Outcome}
 use Rattle.settle_core.specs.Sign.{InCentre, IsSign}
-use Rattle.settle_core.specs.Showing.{HasKingsApart, IsPartial, IsUnderWay}
+use Rattle.settle_core.specs.HonestPlay.{HasKingsApart, IsPartial, IsUnderWay}
 use Rattle.settle_core.proofs.Boards.{other-other, king_no_pawn}
-use Rattle.settle_core.proofs.Men.{on_shown, shown_man, theirs_stood}
+use Rattle.settle_core.proofs.Pieces.{on_shown, shown_piece, theirs_stood}
 
 -- two squares of the centre are neighbours
 pub record AreNear (s t : ℕ) : Type 0 where
@@ -50,7 +50,7 @@ centre_low s (inr (inl a)) = omega arith
 centre_low s (inr (inr a)) = omega arith
 
 -- a king attacks its neighbours
-pub attacks_near : (board : Board) (side : Side) (s t : ℕ) → on board s ≡ man side King → AreNear s t → Attacks board side t
+pub attacks_near : (board : Board) (side : Side) (s t : ℕ) → on board s ≡ piece_of side King → AreNear s t → Attacks board side t
 attacks_near board side s t h n =
     record {
       from = s;
@@ -70,8 +70,8 @@ attacks_near board side s t h n =
 pub kings_apart :
     (p : Parts) (s t : ℕ)
     → Valid p
-    → on p.board s ≡ man p.side King
-    → on p.board t ≡ man (other p.side) King
+    → on p.board s ≡ piece_of p.side King
+    → on p.board t ≡ piece_of (other p.side) King
     → InCentre s
     → InCentre t
     → s ≢ t
@@ -85,8 +85,8 @@ pub record BothKings (seen : List ℕ) (side : Side) : Type 0 where
   pub theirs : ℕ
   pub mine_centre : InCentre mine
   pub theirs_centre : InCentre theirs
-  pub mine_stands : get_or seen mine 0 ≡ code_of_man side King
-  pub theirs_stands : get_or seen theirs 0 ≡ code_of_man (other side) King
+  pub mine_stands : get_or seen mine 0 ≡ code_of_piece side King
+  pub theirs_stands : get_or seen theirs 0 ≡ code_of_piece (other side) King
 
 pub both_kings : (p : Parts) (seen : List ℕ) (outcome : Outcome) (side : Side) → IsSign p seen outcome → BothKings seen side
 both_kings p seen outcome White h =
@@ -94,7 +94,7 @@ both_kings p seen outcome White h =
 both_kings p seen outcome Black h =
     record { mine = h.black_king; theirs = h.white_king; mine_centre = h.black.centre; theirs_centre = h.white.centre; mine_stands = h.black.stands; theirs_stands = h.white.stands }
 
-pub codes_differ : (side : Side) → code_of_man side King ≡ code_of_man (other side) King → ⊥
+pub codes_differ : (side : Side) → code_of_piece side King ≡ code_of_piece (other side) King → ⊥
 codes_differ White e = omega arith
 codes_differ Black e = omega arith
 
@@ -103,7 +103,7 @@ apart seen side k e = codes_differ side (sym k.mine_stands ∙ ap (λ s. get_or 
 
 -- both kings' codes in the centre, from where White's and Black's stand
 both_codes : (seen : List ℕ) (side : Side) (white black : ℕ) → InCentre white → InCentre black
-    → get_or seen white 0 ≡ code_of_man White King → get_or seen black 0 ≡ code_of_man Black King → BothKings seen side
+    → get_or seen white 0 ≡ code_of_piece White King → get_or seen black 0 ≡ code_of_piece Black King → BothKings seen side
 both_codes seen White white black a b x y =
     record { mine = white; theirs = black; mine_centre = a; theirs_centre = b; mine_stands = x; theirs_stands = y }
 both_codes seen Black white black a b x y =
@@ -126,7 +126,7 @@ no_sign_valid p seen v e p' outcome h = apart_valid p seen v e (both_kings p' se
 
 -- the other side's king stands still
 pub their_king :
-    (p : Parts) (m : Move) (s : ℕ) → Valid p → Legal p m → on p.board s ≡ man (other p.side) King → on (board_after p m) s ≡ man (other p.side) King
+    (p : Parts) (m : Move) (s : ℕ) → Valid p → Legal p m → on p.board s ≡ piece_of (other p.side) King → on (board_after p m) s ≡ piece_of (other p.side) King
 their_king p m s v l h =
     let w : Valid (after p m) = moves_stay_valid p m v l in
     let one : HasOneKing (board_after p m) (other p.side) = w.kings (other p.side) in
@@ -138,17 +138,17 @@ their_king p m s v l h =
 apart_partial : (p : Parts) (m : Move) (seen : List ℕ) → Valid p → Legal p m → IsPartial p m seen → ¬ BothKings seen p.side
 apart_partial p m seen v l q k =
     let w : Valid (after p m) = moves_stay_valid p m v l in
-    let theirs : on p.board k.theirs ≡ man (other p.side) King =
-    elim (shown_man p m seen k.theirs (other p.side) King q (centre_low k.theirs k.theirs_centre) k.theirs_stands) [
+    let theirs : on p.board k.theirs ≡ piece_of (other p.side) King =
+    elim (shown_piece p m seen k.theirs (other p.side) King q (centre_low k.theirs k.theirs_centre) k.theirs_stands) [
       | inl stood ↦ stood
       | inr more ↦ elim more [ inl stands ↦ theirs_stood p m k.theirs King v l stands | inr pawn ↦ absurd (king_no_pawn pawn.pawn) ]
     ] in
-    elim (shown_man p m seen k.mine p.side King q (centre_low k.mine k.mine_centre) k.mine_stands) [
+    elim (shown_piece p m seen k.mine p.side King q (centre_low k.mine k.mine_centre) k.mine_stands) [
       | inl stood ↦ kings_apart p k.mine k.theirs v stood theirs k.mine_centre k.theirs_centre (apart seen p.side k)
       | inr more ↦
           elim more [
             | inl stands ↦
-                let back : on (board_after p m) k.mine ≡ man (other (other p.side)) King = stands ∙ ap (λ (x : Side). man x King) (sym (other-other p.side)) in
+                let back : on (board_after p m) k.mine ≡ piece_of (other (other p.side)) King = stands ∙ ap (λ (x : Side). piece_of x King) (sym (other-other p.side)) in
                 kings_apart (after p m) k.theirs k.mine w (their_king p m k.theirs v l theirs) back k.theirs_centre k.mine_centre
                 (λ e. apart seen p.side k (sym e))
             | inr pawn ↦ absurd (king_no_pawn pawn.pawn)

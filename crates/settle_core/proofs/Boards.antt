@@ -1,24 +1,24 @@
--- Men on a board, and what a legal move does with them.
+-- Pieces on a board, and what a legal move does with them.
 use Rattle.std.proofs.Common.{◌≡◌, ◌≢◌, ℕ, ◌<◌, inl, inr, None, Some, Option, length, refl, sym, ap, ◌∙◌}
 use Rattle.std.proofs.lemmas.Bool.{cases_eq, cases_lt}
 use Rattle.std.proofs.lemmas.List.{get_or_past}
-use Rattle.chess_rules.specs.declared.men.Side.{Side}
-use Rattle.chess_rules.specs.declared.men.Side.TheVariants.{White, Black}
-use Rattle.chess_rules.specs.declared.men.Kind.{Kind}
-use Rattle.chess_rules.specs.declared.men.Kind.TheVariants.{Pawn, Rook, King}
-use Rattle.chess_rules.specs.declared.men.Piece.{Piece}
-use Rattle.chess_rules.specs.declared.men.Move.{Move}
-use Rattle.chess_rules.specs.declared.men.Parts.{Parts}
-use Rattle.chess_rules.specs.Board.{Board, on, man, other}
+use Rattle.chess_rules.specs.declared.pieces.Side.{Side}
+use Rattle.chess_rules.specs.declared.pieces.Side.TheVariants.{White, Black}
+use Rattle.chess_rules.specs.declared.pieces.Kind.{Kind}
+use Rattle.chess_rules.specs.declared.pieces.Kind.TheVariants.{Pawn, Rook, King}
+use Rattle.chess_rules.specs.declared.pieces.Piece.{Piece}
+use Rattle.chess_rules.specs.declared.chess_move.Move.{Move}
+use Rattle.chess_rules.specs.declared.parts.Parts.{Parts}
+use Rattle.chess_rules.specs.Board.{Board, on, piece_of, other}
 use Rattle.chess_rules.specs.After.{after}
-use Rattle.chess_rules.specs.Laws.{MovesOneMan, MovesKingAndRook}
+use Rattle.chess_rules.specs.Laws.{MovesOnePiece, MovesKingAndRook}
 
--- a man of this side stands on s
+-- a piece of this side stands on s
 pub record Own (side : Side) (board : Board) (s : ℕ) : Type 0 where
   pub kind : Kind
-  pub stands : on board s ≡ man side kind
+  pub stands : on board s ≡ piece_of side kind
 
--- the side and the kind of a man, since `cc` does not look into records
+-- the side and the kind of a piece, since `cc` does not look into records
 abbrev pub side_of : Option Piece → Side
 side_of (Some piece) = piece.side
 side_of None = White
@@ -27,8 +27,8 @@ abbrev pub kind_of : Option Piece → Kind
 kind_of (Some piece) = piece.kind
 kind_of None = Pawn
 
-pub none_man : {side : Side} {k : Kind} → None ≡ man side k → ⊥
-none_man e = cc
+pub none_piece : {side : Side} {k : Kind} → None ≡ piece_of side k → ⊥
+none_piece e = cc
 
 pub sides_differ : (side : Side) → side ≢ other side
 sides_differ White e = cc
@@ -49,27 +49,27 @@ pub same_unless : (a b : ℕ) → (a ≢ b → ⊥) → a ≡ b
 same_unless a b h = elim (cases_eq a b) [ inl e ↦ e | inr ne ↦ absurd (h ne) ]
 
 -- what stands somewhere stands on the board
-pub on_board : (board : Board) (s : ℕ) (side : Side) (k : Kind) → on board s ≡ man side k → s < length board
+pub on_board : (board : Board) (s : ℕ) (side : Side) (k : Kind) → on board s ≡ piece_of side k → s < length board
 on_board board s side k h =
     elim (cases_lt s (length board)) [
       | inl low ↦ low
       | inr past ↦ let e : on board s ≡ None = get_or_past board s None past in cc
     ]
 
--- a man and no man, two sides, or two kinds stand on two squares
-pub empty_differs : (b : Board) (s t : ℕ) (side : Side) (k : Kind) → on b s ≡ man side k → on b t ≡ None → s ≢ t
-empty_differs b s t side k h none e = none_man (sym none ∙ ap (on b) (sym e) ∙ h)
+-- a piece and no piece, two sides, or two kinds stand on two squares
+pub empty_differs : (b : Board) (s t : ℕ) (side : Side) (k : Kind) → on b s ≡ piece_of side k → on b t ≡ None → s ≢ t
+empty_differs b s t side k h none e = none_piece (sym none ∙ ap (on b) (sym e) ∙ h)
 
-pub side_differs : (b : Board) (s t : ℕ) (side : Side) (k j : Kind) → on b s ≡ man (other side) k → on b t ≡ man side j → s ≢ t
+pub side_differs : (b : Board) (s t : ℕ) (side : Side) (k j : Kind) → on b s ≡ piece_of (other side) k → on b t ≡ piece_of side j → s ≢ t
 side_differs b s t side k j h mine e = sides_differ side (ap side_of (sym mine ∙ ap (on b) (sym e) ∙ h))
 
-pub kind_differs : (b : Board) (s t : ℕ) (side : Side) (k j : Kind) → k ≢ j → on b s ≡ man side k → on b t ≡ man side j → s ≢ t
+pub kind_differs : (b : Board) (s t : ℕ) (side : Side) (k j : Kind) → k ≢ j → on b s ≡ piece_of side k → on b t ≡ piece_of side j → s ≢ t
 kind_differs b s t side k j ne h g e = ne (ap kind_of (sym h ∙ ap (on b) e ∙ g))
 
--- a man of the mover that does not go stays
+-- a piece of the mover that does not go stays
 pub one_kept :
-    (p : Parts) (m : Move) (o : MovesOneMan p m) (s : ℕ) (k : Kind)
-    → s ≢ m.from → on p.board s ≡ man p.side k → on (after p m).board s ≡ man p.side k
+    (p : Parts) (m : Move) (o : MovesOnePiece p m) (s : ℕ) (k : Kind)
+    → s ≢ m.from → on p.board s ≡ piece_of p.side k → on (after p m).board s ≡ piece_of p.side k
 one_kept p m o s k nf h =
     let nt : s ≢ m.to = λ e. o.free k (ap (on p.board) (sym e) ∙ h) in
     let nx : s ≢ o.taken = λ e.
@@ -79,10 +79,10 @@ one_kept p m o s k nf h =
     ] in
     o.others s nf nt nx ∙ h
 
--- after a move of one man, a man of the other side stood where it stands
+-- after a move of one piece, a piece of the other side stood where it stands
 pub one_theirs :
-    (p : Parts) (m : Move) (o : MovesOneMan p m) (s : ℕ) (k : Kind)
-    → on (after p m).board s ≡ man (other p.side) k → on p.board s ≡ man (other p.side) k
+    (p : Parts) (m : Move) (o : MovesOnePiece p m) (s : ℕ) (k : Kind)
+    → on (after p m).board s ≡ piece_of (other p.side) k → on p.board s ≡ piece_of (other p.side) k
 one_theirs p m o s k h =
     let nf : s ≢ m.from = empty_differs (after p m).board s m.from (other p.side) k h o.left in
     let nt : s ≢ m.to = side_differs (after p m).board s m.to p.side k _ h o.came in
@@ -91,15 +91,15 @@ one_theirs p m o s k h =
 
 pub castled_theirs :
     (p : Parts) (m : Move) (c : MovesKingAndRook p m) (s : ℕ) (k : Kind)
-    → on (after p m).board s ≡ man (other p.side) k → on p.board s ≡ man (other p.side) k
+    → on (after p m).board s ≡ piece_of (other p.side) k → on p.board s ≡ piece_of (other p.side) k
 castled_theirs p m c s k h =
     let b : Board = (after p m).board in
     sym (c.others s (empty_differs b s _ _ k h c.king_left) (side_differs b s _ p.side k _ h c.king_came) (empty_differs b s _ _ k h c.rook_left) (side_differs b s _ p.side k _ h c.rook_came)) ∙ h
 
--- castling takes no man
+-- castling takes no piece
 pub castled_quiet :
     (p : Parts) (m : Move) (c : MovesKingAndRook p m) (s : ℕ) (k : Kind)
-    → on p.board s ≡ man (other p.side) k → on (after p m).board s ≡ man (other p.side) k
+    → on p.board s ≡ piece_of (other p.side) k → on (after p m).board s ≡ piece_of (other p.side) k
 castled_quiet p m c s k h =
     let b : Board = p.board in
     c.others s (side_differs b s _ p.side k _ h c.king) (empty_differs b s _ _ k h c.target_empty) (side_differs b s _ p.side k _ h c.rook) (empty_differs b s _ _ k h c.crossed_empty) ∙ h

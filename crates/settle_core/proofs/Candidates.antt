@@ -4,23 +4,23 @@ use Rattle.std.proofs.lemmas.Bool.{both_ways, cases_lt, cases_Bool}
 use Rattle.std.proofs.lemmas.List.{get_or_past}
 use Rattle.std.specs.Int.RustNames.{count_ones}
 use Rattle.std.specs.Simd.Lanes.{mask_l}
-use Rattle.chess_rules.specs.declared.men.Kind.{Kind}
-use Rattle.chess_rules.specs.declared.men.Move.{Move}
-use Rattle.chess_rules.specs.declared.men.Parts.{Parts}
-use Rattle.chess_rules.specs.Board.{on, man}
+use Rattle.chess_rules.specs.declared.pieces.Kind.{Kind}
+use Rattle.chess_rules.specs.declared.chess_move.Move.{Move}
+use Rattle.chess_rules.specs.declared.parts.Parts.{Parts}
+use Rattle.chess_rules.specs.Board.{on, piece_of}
 use Rattle.chess_rules.specs.After.{after, board_after}
 use Rattle.chess_rules.specs.Legal.{Legal}
 use Rattle.chess_rules.specs.Valid.{Valid}
 use Rattle.chess_rules.specs.Picture.{code, picture}
-use Rattle.chess_rules.proofs.LawLemmas.{moves_move_men}
+use Rattle.chess_rules.proofs.LawLemmas.{moves_move_pieces}
 use Rattle.settle_core.proofs.Boards.{on_board, same_move}
 use Rattle.settle_core.specs.Settling.{Settles}
 use Rattle.settle_core.specs.Masks.{IsDiff, IsNoMove}
 use Rattle.settle_core.specs.Candidate.{lands, leaves, is_king_code, side_number, promotion_between}
-use Rattle.settle_core.proofs.Men.{at_picture, squares_after}
+use Rattle.settle_core.proofs.Pieces.{at_picture, squares_after}
 use Rattle.settle_core.proofs.Masking.{diffs, at_diffs, differ, length-diffs}
 use Rattle.settle_core.proofs.Counting.{mask_is, ones_trues, few_trues, trues}
-use Rattle.settle_core.proofs.Tracing.{IsTraced, traced, Lands, Leaves, lands_from, lands_parts, leaves_from, leaves_parts, king_code_is, man_some, number_some, side_code}
+use Rattle.settle_core.proofs.Tracing.{IsTraced, traced, Lands, Leaves, lands_from, lands_parts, leaves_from, leaves_parts, king_code_is, piece_some, number_some, side_code}
 use Rattle.std.proofs.lemmas.Bool.{eq-eqb, ne_eqb}
 use Rattle.std.proofs.Common.{not}
 
@@ -36,19 +36,19 @@ pub record IsBetween (p : Parts) (m : Move) (before after : List ℕ) : Type 0 w
 -- the move's own square
 pub low_from : (p : Parts) (m : Move) → Valid p → Legal p m → m.from < 64
 low_from p m v l =
-    elim (moves_move_men p m v l) [
+    elim (moves_move_pieces p m v l) [
       | inl o ↦ rw (← v.squares) (on_board p.board m.from p.side o.kind o.stands)
       | inr c ↦ rw (← v.squares) (on_board p.board m.from p.side _ c.king)
     ]
 
--- the man has left it
+-- the piece has left it
 pub from_moved : (p : Parts) (m : Move) (before now : List ℕ) → IsBetween p m before now → get_or before m.from 0 ≡ get_or now m.from 0 → ⊥
 from_moved p m before now b e =
     let t : IsTraced p m = b.trace in
     let empty : code (on p.board m.from) ≡ 0 = sym (b.at_before m.from b.from_low) ∙ e ∙ b.at_after m.from b.from_low ∙ (t.leaves).none in
-    elim (cases_Bool (is_king_code (code (man t.side t.arrived)))) [
-      | inl k ↦ man_some t.side t.arrived (sym ((t.leaves).king k) ∙ empty)
-      | inr k ↦ number_some t.side (sym (ap side_number empty) ∙ (t.leaves).man k ∙ side_code t.side t.arrived)
+    elim (cases_Bool (is_king_code (code (piece_of t.side t.arrived)))) [
+      | inl k ↦ piece_some t.side t.arrived (sym ((t.leaves).king k) ∙ empty)
+      | inr k ↦ number_some t.side (sym (ap side_number empty) ∙ (t.leaves).piece k ∙ side_code t.side t.arrived)
     ]
 
 pub between : (p : Parts) (m : Move) (before now : List ℕ) → Valid p → before ≡ picture p → Settles p now m → IsBetween p m before now
@@ -80,7 +80,7 @@ pub to_some :
     → IsBetween p m before now → to < 64 → lands true (get_or before to 0) (get_or now to 0) ≡ true → to ≡ m.to
 to_some p m before now to b low h = (b.trace).only_king to (lands_at p m before now true to b low h)
 
--- and so is another man's, where no king lands
+-- and so is another piece's, where no king lands
 pub to_none :
     (p : Parts) (m : Move) (before now : List ℕ) (to : ℕ)
     → IsBetween p m before now
@@ -90,13 +90,13 @@ pub to_none :
     → to ≡ m.to
 to_none p m before now to b none low h =
     let t : IsTraced p m = b.trace in
-    t.only_man
+    t.only_piece
     (λ k.
     let king : Lands true (code (on p.board m.to)) (code (on (board_after p m) m.to)) =
     record {
       differ = (t.lands).differ;
       some = (t.lands).some;
-      king = λ e. ap (λ o. is_king_code (code o)) (t.code_to ∙ ap (man t.side) k) ∙ king_code_is t.side;
+      king = λ e. ap (λ o. is_king_code (code o)) (t.code_to ∙ ap (piece_of t.side) k) ∙ king_code_is t.side;
     } in
     both_ways _ (none m.to b.to_low) (at_lands p m before now true m.to b b.to_low king))
     to (lands_at p m before now false to b low h)
@@ -106,7 +106,7 @@ pub no_land :
     → IsBetween p m before now → ¬ ((s : ℕ) → s < 64 → lands false (get_or before s 0) (get_or now s 0) ≡ false)
 no_land p m before now b none = both_ways _ (none m.to b.to_low) (at_lands p m before now false m.to b b.to_low (b.trace).lands)
 
-code_at : (p : Parts) (m : Move) (before now : List ℕ) (to : ℕ) (b : IsBetween p m before now) → to ≡ m.to → get_or now to 0 ≡ code (man (b.trace).side (b.trace).arrived)
+code_at : (p : Parts) (m : Move) (before now : List ℕ) (to : ℕ) (b : IsBetween p m before now) → to ≡ m.to → get_or now to 0 ≡ code (piece_of (b.trace).side (b.trace).arrived)
 code_at p m before now to b e = ap (λ s. get_or now s 0) e ∙ b.at_after m.to b.to_low ∙ ap code (b.trace).code_to
 
 pub no_leave :
@@ -138,7 +138,7 @@ pub promotion_is :
     → promotion_between (get_or before from 0) (get_or now to 0) ≡ m.promotion
 promotion_is p m before now to from b e f =
     ap (promotion_between (get_or before from 0)) (code_at p m before now to b e)
-    ∙ ap (λ x. promotion_between x (code (man (b.trace).side (b.trace).arrived))) (ap (λ s. get_or before s 0) f ∙ b.at_before m.from b.from_low)
+    ∙ ap (λ x. promotion_between x (code (piece_of (b.trace).side (b.trace).arrived))) (ap (λ s. get_or before s 0) f ∙ b.at_before m.from b.from_low)
     ∙ (b.trace).promotes
 
 pub same_candidate :

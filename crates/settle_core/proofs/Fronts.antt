@@ -2,16 +2,16 @@
 use Rattle.std.proofs.Common.{◌≡◌, ◌⊎◌, ℕ, inl, inr, List, [], ◌∷◌, ◌++◌, reverse, refl, sym, ap, subst, ◌∙◌}
 use mathlib.Core.List.{reverse_aux}
 use Rattle.std.proofs.lemmas.List.{reverse-reverse, reverse-append, append_assoc}
-use Rattle.chess_rules.specs.declared.men.Move.{Move}
-use Rattle.chess_rules.specs.declared.men.Parts.{Parts}
+use Rattle.chess_rules.specs.declared.chess_move.Move.{Move}
+use Rattle.chess_rules.specs.declared.parts.Parts.{Parts}
 use Rattle.chess_rules.specs.After.{after}
 use Rattle.chess_rules.specs.Legal.{Legal}
 use Rattle.chess_rules.specs.Picture.{picture}
 use Rattle.settle_core.specs.declared.game.Ply.{Ply}
-use Rattle.settle_core.specs.Entries.{Entry, unstuttered}
+use Rattle.settle_core.specs.Entries.{Entry, deduplicated}
 use Rattle.settle_core.specs.Settling.{reached, position_after, Line}
 use Rattle.settle_core.specs.Folding.{Score, Folds, moves_of}
-use Rattle.settle_core.specs.Showing.{Takes, AllPass, Shown, ShownEach, shown_plies, IsAmong, HasOneMore, IsFront}
+use Rattle.settle_core.specs.HonestPlay.{Takes, AllPass, Shown, ShownEach, shown_plies, IsAmong, HasOneMore, IsFront}
 use Rattle.settle_core.specs.Laws.{joined, GivesScore, HonestPlayStops, FrontsOfHonestPlay}
 use Rattle.settle_core.proofs.Stages.{IsSound, StandsIn, Opens, entry_open, opens, IsOpen}
 use Rattle.settle_core.proofs.Lines.{open_no_sign, MakesMove, line_ends, moves_shown, reverse_aux-append}
@@ -78,7 +78,7 @@ honest_stops start moves lists part score v l h a f =
     let all : Opens start (reverse plies) (IsAmong part) (reverse_aux part (reverse_aux (joined lists) [])) =
     all_open start (reverse plies) (IsAmong part) part (reverse_aux (joined lists) []) made.sound (subst A (sym at) a) (among part [] part refl)
     (opens start (reverse plies) (IsAmong part) (reverse_aux (joined lists) []) made.ends) in
-    let F : List Entry → Type 0 = λ es. Folds start (unstuttered es) score in
+    let F : List Entry → Type 0 = λ es. Folds start (deduplicated es) score in
     let o : IsOpen start (reverse plies) (IsAmong part) score = all score (subst F (reverse_aux-append (joined lists) part []) f) in (
       open_no_sign start (reverse plies) (IsAmong part) score o,
       elim o [

@@ -1,12 +1,12 @@
 -- Each entry gives one ply at most.
 use Rattle.std.proofs.Common.{◌≡◌, ℕ, ◌≤◌, ◌+◌, suc, true, false, List, [], ◌∷◌, drop, length, if◌then◌else◌, arith, ap}
-use Rattle.chess_rules.specs.declared.men.Parts.{Parts}
+use Rattle.chess_rules.specs.declared.parts.Parts.{Parts}
 use Rattle.settle_core.specs.declared.game.Ply.{Ply}
 use Rattle.settle_core.specs.declared.game.Seen.{Seen}
 use Rattle.settle_core.specs.declared.game.Seen.TheVariants.{Same, Moved, Sign, Replaced, Waits}
-use Rattle.settle_core.specs.Entries.{Entry, repeats, unstuttered}
+use Rattle.settle_core.specs.Entries.{Entry, repeats, deduplicated}
 use Rattle.settle_core.specs.Folding.{Score, Folds, score_after}
-use Rattle.settle_core.specs.Standing.{Sheet, StandsFor}
+use Rattle.settle_core.specs.Settler.{Sheet, StandsFor}
 
 length-replaced : (start : Parts) (plies : List Ply) (seen : List ℕ) (entry : Entry) (m : Seen) → length (drop 1 plies) + 1 ≤ length plies + 1
 length-replaced start [] seen entry m = omega arith
@@ -30,11 +30,11 @@ length-folds start (entry ∷ past) score h =
     let more : length score.plies ≤ length (h.0).plies + 1 = one_more start entry past h.0 score h.1 h.4 in
     omega arith
 
-pub length-unstuttered : (past : List Entry) → length (unstuttered past) ≤ length past
-length-unstuttered [] = omega arith
-length-unstuttered (entry ∷ past) =
-    let fewer : length (unstuttered past) ≤ length past = length-unstuttered past in
-    elim (repeats entry.picture past) as (λ b. length (if b then unstuttered past else entry ∷ unstuttered past) ≤ suc (length past)) [
+pub length-deduplicated : (past : List Entry) → length (deduplicated past) ≤ length past
+length-deduplicated [] = omega arith
+length-deduplicated (entry ∷ past) =
+    let fewer : length (deduplicated past) ≤ length past = length-deduplicated past in
+    elim (repeats entry.picture past) as (λ b. length (if b then deduplicated past else entry ∷ deduplicated past) ≤ suc (length past)) [
       | true ↦ omega arith
       | false ↦ omega arith
     ]
@@ -43,6 +43,6 @@ length-unstuttered (entry ∷ past) =
 pub moves_within : (sheet : Sheet) (start : Parts) (past : List Entry) (plies : List Ply)
     → StandsFor sheet start past → length sheet.score.plies ≡ length plies → length plies ≤ length past
 moves_within sheet start past plies st e =
-    let a : length sheet.score.plies ≤ length (unstuttered past) = length-folds start (unstuttered past) sheet.score st.folds in
-    let b : length (unstuttered past) ≤ length past = length-unstuttered past in
+    let a : length sheet.score.plies ≤ length (deduplicated past) = length-folds start (deduplicated past) sheet.score st.folds in
+    let b : length (deduplicated past) ≤ length past = length-deduplicated past in
     omega arith

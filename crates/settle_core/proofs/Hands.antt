@@ -1,10 +1,10 @@
--- Pictures with men in hand, and pictures without a king.
+-- Pictures with pieces in hand, and pictures without a king.
 use Rattle.std.proofs.Common.{◌≢◌, ℕ, ◌<◌, List, get_or}
-use Rattle.chess_rules.specs.declared.men.Side.{Side}
-use Rattle.chess_rules.specs.declared.men.Side.TheVariants.{White, Black}
-use Rattle.chess_rules.specs.declared.men.Kind.TheVariants.{King}
-use Rattle.chess_rules.specs.declared.men.Move.{Move}
-use Rattle.chess_rules.specs.declared.men.Parts.{Parts}
+use Rattle.chess_rules.specs.declared.pieces.Side.{Side}
+use Rattle.chess_rules.specs.declared.pieces.Side.TheVariants.{White, Black}
+use Rattle.chess_rules.specs.declared.pieces.Kind.TheVariants.{King}
+use Rattle.chess_rules.specs.declared.chess_move.Move.{Move}
+use Rattle.chess_rules.specs.declared.parts.Parts.{Parts}
 use Rattle.chess_rules.specs.After.{after}
 use Rattle.chess_rules.specs.Valid.{Valid, HasOneKing}
 use Rattle.chess_rules.specs.Picture.{picture}
@@ -12,17 +12,17 @@ use Rattle.chess_rules.proofs.LawLemmas.{moves_stay_valid}
 use Rattle.settle_core.specs.declared.game.Outcome.{Outcome}
 use Rattle.settle_core.specs.Settling.{Settles}
 use Rattle.settle_core.specs.Sign.{IsSign}
-use Rattle.settle_core.specs.Showing.{Takes, HasKingsApart, IsInHand, LacksKing}
+use Rattle.settle_core.specs.HonestPlay.{Takes, HasKingsApart, IsInHand, LacksKing}
 use Rattle.settle_core.specs.Laws.{UnderWayIsInHand}
 use Rattle.settle_core.proofs.Boards.{on_board}
-use Rattle.settle_core.proofs.Men.{ShowsNoNew, takes_unless, quiet_under_way, settles_end, no_new_under_way, shown_on}
+use Rattle.settle_core.proofs.Pieces.{ShowsNoNew, takes_unless, quiet_under_way, settles_end, no_new_under_way, shown_on}
 use Rattle.settle_core.proofs.Apart.{centre_low, kings_apart_under_way}
 
 -- a picture with the kings apart is no sign
 pub no_sign_apart : (seen : List ℕ) → HasKingsApart seen → (p : Parts) (outcome : Outcome) → ¬ IsSign p seen outcome
 no_sign_apart seen apart p outcome h = apart h.white_king h.black_king h.white.centre h.black.centre h.white.stands h.black.stands
 
--- what a picture with men in hand settles takes no man
+-- what a picture with pieces in hand settles takes no piece
 pub in_hand_quiet : (p : Parts) (k : Move) (seen : List ℕ) → IsInHand p seen → Settles p seen k → ¬ Takes p k
 in_hand_quiet p k seen hand h t = hand.no_capture k h.legal t h.shows
 
@@ -39,14 +39,14 @@ pub lacking_settles : (p : Parts) (seen : List ℕ) (m : Move) → Valid p → L
 lacking_settles p seen m v lacks h = lacking_no_picture (after p m) seen (moves_stay_valid p m v h.legal) lacks h.shows
 
 lacking_sign : (p : Parts) (seen : List ℕ) (outcome : Outcome) (side : Side)
-    → ((s : ℕ) → s < 64 → get_or seen s 0 ≢ Rattle.chess_rules.specs.Picture.code_of_man side King) → ¬ IsSign p seen outcome
+    → ((s : ℕ) → s < 64 → get_or seen s 0 ≢ Rattle.chess_rules.specs.Picture.code_of_piece side King) → ¬ IsSign p seen outcome
 lacking_sign p seen outcome White nowhere h = nowhere h.white_king (centre_low h.white_king h.white.centre) h.white.stands
 lacking_sign p seen outcome Black nowhere h = nowhere h.black_king (centre_low h.black_king h.black.centre) h.black.stands
 
 pub lacking_no_sign : (p : Parts) (seen : List ℕ) (outcome : Outcome) → LacksKing seen → ¬ IsSign p seen outcome
 lacking_no_sign p seen outcome lacks = lacking_sign p seen outcome lacks.side lacks.nowhere
 
--- a picture on the way to a move, or a try of its man, has men in hand
+-- a picture on the way to a move, or a try of its piece, has pieces in hand
 pub under_way_is_in_hand : UnderWayIsInHand
 under_way_is_in_hand p m seen v l way =
     record {

@@ -1,34 +1,34 @@
--- A picture that differs from a position's only by men that it lacks shows nothing yet.
+-- A picture that differs from a position's only by pieces that it lacks shows nothing yet.
 use Rattle.std.proofs.Common.{◌≡◌, ℕ, ◌<◌, List, false, get_or, inl, inr, refl, sym, ◌∙◌}
 use Rattle.std.proofs.lemmas.Bool.{both_ways, cases_eq}
-use Rattle.chess_rules.specs.declared.men.Side.{Side}
-use Rattle.chess_rules.specs.declared.men.Kind.{Kind}
-use Rattle.chess_rules.specs.declared.men.Kind.TheVariants.{King}
-use Rattle.chess_rules.specs.declared.men.Move.{Move}
-use Rattle.chess_rules.specs.declared.men.Parts.{Parts}
-use Rattle.chess_rules.specs.Board.{on, man, other}
+use Rattle.chess_rules.specs.declared.pieces.Side.{Side}
+use Rattle.chess_rules.specs.declared.pieces.Kind.{Kind}
+use Rattle.chess_rules.specs.declared.pieces.Kind.TheVariants.{King}
+use Rattle.chess_rules.specs.declared.chess_move.Move.{Move}
+use Rattle.chess_rules.specs.declared.parts.Parts.{Parts}
+use Rattle.chess_rules.specs.Board.{on, piece_of, other}
 use Rattle.chess_rules.specs.Valid.{Valid}
-use Rattle.chess_rules.specs.Picture.{code_of_man, picture}
+use Rattle.chess_rules.specs.Picture.{code_of_piece, picture}
 use Rattle.settle_core.specs.declared.game.Outcome.{Outcome}
 use Rattle.settle_core.specs.declared.game.Seen.TheVariants.{Waits}
-use Rattle.settle_core.specs.Folding.{Shows}
+use Rattle.settle_core.specs.Folding.{SeenAs}
 use Rattle.settle_core.specs.Kept.{OnlyLacks}
 use Rattle.settle_core.specs.Settling.{Settles, reached, Played}
 use Rattle.settle_core.specs.Sign.{IsSign}
 use Rattle.settle_core.proofs.Apart.{BothKings, both_kings, kings_apart, apart, centre_low}
 use Rattle.settle_core.proofs.Candidates.{between, no_land}
-use Rattle.settle_core.proofs.Men.{on_shown, code_no_zero}
+use Rattle.settle_core.proofs.Pieces.{on_shown, code_no_zero}
 use Rattle.settle_core.proofs.Stages.{valid_reached, no_replace}
 use Rattle.settle_core.proofs.Tracing.{lands_from}
 
--- a man that the picture shows stands in the position
+-- a piece that the picture shows stands in the position
 pub stands_there :
     (p : Parts) (seen : List ℕ) (s : ℕ) (side : Side) (k : Kind)
     → Valid p
     → OnlyLacks (picture p) seen
     → s < 64
-    → get_or seen s 0 ≡ code_of_man side k
-    → on p.board s ≡ man side k
+    → get_or seen s 0 ≡ code_of_piece side k
+    → on p.board s ≡ piece_of side k
 stands_there p seen s side k v lacks low h =
     on_shown p (picture p) s side k (rw v.squares low) refl
     (elim (cases_eq (get_or (picture p) s 0) (get_or seen s 0)) [
@@ -57,7 +57,7 @@ pub waits_lacking :
     → Valid start
     → Played start moves
     → OnlyLacks (picture (reached start moves)) seen
-    → Shows start moves seen Waits
+    → SeenAs start moves seen Waits
 waits_lacking start moves seen v played lacks =
     let p : Parts = reached start moves in
     let w : Valid p = valid_reached start moves v played in (

@@ -1,5 +1,5 @@
 pub mod Boards
-pub mod Men
+pub mod Pieces
 pub mod Apart
 pub mod Hands
 pub mod Stages

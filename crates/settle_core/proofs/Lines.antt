@@ -2,23 +2,23 @@
 use Rattle.std.proofs.Common.{◌≡◌, ℕ, inl, inr, List, [], ◌∷◌, ◌++◌, None, false, reverse, refl, sym, ap, subst, ◌∙◌}
 use mathlib.Core.List.{reverse_aux}
 use Rattle.std.proofs.lemmas.List.{reverse-reverse}
-use Rattle.chess_rules.specs.declared.men.Move.{Move}
-use Rattle.chess_rules.specs.declared.men.Parts.{Parts}
+use Rattle.chess_rules.specs.declared.chess_move.Move.{Move}
+use Rattle.chess_rules.specs.declared.parts.Parts.{Parts}
 use Rattle.chess_rules.specs.After.{after}
 use Rattle.chess_rules.specs.Legal.{Legal}
 use Rattle.chess_rules.specs.Picture.{picture}
 use Rattle.chess_rules.specs.Valid.{Valid}
 use Rattle.settle_core.specs.declared.game.Ply.{Ply}
-use Rattle.settle_core.specs.Entries.{Entry, repeats, unstuttered}
+use Rattle.settle_core.specs.Entries.{Entry, repeats, deduplicated}
 use Rattle.settle_core.specs.Settling.{reached, Line}
 use Rattle.settle_core.specs.Folding.{Score, Folds, moves_of, played, time_of}
-use Rattle.settle_core.specs.Showing.{Shown, ShownEach, last_reading, shown_plies}
+use Rattle.settle_core.specs.HonestPlay.{Shown, ShownEach, last_reading, shown_plies}
 use Rattle.settle_core.specs.Laws.{joined, HonestPlayFolds, HonestPlayIsKept, HonestPlayKeepsClocks}
 use Rattle.settle_core.proofs.Stages.{IsSound, IsOpen, NotYet, Opens, Gives, Ends, now, differ_false, not_repeated, entry_open, entry_end, opens}
 
 -- no sign stands after these entries
 abbrev pub HasNoSign : Parts → List Entry → Type 0
-HasNoSign start past = (score : Score) → Folds start (unstuttered past) score → score.sign ≡ None
+HasNoSign start past = (score : Score) → Folds start (deduplicated past) score → score.sign ≡ None
 
 -- nor after each of the entries to come
 abbrev pub NeverSigns : Parts → List Entry → List Entry → Type 0
@@ -52,7 +52,7 @@ pub record MakesMove (start : Parts) (made : List Ply) (entries past : List Entr
   pub never : NeverSigns start entries past
   pub sound : IsSound start made
 
--- no sign stands while men are in hand
+-- no sign stands while pieces are in hand
 pub open_no_sign : (start : Parts) (earlier : List Ply) (Q : List ℕ → Type 0) (score : Score) → IsOpen start earlier Q score → score.sign ≡ None
 open_no_sign start earlier Q score o = elim o [ inl e ↦ ap (λ (s : Score). s.sign) e | inr i ↦ ap (λ (s : Score). s.sign) i.is ]
 

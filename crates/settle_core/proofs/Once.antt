@@ -1,7 +1,7 @@
 -- A list of entries folds to one score at most.
 use Rattle.std.proofs.Common.{◌≡◌, ℕ, ◌≤◌, ◌+◌, inl, inr, List, [], ◌∷◌, drop, length, arith, refl, sym, ap, subst, ◌∙◌}
-use Rattle.chess_rules.specs.declared.men.Move.{Move}
-use Rattle.chess_rules.specs.declared.men.Parts.{Parts}
+use Rattle.chess_rules.specs.declared.chess_move.Move.{Move}
+use Rattle.chess_rules.specs.declared.parts.Parts.{Parts}
 use Rattle.chess_rules.specs.After.{after}
 use Rattle.chess_rules.specs.Valid.{Valid}
 use Rattle.settle_core.specs.declared.game.Outcome.{Outcome}
@@ -9,15 +9,15 @@ use Rattle.settle_core.specs.declared.game.Outcome.TheVariants.{WhiteWins, Black
 use Rattle.settle_core.specs.declared.game.Ply.{Ply}
 use Rattle.settle_core.specs.declared.game.Seen.{Seen}
 use Rattle.settle_core.specs.declared.game.Seen.TheVariants.{Same, Moved, Sign, Replaced, Waits}
-use Rattle.settle_core.specs.Entries.{Entry, unstuttered}
+use Rattle.settle_core.specs.Entries.{Entry, deduplicated}
 use Rattle.settle_core.specs.Settling.{Settles, reached, Played}
 use Rattle.settle_core.specs.Sign.{IsSign, IsLight, IsDark, Means}
-use Rattle.settle_core.specs.Folding.{Score, Folds, Replaces, Shows, moves_of, score_after}
+use Rattle.settle_core.specs.Folding.{Score, Folds, Replaces, SeenAs, moves_of, score_after}
 use Rattle.settle_core.specs.Laws.{FoldsOnce, SettlersTellTheScore, NoEntryGivesTwo, SignsSettleNothing, RepliesReplaceNothing}
 use Rattle.settle_core.proofs.Apart.{no_sign_valid}
 use Rattle.settle_core.proofs.Growing.{one_more}
 use Rattle.settle_core.proofs.Stages.{valid_reached, no_replace}
-use Rattle.settle_core.proofs.Men.{no_new_after}
+use Rattle.settle_core.proofs.Pieces.{no_new_after}
 
 light_dark : (s : ℕ) → IsLight s → IsDark s → ⊥
 light_dark s (inl a) (inl b) = omega arith
@@ -70,8 +70,8 @@ replies_replace_nothing start moves seen reply m v played h =
 pub shows_once :
     (start : Parts) (moves : List Move) (seen : List ℕ) (a b : Seen)
     → Valid (reached start moves)
-    → Shows start moves seen a
-    → Shows start moves seen b
+    → SeenAs start moves seen a
+    → SeenAs start moves seen b
     → a ≡ b
 shows_once start moves seen Same b v g h = absurd g
 shows_once start moves seen (Moved m) Same v g h = absurd h
@@ -103,7 +103,7 @@ replaced_played start (last ∷ earlier) seen m r p = ((r.0).legal, p.1)
 
 shown_played :
     (start : Parts) (score : Score) (entry : Entry) (seen : Seen)
-    → Shows start (moves_of score.plies) entry.picture seen
+    → SeenAs start (moves_of score.plies) entry.picture seen
     → Played start (moves_of score.plies)
     → Played start (moves_of (score_after start score entry.reading seen).plies)
 shown_played start score entry Same h p = absurd h
@@ -123,13 +123,13 @@ pub folds_once : FoldsOnce
 folds_once start [] a b v g h = g ∙ sym h
 folds_once start (entry ∷ past) a b v g h =
     let before : g.0 ≡ h.0 = folds_once start past g.0 h.0 v g.2 h.2 in
-    let S : Score → Type 0 = λ s. Shows start (moves_of s.plies) entry.picture g.1 in
+    let S : Score → Type 0 = λ s. SeenAs start (moves_of s.plies) entry.picture g.1 in
     let valid : Valid (reached start (moves_of (h.0).plies)) = valid_reached start (moves_of (h.0).plies) v (folds_played start past h.0 h.2) in
     let seen : g.1 ≡ h.1 = shows_once start (moves_of (h.0).plies) entry.picture g.1 h.1 valid (subst S before g.3) h.3 in
     g.4 ∙ ap (λ (s : Score). score_after start s entry.reading g.1) before ∙ ap (λ (x : Seen). score_after start h.0 entry.reading x) seen ∙ sym h.4
 
 pub tells_the_score : SettlersTellTheScore
-tells_the_score sheet start past score v st h = folds_once start (unstuttered past) score sheet.score v h st.folds
+tells_the_score sheet start past score v st h = folds_once start (deduplicated past) score sheet.score v h st.folds
 
 pub no_entry_gives_two : NoEntryGivesTwo
 no_entry_gives_two start entry past before score v g h =

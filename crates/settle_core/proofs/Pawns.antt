@@ -1,19 +1,19 @@
 -- How pawns go.
 use Rattle.std.proofs.Common.{◌≡◌, ◌≢◌, ◌+◌, ◌/◌, ◌<◌, ℕ, inl, inr, Option, unwrap_or, refl, sym, ap, subst, ◌∙◌, arith}
-use Rattle.chess_rules.specs.declared.men.Side.{Side}
-use Rattle.chess_rules.specs.declared.men.Side.TheVariants.{White, Black}
-use Rattle.chess_rules.specs.declared.men.Kind.{Kind}
-use Rattle.chess_rules.specs.declared.men.Kind.TheVariants.{Pawn, Rook, Knight, Bishop, King, Queen}
-use Rattle.chess_rules.specs.declared.men.Move.{Move}
-use Rattle.chess_rules.specs.declared.men.Parts.{Parts}
+use Rattle.chess_rules.specs.declared.pieces.Side.{Side}
+use Rattle.chess_rules.specs.declared.pieces.Side.TheVariants.{White, Black}
+use Rattle.chess_rules.specs.declared.pieces.Kind.{Kind}
+use Rattle.chess_rules.specs.declared.pieces.Kind.TheVariants.{Pawn, Rook, Knight, Bishop, King, Queen}
+use Rattle.chess_rules.specs.declared.chess_move.Move.{Move}
+use Rattle.chess_rules.specs.declared.parts.Parts.{Parts}
 use Rattle.chess_rules.specs.declared.lines.Direction.{Direction}
 use Rattle.chess_rules.specs.declared.lines.Direction.TheVariants.{North, South, East, West, NorthEast, NorthWest, SouthEast, SouthWest}
-use Rattle.chess_rules.specs.Board.{Board, on, man, other, row, Ahead, forward}
+use Rattle.chess_rules.specs.Board.{Board, on, piece_of, other, row, Ahead, forward}
 use Rattle.chess_rules.specs.Attack.{AttacksFrom, IsPawnDiagonal}
 use Rattle.chess_rules.specs.After.{after}
 use Rattle.chess_rules.specs.Legal.{Goes, step, pawn_step, capture, double_step, en_passant, castling, Legal, NamesPromotion}
 use Rattle.chess_rules.specs.Valid.{Valid, IsAtHome, target_row}
-use Rattle.chess_rules.proofs.LawLemmas.{moves_move_men}
+use Rattle.chess_rules.proofs.LawLemmas.{moves_move_pieces}
 use Rattle.settle_core.proofs.Boards.{kind_of, king_no_pawn}
 
 -- from a row to one further on, and to the next one
@@ -54,7 +54,7 @@ attack_row Black NorthWest n s t i e h = absurd i
 pub pawn_attack_row : (b : Board) (side : Side) (s t : ℕ) → AttacksFrom b side Pawn s t → NextRow side (row s) (row t)
 pawn_attack_row b side s t h = attack_row side h.direction h.distance s t h.ranges.1 h.ranges.0 h.lies
 
-pawn_goes : (p : Parts) (m : Move) → Valid p → on p.board m.from ≡ man p.side Pawn → Goes p m → Advances p.side (row m.from) (row m.to)
+pawn_goes : (p : Parts) (m : Move) → Valid p → on p.board m.from ≡ piece_of p.side Pawn → Goes p m → Advances p.side (row m.from) (row m.to)
 pawn_goes p m v h (step s) = absurd (s.no_pawn (ap kind_of (sym s.stands ∙ h)))
 pawn_goes p m v h (pawn_step s) = forward_advances p.side 1 m.from m.to (omega arith) s.goes
 pawn_goes p m v h (capture s) =
@@ -68,7 +68,7 @@ pawn_goes p m v h (castling wing s) =
     absurd (king_no_pawn (ap kind_of (sym home.king ∙ ap (on p.board) (sym s.from) ∙ h)))
 
 -- a pawn goes to a row further on
-pub pawn_advances : (p : Parts) (m : Move) → Valid p → Legal p m → on p.board m.from ≡ man p.side Pawn → Advances p.side (row m.from) (row m.to)
+pub pawn_advances : (p : Parts) (m : Move) → Valid p → Legal p m → on p.board m.from ≡ piece_of p.side Pawn → Advances p.side (row m.from) (row m.to)
 pawn_advances p m v l h = pawn_goes p m v h l.goes
 
 pawn_before : (side : Side) (k : Kind) (m : Move) → NamesPromotion side k m → unwrap_or m.promotion k ≡ Pawn → k ≡ Pawn
@@ -80,10 +80,10 @@ pawn_before side King m h e = sym (ap (λ (o : Option Kind). unwrap_or o King) h
 pawn_before side Queen m h e = sym (ap (λ (o : Option Kind). unwrap_or o Queen) h) ∙ e
 
 -- what arrives as a pawn was one
-pub pawn_stood : (p : Parts) (m : Move) → Valid p → Legal p m → on (after p m).board m.to ≡ man p.side Pawn → on p.board m.from ≡ man p.side Pawn
+pub pawn_stood : (p : Parts) (m : Move) → Valid p → Legal p m → on (after p m).board m.to ≡ piece_of p.side Pawn → on p.board m.from ≡ piece_of p.side Pawn
 pawn_stood p m v l h =
-    elim (moves_move_men p m v l) [
-      | inl o ↦ o.stands ∙ ap (man p.side) (pawn_before p.side o.kind m o.names (ap kind_of (sym o.came ∙ h)))
+    elim (moves_move_pieces p m v l) [
+      | inl o ↦ o.stands ∙ ap (piece_of p.side) (pawn_before p.side o.kind m o.names (ap kind_of (sym o.came ∙ h)))
       | inr c ↦ absurd (king_no_pawn (ap kind_of (sym c.king_came ∙ h)))
     ]
 

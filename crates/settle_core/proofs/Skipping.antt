@@ -1,7 +1,7 @@
 -- An entry with the picture after two unseen plies leaves the score as it was; after three it adds nothing.
 use Rattle.std.proofs.Common.{◌≡◌, ◌⊎◌, ℕ, List, [], ◌∷◌, drop, inl, inr, refl, sym, ap, subst, ◌∙◌}
-use Rattle.chess_rules.specs.declared.men.Move.{Move}
-use Rattle.chess_rules.specs.declared.men.Parts.{Parts}
+use Rattle.chess_rules.specs.declared.chess_move.Move.{Move}
+use Rattle.chess_rules.specs.declared.parts.Parts.{Parts}
 use Rattle.settle_core.specs.declared.game.Outcome.{Outcome}
 use Rattle.settle_core.specs.declared.game.Ply.{Ply}
 use Rattle.settle_core.specs.declared.game.Seen.{Seen}
@@ -9,7 +9,7 @@ use Rattle.settle_core.specs.declared.game.Seen.TheVariants.{Moved, Replaced, Sa
 use Rattle.settle_core.specs.Entries.{Entry}
 use Rattle.settle_core.specs.Settling.{Played, Settles, reached}
 use Rattle.settle_core.specs.Sign.{IsSign}
-use Rattle.settle_core.specs.Folding.{Replaces, Score, Shows, moves_of, score_after, time_of}
+use Rattle.settle_core.specs.Folding.{Replaces, Score, SeenAs, moves_of, score_after, time_of}
 use Rattle.settle_core.specs.Laws.{HasAnotherLast, ThreeUnseenAddNothing, TwoUnseenChangeNothing}
 use Rattle.settle_core.proofs.Once.{folds_once, folds_played, shows_once}
 use Rattle.settle_core.proofs.Stages.{valid_reached, shows_at}
@@ -19,8 +19,8 @@ pub two_unseen_change_nothing : TwoUnseenChangeNothing
 two_unseen_change_nothing start past entry before score m reply v g lm ln e h =
     let same : h.0 ≡ before = folds_once start past h.0 before v h.2 g in
     let played : Played start (moves_of before.plies) = folds_played start past before g in
-    let W : List ℕ → Type 0 = λ xs. Shows start (moves_of before.plies) xs Waits in
-    let waits : Shows start (moves_of before.plies) entry.picture Waits =
+    let W : List ℕ → Type 0 = λ xs. SeenAs start (moves_of before.plies) xs Waits in
+    let waits : SeenAs start (moves_of before.plies) entry.picture Waits =
     subst W (sym e) (two_unseen_wait start (moves_of before.plies) m reply v played lm ln) in
     let is : h.1 ≡ Waits =
     shows_once start (moves_of before.plies) entry.picture h.1 Waits (valid_reached start (moves_of before.plies) v played)
@@ -37,7 +37,7 @@ adds_nothing :
     (start : Parts) (entry : Entry) (before score : Score) (seen : Seen)
     → ((n : Move) → ¬ Settles (reached start (moves_of before.plies)) entry.picture n)
     → ((outcome : Outcome) → ¬ IsSign (reached start (moves_of before.plies)) entry.picture outcome)
-    → Shows start (moves_of before.plies) entry.picture seen
+    → SeenAs start (moves_of before.plies) entry.picture seen
     → score ≡ score_after start before entry.reading seen
     → (score ≡ before) ⊎ HasAnotherLast before score
 adds_nothing start entry before score (Moved n) moves signs h e = absurd (moves n h)

@@ -4,8 +4,8 @@ use Rattle.std.specs.Str.{bytes_eq}
 use Rattle.std.proofs.lemmas.Slice.Eq.{bytes_eq-Decides}
 use Rattle.std.proofs.lemmas.Bool.{cases_Bool, cond-true, cond-false, false_from_ne_true}
 use Rattle.dgt_frame.specs.declared.time.Reading.{Reading}
-use Rattle.chess_rules.specs.declared.men.Move.{Move}
-use Rattle.chess_rules.specs.declared.men.Parts.{Parts}
+use Rattle.chess_rules.specs.declared.chess_move.Move.{Move}
+use Rattle.chess_rules.specs.declared.parts.Parts.{Parts}
 use Rattle.chess_rules.specs.After.{after}
 use Rattle.chess_rules.specs.Legal.{Legal}
 use Rattle.chess_rules.specs.Valid.{Valid}
@@ -14,11 +14,11 @@ use Rattle.chess_rules.proofs.LawLemmas.{moves_stay_valid}
 use Rattle.settle_core.specs.declared.game.Ply.{Ply}
 use Rattle.settle_core.specs.declared.game.Seen.{Seen}
 use Rattle.settle_core.specs.declared.game.Seen.TheVariants.{Same, Moved, Sign, Replaced, Waits}
-use Rattle.settle_core.specs.Entries.{Entry, repeats, unstuttered}
+use Rattle.settle_core.specs.Entries.{Entry, repeats, deduplicated}
 use Rattle.settle_core.specs.Settling.{Settles, reached, Played}
-use Rattle.settle_core.specs.Folding.{Score, moves_of, played, Replaces, Shows, score_after, Folds}
-use Rattle.settle_core.specs.Showing.{Takes, IsInHand, LacksKing, MayPass}
-use Rattle.settle_core.proofs.Men.{ShowsNoNew, quiet_unless, no_new_after, no_reply, no_earlier, picture_moves, settles_end}
+use Rattle.settle_core.specs.Folding.{Score, moves_of, played, Replaces, SeenAs, score_after, Folds}
+use Rattle.settle_core.specs.HonestPlay.{Takes, IsInHand, LacksKing, MayPass}
+use Rattle.settle_core.proofs.Pieces.{ShowsNoNew, quiet_unless, no_new_after, no_reply, no_earlier, picture_moves, settles_end}
 use Rattle.settle_core.proofs.Apart.{no_sign_valid}
 use Rattle.settle_core.proofs.Hands.{no_sign_apart, in_hand_quiet, in_hand_no_new, lacking_settles, lacking_no_sign}
 
@@ -26,7 +26,7 @@ use Rattle.settle_core.proofs.Hands.{no_sign_apart, in_hand_quiet, in_hand_no_ne
 abbrev pub bare : List Ply → Score
 bare plies = record { plies = plies; sign = None }
 
--- A ply stands where the next one is to come. Its move takes no man, and its picture is one of those that were seen.
+-- A ply stands where the next one is to come. Its move takes no piece, and its picture is one of those that were seen.
 pub record StandsIn (start : Parts) (earlier : List Ply) (Q : List ℕ → Type 0) (score : Score) : Type 0 where
   pub ply : Ply
   pub is : score ≡ bare (ply ∷ earlier)
@@ -34,7 +34,7 @@ pub record StandsIn (start : Parts) (earlier : List Ply) (Q : List ℕ → Type 
   pub no_capture : ¬ Takes (reached start (moves_of earlier)) ply.mv
   pub shown : Q (picture (after (reached start (moves_of earlier)) ply.mv))
 
--- what the score may be while men are in hand
+-- what the score may be while pieces are in hand
 abbrev pub IsOpen : Parts → List Ply → (List ℕ → Type 0) → Score → Type 0
 IsOpen start earlier Q score = (score ≡ bare earlier) ⊎ StandsIn start earlier Q score
 
@@ -64,8 +64,8 @@ no_replace start (last ∷ before) k seen v l new h =
 -- what a picture shows, where the score is this one
 pub shows_at :
     (start : Parts) (score score' : Score) (seen : List ℕ) (shown : Seen)
-    → score ≡ score' → Shows start (moves_of score.plies) seen shown → Shows start (moves_of score'.plies) seen shown
-shows_at start score score' seen shown e h = let P : Score → Type 0 = λ s. Shows start (moves_of s.plies) seen shown in subst P e h
+    → score ≡ score' → SeenAs start (moves_of score.plies) seen shown → SeenAs start (moves_of score'.plies) seen shown
+shows_at start score score' seen shown e h = let P : Score → Type 0 = λ s. SeenAs start (moves_of s.plies) seen shown in subst P e h
 
 -- the move that a picture in hand settles stands in the place of the next one
 stands_in :
@@ -83,7 +83,7 @@ step_first :
     → IsSound start earlier
     → IsInHand (reached start (moves_of earlier)) seen
     → Q seen
-    → Shows start (moves_of earlier) seen shown
+    → SeenAs start (moves_of earlier) seen shown
     → IsOpen start earlier Q (score_after start (bare earlier) reading shown)
 step_first start earlier Q seen reading Same s hand q h = absurd h
 step_first start earlier Q seen reading Waits s hand q h = inl refl
@@ -101,7 +101,7 @@ step_again :
     → ¬ Takes (reached start (moves_of earlier)) ply.mv
     → IsInHand (reached start (moves_of earlier)) seen
     → Q seen
-    → Shows start (ply.mv ∷ moves_of earlier) seen shown
+    → SeenAs start (ply.mv ∷ moves_of earlier) seen shown
     → IsOpen start earlier Q (score_after start (bare (ply ∷ earlier)) reading shown)
 step_again start earlier Q ply seen reading Same s i l t hand q h = absurd h
 step_again start earlier Q ply seen reading Waits s i l t hand q h = inr i
@@ -111,14 +111,14 @@ step_again start earlier Q ply seen reading (Moved k) s i l t hand q h =
     absurd (no_reply p ply.mv k seen (now start earlier s) l (quiet_unless p ply.mv t) (in_hand_no_new p seen hand) h)
 step_again start earlier Q ply seen reading (Replaced k) s i l t hand q h = inr (stands_in start earlier Q seen reading k hand q (h.2).0)
 
--- a picture with men in hand
+-- a picture with pieces in hand
 step_hand :
     (start : Parts) (earlier : List Ply) (Q : List ℕ → Type 0) (score : Score) (seen : List ℕ) (reading : Option Reading) (shown : Seen)
     → IsSound start earlier
     → IsInHand (reached start (moves_of earlier)) seen
     → Q seen
     → IsOpen start earlier Q score
-    → Shows start (moves_of score.plies) seen shown
+    → SeenAs start (moves_of score.plies) seen shown
     → IsOpen start earlier Q (score_after start score reading shown)
 step_hand start earlier Q score seen reading shown s hand q o h =
     let P : Score → Type 0 = λ x. IsOpen start earlier Q (score_after start x reading shown) in
@@ -150,7 +150,7 @@ pub lacking_step :
     → Valid start
     → Played start (moves_of score.plies)
     → LacksKing seen
-    → Shows start (moves_of score.plies) seen shown
+    → SeenAs start (moves_of score.plies) seen shown
     → score_after start score reading shown ≡ score
 lacking_step start score seen reading Same v l lacks h = absurd h
 lacking_step start score seen reading Waits v l lacks h = refl
@@ -165,7 +165,7 @@ pub step_open :
     → MayPass (reached start (moves_of earlier)) seen
     → Q seen
     → IsOpen start earlier Q score
-    → Shows start (moves_of score.plies) seen shown
+    → SeenAs start (moves_of score.plies) seen shown
     → IsOpen start earlier Q (score_after start score reading shown)
 step_open start earlier Q score seen reading shown s (inl hand) q o h = step_hand start earlier Q score seen reading shown s hand q o h
 step_open start earlier Q score seen reading shown s (inr lacks) q o h =
@@ -182,7 +182,7 @@ end_first :
     → IsSound start earlier
     → Legal (reached start (moves_of earlier)) m
     → seen ≡ picture (after (reached start (moves_of earlier)) m)
-    → Shows start (moves_of earlier) seen shown
+    → SeenAs start (moves_of earlier) seen shown
     → score_after start (bare earlier) reading shown ≡ played start earlier reading m
 end_first start earlier m seen reading Same s l e h = absurd h
 end_first start earlier m seen reading (Sign outcome) s l e h =
@@ -204,7 +204,7 @@ end_again :
     → ply.mv ≢ m
     → Legal (reached start (moves_of earlier)) m
     → seen ≡ picture (after (reached start (moves_of earlier)) m)
-    → Shows start (ply.mv ∷ moves_of earlier) seen shown
+    → SeenAs start (ply.mv ∷ moves_of earlier) seen shown
     → score_after start (bare (ply ∷ earlier)) reading shown ≡ played start earlier reading m
 end_again start earlier ply m seen reading Same s lp t ne l e h = absurd h
 end_again start earlier ply m seen reading (Sign outcome) s lp t ne l e h =
@@ -225,7 +225,7 @@ pub step_end :
     → Legal (reached start (moves_of earlier)) m
     → seen ≡ picture (after (reached start (moves_of earlier)) m)
     → IsOpen start earlier (NotYet (reached start (moves_of earlier)) m) score
-    → Shows start (moves_of score.plies) seen shown
+    → SeenAs start (moves_of score.plies) seen shown
     → score_after start score reading shown ≡ played start earlier reading m
 step_end start earlier m score seen reading shown s l e o h =
     let p : Parts = reached start (moves_of earlier) in
@@ -241,7 +241,7 @@ step_end start earlier m score seen reading shown s l e o h =
 
 -- the game so far, over entries of the past: no picture since the last move was other than those with Q
 abbrev pub Opens : Parts → List Ply → (List ℕ → Type 0) → List Entry → Type 0
-Opens start earlier Q past = (score : Score) → Folds start (unstuttered past) score → IsOpen start earlier Q score
+Opens start earlier Q past = (score : Score) → Folds start (deduplicated past) score → IsOpen start earlier Q score
 
 -- the last picture, if any, is that of this position
 abbrev pub EndsAt : Parts → List Entry → Type 0
@@ -250,7 +250,7 @@ EndsAt p (entry ∷ past) = entry.picture ≡ picture p
 
 -- the entries have this score and no other
 abbrev pub Gives : Parts → Score → List Entry → Type 0
-Gives start final past = (score : Score) → Folds start (unstuttered past) score → score ≡ final
+Gives start final past = (score : Score) → Folds start (deduplicated past) score → score ≡ final
 
 -- exactly these plies were made
 pub record Ends (start : Parts) (made : List Ply) (past : List Entry) : Type 0 where
@@ -263,19 +263,19 @@ differ_false xs ys ne = false_from_ne_true (bytes_eq xs ys) (λ e. let d = bytes
 -- a folded step
 pub fold_keeps :
     (start : Parts) (past : List Entry) (entry : Entry) (P Q : Score → Type 0)
-    → ((score : Score) → Folds start (unstuttered past) score → P score)
+    → ((score : Score) → Folds start (deduplicated past) score → P score)
     → ((score : Score) → P score → Q score)
-    → ((score : Score) (seen : Seen) → P score → Shows start (moves_of score.plies) entry.picture seen → Q (score_after start score entry.reading seen))
-    → (score : Score) → Folds start (unstuttered (entry ∷ past)) score → Q score
+    → ((score : Score) (seen : Seen) → P score → SeenAs start (moves_of score.plies) entry.picture seen → Q (score_after start score entry.reading seen))
+    → (score : Score) → Folds start (deduplicated (entry ∷ past)) score → Q score
 fold_keeps start past entry P Q before weaken step score h =
     elim (cases_Bool (repeats entry.picture past)) [
       | inl same ↦
           let F : List Entry → Type 0 = λ es. Folds start es score in
-          weaken score (before score (subst F (cond-true (repeats entry.picture past) (unstuttered past) (entry ∷ unstuttered past) same) h))
+          weaken score (before score (subst F (cond-true (repeats entry.picture past) (deduplicated past) (entry ∷ deduplicated past) same) h))
       | inr new ↦
           let F : List Entry → Type 0 = λ es. Folds start es score in
-          let f : Folds start (entry ∷ unstuttered past) score =
-          subst F (cond-false (repeats entry.picture past) (unstuttered past) (entry ∷ unstuttered past) new) h in
+          let f : Folds start (entry ∷ deduplicated past) score =
+          subst F (cond-false (repeats entry.picture past) (deduplicated past) (entry ∷ deduplicated past) new) h in
           subst Q (sym f.4) (step f.0 f.1 (before f.0 f.2) f.3)
     ]
 
@@ -283,13 +283,13 @@ fold_keeps start past entry P Q before weaken step score h =
 pub fold_new :
     (start : Parts) (past : List Entry) (entry : Entry) (P Q : Score → Type 0)
     → repeats entry.picture past ≡ false
-    → ((score : Score) → Folds start (unstuttered past) score → P score)
-    → ((score : Score) (seen : Seen) → P score → Shows start (moves_of score.plies) entry.picture seen → Q (score_after start score entry.reading seen))
-    → (score : Score) → Folds start (unstuttered (entry ∷ past)) score → Q score
+    → ((score : Score) → Folds start (deduplicated past) score → P score)
+    → ((score : Score) (seen : Seen) → P score → SeenAs start (moves_of score.plies) entry.picture seen → Q (score_after start score entry.reading seen))
+    → (score : Score) → Folds start (deduplicated (entry ∷ past)) score → Q score
 fold_new start past entry P Q new before step score h =
     let F : List Entry → Type 0 = λ es. Folds start es score in
-    let f : Folds start (entry ∷ unstuttered past) score =
-    subst F (cond-false (repeats entry.picture past) (unstuttered past) (entry ∷ unstuttered past) new) h in
+    let f : Folds start (entry ∷ deduplicated past) score =
+    subst F (cond-false (repeats entry.picture past) (deduplicated past) (entry ∷ deduplicated past) new) h in
     subst Q (sym f.4) (step f.0 f.1 (before f.0 f.2) f.3)
 
 pub entry_open :

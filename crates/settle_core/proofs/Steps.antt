@@ -7,8 +7,8 @@ use Rattle.std.proofs.lemmas.List.{reverse-append, reverse-reverse, set-get_or, 
 use Rattle.std.proofs.lemmas.Option.{get_or_from_slice_get}
 use Rattle.std.proofs.lemmas.Bool.{cond-true, cond-false, false_from_ne_true}
 use Rattle.dgt_frame.specs.declared.time.Reading.{Reading}
-use Rattle.chess_rules.specs.declared.men.Move.{Move}
-use Rattle.chess_rules.specs.declared.men.Parts.{Parts}
+use Rattle.chess_rules.specs.declared.chess_move.Move.{Move}
+use Rattle.chess_rules.specs.declared.parts.Parts.{Parts}
 use Rattle.chess_rules.specs.After.{after}
 use Rattle.chess_rules.specs.Legal.{Legal}
 use Rattle.chess_rules.specs.Valid.{Valid}
@@ -18,10 +18,10 @@ use Rattle.settle_core.specs.declared.compared.Compared.{Compared}
 use Rattle.settle_core.specs.declared.game.Ply.{Ply}
 use Rattle.settle_core.specs.declared.game.Seen.{Seen}
 use Rattle.settle_core.specs.declared.game.Seen.TheVariants.{Same, Moved, Sign, Replaced, Waits}
-use Rattle.settle_core.specs.Entries.{Entry, entry_of, repeats, unstuttered}
+use Rattle.settle_core.specs.Entries.{Entry, entry_of, repeats, deduplicated}
 use Rattle.settle_core.specs.Settling.{Settles, reached, Played}
-use Rattle.settle_core.specs.Folding.{Score, Folds, Shows, Replaces, moves_of, score_after}
-use Rattle.settle_core.specs.Standing.{Sheet, StandsFor, Answers, GivesMove}
+use Rattle.settle_core.specs.Folding.{Score, Folds, SeenAs, Replaces, moves_of, score_after}
+use Rattle.settle_core.specs.Settler.{Sheet, StandsFor, Answers, GivesMove}
 use Rattle.settle_core.proofs.Changing.{set_differs}
 use Rattle.settle_core.specs.Kept.{IsLastSet, CanReplace, before_last, last_of, position_in}
 
@@ -135,24 +135,24 @@ pub taken_stands :
     (old new : Sheet) (start : Parts) (past : List Entry) (picture : List ℕ) (reading : Option Reading) (seen : Seen)
     → StandsFor old start past
     → repeats picture past ≡ false
-    → Shows old.start (moves_of old.score.plies) picture seen
+    → SeenAs old.start (moves_of old.score.plies) picture seen
     → new ≡ record { start = old.start; score = score_after old.start old.score reading seen; last = Some picture }
     → StandsFor new start (entry_of picture reading ∷ past)
 taken_stands old new start past picture reading seen st fresh shows is =
     let P : Sheet → Type 0 = λ s. StandsFor s start (entry_of picture reading ∷ past) in
     let F : List Entry → Type 0 = λ es. Folds start es (score_after old.start old.score reading seen) in
-    let S : Parts → Type 0 = λ s. Shows s (moves_of old.score.plies) picture seen in
-    let folds : Folds start (entry_of picture reading ∷ unstuttered past) (score_after old.start old.score reading seen) =
+    let S : Parts → Type 0 = λ s. SeenAs s (moves_of old.score.plies) picture seen in
+    let folds : Folds start (entry_of picture reading ∷ deduplicated past) (score_after old.start old.score reading seen) =
     (old.score, seen, st.folds, subst S st.start_is shows, ap (λ (s : Parts). score_after s old.score reading seen) st.start_is) in
     subst P (sym is)
     (record {
       start_is = st.start_is;
       last = refl;
-      folds = subst F (sym (cond-false (repeats picture past) (unstuttered past) (entry_of picture reading ∷ unstuttered past) fresh)) folds;
+      folds = subst F (sym (cond-false (repeats picture past) (deduplicated past) (entry_of picture reading ∷ deduplicated past) fresh)) folds;
     })
 
 answers_new : (start : Parts) (past : List Entry) (seen : List ℕ) (score : Score) (answer : Seen)
-    → repeats seen past ≡ false → Folds start (unstuttered past) score → Shows start (moves_of score.plies) seen answer
+    → repeats seen past ≡ false → Folds start (deduplicated past) score → SeenAs start (moves_of score.plies) seen answer
     → Answers start past seen answer
 answers_new start past seen score Same new f h = absurd h
 answers_new start past seen score (Moved m) new f h = (new, (score, f, h))
@@ -160,18 +160,18 @@ answers_new start past seen score (Sign outcome) new f h = (new, (score, f, h))
 answers_new start past seen score (Replaced m) new f h = (new, (score, f, h))
 answers_new start past seen score Waits new f h = (new, (score, f, h))
 
--- and this is the answer
+-- and this is the result
 pub taken_answers :
     (old : Sheet) (start : Parts) (past : List Entry) (picture : List ℕ) (seen : Seen)
     → StandsFor old start past
     → repeats picture past ≡ false
-    → Shows old.start (moves_of old.score.plies) picture seen
+    → SeenAs old.start (moves_of old.score.plies) picture seen
     → Answers start past picture seen
 taken_answers old start past picture seen st fresh shows =
-    let S : Parts → Type 0 = λ s. Shows s (moves_of old.score.plies) picture seen in
+    let S : Parts → Type 0 = λ s. SeenAs s (moves_of old.score.plies) picture seen in
     answers_new start past picture old.score seen fresh st.folds (subst S st.start_is shows)
 
--- memory was refused
+-- out of memory
 pub refused_gives :
     (old : Sheet) (start : Parts) (past : List Entry) (picture : List ℕ) (m : Move)
     → StandsFor old start past
@@ -194,7 +194,7 @@ same_stands old start (before ∷ past) picture reading st e =
     record {
       start_is = st.start_is;
       last = e;
-      folds = subst F (sym (cond-true (repeats picture (before ∷ past)) (unstuttered (before ∷ past)) (entry_of picture reading ∷ unstuttered (before ∷ past)) (d.1 (sym same)))) st.folds;
+      folds = subst F (sym (cond-true (repeats picture (before ∷ past)) (deduplicated (before ∷ past)) (entry_of picture reading ∷ deduplicated (before ∷ past)) (d.1 (sym same)))) st.folds;
     }
 
 pub same_answers :
@@ -216,10 +216,10 @@ fresh old start (before ∷ past) picture st ne =
 pub judged :
     (old mid new : Sheet) (picture : List ℕ) (reading : Option Reading) (seen : Seen)
     → mid ≡ record { start = old.start; score = old.score; last = Some picture }
-    → Shows mid.start (moves_of mid.score.plies) picture seen × (new ≡ record { start = mid.start; score = score_after mid.start mid.score reading seen; last = mid.last })
-    → Shows old.start (moves_of old.score.plies) picture seen × (new ≡ record { start = old.start; score = score_after old.start old.score reading seen; last = Some picture })
+    → SeenAs mid.start (moves_of mid.score.plies) picture seen × (new ≡ record { start = mid.start; score = score_after mid.start mid.score reading seen; last = mid.last })
+    → SeenAs old.start (moves_of old.score.plies) picture seen × (new ≡ record { start = old.start; score = score_after old.start old.score reading seen; last = Some picture })
 judged old mid new picture reading seen e h =
-    let P : Sheet → Type 0 = λ s. Shows s.start (moves_of s.score.plies) picture seen × (new ≡ record { start = s.start; score = score_after s.start s.score reading seen; last = s.last }) in
+    let P : Sheet → Type 0 = λ s. SeenAs s.start (moves_of s.score.plies) picture seen × (new ≡ record { start = s.start; score = score_after s.start s.score reading seen; last = s.last }) in
     subst P e h
 
 -- a fact about a position and a picture, where they are named otherwise

@@ -3,8 +3,8 @@ use Rattle.std.proofs.Common.{◌≡◌, ℕ, ◌+◌, ◌-◌, ◌<◌, List, [
 use Rattle.std.specs.Str.{bytes_eq}
 use Rattle.std.proofs.lemmas.List.{reverse-append, take_more}
 use Rattle.std.proofs.lemmas.Bool.{cond-true, cond-false}
-use Rattle.chess_rules.specs.declared.men.Move.{Move}
-use Rattle.chess_rules.specs.declared.men.Parts.{Parts}
+use Rattle.chess_rules.specs.declared.chess_move.Move.{Move}
+use Rattle.chess_rules.specs.declared.parts.Parts.{Parts}
 use Rattle.chess_rules.specs.After.{after}
 use Rattle.settle_core.specs.declared.game.Outcome.{Outcome}
 use Rattle.settle_core.specs.declared.game.Ply.{Ply}
@@ -12,10 +12,10 @@ use Rattle.settle_core.specs.declared.game.Seen.{Seen}
 use Rattle.settle_core.specs.declared.game.Seen.TheVariants.{Same, Moved, Sign, Replaced, Waits}
 use Rattle.settle_core.specs.declared.tips.Last.{Last}
 use Rattle.settle_core.specs.declared.tips.Tip.{Tip}
-use Rattle.settle_core.specs.Entries.{Entry, repeats, unstuttered}
+use Rattle.settle_core.specs.Entries.{Entry, repeats, deduplicated}
 use Rattle.settle_core.specs.Settling.{Settles, reached}
 use Rattle.settle_core.specs.Sign.{IsSign}
-use Rattle.settle_core.specs.Folding.{Score, Folds, Replaces, Shows, moves_of, score_after}
+use Rattle.settle_core.specs.Folding.{Score, Folds, Replaces, SeenAs, moves_of, score_after}
 use Rattle.settle_core.specs.Tips.{IsTip, IsOther, LeadsTo, FoldsTo, moves_after}
 use Rattle.settle_core.proofs.Steps.{some_same, none_some}
 
@@ -171,7 +171,7 @@ folds_more kept start pictures picture tip new keeps to step =
           let it = ends_in entries pictures picture e in
           let old = to.2 it.front it.before in
           let now : Score = score_after start old.0 (it.entry).reading s.0 in
-          let S : List Move → List ℕ → Type 0 = λ ms seen. Shows start ms seen s.0 in
+          let S : List Move → List ℕ → Type 0 = λ ms seen. SeenAs start ms seen s.0 in
           let S' : List Move → Type 0 = λ ms. S ms (it.entry).picture in
           let shows : S' (moves_of (old.0).plies) = subst S' (sym old.2) (subst (S to.0) (sym it.shows) s.1) in
           let F : List Entry → Type 0 = λ es. Folds start es now in
@@ -217,17 +217,17 @@ pub left_out :
     (picture : List ℕ) (front : List Entry) (entry : Entry)
     → repeats picture (reverse front) ≡ true
     → entry.picture ≡ picture
-    → unstuttered (entry ∷ reverse front) ≡ unstuttered (reverse front)
+    → deduplicated (entry ∷ reverse front) ≡ deduplicated (reverse front)
 left_out picture front entry again shows =
-    cond-true (repeats entry.picture (reverse front)) (unstuttered (reverse front)) (entry ∷ unstuttered (reverse front)) (ap (λ (x : List ℕ). repeats x (reverse front)) shows ∙ again)
+    cond-true (repeats entry.picture (reverse front)) (deduplicated (reverse front)) (entry ∷ deduplicated (reverse front)) (ap (λ (x : List ℕ). repeats x (reverse front)) shows ∙ again)
 
 pub left_in :
     (picture : List ℕ) (front : List Entry) (entry : Entry)
     → repeats picture (reverse front) ≡ false
     → entry.picture ≡ picture
-    → unstuttered (entry ∷ reverse front) ≡ entry ∷ unstuttered (reverse front)
+    → deduplicated (entry ∷ reverse front) ≡ entry ∷ deduplicated (reverse front)
 left_in picture front entry new shows =
-    cond-false (repeats entry.picture (reverse front)) (unstuttered (reverse front)) (entry ∷ unstuttered (reverse front)) (ap (λ (x : List ℕ). repeats x (reverse front)) shows ∙ new)
+    cond-false (repeats entry.picture (reverse front)) (deduplicated (reverse front)) (entry ∷ deduplicated (reverse front)) (ap (λ (x : List ℕ). repeats x (reverse front)) shows ∙ new)
 
 repeat_in :
     (entries : List Entry) (pictures : List (List ℕ)) (last picture : List ℕ)

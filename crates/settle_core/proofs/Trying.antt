@@ -1,24 +1,24 @@
--- A move that is tried with one man in hand is a move of this man.
+-- A move that is tried with one piece in hand is a move of this piece.
 use Rattle.std.proofs.Common.{◌≡◌, ◌≢◌, ◌⊎◌, ◌<◌, ℕ, inl, inr, List, None, get_or, sym, ap, ◌∙◌}
 use Rattle.std.proofs.lemmas.Bool.{cases_eq}
-use Rattle.chess_rules.specs.declared.men.Kind.{Kind}
-use Rattle.chess_rules.specs.declared.men.Kind.TheVariants.{King, Rook}
-use Rattle.chess_rules.specs.declared.men.Move.{Move}
-use Rattle.chess_rules.specs.declared.men.Parts.{Parts}
+use Rattle.chess_rules.specs.declared.pieces.Kind.{Kind}
+use Rattle.chess_rules.specs.declared.pieces.Kind.TheVariants.{King, Rook}
+use Rattle.chess_rules.specs.declared.chess_move.Move.{Move}
+use Rattle.chess_rules.specs.declared.parts.Parts.{Parts}
 use Rattle.chess_rules.specs.declared.lines.Wing.{Wing}
-use Rattle.chess_rules.specs.Board.{on, man}
+use Rattle.chess_rules.specs.Board.{on, piece_of}
 use Rattle.chess_rules.specs.After.{after, rook_home, crossed}
 use Rattle.chess_rules.specs.Legal.{Legal, Castles}
 use Rattle.chess_rules.specs.Valid.{Valid}
 use Rattle.chess_rules.specs.Picture.{code, picture}
-use Rattle.chess_rules.specs.Laws.{MovesOneMan, MovesKingAndRook}
-use Rattle.chess_rules.proofs.LawLemmas.{moves_move_men, castling_moves}
-use Rattle.settle_core.specs.Showing.{LiftsAnother, ShowsMoved, AreKingAndRook, HoldsOne}
-use Rattle.settle_core.specs.Laws.{OneHandTriesItsMan}
-use Rattle.settle_core.proofs.Boards.{kind_of, none_man, king_no_rook, on_board, one_kept}
-use Rattle.settle_core.proofs.Men.{at_picture, shown_on, squares_after}
+use Rattle.chess_rules.specs.Laws.{MovesOnePiece, MovesKingAndRook}
+use Rattle.chess_rules.proofs.LawLemmas.{moves_move_pieces, castling_moves}
+use Rattle.settle_core.specs.HonestPlay.{LiftsAnother, ShowsMoved, AreKingAndRook, HoldsOne}
+use Rattle.settle_core.specs.Laws.{OneHandTriesItsPiece}
+use Rattle.settle_core.proofs.Boards.{kind_of, none_piece, king_no_rook, on_board, one_kept}
+use Rattle.settle_core.proofs.Pieces.{at_picture, shown_on, squares_after}
 
--- of the man in hand, or the rook's move of castling
+-- of the piece in hand, or the rook's move of castling
 abbrev IsOfHand : Parts → Move → Move → Type 0
 IsOfHand p m x = (x.from ≡ m.from) ⊎ ((wing : Wing) × Castles p m wing × (x.from ≡ rook_home p.side wing))
 
@@ -27,9 +27,9 @@ empties : (p : Parts) (x : Move) (seen : List ℕ) (s : ℕ) → Valid p → Leg
     → on (after p x).board s ≡ None → get_or seen s 0 ≡ 0
 empties p x seen s v l e low h = ap (λ xs. get_or xs s 0) e ∙ at_picture (after p x) s (rw (squares_after p x v l) low) ∙ ap code h
 
--- a man that came where none of the mover stood
+-- a piece that came where none of the mover stood
 came_moved : (p : Parts) (m x : Move) (seen : List ℕ) (s : ℕ) (k : Kind) → Valid p → Legal p x → seen ≡ picture (after p x)
-    → on (after p x).board s ≡ man p.side k → ((own : Kind) → on p.board s ≢ man p.side own) → ShowsMoved p m seen s k
+    → on (after p x).board s ≡ piece_of p.side k → ((own : Kind) → on p.board s ≢ piece_of p.side own) → ShowsMoved p m seen s k
 came_moved p m x seen s k v l e h free =
     record {
       low = rw (← squares_after p x v l) (on_board (after p x).board s p.side k h);
@@ -37,23 +37,23 @@ came_moved p m x seen s k v l e h free =
       moved = λ own q. absurd (free own q);
     }
 
--- a man that the move to be made takes away, and that still stands
+-- a piece that the move to be made takes away, and that still stands
 left_moved : (p : Parts) (m x : Move) (seen : List ℕ) (s : ℕ) (k : Kind) → Valid p → Legal p x → seen ≡ picture (after p x)
-    → on p.board s ≡ man p.side k → on (after p m).board s ≡ None → on (after p x).board s ≡ man p.side k → ShowsMoved p m seen s k
+    → on p.board s ≡ piece_of p.side k → on (after p m).board s ≡ None → on (after p x).board s ≡ piece_of p.side k → ShowsMoved p m seen s k
 left_moved p m x seen s k v l e h left stays =
     record {
       low = rw (← squares_after p x v l) (on_board (after p x).board s p.side k stays);
       shows = shown_on (after p x) seen s p.side k e stays;
-      moved = λ own q same. none_man (sym left ∙ sym same ∙ h);
+      moved = λ own q same. none_piece (sym left ∙ sym same ∙ h);
     }
 
--- a man of the mover stays where castling does not take it away
+-- a piece of the mover stays where castling does not take it away
 castled_kept : (p : Parts) (m : Move) (c : MovesKingAndRook p m) (s : ℕ) (k : Kind)
-    → s ≢ m.from → s ≢ rook_home p.side c.wing → on p.board s ≡ man p.side k → on (after p m).board s ≡ on p.board s
+    → s ≢ m.from → s ≢ rook_home p.side c.wing → on p.board s ≡ piece_of p.side k → on (after p m).board s ≡ on p.board s
 castled_kept p m c s k nf nr h =
-    c.others s nf (λ e. none_man (sym c.target_empty ∙ ap (on p.board) (sym e) ∙ h)) nr (λ e. none_man (sym c.crossed_empty ∙ ap (on p.board) (sym e) ∙ h))
+    c.others s nf (λ e. none_piece (sym c.target_empty ∙ ap (on p.board) (sym e) ∙ h)) nr (λ e. none_piece (sym c.crossed_empty ∙ ap (on p.board) (sym e) ∙ h))
 
--- of a king on one square, and a man on another, the man is a rook; and of a rook a king
+-- of a king on one square, and a piece on another, the piece is a rook; and of a rook a king
 with_king : (k : Kind) → AreKingAndRook King k → k ≡ Rook
 with_king k (inl a) = a.1
 with_king k (inr a) = absurd (king_no_rook a.0)
@@ -62,9 +62,9 @@ with_rook : (k : Kind) → AreKingAndRook Rook k → k ≡ King
 with_rook k (inl a) = absurd (king_no_rook (sym a.0))
 with_rook k (inr a) = a.1
 
--- where the move to be made castles, and the tried one is of one man
+-- where the move to be made castles, and the tried one is of one piece
 try_castling_one :
-    (p : Parts) (m x : Move) (seen : List ℕ) (c : MovesKingAndRook p m) (o : MovesOneMan p x)
+    (p : Parts) (m x : Move) (seen : List ℕ) (c : MovesKingAndRook p m) (o : MovesOnePiece p x)
     → Valid p → Legal p x → HoldsOne p m seen → seen ≡ picture (after p x) → IsOfHand p m x
 try_castling_one p m x seen c o v l one e =
     elim (cases_eq x.from m.from) [
@@ -103,20 +103,20 @@ try_castling :
     (p : Parts) (m x : Move) (seen : List ℕ) (c : MovesKingAndRook p m)
     → Valid p → Legal p x → HoldsOne p m seen → seen ≡ picture (after p x) → IsOfHand p m x
 try_castling p m x seen c v l one e =
-    elim (moves_move_men p x v l) [
+    elim (moves_move_pieces p x v l) [
       | inl o ↦ try_castling_one p m x seen c o v l one e
       | inr d ↦ inl (d.castles.from ∙ sym c.castles.from)
     ]
 
--- where it is of one man
+-- where it is of one piece
 try_one :
-    (p : Parts) (m x : Move) (seen : List ℕ) (o : MovesOneMan p m)
+    (p : Parts) (m x : Move) (seen : List ℕ) (o : MovesOnePiece p m)
     → Valid p → Legal p x → HoldsOne p m seen → seen ≡ picture (after p x) → IsOfHand p m x
 try_one p m x seen o v l one e =
     elim (cases_eq x.from m.from) [
       | inl same ↦ inl same
       | inr nf ↦
-          elim (moves_move_men p x v l) [
+          elim (moves_move_pieces p x v l) [
             | inl q ↦
                 let low : x.from < 64 = rw (← v.squares) (on_board p.board x.from p.side q.kind q.stands) in
                 let lifts : LiftsAnother p m seen =
@@ -145,9 +145,9 @@ try_one p m x seen o v l one e =
                   lifted = empties p x seen x.from v l e low d.king_left;
                 } in
                 let king : ShowsMoved p m seen x.to King =
-                came_moved p m x seen x.to King v l e d.king_came (λ own r. none_man (sym d.target_empty ∙ r)) in
+                came_moved p m x seen x.to King v l e d.king_came (λ own r. none_piece (sym d.target_empty ∙ r)) in
                 let rook : ShowsMoved p m seen (crossed p.side d.wing) Rook =
-                came_moved p m x seen (crossed p.side d.wing) Rook v l e d.rook_came (λ own r. none_man (sym d.crossed_empty ∙ r)) in
+                came_moved p m x seen (crossed p.side d.wing) Rook v l e d.rook_came (λ own r. none_piece (sym d.crossed_empty ∙ r)) in
                 elim (one lifts x.to (crossed p.side d.wing) King Rook king rook) [
                   | inl same ↦ absurd (king_no_rook (ap kind_of (sym d.king_came ∙ ap (on (after p x).board) same ∙ d.rook_came)))
                   | inr a ↦ try_castling p m x seen (castling_moves p m a.0 v a.1) v l one e
@@ -155,6 +155,6 @@ try_one p m x seen o v l one e =
           ]
     ]
 
-pub one_hand_tries : OneHandTriesItsMan
+pub one_hand_tries : OneHandTriesItsPiece
 one_hand_tries p m x seen v lm l one e =
-    elim (moves_move_men p m v lm) [ inl o ↦ try_one p m x seen o v l one e | inr c ↦ try_castling p m x seen c v l one e ]
+    elim (moves_move_pieces p m v lm) [ inl o ↦ try_one p m x seen o v l one e | inr c ↦ try_castling p m x seen c v l one e ]

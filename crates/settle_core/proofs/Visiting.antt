@@ -1,4 +1,4 @@
--- Only on squares that differ does a man land, or leave.
+-- Only on squares that differ does a piece land, or leave.
 use Rattle.std.proofs.Common.{◌≡◌, ◌≢◌, ℕ, ◌<◌, ◌≤◌, ◌^◌, ◌*◌, ◌%◌, inl, inr, List, Bool, false, not, ◌==◌, ◌&&◌, ◌||◌, nat_lt, cond, get_or, bit_and, w64, sym, ap, ◌∙◌, arith}
 use Rattle.std.specs.Int.{bit_at, bit_not}
 use Rattle.std.proofs.lemmas.Bool.{cases_Bool, cases_eq, eq-eqb, ne_eqb, false_from_ne_true, cond-false}
@@ -46,5 +46,5 @@ no_leaving c x y some e =
     let empty : x ≡ 0 = e ∙ h.none in
     elim (cases_Bool (is_king_code c)) [
       | inl k ↦ some (sym (h.king k) ∙ empty)
-      | inr k ↦ side_some c some (sym (h.man k) ∙ ap side_number empty)
+      | inr k ↦ side_some c some (sym (h.piece k) ∙ ap side_number empty)
     ])

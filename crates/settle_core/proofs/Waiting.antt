@@ -1,28 +1,28 @@
 -- Pictures that wait, and the end by the kings.
 use Rattle.std.proofs.Common.{◌≡◌, ℕ, ◌<◌, inl, inr, List, [], ◌∷◌, ◌++◌, Option, Some, None, false, get_or, reverse, refl, sym, ap, subst, ◌∙◌}
 use mathlib.Core.List.{reverse_aux}
-use Rattle.chess_rules.specs.declared.men.Side.{Side}
-use Rattle.chess_rules.specs.declared.men.Kind.{Kind}
-use Rattle.chess_rules.specs.declared.men.Kind.TheVariants.{King}
-use Rattle.chess_rules.specs.declared.men.Move.{Move}
-use Rattle.chess_rules.specs.declared.men.Parts.{Parts}
-use Rattle.chess_rules.specs.Board.{on, man, other}
+use Rattle.chess_rules.specs.declared.pieces.Side.{Side}
+use Rattle.chess_rules.specs.declared.pieces.Kind.{Kind}
+use Rattle.chess_rules.specs.declared.pieces.Kind.TheVariants.{King}
+use Rattle.chess_rules.specs.declared.chess_move.Move.{Move}
+use Rattle.chess_rules.specs.declared.parts.Parts.{Parts}
+use Rattle.chess_rules.specs.Board.{on, piece_of, other}
 use Rattle.chess_rules.specs.After.{after}
 use Rattle.chess_rules.specs.Valid.{Valid}
-use Rattle.chess_rules.specs.Picture.{code_of_man}
+use Rattle.chess_rules.specs.Picture.{code_of_piece}
 use Rattle.chess_rules.proofs.LawLemmas.{moves_stay_valid}
 use Rattle.settle_core.specs.declared.game.Outcome.{Outcome}
 use Rattle.settle_core.specs.declared.game.Ply.{Ply}
 use Rattle.settle_core.specs.declared.game.Seen.{Seen}
 use Rattle.settle_core.specs.declared.game.Seen.TheVariants.{Sign, Waits}
-use Rattle.settle_core.specs.Entries.{Entry, repeats, unstuttered}
+use Rattle.settle_core.specs.Entries.{Entry, repeats, deduplicated}
 use Rattle.settle_core.specs.Settling.{Settles, reached, position_after}
 use Rattle.settle_core.specs.Sign.{IsSign}
-use Rattle.settle_core.specs.Folding.{Score, Folds, Shows, moves_of, score_after}
-use Rattle.settle_core.specs.Showing.{ShowsNoMore, MayRest, AllRest, shown_plies}
+use Rattle.settle_core.specs.Folding.{Score, Folds, SeenAs, moves_of, score_after}
+use Rattle.settle_core.specs.HonestPlay.{ShowsNoMore, MayRest, AllRest, shown_plies}
 use Rattle.settle_core.specs.Laws.{joined, NoMoreIsInHand, RestingWaits, KingsEndHonestPlay}
 use Rattle.settle_core.proofs.Boards.{on_board}
-use Rattle.settle_core.proofs.Men.{same_code, code_no_zero, shown_on, ShowsNoNew, Arrives, arrives, settles_end}
+use Rattle.settle_core.proofs.Pieces.{same_code, code_no_zero, shown_on, ShowsNoNew, Arrives, arrives, settles_end}
 use Rattle.settle_core.proofs.Apart.{BothKings, apart_unless, both_kings, kings_apart, apart, centre_low}
 use Rattle.settle_core.proofs.Hands.{lacking_settles, lacking_no_sign}
 use Rattle.settle_core.proofs.Stages.{IsSound, EndsAt, Gives, now, valid_reached, no_replace, lacking_replaces, shows_at, fold_keeps, fold_new, differ_false}
@@ -30,12 +30,12 @@ use Rattle.settle_core.proofs.Lines.{MakesMove, line_ends, reverse_aux-append}
 use Rattle.settle_core.proofs.Fronts.{reached_shown}
 use Rattle.settle_core.proofs.Once.{shows_once}
 
--- a man that such a picture shows stands there
-pub no_more_man : (p : Parts) (seen : List ℕ) (s : ℕ) (side : Side) (k : Kind) → ShowsNoMore p seen → s < 64
-    → get_or seen s 0 ≡ code_of_man side k → on p.board s ≡ man side k
-no_more_man p seen s side k h low e =
+-- a piece that such a picture shows stands there
+pub no_more_piece : (p : Parts) (seen : List ℕ) (s : ℕ) (side : Side) (k : Kind) → ShowsNoMore p seen → s < 64
+    → get_or seen s 0 ≡ code_of_piece side k → on p.board s ≡ piece_of side k
+no_more_piece p seen s side k h low e =
     elim (h s low) [
-      | inl stands ↦ same_code (on p.board s) (man side k) (sym stands ∙ e)
+      | inl stands ↦ same_code (on p.board s) (piece_of side k) (sym stands ∙ e)
       | inr none ↦ absurd (code_no_zero side k (sym e ∙ none))
     ]
 
@@ -44,20 +44,20 @@ no_more_settles p seen m v h st =
     let w : Valid (after p m) = moves_stay_valid p m v st.legal in
     let a : Arrives p m = arrives p m v st.legal in
     let low : a.square < 64 = rw (← w.squares) (on_board (after p m).board a.square p.side a.kind a.came) in
-    a.free (record { kind = a.kind; stands = no_more_man p seen a.square p.side a.kind h low (shown_on (after p m) seen a.square p.side a.kind st.shows a.came) })
+    a.free (record { kind = a.kind; stands = no_more_piece p seen a.square p.side a.kind h low (shown_on (after p m) seen a.square p.side a.kind st.shows a.came) })
 
 no_more_apart : (p : Parts) (seen : List ℕ) → Valid p → ShowsNoMore p seen → ¬ BothKings seen p.side
 no_more_apart p seen v h k =
     kings_apart p k.mine k.theirs v
-    (no_more_man p seen k.mine p.side King h (centre_low k.mine k.mine_centre) k.mine_stands)
-    (no_more_man p seen k.theirs (other p.side) King h (centre_low k.theirs k.theirs_centre) k.theirs_stands)
+    (no_more_piece p seen k.mine p.side King h (centre_low k.mine k.mine_centre) k.mine_stands)
+    (no_more_piece p seen k.theirs (other p.side) King h (centre_low k.theirs k.theirs_centre) k.theirs_stands)
     k.mine_centre k.theirs_centre (apart seen p.side k)
 
 pub no_more_sign : (p : Parts) (seen : List ℕ) → Valid p → ShowsNoMore p seen → (over : Parts) (outcome : Outcome) → ¬ IsSign over seen outcome
 no_more_sign p seen v h over outcome sign = no_more_apart p seen v h (both_kings over seen outcome p.side sign)
 
 pub no_more_new : (p : Parts) (seen : List ℕ) → ShowsNoMore p seen → ShowsNoNew p seen
-no_more_new p seen h s k low e = no_more_man p seen s (other p.side) k h low e
+no_more_new p seen h s k low e = no_more_piece p seen s (other p.side) k h low e
 
 pub no_more_in_hand : NoMoreIsInHand
 no_more_in_hand p seen v h =
@@ -106,7 +106,7 @@ rest_step start plies sign past entry s rest g =
     let final : Score = with_sign plies sign in
     fold_keeps start past entry (λ score. score ≡ final) (λ score. score ≡ final) g (λ score e. e)
     (λ score seen e h.
-    let waits : Shows start (moves_of plies) entry.picture Waits = resting_waits start (moves_of plies) entry.picture s.valid s.played rest in
+    let waits : SeenAs start (moves_of plies) entry.picture Waits = resting_waits start (moves_of plies) entry.picture s.valid s.played rest in
     let same : seen ≡ Waits = shows_once start (moves_of plies) entry.picture seen Waits (now start plies s) (shows_at start score final entry.picture seen e h) waits in
     ap (λ (x : Seen). score_after start score entry.reading x) same ∙ e)
 
@@ -172,7 +172,7 @@ kings_end start moves lists clearing later kings outcome score v l h a k b f =
     sign_step start plies None (reverse_aux clearing past) kings outcome s (subst K at k) n one in
     let three : Gives start (with_sign plies (Some outcome)) (reverse_aux later (kings ∷ reverse_aux clearing past)) =
     rest_all start plies (Some outcome) later (kings ∷ reverse_aux clearing past) s (subst B at b) two in
-    let F : List Entry → Type 0 = λ es. Folds start (unstuttered es) score in
+    let F : List Entry → Type 0 = λ es. Folds start (deduplicated es) score in
     let order : reverse_aux (joined lists ++ (clearing ++ kings ∷ later)) [] ≡ reverse_aux later (kings ∷ reverse_aux clearing past) =
     reverse_aux-append (joined lists) (clearing ++ kings ∷ later) [] ∙ reverse_aux-append clearing (kings ∷ later) past in
     three score (subst F order f)

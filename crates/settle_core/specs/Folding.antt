@@ -2,10 +2,10 @@
 use Rattle.std.specs.Prelude.{◌≡◌, ◌≢◌, ℕ, List, [], ◌∷◌, Option, Some, None, map, drop, reverse}
 use Rattle.dgt_frame.specs.declared.time.Hms.{Hms}
 use Rattle.dgt_frame.specs.declared.time.Reading.{Reading}
-use Rattle.chess_rules.specs.declared.men.Side.{Side}
-use Rattle.chess_rules.specs.declared.men.Side.TheVariants.{White, Black}
-use Rattle.chess_rules.specs.declared.men.Move.{Move}
-use Rattle.chess_rules.specs.declared.men.Parts.{Parts}
+use Rattle.chess_rules.specs.declared.pieces.Side.{Side}
+use Rattle.chess_rules.specs.declared.pieces.Side.TheVariants.{White, Black}
+use Rattle.chess_rules.specs.declared.chess_move.Move.{Move}
+use Rattle.chess_rules.specs.declared.parts.Parts.{Parts}
 use Rattle.settle_core.specs.declared.game.Outcome.{Outcome}
 use Rattle.settle_core.specs.declared.game.Ply.{Ply}
 use Rattle.settle_core.specs.declared.game.Seen.{Seen}
@@ -33,14 +33,14 @@ Replaces start (last ∷ earlier) seen m = Settles (reached start earlier) seen 
 
 -- What a picture shows where these moves were made, the latest first: a move that it settles in the position reached;
 -- a sign over this position; and where it is neither, another move in the place of the last one, or nothing yet.
-abbrev pub Shows : Parts → List Move → List ℕ → Seen → Type 0
-Shows start moves seen (Moved m) = Settles (reached start moves) seen m
-Shows start moves seen (Sign outcome) = IsSign (reached start moves) seen outcome
-Shows start moves seen (Replaced m) = ((n : Move) → ¬ Settles (reached start moves) seen n)
+abbrev pub SeenAs : Parts → List Move → List ℕ → Seen → Type 0
+SeenAs start moves seen (Moved m) = Settles (reached start moves) seen m
+SeenAs start moves seen (Sign outcome) = IsSign (reached start moves) seen outcome
+SeenAs start moves seen (Replaced m) = ((n : Move) → ¬ Settles (reached start moves) seen n)
     × ((outcome : Outcome) → ¬ IsSign (reached start moves) seen outcome) × Replaces start moves seen m
-Shows start moves seen Waits = ((n : Move) → ¬ Settles (reached start moves) seen n)
+SeenAs start moves seen Waits = ((n : Move) → ¬ Settles (reached start moves) seen n)
     × ((outcome : Outcome) → ¬ IsSign (reached start moves) seen outcome) × ((n : Move) → ¬ Replaces start moves seen n)
-Shows start moves seen Same = ⊥
+SeenAs start moves seen Same = ⊥
 
 -- the side's time in a reading
 abbrev pub time_of : Side → Option Reading → Option Hms
@@ -67,4 +67,4 @@ score_after start score reading Same = score
 abbrev pub Folds : Parts → List Entry → Score → Type 0
 Folds start [] score = score ≡ record { plies = []; sign = None }
 Folds start (entry ∷ past) score = (before : Score) × (seen : Seen) × Folds start past before
-    × Shows start (moves_of before.plies) entry.picture seen × (score ≡ score_after start before entry.reading seen)
+    × SeenAs start (moves_of before.plies) entry.picture seen × (score ≡ score_after start before entry.reading seen)

@@ -1,8 +1,8 @@
--- What a settler keeps: the line, and each position of its end beside the last picture. The code's own words: the public
+-- What a settler keeps: the line, and each position of its end beside the last picture. Private definitions: the public
 -- contracts do not cite them.
 use Rattle.std.specs.Prelude.{◌≡◌, ◌<◌, ℕ, Bool, true, false, List, [], ◌∷◌, Option, Some, None, reverse, slice_index, if◌then◌else◌}
-use Rattle.chess_rules.specs.declared.men.Move.{Move}
-use Rattle.chess_rules.specs.declared.men.Parts.{Parts}
+use Rattle.chess_rules.specs.declared.chess_move.Move.{Move}
+use Rattle.chess_rules.specs.declared.parts.Parts.{Parts}
 use Rattle.chess_rules.specs.Legal.{Legal}
 use Rattle.chess_rules.specs.Picture.{picture}
 use Rattle.settle_core.specs.declared.compared.Compared.{Compared}
@@ -12,18 +12,18 @@ use Rattle.settle_core.specs.Candidate.{lands}
 use Rattle.settle_core.specs.Settling.{reached, Played}
 use Rattle.settle_core.specs.Folding.{score_of}
 use Rattle.settle_core.specs.Masks.{IsDiff}
-use Rattle.settle_core.specs.Standing.{Sheet}
+use Rattle.settle_core.specs.Settler.{Sheet}
 
 -- The picture is the position's, and the mask has the squares on which another picture differs from it.
 pub record IsCompared (compared : Compared) (seen : List ℕ) : Type 0 where
   pub picture : compared.picture ≡ picture compared.position
   pub mask : IsDiff compared.mask compared.picture seen
 
--- The second picture shows no man but where the first one shows the same.
+-- The second picture shows no piece but where the first one shows the same.
 abbrev pub OnlyLacks : List ℕ → List ℕ → Type 0
 OnlyLacks before seen = (s : ℕ) → s < 64 → lands false (slice_index before s) (slice_index seen s) ≡ false
 
--- on this square the second picture shows a man that the first one does not show there
+-- on this square the second picture shows a piece that the first one does not show there
 abbrev pub HasLanded : List ℕ → List ℕ → ℕ → Type 0
 HasLanded before seen s = (s < 64) × (lands false (slice_index before s) (slice_index seen s) ≡ true)
 

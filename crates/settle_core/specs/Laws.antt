@@ -1,22 +1,22 @@
 -- What holds of all games.
 use Rattle.std.specs.Prelude.{◌≡◌, ◌⊎◌, ℕ, ◌≤◌, ◌+◌, ◌↔◌, IsTrue, List, ◌∷◌, ◌++◌, Some, None, length, map, reverse}
 use Rattle.std.specs.List.{flat_map}
-use Rattle.chess_rules.specs.declared.men.Move.{Move}
-use Rattle.chess_rules.specs.declared.men.Parts.{Parts}
+use Rattle.chess_rules.specs.declared.chess_move.Move.{Move}
+use Rattle.chess_rules.specs.declared.parts.Parts.{Parts}
 use Rattle.chess_rules.specs.declared.lines.Wing.{Wing}
 use Rattle.chess_rules.specs.After.{after, rook_home}
 use Rattle.chess_rules.specs.Legal.{Legal, Castles}
 use Rattle.chess_rules.specs.Picture.{picture}
 use Rattle.chess_rules.specs.Valid.{Valid}
-use Rattle.settle_core.specs.Entries.{Entry, repeats, unstuttered}
+use Rattle.settle_core.specs.Entries.{Entry, repeats, deduplicated}
 use Rattle.settle_core.specs.declared.game.Outcome.{Outcome}
 use Rattle.settle_core.specs.declared.game.Ply.{Ply}
 use Rattle.settle_core.specs.declared.game.Seen.TheVariants.{Waits}
 use Rattle.settle_core.specs.Settling.{Settles, Line, Played, position_after, reached}
 use Rattle.settle_core.specs.Sign.{IsSign}
-use Rattle.settle_core.specs.Folding.{Score, Folds, Replaces, Shows, moves_of, score_of}
-use Rattle.settle_core.specs.Standing.{Sheet, StandsFor, plies_of}
-use Rattle.settle_core.specs.Showing.{AllPass, AllRest, HasWhole, HoldsOne, IsFront, IsInHand, IsUnderWay, MayRest, ShownEach, ShowsNoMore, shown_plies}
+use Rattle.settle_core.specs.Folding.{Score, Folds, Replaces, SeenAs, moves_of, score_of}
+use Rattle.settle_core.specs.Settler.{Sheet, StandsFor, plies_of}
+use Rattle.settle_core.specs.HonestPlay.{AllPass, AllRest, HasWhole, HoldsOne, IsFront, IsInHand, IsUnderWay, MayRest, ShownEach, ShowsNoMore, shown_plies}
 
 -- the lists, one after the other
 abbrev pub joined : List (List Entry) → List Entry
@@ -24,7 +24,7 @@ joined lists = flat_map (λ list. list) lists
 
 -- The entries, in their order, fold to this score.
 abbrev pub GivesScore : Parts → List Entry → Score → Type 0
-GivesScore start entries score = Folds start (unstuttered (reverse entries)) score
+GivesScore start entries score = Folds start (deduplicated (reverse entries)) score
 
 -- For every line of moves, with a list of entries that shows each in its position, whatever the readings: the lists, one
 -- after the other, fold to plies with exactly these moves, and after no entry a sign stands.
@@ -58,8 +58,8 @@ HonestPlayKeepsClocks =
     → GivesScore start (joined lists) score
     → score ≡ score_of (shown_plies start moves lists) None
 
--- Where honest play stops between two moves: after a line, and then pictures with men in hand or a king off the board, no sign
--- stands, and the plies are those of the line, or these and one more: of a legal move that takes no man, and that was shown.
+-- Where honest play stops between two moves: after a line, and then pictures with pieces in hand or a king off the board, no sign
+-- stands, and the plies are those of the line, or these and one more: of a legal move that takes no piece, and that was shown.
 abbrev pub HonestPlayStops : Type 0
 HonestPlayStops =
     (start : Parts) (moves : List Move) (lists : List (List Entry)) (part : List Entry) (score : Score)
@@ -90,7 +90,7 @@ RestingWaits =
     → Valid start
     → Played start moves
     → MayRest (reached start moves) seen
-    → Shows start moves seen Waits
+    → SeenAs start moves seen Waits
 
 -- Nothing is guessed where two plies were not seen: after moves that are legal in their turn, whatever they are, the picture
 -- after a legal move and a legal reply waits.
@@ -101,7 +101,7 @@ TwoUnseenWait =
     → Played start moves
     → Legal (reached start moves) m
     → Legal (after (reached start moves) m) reply
-    → Shows start moves (picture (after (after (reached start moves) m) reply)) Waits
+    → SeenAs start moves (picture (after (after (reached start moves) m) reply)) Waits
 
 -- So an entry with such a picture leaves the score as it was.
 abbrev pub TwoUnseenChangeNothing : Type 0
@@ -148,10 +148,10 @@ ThreeUnseenAddNothing =
     → Folds start (entry ∷ past) score
     → (score ≡ before) ⊎ HasAnotherLast before score
 
--- A move that is tried while another one is to be made, with its man in hand and no other, is a move of that man, or the rook's
--- where the move castles.
-abbrev pub OneHandTriesItsMan : Type 0
-OneHandTriesItsMan =
+-- A move that is tried while another one is to be made, with its piece in hand and no other, is a move of that piece, or the
+-- rook's where the move castles.
+abbrev pub OneHandTriesItsPiece : Type 0
+OneHandTriesItsPiece =
     (p : Parts) (m tried : Move) (seen : List ℕ)
     → Valid p
     → Legal p m
@@ -174,11 +174,11 @@ KingsEndHonestPlay =
     → GivesScore start (joined lists ++ (clearing ++ kings ∷ later)) score
     → score ≡ score_of (shown_plies start moves lists) (Some outcome)
 
--- A picture that shows no more than the position has has men in hand.
+-- A picture that shows no more than the position has has pieces in hand.
 abbrev pub NoMoreIsInHand : Type 0
 NoMoreIsInHand = (p : Parts) (seen : List ℕ) → Valid p → ShowsNoMore p seen → IsInHand p seen
 
--- A picture on the way to a move, or a try of its man, has men in hand.
+-- A picture on the way to a move, or a try of its piece, has pieces in hand.
 abbrev pub UnderWayIsInHand : Type 0
 UnderWayIsInHand = (p : Parts) (m : Move) (seen : List ℕ) → Valid p → Legal p m → IsUnderWay p m seen → IsInHand p seen
 
@@ -188,7 +188,7 @@ abbrev pub RepeatsCountOnce : Type 0
 RepeatsCountOnce =
     (start : Parts) (later past : List Entry) (entry : Entry) (score : Score)
     → IsTrue (repeats entry.picture past)
-    → Folds start (unstuttered (later ++ entry ∷ past)) score ↔ Folds start (unstuttered (later ++ past)) score
+    → Folds start (deduplicated (later ++ entry ∷ past)) score ↔ Folds start (deduplicated (later ++ past)) score
 
 -- From a valid start, a list of entries folds to one score at most.
 abbrev pub FoldsOnce : Type 0
@@ -211,7 +211,7 @@ SettlersTellTheScore =
     (sheet : Sheet) (start : Parts) (past : List Entry) (score : Score)
     → Valid start
     → StandsFor sheet start past
-    → Folds start (unstuttered past) score
+    → Folds start (deduplicated past) score
     → score ≡ sheet.score
 
 -- No entry gives more than one ply.

@@ -2,11 +2,11 @@ pub mod Entries
 pub mod Settling
 pub mod Sign
 pub mod Folding
-pub mod Ending
-pub mod Showing
+pub mod GameResult
+pub mod HonestPlay
 pub mod Laws
 pub mod Masks
 pub mod Candidate
-pub mod Standing
+pub mod Settler
 pub mod Kept
 pub mod Tips

@@ -1,14 +1,14 @@
--- The end of a line of moves, and what pictures make of it. The code's own words: the public contracts do not cite them.
+-- The end of a line of moves, and what pictures make of it. Private definitions: the public contracts do not cite them.
 use Rattle.std.specs.Prelude.{◌≡◌, ◌≢◌, ℕ, List, [], ◌∷◌, Option, Some, None, drop, map, reverse}
-use Rattle.chess_rules.specs.declared.men.Move.{Move}
-use Rattle.chess_rules.specs.declared.men.Parts.{Parts}
+use Rattle.chess_rules.specs.declared.chess_move.Move.{Move}
+use Rattle.chess_rules.specs.declared.parts.Parts.{Parts}
 use Rattle.settle_core.specs.declared.game.Seen.{Seen}
 use Rattle.settle_core.specs.declared.game.Seen.TheVariants.{Same, Moved, Sign, Replaced, Waits}
 use Rattle.settle_core.specs.declared.tips.Last.{Last}
 use Rattle.settle_core.specs.declared.tips.Tip.{Tip}
 use Rattle.settle_core.specs.Entries.{Entry}
 use Rattle.settle_core.specs.Settling.{Settles, reached}
-use Rattle.settle_core.specs.Folding.{Score, Folds, Shows, moves_of}
+use Rattle.settle_core.specs.Folding.{Score, Folds, SeenAs, moves_of}
 
 -- the last of these moves, of which the latest comes first, and the position before it
 abbrev pub last_in : Parts → List Move → Option Last
@@ -34,7 +34,7 @@ moves_after moves Same = moves
 
 -- The picture shows something after the moves, and this is the tip after it.
 abbrev pub LeadsTo : Parts → List Move → List ℕ → Tip → Type 0
-LeadsTo start moves seen tip = (answer : Seen) × Shows start moves seen answer × IsTip start (moves_after moves answer) tip
+LeadsTo start moves seen tip = (answer : Seen) × SeenAs start moves seen answer × IsTip start (moves_after moves answer) tip
 
 -- There are moves with this tip to which entries with these pictures, in their order, fold, whatever the readings; of the
 -- entries, listed with the latest first, only those count that are kept.

@@ -1,6 +1,6 @@
 // A position beside the picture that was seen last.
 ghost use Rattle.std.specs.Prelude.{◌≡◌, ◌≢◌, ◌<◌, ◌↔◌, ℕ, List, IfSome, IfNone, IsTrue, Some, length, slice_set};
-ghost use Rattle.chess_rules.specs.declared.men.Move.{Move as MoveOf};
+ghost use Rattle.chess_rules.specs.declared.chess_move.Move.{Move as MoveOf};
 ghost use Rattle.settle_core.specs.Settling.{Settles};
 ghost use Rattle.settle_core.specs.Masks.{IsDiff};
 ghost use Rattle.settle_core.specs.Kept.{HasLanded, IsCompared, OnlyLacks};
@@ -61,7 +61,7 @@ impl Compared {
         self.mask = changed(self.mask, &self.picture, at, code);
     }
 
-    /// A square on which a man landed: the picture shows one that the position does not have there.
+    /// A square on which a piece landed: the picture shows one that the position does not have there.
     pub fn landed(&self, seen: &[u8; 64]) -> Option<u8>
         requires { IsCompared self.now seen.now }
         ensures some { IfSome result (HasLanded self.now.picture seen.now) }
@@ -80,7 +80,7 @@ impl Compared {
         self.position.is_legal(copy(m)) && self.position.play(copy(m)).picture() == *seen
     }
 
-    /// Whether the man that landed is not of the side to move: then the picture settles no move.
+    /// Whether the piece that landed is not of the side to move: then the picture settles no move.
     fn is_reply(&self, seen: &[u8; 64], landed: u8) -> bool
         requires compared { IsCompared self.now seen.now }
         requires landed { HasLanded self.now.picture seen.now landed }
@@ -113,7 +113,7 @@ impl Compared {
         self.settled_by(seen, landed)
     }
 
-    /// The same, where it is known of a square that a man landed there.
+    /// The same, where it is known of a square that a piece landed there.
     pub fn settled_by(&self, seen: &[u8; 64], landed: u8) -> Option<Move>
         requires compared { IsCompared self.now seen.now }
         requires landed { HasLanded self.now.picture seen.now landed }

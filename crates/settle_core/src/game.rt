@@ -1,4 +1,4 @@
-// The words of settling: plies, signs of a result, and what a picture shows.
+// Plies, signs of a result, and what a picture shows.
 use chess_rules::Move;
 use dgt_frame::Hms;
 
@@ -18,7 +18,7 @@ pub struct Ply {
     pub clock: Option<Hms>,
 }
 
-/// The answer to a picture: the first of these that holds.
+/// What a settler returns for a picture: the first of these that holds.
 #[derive(Clone, Copy, PartialEq, Eq, Debug)]
 pub enum Seen {
     /// The picture is the last one again: nothing has changed.

@@ -1,11 +1,11 @@
 //! What holds of all games, each law as the contract of a function; and how a move is read off two pictures.
 ghost use Rattle.std.specs.Prelude.{◌≡◌, ◌≢◌, ◌<◌, ℕ, IfSome, IfNone, Some, None, true, false, slice_index};
 ghost use Rattle.std.specs.Int.{bit_at};
-ghost use Rattle.chess_rules.specs.declared.men.Move.{Move as MoveOf};
-ghost use Rattle.chess_rules.specs.declared.men.Parts.{Parts as PartsOf};
+ghost use Rattle.chess_rules.specs.declared.chess_move.Move.{Move as MoveOf};
+ghost use Rattle.chess_rules.specs.declared.parts.Parts.{Parts as PartsOf};
 ghost use Rattle.chess_rules.specs.Valid.{Valid};
 ghost use Rattle.chess_rules.specs.Picture.{picture};
-ghost use Rattle.settle_core.specs.Laws.{FoldsOnce, FoldsSome, FrontsOfHonestPlay, GivesSome, HonestPlayFolds, HonestPlayIsKept, HonestPlayKeepsClocks, HonestPlayStops, KingsEndHonestPlay, NoEntryGivesTwo, NoMoreIsInHand, OneHandTriesItsMan, RepeatsCountOnce, RepliesReplaceNothing, RestingWaits, SettlersTellTheScore, SignsSettleNothing, ThreeUnseenAddNothing, ThreeUnseenSettleNothing, TwoUnseenChangeNothing, TwoUnseenWait, UnderWayIsInHand};
+ghost use Rattle.settle_core.specs.Laws.{FoldsOnce, FoldsSome, FrontsOfHonestPlay, GivesSome, HonestPlayFolds, HonestPlayIsKept, HonestPlayKeepsClocks, HonestPlayStops, KingsEndHonestPlay, NoEntryGivesTwo, NoMoreIsInHand, OneHandTriesItsPiece, RepeatsCountOnce, RepliesReplaceNothing, RestingWaits, SettlersTellTheScore, SignsSettleNothing, ThreeUnseenAddNothing, ThreeUnseenSettleNothing, TwoUnseenChangeNothing, TwoUnseenWait, UnderWayIsInHand};
 ghost use Rattle.settle_core.specs.Settling.{Settles};
 ghost use Rattle.settle_core.specs.Masks.{IsDiff, IsNoMove};
 ghost use Rattle.settle_core.specs.Candidate.{is_king_code, is_owned_code, side_number, lands as lands_test, leaves as leaves_test, officer_of, promotion_between};
@@ -29,7 +29,7 @@ pub fn honest_play_keeps_clocks()
     ensures { HonestPlayKeepsClocks }
 {}
 
-/// Where honest play stops between two moves, the whole moves stand, and at most one try that takes no man.
+/// Where honest play stops between two moves, the whole moves stand, and at most one try that takes no piece.
 pub fn honest_play_stops()
     ensures { HonestPlayStops }
 {}
@@ -57,17 +57,18 @@ pub fn three_unseen_settle_nothing()
     ensures score { ThreeUnseenAddNothing }
 {}
 
-/// A move that is tried with one man in hand is a move of that man, or the rook's where the move to be made castles.
-pub fn one_hand_tries_its_man()
-    ensures { OneHandTriesItsMan }
+/// A move that is tried with one piece in hand is a move of that piece, or the rook's where the move to be made castles.
+pub fn one_hand_tries_its_piece()
+    ensures { OneHandTriesItsPiece }
 {}
 
-/// After honest play, men are taken off, the kings are put into the centre, and men are set up again: the line and the sign stand.
+/// After honest play, pieces are taken off, the kings are put into the centre, and pieces are set up again: the line and the
+/// sign stand.
 pub fn kings_end_honest_play()
     ensures { KingsEndHonestPlay }
 {}
 
-/// A picture on the way to a move, or a try of its man, has men in hand.
+/// A picture on the way to a move, or a try of its piece, has pieces in hand.
 pub fn under_way_is_in_hand()
     ensures { UnderWayIsInHand }
 {}
@@ -151,7 +152,7 @@ fn side_of(code: u8) -> u8
     }
 }
 
-/// Whether the code is that of a man of this side.
+/// Whether the code is that of a piece of this side.
 pub(crate) fn is_owned(side: Side, code: u8) -> bool
     ensures { result ≡ is_owned_code side code }
 {
@@ -198,7 +199,7 @@ fn without(mask: u64, square: u8) -> u64
     mask & !(1 << square)
 }
 
-/// A square on which a man landed, among those that differ.
+/// A square on which a piece landed, among those that differ.
 pub(crate) fn landing(kings: bool, before: &[u8; 64], after: &[u8; 64], mask: u64) -> Option<u8>
     requires { IsDiff mask before.now after.now }
     ensures range { IfSome result (λ s. s < 64) }
@@ -216,9 +217,9 @@ pub(crate) fn landing(kings: bool, before: &[u8; 64], after: &[u8; 64], mask: u6
     None
 }
 
-/// A square that the man of this code left, among those that differ.
+/// A square that the piece of this code left, among those that differ.
 fn leaving(code: u8, before: &[u8; 64], after: &[u8; 64], mask: u64) -> Option<u8>
-    requires some_man { code ≢ 0 }
+    requires some_piece { code ≢ 0 }
     requires differ { IsDiff mask before.now after.now }
     ensures range { IfSome result (λ s. s < 64) }
     ensures some { IfSome result (λ s. leaves_test code (slice_index before.now s) (slice_index after.now s) ≡ true) }

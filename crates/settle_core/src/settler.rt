@@ -1,15 +1,15 @@
 // The settler: it takes pictures, and keeps the line that they show.
 ghost use Rattle.std.specs.Prelude.{◌≡◌, ◌<◌, ◌≤◌, ◌↔◌, ◌||◌, ◌∷◌, [], ℕ, List, All, IfOk, OnOk, OnErr, IfSome, IfNone, IsTrue, None, Some, true, is_ok, length, slice_set, reverse, drop};
-ghost use Rattle.chess_rules.specs.declared.men.Move.{Move as MoveOf};
-ghost use Rattle.chess_rules.specs.declared.men.Parts.{Parts as PartsOf};
+ghost use Rattle.chess_rules.specs.declared.chess_move.Move.{Move as MoveOf};
+ghost use Rattle.chess_rules.specs.declared.parts.Parts.{Parts as PartsOf};
 ghost use Rattle.chess_rules.specs.Legal.{Legal};
-ghost use Rattle.settle_core.specs.Entries.{Entry, entry_of, changed, unstuttered};
+ghost use Rattle.settle_core.specs.Entries.{Entry, entry_of, changed, deduplicated};
 ghost use Rattle.chess_rules.specs.Picture.{picture};
 ghost use Rattle.settle_core.specs.declared.game.Ply.{Ply as PlyOf};
 ghost use Rattle.settle_core.specs.Masks.{IsDiff};
 ghost use Rattle.settle_core.specs.Settling.{Settles, Line, position_after, reached};
-ghost use Rattle.settle_core.specs.Folding.{Folds, Replaces, Shows, moves_of, played, score_after, score_of, time_of as time_in};
-ghost use Rattle.settle_core.specs.Standing.{StandsFor, Answers, GivesMove, has_seen, plies_of, position_of};
+ghost use Rattle.settle_core.specs.Folding.{Folds, Replaces, SeenAs, moves_of, played, score_after, score_of, time_of as time_in};
+ghost use Rattle.settle_core.specs.Settler.{StandsFor, Answers, GivesMove, has_seen, plies_of, position_of};
 ghost use Rattle.settle_core.specs.Kept.{CanReplace, IsComparedIn, IsLastSet, last_of, position_in};
 
 use crate::compared::{Compared, copy};
@@ -34,7 +34,7 @@ pub struct Settler {
 }
 
 impl Model for Settler {
-    ghost use Rattle.settle_core.specs.Standing.{Sheet};
+    ghost use Rattle.settle_core.specs.Settler.{Sheet};
     ghost use Rattle.settle_core.specs.Kept.{IsKept, sheet_of};
     ghost use Rattle.settle_core.specs.Folding.{moves_of};
     ghost use Rattle.std.specs.Prelude.{reverse};
@@ -109,7 +109,7 @@ impl Settler {
     ///
     /// # Errors
     ///
-    /// Memory is taken only where a ply is appended; where that is refused, nothing has changed.
+    /// Memory is taken only where a ply is appended; where there is none, nothing has changed.
     pub fn see(&mut self, picture: &[u8; 64], clock: Option<Reading>) -> Result<Seen, AllocError>
         requires { All (λ code. code < 16) picture.now }
         ensures stands { (start : PartsOf) (past : List Entry) → StandsFor self.old start past
@@ -207,10 +207,10 @@ impl Settler {
         change_all(&mut self.before, at, code);
     }
 
-    /// The answer to the last picture; the score is brought to it.
+    /// What the last picture settles; the score is brought to it.
     fn judge(&mut self, clock: Option<Reading>) -> Result<Seen, AllocError>
         ensures ok { (picture : List ℕ) → self.old.last ≡ Some picture
-            → IfOk result (λ seen. Shows self.old.start (moves_of self.old.score.plies) picture seen
+            → IfOk result (λ seen. SeenAs self.old.start (moves_of self.old.score.plies) picture seen
             × (self.new ≡ record self.old { score = score_after self.old.start self.old.score clock seen })) }
         ensures err { OnErr result (self.new ≡ self.old) }
         ensures memory { (picture : List ℕ) → self.old.last ≡ Some picture
@@ -292,7 +292,7 @@ impl Settler {
         // Each move is legal where it stands.
         ensures line { Line self.now.start (moves_of result.now) }
         ensures folds { (start : PartsOf) (past : List Entry) → StandsFor self.now start past
-            → Folds start (unstuttered past) (score_of result.now self.now.score.sign) }
+            → Folds start (deduplicated past) (score_of result.now self.now.score.sign) }
         // No entry gives more than one move.
         ensures count { (start : PartsOf) (past : List Entry) → StandsFor self.now start past → length result.now ≤ length past }
     {
@@ -350,7 +350,7 @@ impl Settler {
         ensures sign { result.2 ≡ self.score.sign }
         ensures line { Line self.start (moves_of result.1.items) }
         ensures folds { (start : PartsOf) (past : List Entry) → StandsFor self start past
-            → Folds start (unstuttered past) (score_of result.1.items result.2) }
+            → Folds start (deduplicated past) (score_of result.1.items result.2) }
         ensures count { (start : PartsOf) (past : List Entry) → StandsFor self start past → length result.1.items ≤ length past }
     {
         (self.start, self.plies, self.sign)

@@ -1,8 +1,8 @@
 // The sign of a result.
 ghost use Rattle.std.specs.Prelude.{◌≡◌, ◌<◌, ◌↔◌, ℕ, IsTrue, IfSome, IfNone, Some, None};
-ghost use Rattle.chess_rules.specs.declared.men.Kind.TheVariants.{King};
+ghost use Rattle.chess_rules.specs.declared.pieces.Kind.TheVariants.{King};
 ghost use Rattle.chess_rules.specs.Board.{on};
-ghost use Rattle.chess_rules.specs.Picture.{code, code_of_man};
+ghost use Rattle.chess_rules.specs.Picture.{code, code_of_piece};
 ghost use Rattle.settle_core.specs.declared.game.Outcome.{Outcome as OutcomeOf};
 ghost use Rattle.settle_core.specs.Kept.{IsCompared};
 ghost use Rattle.settle_core.specs.Sign.{IsSign, InCentre, IsLight, HasKingOn, IsElseAs, IsAs, Means};
@@ -12,7 +12,7 @@ use crate::game::Outcome;
 use chess_rules::Side;
 
 fn king_code(side: Side) -> u8
-    ensures { result ≡ code_of_man side King }
+    ensures { result ≡ code_of_piece side King }
 {
     match side {
         Side::White => 5,

@@ -1,4 +1,4 @@
-//! Hands as they really move: men that are slid, tried, straightened and handled in any order. Each movetext is worked by hand
+//! Hands as they really move: pieces that are slid, tried, straightened and handled in any order. Each movetext is worked by hand
 //! from the rules.
 
 use crate::words::first_failing;
@@ -14,22 +14,22 @@ const SLIDES_AND_OTHER_MEN: &str = "
         a1- a3R a3- a4R a4- a5R a5- a6R a6- a4R , e8- e7k = 1. Ra4 Ke7 *
     Each square shows the rook before the last one is empty: 4k3/8/8/8/8/8/8/R3K3 w - - 0 1
         a2R a1- a3R a2- a4R a3- a5R a4- a4R a5- = 1. Ra4 *
-    Two other men are tried and put back, one where it can't go, one where it can:
+    Two other pieces are tried and put back, one where it can't go, one where it can:
         g1- g4N g4- g1N , b1- c3N c3- b1N , e2- e4P , e7- e5p = 1. e4 e5 *
     A neighbour is straightened by way of the square beside it:
         e2- e4P e7- e5p , g1- f1- g1B g1- f1B f3N = 1. e4 e5 2. Nf3 *
-    A man of the other side is lifted and set back:
+    A piece of the other side is lifted and set back:
         e2- e7- e7p e4P , e7- e5p = 1. e4 e5 *
     So it is while a square is tried:
         b1- a3N d7- d7p a3- c3N = 1. Nc3 *
-    The mover's king is off the board while black men are moved about:
+    The mover's king is off the board while black pieces are moved about:
         e2- e4P e7- e5p , e1- d7- d5p e5- e5Q d5- d7p e5p e1K , g1- f3N = 1. e4 e5 2. Nf3 *
     The other king is off the board while its queen stands there:
         e2- e8- d8- e8q e8- d8q e8k e4P = 1. e4 *
 ";
 
 #[test]
-fn slides_and_other_men_do_no_harm(rt: HostRuntime) {
+fn slides_and_other_pieces_do_no_harm(rt: HostRuntime) {
     assert_eq!(rt; first_failing(rt.alloc(), SLIDES_AND_OTHER_MEN), None);
 }
 

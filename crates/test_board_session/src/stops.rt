@@ -4,12 +4,12 @@
 use crate::words::first_failing;
 
 const SET_UP_AND_KINGS: &str = "
-    Men are set up, the kings last, and first king and queen in each other's place:
+    Pieces are set up, the kings last, and first king and queen in each other's place:
         8/8/8/8/8/8/8/8 e2P d2P c2P b2P a2P f2P g2P h2P a1R h1R b1N g1N c1B f1B = *
         a7p b7p c7p d7p e7p f7p g7p h7p d8q a8r h8r b8n g8n c8b f8b = *
         d1K e1Q e1- d1- d1Q e1K e8k = *
         e2- e4P = 1. e4 *
-    Both kings are lifted and then set down, men are taken off and set up again:
+    Both kings are lifted and then set down, pieces are taken off and set up again:
         e2- e4P e7- e5p , e1- e8- e4- e4K = 1. e4 e5 *
         d5k = 1. e4 e5 1-0
         e4- d5- a1- b1- h8- d2- = 1. e4 e5 1-0
@@ -47,7 +47,7 @@ const SET_UP_AND_KINGS: &str = "
 ";
 
 #[test]
-fn men_are_set_up_and_kings_end_games(rt: HostRuntime) {
+fn pieces_are_set_up_and_kings_end_games(rt: HostRuntime) {
     assert_eq!(rt; first_failing(rt.alloc(), SET_UP_AND_KINGS), None);
 }
 

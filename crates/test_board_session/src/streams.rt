@@ -25,7 +25,7 @@ pub fn setup(alloc: Global, start: Position, first: First, rotated: bool) -> Set
 #[derive(Clone, Copy)]
 pub struct Streams {
     /// So many bytes come with a read.
-    pub piece: usize,
+    pub chunk: usize,
     /// After all bytes a read fails.
     pub fails: bool,
     /// So many bytes find room in the board's stream.
@@ -36,13 +36,13 @@ pub struct Streams {
 
 /// All works.
 pub const WORKING: Streams = Streams {
-    piece: 4096,
+    chunk: 4096,
     fails: false,
     board_room: 512,
     out_room: 512,
 };
 
-/// What is answered over these streams, where the board's stream then shows exactly this and the output this text.
+/// What is returned over these streams, where the board's stream then shows exactly this and the output this text.
 pub fn answer_leaving(
     alloc: Global,
     setup: Setup,
@@ -52,7 +52,7 @@ pub fn answer_leaving(
     text: &Bytes,
 ) -> Option<Result<Report, RecordError>> {
     let source = Source::new(bytes.get())
-        .in_pieces(streams.piece)
+        .in_chunks(streams.chunk)
         .failing(streams.fails);
     let mut reader = Watch::new(source);
     let mut board = Watch::new(Sink::new(streams.board_room));

@@ -1,5 +1,5 @@
 //! Recordings over streams in memory. The expected texts, reports and board bytes are worked by hand from the formats.
-ghost use Rattle.board_session.specs.Looking.{IsInRange};
+ghost use Rattle.board_session.specs.History.{IsInRange};
 
 use crate::streams::{OPENING, Streams, WORKING, answer_leaving, setup};
 use board_session::laws::read_recorded;
@@ -93,7 +93,7 @@ impl Row<'_> {
     }
 }
 
-/// Over these streams this is answered, and the board's stream and the output then show exactly what the row says.
+/// Over these streams this is returned, and the board's stream and the output then show exactly what the row says.
 fn leaves(
     alloc: Global,
     row: &Row<'_>,
@@ -105,8 +105,8 @@ fn leaves(
 }
 
 /// With so many bytes a read, what is recorded is what the row says.
-fn holds(alloc: Global, row: &Row<'_>, piece: usize) -> bool {
-    leaves(alloc, row, Streams { piece, ..WORKING }, Ok(row.report()))
+fn holds(alloc: Global, row: &Row<'_>, chunk: usize) -> bool {
+    leaves(alloc, row, Streams { chunk, ..WORKING }, Ok(row.report()))
 }
 
 /// No byte from the initial position, White's time first, not rotated.
@@ -219,7 +219,7 @@ const FAULTS: &[Row<'static>] = &[
         ..NOTHING
     },
     Row {
-        name: "an ignored message",
+        name: "a message of another kind",
         parts: &[
             &INITIAL,
             &E2_EMPTY,
@@ -267,10 +267,10 @@ fn faults<'a>() -> &'a [Row<'a>] {
 }
 
 /// How many bytes come with a read where the row doesn't hold.
-fn piece_failing(alloc: Global, row: &Row<'_>) -> Option<usize> {
-    for piece in [1, 2, 7, 4096] {
-        if !holds(alloc, row, piece) {
-            return Some(piece);
+fn chunk_failing(alloc: Global, row: &Row<'_>) -> Option<usize> {
+    for chunk in [1, 2, 7, 4096] {
+        if !holds(alloc, row, chunk) {
+            return Some(chunk);
         }
     }
     None
@@ -279,8 +279,8 @@ fn piece_failing(alloc: Global, row: &Row<'_>) -> Option<usize> {
 /// The name of the first row that doesn't hold, and how many bytes then come with a read.
 fn first_failing<'a>(alloc: Global, rows: &[Row<'a>]) -> Option<(&'a str, usize)> {
     for row in rows {
-        if let Some(piece) = piece_failing(alloc, row) {
-            return Some((row.name, piece));
+        if let Some(chunk) = chunk_failing(alloc, row) {
+            return Some((row.name, chunk));
         }
     }
     None

@@ -38,10 +38,10 @@ fn add_times(bytes: &mut Bytes, times: &[u8]) {
 fn add_word(bytes: &mut Bytes, word: &[u8]) {
     match word {
         [_] => {}
-        [file, rank, man] => {
+        [file, rank, piece] => {
             let column = file.saturating_sub(b'a').min(7);
             let row = b'8'.saturating_sub(*rank).min(7);
-            bytes.add(&[0x8E, 0x00, 0x05, row * 8 + column, code_of(*man)]);
+            bytes.add(&[0x8E, 0x00, 0x05, row * 8 + column, code_of(*piece)]);
         }
         [_, _, b':', ..] => {
             bytes.add(&[0x8D, 0x00, 0x0A]);

@@ -39,7 +39,7 @@ fn kind_of(letter: u8) -> Option<Kind> {
     }
 }
 
-fn man_of(letter: u8) -> Option<Piece> {
+fn piece_of(letter: u8) -> Option<Piece> {
     let side = if letter.is_ascii_uppercase() {
         Side::White
     } else {
@@ -49,11 +49,11 @@ fn man_of(letter: u8) -> Option<Piece> {
     Some(Piece { side, kind })
 }
 
-/// Parts without rights and target at the first move. The men are written from a8 to h1.
-fn parts_of(men: &[u8; 64], side: Side) -> Parts {
+/// Parts without rights and target at the first move. The pieces are written from a8 to h1.
+fn parts_of(pieces: &[u8; 64], side: Side) -> Parts {
     let mut board = [None; 64];
     for square in 0..64usize {
-        board[square] = man_of(men[square]);
+        board[square] = piece_of(pieces[square]);
     }
     Parts {
         board,
@@ -65,8 +65,8 @@ fn parts_of(men: &[u8; 64], side: Side) -> Parts {
     }
 }
 
-fn with_counters(men: &[u8; 64], side: Side, halfmove: u16, fullmove: u16) -> Parts {
-    let mut parts = parts_of(men, side);
+fn with_counters(pieces: &[u8; 64], side: Side, halfmove: u16, fullmove: u16) -> Parts {
+    let mut parts = parts_of(pieces, side);
     parts.halfmove = halfmove;
     parts.fullmove = fullmove;
     parts
@@ -135,8 +135,8 @@ fn the_first_broken_condition_is_answered(rt: HostRuntime) {
 }
 
 /// Whether White, with the right to it, may castle on the queen side.
-fn castles_long(men: &[u8; 64]) -> Result<bool, Fail> {
-    let mut parts = parts_of(men, Side::White);
+fn castles_long(pieces: &[u8; 64]) -> Result<bool, Fail> {
+    let mut parts = parts_of(pieces, Side::White);
     parts.rights.white_queen = true;
     let castles = step(at(b'e', 1), at(b'c', 1))?;
     Ok(Position::new(parts)?.is_legal(castles))
@@ -156,8 +156,8 @@ fn a_double_step_sets_the_target(rt: HostRuntime) -> Result<(), Fail> {
     let initial = Position::initial();
     let opening = step(at(b'e', 2), at(b'e', 4))?;
     let next = played(&initial, &opening).ok_or("e4")?;
-    let men = b"rnbqkbnrpppppppp....................P...........PPPP.PPPRNBQKBNR";
-    let mut wanted = parts_of(men, Side::Black);
+    let pieces = b"rnbqkbnrpppppppp....................P...........PPPP.PPPRNBQKBNR";
+    let mut wanted = parts_of(pieces, Side::Black);
     wanted.rights = initial.parts().rights;
     wanted.target = at(b'e', 3);
     assert_eq!(rt; *next.parts(), wanted);
@@ -170,8 +170,11 @@ fn counters_stand_still(rt: HostRuntime) -> Result<(), Fail> {
     let position = Position::new(with_counters(KINGS, Side::Black, 9999, 9999))?;
     let walk = step(at(b'e', 8), at(b'd', 8))?;
     let next = played(&position, &walk).ok_or("Kd8")?;
-    let men = b"...k........................................................K...";
-    assert_eq!(rt; *next.parts(), with_counters(men, Side::White, 9999, 9999));
+    let pieces = b"...k........................................................K...";
+    assert_eq!(rt;
+        *next.parts(),
+        with_counters(pieces, Side::White, 9999, 9999)
+    );
     Ok(())
 }
 

@@ -29,7 +29,7 @@ const DATA: Event = Event::Fault(FaultKind::Data);
 /// Bytes, the events that come in them, each with the offset of its byte, and how many bytes of a frame are left.
 type Stream<'a> = (&'a [u8], &'a [(usize, Event)], u16);
 
-/// Whether `push` answers these events at these offsets and no other, and `pending` is the rest.
+/// Whether `push` returns these events at these offsets and no other, and `pending` is the rest.
 fn push_shows(bytes: &[u8], events: &[(usize, Event)], rest: u16) -> bool {
     let mut decoder = Decoder::new();
     let mut seen = 0usize;
@@ -85,7 +85,7 @@ const FIRST_UPDATE: Event = Event::Message(Message::Update { field: 52, code: 0 
 
 const TIME: Event = Event::Message(Message::Time([0x01, 0x30, 0x00, 0x01, 0x29, 0x59, 0x00]));
 
-const IGNORED: Event = Event::Message(Message::Other { id: 0x93, size: 5 });
+const OTHER: Event = Event::Message(Message::Other { id: 0x93, size: 5 });
 
 const EMPTY_IGNORED: Event = Event::Message(Message::Other { id: 0x80, size: 3 });
 
@@ -101,7 +101,7 @@ static STREAMS: [Stream<'static>; 17] = [
         &[(1, CUT), (5, FIRST_UPDATE)],
         0,
     ),
-    (b"\x93\x00\x05\x01\x08", &[(4, IGNORED)], 0),
+    (b"\x93\x00\x05\x01\x08", &[(4, OTHER)], 0),
     (b"\x93\x00\x02", &[(2, SIZE)], 0),
     (b"\x8E\x00\x05\x00\x10", &[(4, DATA)], 0),
     (b"\x80\x00\x03", &[(2, EMPTY_IGNORED)], 0),
@@ -159,7 +159,7 @@ fn dumps_show_their_codes(rt: HostRuntime) {
 }
 
 #[test]
-fn the_longest_frame_is_ignored(rt: HostRuntime) {
+fn the_longest_frame_is_of_another_message(rt: HostRuntime) {
     let mut bytes = [0u8; 16383];
     bytes[0] = 0x93;
     bytes[1] = 0x7F;

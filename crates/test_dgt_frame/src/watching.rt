@@ -68,7 +68,7 @@ const READ_ANSWERS: [(Result<usize, ErrorKind>, bool); 4] = [
     (Ok(2), true),
 ];
 
-/// The number of the first read that answers otherwise, or after which the stream says otherwise.
+/// The number of the first read that returns something else, or after which the stream says otherwise.
 fn first_unlike_read(stream: &mut Watch<Scripted<'_>>) -> Option<usize> {
     for (i, (answer, failed)) in READ_ANSWERS.iter().enumerate() {
         let mut buf = [0u8; 4];
@@ -110,7 +110,7 @@ const WRITE_ANSWERS: [(&[u8], Result<usize, ErrorKind>, bool); 5] = [
 
 const FLUSHES: [Result<usize, ErrorKind>; 3] = [Ok(0), Err(ErrorKind::BrokenPipe), Ok(0)];
 
-/// The number of the first write that answers otherwise, or after which the stream says otherwise.
+/// The number of the first write that returns something else, or after which the stream says otherwise.
 fn first_unlike_write(stream: &mut Watch<Scripted<'_>>) -> Option<usize> {
     for (i, (bytes, answer, failed)) in WRITE_ANSWERS.iter().enumerate() {
         let given = stream.write(bytes);
@@ -121,7 +121,7 @@ fn first_unlike_write(stream: &mut Watch<Scripted<'_>>) -> Option<usize> {
     None
 }
 
-/// The number of the first flush that answers otherwise, or after which the stream says otherwise.
+/// The number of the first flush that returns something else, or after which the stream says otherwise.
 fn first_unlike_flush(stream: &mut Watch<Scripted<'_>>) -> Option<usize> {
     for (i, failed) in [false, true, true].iter().enumerate() {
         let fails = stream.flush().is_err();

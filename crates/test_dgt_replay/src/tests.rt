@@ -155,7 +155,7 @@ const E4_PAWN: &[u8] = b"\x8E\x00\x05\x24\x01";
 
 const CUT: &[u8] = b"\x8E\x00\x05\x34";
 
-const IGNORED: &[u8] = b"\x93\x00\x05\x01\x08";
+const OTHER: &[u8] = b"\x93\x00\x05\x01\x08";
 
 /// A stray byte, a frame of a wrong size, and one with a wrong field.
 const BROKEN: &[u8] = b"\x05\x34\x00\x8E\x00\x06\x8E\x00\x05\x40";
@@ -190,7 +190,7 @@ const INITIAL_LINE: &[u8] =
 /// What the program is given, and what it leaves.
 #[derive(Clone, Copy)]
 struct Case<'a> {
-    /// The words after the program's name.
+    /// The arguments after the program's name.
     words: &'a [&'a str],
     /// The parts of the input.
     input: &'a [&'a [u8]],
@@ -236,7 +236,7 @@ struct Left {
     err: Bytes,
 }
 
-/// Runs the program with these words, its name among them, over the streams of a case.
+/// Runs the program with these arguments, its name among them, over the streams of a case.
 fn run_with(alloc: Global, words: &[String], case: &Case<'_>) -> Left {
     let input = Bytes::of(case.input);
     let mut reader = Watch::new(Source {
@@ -256,7 +256,7 @@ fn run_with(alloc: Global, words: &[String], case: &Case<'_>) -> Left {
     }
 }
 
-/// The texts as words of the command line, after the name of the program.
+/// The texts as arguments of the command line, after the name of the program.
 fn words_of(alloc: Global, texts: &[&str]) -> Result<Vec<String>, AllocError> {
     let mut words = Vec::new(alloc);
     words.push(String::from_str(alloc, "dgt_replay")?)?;
@@ -266,7 +266,7 @@ fn words_of(alloc: Global, texts: &[&str]) -> Result<Vec<String>, AllocError> {
     Ok(words)
 }
 
-/// Runs a case, where there is memory for its words.
+/// Runs a case, where there is memory for its arguments.
 fn run_of(alloc: Global, case: &Case<'_>) -> Option<Left> {
     match words_of(alloc, case.words) {
         Ok(words) => Some(run_with(alloc, words.as_slice(), case)),
@@ -313,7 +313,7 @@ const SHOWN_CAPTURES: &[Case<'static>] = &[
         ..SHOW
     },
     Case {
-        input: &[INITIAL, E2_EMPTY, IGNORED, E4_PAWN],
+        input: &[INITIAL, E2_EMPTY, OTHER, E4_PAWN],
         out: &[
             INITIAL_LINE,
             b"71 update 52 0\n76 other 93 5\n81 update 36 1\nrest 0\n",
@@ -343,7 +343,7 @@ const SHOWN_CAPTURES: &[Case<'static>] = &[
 
 const SHOWN_FRAMES: &[Case<'static>] = &[
     Case {
-        input: &[IGNORED],
+        input: &[OTHER],
         out: &[b"4 other 93 5\nrest 0\n"],
         ..SHOW
     },
@@ -964,7 +964,7 @@ const FOLLOWED_CAPTURES: &[Case<'static>] = &[
         ..FOLLOW
     },
     Case {
-        input: &[INITIAL, E2_PAWN, IGNORED, CUT],
+        input: &[INITIAL, E2_PAWN, OTHER, CUT],
         out: &[b"66 agrees\nrest 4\n"],
         ..FOLLOW
     },
@@ -1124,12 +1124,12 @@ const REFUSED_WORDS: &[&[&str]] = &[
     &["pictures", "--rotated", "--rotated"],
 ];
 
-/// These words over no input.
+/// These arguments over no input.
 fn without_input<'a>(words: &'a [&'a str]) -> Case<'a> {
     Case { words, ..PLAIN }
 }
 
-/// These words have status 2 and something on standard error, and no output.
+/// These arguments have status 2 and something on standard error, and no output.
 fn are_refused(alloc: Global, words: &[&str]) -> bool {
     match run_of(alloc, &without_input(words)) {
         Some(left) => left.status == 2 && left.out.len == 0 && left.err.len > 0,
@@ -1137,7 +1137,7 @@ fn are_refused(alloc: Global, words: &[&str]) -> bool {
     }
 }
 
-/// The number of the first of these words that aren't refused, from 0.
+/// The number of the first of these arguments that aren't refused, from 0.
 fn first_not_refused(alloc: Global, lines: &[&[&str]]) -> Option<usize> {
     for (number, words) in lines.iter().enumerate() {
         if !are_refused(alloc, words) {
@@ -1147,7 +1147,7 @@ fn first_not_refused(alloc: Global, lines: &[&[&str]]) -> Option<usize> {
     None
 }
 
-/// These words have status 0 and an output, and nothing on standard error.
+/// These arguments have status 0 and an output, and nothing on standard error.
 fn are_answered(alloc: Global, words: &[&str]) -> bool {
     match run_of(alloc, &without_input(words)) {
         Some(left) => left.status == 0 && left.shown.len > 0 && left.err.len == 0,
@@ -1174,7 +1174,7 @@ fn versions_are_printed(rt: HostRuntime) {
     assert_eq!(rt; first_unlike(rt.alloc(), VERSIONS), None);
 }
 
-/// The status without a word, not even the name of the program.
+/// The status without an argument, not even the name of the program.
 fn status_without_words(alloc: Global) -> u8 {
     let none: [String; 0] = [];
     run_with(alloc, &none, &PLAIN).status

@@ -27,7 +27,7 @@ const VALUES: [(Tag, &str, Result<(), TagError>); 8] = [
     (Tag::Event, "", Ok(())),
 ];
 
-/// The number of the first value that gets another answer, from 0.
+/// The number of the first value that gets another result, from 0.
 fn first_other_answer(tags: &mut Tags) -> Option<usize> {
     for (number, (tag, value, answer)) in VALUES.iter().enumerate() {
         if tags.set(*tag, value) != *answer {
@@ -61,7 +61,7 @@ fn values_are_checked(rt: HostRuntime) {
     assert_eq!(rt; first_other_value(&tags), None);
 }
 
-/// As White's name, so many of this character get this answer.
+/// As White's name, so many of this character get this result.
 fn gets(
     alloc: Global,
     tags: &mut Tags,

@@ -31,7 +31,7 @@ fn is_clock(shown: Option<Hms>, clock: Clock) -> bool {
     }
 }
 
-/// Whether the settler answers so to the picture, and the last ply's clock then shows this.
+/// Whether the settler returns this for the picture, and the last ply's clock then shows this.
 fn answers(
     settler: &mut Settler,
     picture: &[u8; 64],

@@ -45,7 +45,7 @@ static SIGN_GAMES: [Game<'static>; 4] = [
         sign: None,
         status: Status::Running,
     },
-    // On dark squares; then on one of each colour, also beside a code of no man.
+    // On dark squares; then on one of each colour, also beside a code of no piece.
     Game {
         updates: &[
             (60, 0),

@@ -1,6 +1,6 @@
 //! Games as updates: whole pictures go to one settler, updates to another, and pictures to the one that tries every move.
 ghost use Rattle.std.specs.Prelude.{All, ◌<◌, ◌≡◌, OnOk, true};
-ghost use Rattle.settle_core.specs.Standing.{has_seen};
+ghost use Rattle.settle_core.specs.Settler.{has_seen};
 
 use crate::told::{Told, WAITS, Way, told_of, way_of};
 use crate::trying::Plain;
@@ -38,7 +38,7 @@ pub fn with(rt: &impl Abort, picture: &[u8; 64], at: u8, code: u8) -> [u8; 64]
 pub struct Game<'a> {
     /// Squares by their numbers, and the codes that they show.
     pub updates: &'a [(u8, u8)],
-    /// The answer to each update, where the game tells them.
+    /// What is returned for each update, where the game tells it.
     pub answers: Option<&'a [Told]>,
     /// The moves, the sign and the status that the settler holds at the end.
     pub moves: &'a [Way],
@@ -51,9 +51,9 @@ pub struct Game<'a> {
 pub enum Unlike {
     /// The position to start from, which is none, or its own picture, which the settlers see first.
     Start,
-    /// The update with this number: its answer, or the sign or the moves after it.
+    /// The update with this number: what is returned for it, or the sign or the moves after it.
     Update(usize),
-    /// How many answers the game tells.
+    /// For how many updates the game tells what is returned.
     Answers,
     /// What the settler holds at the end: the moves, the sign or the status.
     Moves,
@@ -77,7 +77,7 @@ fn wait(
     Ok(of_pictures == WAITS && of_updates == WAITS && of_plain == WAITS)
 }
 
-/// Shows an update to each settler, as a picture or as it is: the answer, where all three give the same one, and then hold
+/// Shows an update to each settler, as a picture or as it is: what is returned, where all three return the same, and then hold
 /// the same sign and the two the same moves.
 fn show(
     by_pictures: &mut Settler,
@@ -109,7 +109,7 @@ fn hold_alike(by_pictures: &Settler, by_updates: &Settler, plain: &Plain) -> boo
         && by_updates.moves() == by_pictures.moves()
 }
 
-/// Whether this answer to the update with this number was given, and is the one that is told, if one is.
+/// Whether this was returned for the update with this number, and is what is told, if anything is.
 fn is_told(answers: Option<&[Told]>, i: usize, given: Option<Told>) -> bool {
     match (answers, given) {
         (Some(answers), Some(given)) => match answers.get(i) {
@@ -121,7 +121,7 @@ fn is_told(answers: Option<&[Told]>, i: usize, given: Option<Told>) -> bool {
     }
 }
 
-/// Whether as many answers are told as there are updates, or none is.
+/// Whether it is told for each update what is returned, or for none.
 fn tells_each(game: &Game<'_>) -> bool {
     match game.answers {
         Some(answers) => answers.len() == game.updates.len(),

@@ -34,7 +34,7 @@ static STEP_GAMES: [Game<'static>; 4] = [
         sign: None,
         status: Status::Running,
     },
-    // A code that stands for no man.
+    // A code that stands for no piece.
     Game {
         updates: &[(52, 0), (36, 1), (36, 1), (36, 13), (36, 1)],
         answers: Some(&[WAITS, Told::Moved(E2_E4), Told::Same, WAITS, WAITS]),

@@ -9,10 +9,14 @@ const NO_RIGHTS: Rights = Rights {
     black_queen: false,
 };
 
-/// White to move, with these men, where that is a valid position.
-fn position(men: &[(u8, Side, Kind)], rights: Rights, target: Option<Square>) -> Option<Position> {
+/// White to move, with these pieces, where that is a valid position.
+fn position(
+    pieces: &[(u8, Side, Kind)],
+    rights: Rights,
+    target: Option<Square>,
+) -> Option<Position> {
     let mut board = [None; 64];
-    for (number, side, kind) in men {
+    for (number, side, kind) in pieces {
         let square = Square::new(*number)?;
         board[square.number() as usize] = Some(Piece {
             side: *side,
@@ -39,55 +43,55 @@ const WHITE_KING_SIDE: Rights = Rights {
 
 /// White can castle on the king's side.
 pub fn before_castling() -> Option<Position> {
-    let men = [
+    let pieces = [
         (4, Side::Black, Kind::King),
         (60, Side::White, Kind::King),
         (63, Side::White, Kind::Rook),
     ];
-    position(&men, WHITE_KING_SIDE, None)
+    position(&pieces, WHITE_KING_SIDE, None)
 }
 
 /// A black pawn went to d5 beside a white one.
 pub fn before_en_passant() -> Option<Position> {
-    let men = [
+    let pieces = [
         (4, Side::Black, Kind::King),
         (27, Side::Black, Kind::Pawn),
         (28, Side::White, Kind::Pawn),
         (60, Side::White, Kind::King),
     ];
-    position(&men, NO_RIGHTS, Square::new(19))
+    position(&pieces, NO_RIGHTS, Square::new(19))
 }
 
 /// A white pawn stands before its last square.
 pub fn before_promotion() -> Option<Position> {
-    let men = [
+    let pieces = [
         (12, Side::White, Kind::Pawn),
         (15, Side::Black, Kind::King),
         (60, Side::White, Kind::King),
     ];
-    position(&men, NO_RIGHTS, None)
+    position(&pieces, NO_RIGHTS, None)
 }
 
 /// A white pawn can capture a black one.
 pub fn before_capture() -> Option<Position> {
-    let men = [
+    let pieces = [
         (4, Side::Black, Kind::King),
         (27, Side::Black, Kind::Pawn),
         (36, Side::White, Kind::Pawn),
         (60, Side::White, Kind::King),
     ];
-    position(&men, NO_RIGHTS, None)
+    position(&pieces, NO_RIGHTS, None)
 }
 
 /// A white rook and a black one stand on one file.
 pub fn with_rooks() -> Option<Position> {
-    let men = [
+    let pieces = [
         (0, Side::Black, Kind::Rook),
         (4, Side::Black, Kind::King),
         (56, Side::White, Kind::Rook),
         (60, Side::White, Kind::King),
     ];
-    position(&men, NO_RIGHTS, None)
+    position(&pieces, NO_RIGHTS, None)
 }
 
 pub const KING_FIRST: [(u8, u8); 4] = [(60, 0), (62, 5), (63, 0), (61, 2)];

@@ -11,7 +11,7 @@ pub struct Way {
     pub promotion: Option<Kind>,
 }
 
-/// An answer, by numbers.
+/// What is returned, by numbers.
 #[derive(Clone, Copy, PartialEq, Eq)]
 pub enum Told {
     Same,

@@ -65,8 +65,8 @@ fn only_in_centre(picture: &[u8; 64], code: u8) -> Option<u8> {
     found
 }
 
-fn is_king(man: Option<Piece>) -> bool {
-    match man {
+fn is_king(piece: Option<Piece>) -> bool {
+    match piece {
         Some(piece) => piece.kind == Kind::King,
         None => false,
     }

@@ -1,6 +1,6 @@
 //! The piece codes of a board.
 
-/// The letters of the piece codes 0 to 13, `.` for an empty square and `*` for a code that no man has.
+/// The letters of the piece codes 0 to 13, `.` for an empty square and `*` for a code that no piece has.
 const LETTERS: &[u8] = b".PRNBKQprnbkq*";
 
 /// The code of a letter; 0 for any other.

@@ -1,7 +1,7 @@
 use Rattle.std.proofs.Common.{◌≡◌, ◌+◌, ◌-◌, ◌<◌, ◌≤◌, ◌++◌, List, ℕ, length, take, drop, sym, ap, ◌∙◌, subst, take_all, take-add, length-drop, arith, rules}
 use Rattle.std.proofs.lemmas.List.{length-take-le, take-append-drop}
-use Rattle.dgt_frame.specs.Decoding.{TakesUpTo}
-use Rattle.dgt_frame.specs.Watched.{inner_of}
+use Rattle.dgt_frame.specs.Decoder.{TakesUpTo}
+use Rattle.dgt_frame.specs.Watch.{inner_of}
 use Rattle.board_listing.specs.Progress.{BreaksOff, ListsPiece}
 use Rattle.board_listing.proofs.PieceLemmas.{breaks_end, breaks_event, lists_end, lists_event, lists_none, lists_start, taken_more}
 use Rattle.board_listing.proofs.stream.list_piece.Goals as goal

@@ -1,6 +1,6 @@
 use Rattle.std.proofs.Common.{◌≡◌, ◌+◌, ◌-◌, ◌≤◌, [], length, take, drop, subst, inl, inr, arith, rules}
 use Rattle.std.proofs.lemmas.List.{length-take-le}
-use Rattle.dgt_frame.specs.Watched.{inner_of}
+use Rattle.dgt_frame.specs.Watch.{inner_of}
 use Rattle.board_listing.specs.Progress.{BreaksOff, Finishes, HasListed, ListsPiece}
 use Rattle.board_listing.proofs.StreamLemmas.{all_at_end, cut_within, first_at_limit, front_at_end, front_at_piece, front_of_read, front_past_limit, has_begun, left_over, listed_more, no_other, read_so_far, reads_no_more, reads_within, refused_at_piece}
 use Rattle.board_listing.proofs.GatherLemmas.{ok_through}

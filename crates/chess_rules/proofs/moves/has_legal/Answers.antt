@@ -1,5 +1,5 @@
 use Rattle.std.proofs.Common.{arith}
-use Rattle.chess_rules.specs.declared.men.Move.{Move}
+use Rattle.chess_rules.specs.declared.chess_move.Move.{Move}
 use Rattle.chess_rules.proofs.Listing.{none_one}
 use Rattle.chess_rules.proofs.moves.has_legal.Goals as goal
 

@@ -1,6 +1,6 @@
 use Rattle.std.proofs.Common.{arith}
 use Rattle.std.proofs.lemmas.Bool.{iff_false}
-use Rattle.chess_rules.specs.declared.men.Move.{Move}
+use Rattle.chess_rules.specs.declared.chess_move.Move.{Move}
 use Rattle.chess_rules.specs.Legal.{Legal}
 use Rattle.chess_rules.proofs.Listing.{lists_more, lists_skip, on_err}
 use Rattle.chess_rules.proofs.moves.push_legal.Goals as goal

@@ -1,6 +1,6 @@
 use Rattle.std.proofs.Common.{sym, subst}
-use Rattle.chess_rules.specs.declared.men.Parts.{Parts}
-use Rattle.chess_text.specs.Fen.{RefusedFirst, Tells}
+use Rattle.chess_rules.specs.declared.parts.Parts.{Parts}
+use Rattle.chess_text.specs.Fen.{RefusedFirst, TellsPosition}
 use Rattle.chess_text.proofs.FenTexts.{refused_by}
 use Rattle.chess_text.proofs.FenAnswers.{ok_is, err_is}
 use Rattle.chess_text.proofs.fen.read_fen.Goals as goal
@@ -10,7 +10,7 @@ returns-in-Err-clause-position c = err_is c.args.text.now c.in-Err.error c.in-Er
 
 pub returns-in-Ok-new-clause-position : goal.returns-in-Ok-new-clause-position
 returns-in-Ok-new-clause-position c =
-    let T : Parts → Type 0 = λ p. Tells c.args.text.now p in
+    let T : Parts → Type 0 = λ p. TellsPosition c.args.text.now p in
     ok_is c.args.text.now c.in-Ok-new.position c.in-Ok-new.ensures.valid (subst T (sym c.in-Ok-new.ensures.ok) c.in-Ok.ensures.parts.tells)
 
 pub returns-in-Err-new-clause-refusal : goal.returns-in-Err-new-clause-refusal

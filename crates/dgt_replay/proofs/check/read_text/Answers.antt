@@ -2,7 +2,7 @@ use Rattle.std.proofs.Common.{◌≡◌, ◌+◌, ◌++◌, ◌<◌, ◌≤◌, 
 use Rattle.std.proofs.KnownBytes.{Consumes-trans}
 use Rattle.std.specs.Io.KnownBytes.{Consumes}
 use Rattle.std.proofs.lemmas.List.{length-take-le}
-use Rattle.dgt_frame.specs.Watched.{inner_of}
+use Rattle.dgt_frame.specs.Watch.{inner_of}
 use Rattle.dgt_replay.proofs.CheckLemmas.{read_more, too_long}
 use Rattle.board_listing.proofs.StreamLemmas.{if_ok}
 use Rattle.dgt_replay.proofs.check.read_text.Goals as goal

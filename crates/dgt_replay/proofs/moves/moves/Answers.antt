@@ -1,12 +1,12 @@
 use Rattle.std.proofs.Common.{◌≡◌, List, get_or, inr, sym, ◌∙◌, subst, true}
 use Rattle.std.specs.List.{Contains}
 use Rattle.std.proofs.lemmas.List.Elements.{Contains-get_or}
-use Rattle.chess_rules.specs.declared.men.Move.{Move}
+use Rattle.chess_rules.specs.declared.chess_move.Move.{Move}
 use Rattle.replay_arguments.specs.Setups.{given}
 use Rattle.dgt_replay.specs.Refusals.{RefusesStart}
 use Rattle.dgt_replay.specs.Messages.{fen_words}
 use Rattle.dgt_replay.proofs.MessageLemmas.{tells_fault, tells_refused}
-use Rattle.dgt_frame.specs.Watched.{has_failed}
+use Rattle.dgt_frame.specs.Watch.{has_failed}
 use Rattle.dgt_replay.proofs.EndLemmas.{true_or}
 use Rattle.dgt_replay.proofs.RefusalLemmas.{start_refused}
 use Rattle.board_listing.proofs.GatherLemmas.{at_err}

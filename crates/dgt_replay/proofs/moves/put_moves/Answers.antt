@@ -1,5 +1,5 @@
 use Rattle.std.proofs.Common.{◌++◌, ◌∙◌, codes, rules, append_assoc, arith}
-use Rattle.dgt_frame.specs.Watched.{inner_of}
+use Rattle.dgt_frame.specs.Watch.{inner_of}
 use Rattle.board_listing.specs.Listings.{Gathers}
 use Rattle.board_listing.proofs.GatherLemmas.{gathers_sent, on_ok}
 use Rattle.dgt_replay.proofs.MoveLemmas.{all_written, continues_more, continues_to_end, gathers_more}

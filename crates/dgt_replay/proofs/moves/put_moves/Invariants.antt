@@ -1,5 +1,5 @@
 use Rattle.std.proofs.Common.{◌≡◌, ℕ, List, drop, false}
-use Rattle.dgt_frame.specs.Watched.{inner_of, has_failed}
+use Rattle.dgt_frame.specs.Watch.{inner_of, has_failed}
 use Rattle.board_listing.specs.Listings.{Gathers}
 use Rattle.dgt_replay.proofs.MoveLemmas.{Continues}
 use Rattle.dgt_replay.proofs.moves.put_moves.Given as goal

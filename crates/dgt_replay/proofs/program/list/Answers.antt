@@ -1,6 +1,6 @@
 use Rattle.std.proofs.Common.{◌≡◌, ◌||◌, rules, Err, inr, sym, ◌∙◌, ap}
 use Rattle.std.specs.Prelude.{is_err}
-use Rattle.dgt_frame.specs.Watched.{inner_of, has_failed}
+use Rattle.dgt_frame.specs.Watch.{inner_of, has_failed}
 use Rattle.dgt_replay.proofs.EndLemmas.{ends_done, ends_in_fault, ends_refused, front_kept, true_or}
 use Rattle.dgt_replay.proofs.program.list.Goals as goal
 use Rattle.dgt_replay.proofs.program.list.Goals.{then-failed-via-then-failed, then-failed-via-else-failed+then-is_err}

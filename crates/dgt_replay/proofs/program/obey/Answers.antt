@@ -1,5 +1,5 @@
 use Rattle.std.proofs.Common.{◌≡◌, false, subst}
-use Rattle.dgt_frame.specs.Watched.{inner_of, has_failed}
+use Rattle.dgt_frame.specs.Watch.{inner_of, has_failed}
 use Rattle.replay_arguments.specs.declared.arguments.RecordArguments.{RecordArguments}
 use Rattle.replay_arguments.specs.Setups.{MeetsNothing, given, tag_text}
 use Rattle.dgt_replay.specs.Refusals.{RefusesSetup}

@@ -3,7 +3,7 @@ use Rattle.clap.specs.Values.{kind_of}
 use Rattle.clap.specs.Walk.{first_of}
 use Rattle.clap.specs.declared.error.kind.ErrorKind.TheVariants as kind
 use Rattle.std.proofs.KnownBytes.{Keeps-refl}
-use Rattle.dgt_frame.specs.Watched.{inner_of, has_failed}
+use Rattle.dgt_frame.specs.Watch.{inner_of, has_failed}
 use Rattle.board_listing.specs.declared.listing.Listing.TheVariants.{Events, Game, Pictures}
 use Rattle.pgn_book.specs.declared.values.Tag.{Tag}
 use Rattle.dgt_replay.specs.Checked.{RefusesText}

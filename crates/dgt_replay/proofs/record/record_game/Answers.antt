@@ -1,6 +1,6 @@
 use Rattle.std.proofs.Common.{◌≡◌, arith, inl, inr}
 use Rattle.std.proofs.KnownBytes.{Keeps-refl}
-use Rattle.dgt_frame.specs.Watched.{inner_of}
+use Rattle.dgt_frame.specs.Watch.{inner_of}
 use Rattle.dgt_replay.proofs.RefusalLemmas.{says_memory, tells_refusal}
 use Rattle.dgt_replay.proofs.SetupLemmas.{met_by_none, one_setup, only_for_memory}
 use Rattle.dgt_replay.proofs.record.record_game.Goals as goal

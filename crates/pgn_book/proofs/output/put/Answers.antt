@@ -1,5 +1,5 @@
 use Rattle.std.proofs.Common.{arith, length, take, drop, ◌-◌}
-use Rattle.dgt_frame.specs.Watched.{inner_of, has_failed}
+use Rattle.dgt_frame.specs.Watch.{inner_of, has_failed}
 use Rattle.pgn_book.proofs.Bytes.{appends_on, within_on, works_on}
 use Rattle.pgn_book.proofs.output.put.Goals as goal
 

@@ -1,10 +1,10 @@
 use Rattle.std.proofs.Common.{◌≡◌, ◌∙◌, sym, subst, ap, List, ℕ, Option, Some}
-use Rattle.chess_rules.specs.declared.men.Parts.{Parts}
+use Rattle.chess_rules.specs.declared.parts.Parts.{Parts}
 use Rattle.settle_core.specs.declared.game.Outcome.{Outcome}
 use Rattle.settle_core.specs.declared.game.Ply.{Ply}
 use Rattle.settle_core.specs.Folding.{moves_of}
 use Rattle.settle_core.specs.Settling.{position_after}
-use Rattle.settle_core.specs.Ending.{IsResult}
+use Rattle.settle_core.specs.GameResult.{IsResult}
 use Rattle.pgn_book.specs.Parse.{AreTurns, StartsAt, Turn, fen_at, moves_part, result_at, turns_at, words}
 use Rattle.pgn_book.proofs.Sectioned.{values_are}
 use Rattle.pgn_book.proofs.OneText.{same_game, own_sign}

@@ -1,5 +1,5 @@
 use Rattle.std.proofs.Common.{◌++◌, ◌∷◌, [], subst}
-use Rattle.chess_rules.specs.declared.men.Parts.{Parts}
+use Rattle.chess_rules.specs.declared.parts.Parts.{Parts}
 use Rattle.pgn_book.specs.Flow.{flow}
 use Rattle.pgn_book.specs.Movetext.{result_text, game_tokens}
 use Rattle.pgn_book.specs.Pgn.{IsSetUp, roster}

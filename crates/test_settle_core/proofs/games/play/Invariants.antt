@@ -1,5 +1,5 @@
 use Rattle.std.proofs.Common.{All, ◌<◌, ◌≡◌, true}
-use Rattle.settle_core.specs.Standing.{has_seen}
+use Rattle.settle_core.specs.Settler.{has_seen}
 use Rattle.test_settle_core.proofs.games.play.Given as goal
 
 abbrev pub invariant-loop-i : goal.invariant-loop-i

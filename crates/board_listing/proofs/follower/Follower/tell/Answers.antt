@@ -1,5 +1,5 @@
 use Rattle.std.proofs.Common.{◌++◌, ap, ◌∙◌, append_assoc, subst}
-use Rattle.settle_core.specs.Standing.{Sheet}
+use Rattle.settle_core.specs.Settler.{Sheet}
 use Rattle.board_listing.specs.GameText.{TellsSeen}
 use Rattle.board_listing.proofs.follower.Follower.tell.Goals as goal
 

@@ -1,10 +1,10 @@
 use Rattle.std.proofs.Common.{◌≡◌, ◌-◌, ◌≤◌, false}
-use Rattle.dgt_frame.specs.Watched.{inner_of, has_failed}
-use Rattle.board_session.specs.Hearing.{IsFed, Reads, event_count}
+use Rattle.dgt_frame.specs.Watch.{inner_of, has_failed}
+use Rattle.board_session.specs.Recorder.{IsFed, Reads, event_count}
 use Rattle.board_session.proofs.recorder.Recorder.read_all.Given as goal
 
-abbrev pub invariant-pieces : goal.invariant-pieces
-invariant-pieces g l = record {
+abbrev pub invariant-chunks : goal.invariant-chunks
+invariant-chunks g l = record {
   within : l.total ≤ 67108864;
   fed : IsFed l.self.decoder;
   count : event_count l.self ≤ l.total;
@@ -13,5 +13,5 @@ invariant-pieces g l = record {
   reads : Reads l.fn.self l.self l.total (g.R.Read.remaining (inner_of l.fn.reader)) (g.R.Read.remaining (inner_of l.reader)) (g.B.Write.contents (inner_of l.fn.board)) (g.B.Write.contents (inner_of l.board));
 }
 
-abbrev pub decreases-pieces : goal.decreases-pieces
-decreases-pieces g l = 67108865 - l.total
+abbrev pub decreases-chunks : goal.decreases-chunks
+decreases-chunks g l = 67108865 - l.total

@@ -1,7 +1,7 @@
 use Rattle.std.proofs.Common.{◌≡◌, false, sym, ◌∙◌}
 use Rattle.std.proofs.KnownBytes.{Appends-nil, Keeps-refl}
-use Rattle.board_session.specs.Asking.{past_of}
-use Rattle.board_session.specs.Looking.{is_fault}
+use Rattle.board_session.specs.Commands.{past_of}
+use Rattle.board_session.specs.History.{is_fault}
 use Rattle.board_session.proofs.HearLemmas.{kept_more}
 use Rattle.board_session.proofs.recorder.Recorder.take_event.Goals as goal
 

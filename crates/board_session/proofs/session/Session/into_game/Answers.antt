@@ -1,5 +1,5 @@
 use Rattle.std.proofs.Common.{◌∙◌, arith}
-use Rattle.board_session.specs.Standing.{entries_in}
+use Rattle.board_session.specs.Session.{entries_in}
 use Rattle.board_session.proofs.CountLemmas.{length-entries}
 use Rattle.board_session.proofs.session.Session.into_game.Goals as goal
 

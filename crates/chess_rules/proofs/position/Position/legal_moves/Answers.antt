@@ -1,6 +1,6 @@
 use Rattle.std.proofs.Common.{OnErr, subst}
-use Rattle.chess_rules.specs.declared.men.Move.{Move}
-use Rattle.chess_rules.specs.declared.men.Parts.{Parts}
+use Rattle.chess_rules.specs.declared.chess_move.Move.{Move}
+use Rattle.chess_rules.specs.declared.parts.Parts.{Parts}
 use Rattle.chess_rules.specs.Legal.{Legal}
 use Rattle.chess_rules.proofs.position.Position.legal_moves.Goals as goal
 

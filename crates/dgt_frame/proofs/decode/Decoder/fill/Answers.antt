@@ -1,5 +1,5 @@
 use Rattle.std.proofs.Common.{arith}
-use Rattle.dgt_frame.specs.Decoding.{DecodedBy}
+use Rattle.dgt_frame.specs.Decoder.{DecodedBy}
 use Rattle.dgt_frame.proofs.decode.Decoder.fill.Goals as goal
 use Rattle.dgt_frame.specs.declared.decode.State.TheVariants.{Filling}
 use Rattle.dgt_frame.specs.Stored.{message_stored}

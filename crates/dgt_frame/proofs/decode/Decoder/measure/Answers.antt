@@ -1,5 +1,5 @@
 use Rattle.std.proofs.Common.{rules, ◌≡◌, ◌≤◌, ◌+◌, ◌*◌, [], IsTrue, refl, arith}
-use Rattle.dgt_frame.specs.Decoding.{DecodedBy}
+use Rattle.dgt_frame.specs.Decoder.{DecodedBy}
 use Rattle.dgt_frame.proofs.decode.Decoder.measure.Goals as goal
 use Rattle.dgt_frame.specs.declared.decode.State.TheVariants.{Measured}
 use Rattle.dgt_frame.specs.Layout.{FitsSize}

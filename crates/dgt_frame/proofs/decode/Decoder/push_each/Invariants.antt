@@ -1,5 +1,5 @@
 use Rattle.std.proofs.Common.{take}
-use Rattle.dgt_frame.specs.Decoding.{TakesAll}
+use Rattle.dgt_frame.specs.Decoder.{TakesAll}
 use Rattle.dgt_frame.proofs.decode.Decoder.push_each.Given as goal
 
 abbrev pub invariant-loop-i : goal.invariant-loop-i

@@ -1,9 +1,9 @@
 use Rattle.std.proofs.Common.{List, ap, ◌∙◌, subst, All}
-use Rattle.chess_rules.specs.declared.men.Parts.{Parts}
+use Rattle.chess_rules.specs.declared.parts.Parts.{Parts}
 use Rattle.settle_core.specs.declared.game.Ply.{Ply}
 use Rattle.settle_core.specs.Folding.{moves_of}
 use Rattle.settle_core.specs.Settling.{position_after}
-use Rattle.settle_core.specs.Ending.{IsResult}
+use Rattle.settle_core.specs.GameResult.{IsResult}
 use Rattle.pgn_book.specs.Games.{IsTimed}
 use Rattle.pgn_book.proofs.game.Game.new.Goals as goal
 

@@ -1,5 +1,5 @@
 use Rattle.std.proofs.Common.{◌≡◌, Bool, IsTrue, true, false, not, get_or, refl, sym, ap, ◌∙◌}
-use Rattle.chess_rules.specs.declared.men.Parts.{Parts}
+use Rattle.chess_rules.specs.declared.parts.Parts.{Parts}
 use Rattle.settle_core.specs.Candidate.{is_owned_code}
 use Rattle.settle_core.proofs.Replying.{replies_settle_none}
 use Rattle.settle_core.proofs.compared.Compared.is_reply.Goals as goal

@@ -4,7 +4,7 @@ use Rattle.std.proofs.Common.{ap, sym, length, subst, ◌∙◌}
 use Rattle.std.proofs.lemmas.List.{length-reverse}
 use Rattle.settle_core.specs.Settling.{Line}
 use Rattle.settle_core.specs.Folding.{moves_of}
-use Rattle.settle_core.specs.Standing.{Sheet}
+use Rattle.settle_core.specs.Settler.{Sheet}
 use Rattle.settle_core.proofs.Growing.{moves_within}
 use Rattle.settle_core.proofs.Lists.{line_played}
 use Rattle.settle_core.proofs.settler.Settler.into_parts.Goals as goal

@@ -1,14 +1,14 @@
 use Rattle.std.proofs.Common.{◌≡◌, ℕ, List, drop, reverse, refl, ap, subst, ◌∙◌}
-use Rattle.chess_rules.specs.declared.men.Move.{Move}
-use Rattle.chess_rules.specs.declared.men.Parts.{Parts}
+use Rattle.chess_rules.specs.declared.chess_move.Move.{Move}
+use Rattle.chess_rules.specs.declared.parts.Parts.{Parts}
 use Rattle.chess_rules.specs.Picture.{picture}
 use Rattle.settle_core.specs.declared.game.Outcome.{Outcome}
 use Rattle.settle_core.specs.declared.game.Seen.TheVariants.{Waits}
 use Rattle.settle_core.specs.Settling.{Settles, reached}
 use Rattle.settle_core.specs.Sign.{IsSign}
-use Rattle.settle_core.specs.Folding.{Shows, moves_of, played}
+use Rattle.settle_core.specs.Folding.{SeenAs, moves_of, played}
 use Rattle.settle_core.specs.Kept.{OnlyLacks}
-use Rattle.settle_core.specs.Standing.{Sheet, position_of}
+use Rattle.settle_core.specs.Settler.{Sheet, position_of}
 use Rattle.settle_core.proofs.Steps.{elsewhere, last_is}
 use Rattle.settle_core.proofs.Lacking.{waits_lacking}
 use Rattle.settle_core.proofs.settler.Settler.judge.Goals as goal
@@ -54,8 +54,8 @@ returns-in_default-clause-ok c seen last =
     let Q : Parts → Type 0 = λ p. OnlyLacks (picture p) c.self.inside.picture in
     let lacks : OnlyLacks (picture (reached c.self.inside.start moves)) c.self.inside.picture =
     subst Q c.self.invariant.position (subst P (c.self.invariant.here_compared).picture c.in_default.ensures.none) in
-    let R : List ℕ → Type 0 = λ xs. Shows c.self.inside.start moves xs Waits in
-    let S : Sheet → Type 0 = λ s. Shows s.start (moves_of s.score.plies) seen Waits in (
+    let R : List ℕ → Type 0 = λ xs. SeenAs c.self.inside.start moves xs Waits in
+    let S : Sheet → Type 0 = λ s. SeenAs s.start (moves_of s.score.plies) seen Waits in (
       subst S c.self.view_is (subst R shown (waits_lacking c.self.inside.start moves c.self.inside.picture c.parts.ensures.valid c.self.invariant.played lacks)),
       refl,
     )

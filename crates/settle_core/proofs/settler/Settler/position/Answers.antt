@@ -1,5 +1,5 @@
 use Rattle.std.proofs.Common.{sym, ap, ◌∙◌}
-use Rattle.settle_core.specs.Standing.{position_of}
+use Rattle.settle_core.specs.Settler.{position_of}
 use Rattle.settle_core.proofs.Lists.{position_in_order}
 use Rattle.settle_core.proofs.settler.Settler.position.Goals as goal
 

@@ -1,15 +1,15 @@
 use Rattle.std.proofs.Common.{◌≡◌, ◌∷◌, List, None, drop, reverse, refl, sym, ap, subst, ◌∙◌}
 use Rattle.std.specs.Vec.{with_items}
 use Rattle.std.proofs.lemmas.List.{with_items_is}
-use Rattle.chess_rules.specs.declared.men.Move.{Move}
-use Rattle.chess_rules.specs.declared.men.Parts.{Parts}
+use Rattle.chess_rules.specs.declared.chess_move.Move.{Move}
+use Rattle.chess_rules.specs.declared.parts.Parts.{Parts}
 use Rattle.chess_rules.specs.After.{after}
 use Rattle.chess_rules.specs.Legal.{Legal}
 use Rattle.settle_core.specs.declared.game.Ply.{Ply}
 use Rattle.settle_core.specs.Settling.{reached}
 use Rattle.settle_core.specs.Folding.{moves_of, played, time_of}
 use Rattle.settle_core.specs.Kept.{CanReplace, IsLastSet, last_of}
-use Rattle.settle_core.specs.Standing.{Sheet}
+use Rattle.settle_core.specs.Settler.{Sheet}
 use Rattle.settle_core.proofs.Steps.{before_of, can_replace, line_replaced}
 use Rattle.settle_core.proofs.settler.Settler.replace.Goals as goal
 

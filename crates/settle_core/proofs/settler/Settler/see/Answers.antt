@@ -2,7 +2,7 @@ use Prim.{search}
 use Rattle.std.proofs.Common.{rules}
 use Rattle.std.proofs.Common.{ap, sym, ◌∙◌}
 use Rattle.std.proofs.lemmas.Bool.{false≢true}
-use Rattle.settle_core.specs.Standing.{Sheet}
+use Rattle.settle_core.specs.Settler.{Sheet}
 use Rattle.settle_core.proofs.Steps.{fresh, judged, taken_stands, taken_answers}
 use Rattle.settle_core.proofs.settler.Settler.see.Goals as goal
 

@@ -1,7 +1,7 @@
 use Rattle.std.proofs.Common.{◌≡◌, ◌≢◌, ℕ, ◌∷◌, List, Some, true, set, refl, sym, ap, subst, ◌∙◌}
-use Rattle.chess_rules.specs.declared.men.Move.{Move}
+use Rattle.chess_rules.specs.declared.chess_move.Move.{Move}
 use Rattle.settle_core.specs.Settling.{Settles}
-use Rattle.settle_core.specs.Standing.{Sheet, has_seen, position_of}
+use Rattle.settle_core.specs.Settler.{Sheet, has_seen, position_of}
 use Rattle.settle_core.proofs.Steps.{fresh, judged, taken_stands, taken_answers, same_stands, same_answers, field_same, field_differs, restored, seen_last, last_is, some_same, refused_gives}
 use Rattle.settle_core.proofs.settler.Settler.see_field.Goals as goal
 

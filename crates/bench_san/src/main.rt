@@ -1,0 +1,93 @@
+//! Writes or reads the SAN of a game's moves, so many rounds: `bench_san write 100` and `bench_san read 100`. The game is
+//! read from standard input, its moves in SAN, divided by spaces.
+#![tactic(auto)]
+
+use arrayvec::ArrayString;
+use chess_rules::{Move, Position};
+use chess_text::{read_san, write_san};
+use std::process::ExitCode;
+use std::{env, io};
+
+/// A move, the position before it and its text.
+#[derive(Drop)]
+struct Ply {
+    before: Position,
+    mv: Move,
+    text: ArrayString<8>,
+}
+
+/// The ply, where its text has at most 8 bytes.
+fn ply_of(before: &Position, mv: &Move, text: &str) -> Option<Ply> {
+    let mut kept = ArrayString::new();
+    kept.try_push_str(text).ok()?;
+    Some(Ply {
+        before: *before,
+        mv: *mv,
+        text: kept,
+    })
+}
+
+/// The bytes of the move's text as it is written, or nothing where the move is not legal.
+fn written(ply: &Ply) -> usize {
+    if ply.before.is_legal(ply.mv) {
+        write_san(&ply.before, ply.mv).len()
+    } else {
+        0
+    }
+}
+
+/// 1 where the text is read, else 0.
+fn read(ply: &Ply) -> usize {
+    match read_san(&ply.before, ply.text.as_str().as_bytes()) {
+        Ok(_) => 1,
+        Err(_) => 0,
+    }
+}
+
+fn run(rt: &HostRuntime, what: &str, rounds: u32) -> io::Result<()> {
+    let game = io::read_to_string(rt.alloc(), rt.stdin())?;
+    let mut plies = Vec::new(rt.alloc());
+    let mut position = Position::initial();
+    for text in game.split_whitespace() {
+        let Ok(mv) = read_san(&position, text.as_bytes()) else {
+            println!(rt; "no legal move: {text}")?;
+            return Ok(());
+        };
+        if let Some(ply) = ply_of(&position, &mv, text) {
+            plies.push(ply)?;
+        }
+        position = position.play(mv);
+    }
+    let mut count = 0usize;
+    for _ in 0..rounds {
+        for ply in &plies {
+            let more = if what == "write" {
+                written(ply)
+            } else {
+                read(ply)
+            };
+            count = count.saturating_add(more);
+        }
+    }
+    println!(rt; "{} plies, {rounds} rounds, {what} {count}", plies.len())?;
+    Ok(())
+}
+
+fn main(rt: HostRuntime) -> ExitCode {
+    let Ok(args) = env::args(&rt) else {
+        return ExitCode::from(1);
+    };
+    let Ok(words) = args.collect::<Vec<String>>(rt.alloc()) else {
+        return ExitCode::from(1);
+    };
+    let [_name, what, rounds] = words.as_slice() else {
+        return ExitCode::from(2);
+    };
+    let Ok(rounds) = rounds.parse::<u32>() else {
+        return ExitCode::from(2);
+    };
+    match run(&rt, what.as_str(), rounds) {
+        Ok(()) => ExitCode::from(0),
+        Err(_) => ExitCode::from(1),
+    }
+}

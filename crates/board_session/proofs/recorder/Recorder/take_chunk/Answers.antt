@@ -1,0 +1,80 @@
+use Rattle.std.proofs.Common.{◌≡◌, ℕ, ◌+◌, ◌-◌, ◌<◌, ◌≤◌, List, ◌++◌, length, length-drop, take, take_all, drop, arith, append_assoc, subst, Ok, Err}
+use Rattle.std.proofs.lemmas.Result.{err_from_is_err_and}
+use Rattle.dgt_frame.specs.Decoder.{TakesAll, TakesUpTo}
+use Rattle.dgt_frame.specs.Watch.{inner_of}
+use Rattle.board_session.specs.Recorder.{Kept, Stopped}
+use Rattle.board_session.proofs.HearLemmas.{event_heard, live_at, chunk_more, chunk_whole, stopped_more}
+use Rattle.board_session.proofs.recorder.Recorder.take_chunk.Goals as goal
+
+pub events-preserved : goal.events-preserved
+events-preserved g c =
+    let chunk = c.args.chunk.now in
+    let at = c.events.at in
+    let n = c.in-Some.arrival.taken in
+    let event = c.in-Some.arrival.event in
+    let more = drop at chunk in
+    let all : take (length chunk - at) more ≡ more = take_all (length chunk - at) more (omega (arith, length-drop at chunk)) in
+    let takes : TakesUpTo c.events.self.decoder more n event c.push_until.new.self = rw all at c.in-Some.ensures.some in
+    let inside : n ≤ length more = rw all at c.in-Some.ensures.taken.1 in
+    let some : 0 < n = c.in-Some.ensures.taken.0 in
+    let fed = c.events.invariant.fed in
+    record {
+      inside = omega (arith, inside, length-drop at chunk);
+      fed = (_, _, rw (← c.take_event.ensures.decoder) at (takes fed.0 fed.1 fed.2));
+      working = c.in_ok-take_event.ensures.working;
+      count = omega (arith, c.take_event.ensures.count, c.events.invariant.count, some);
+      hears = λ setting before bytes taken h.
+          let live = c.events.invariant.hears setting before bytes taken h in
+          let read = bytes ++ take at chunk in
+          let offset = length read + (n - 1) in
+          let kept : Kept (record c.events.self { decoder = c.push_until.new.self }) setting (taken ++ live.0) =
+          record { session = live.1.kept.session; messages = live.1.kept.messages; faults = live.1.kept.faults } in
+          let heard = event_heard c.take_event.new.self setting before (g.B.Write.contents (inner_of c.events.board)) (g.B.Write.contents (inner_of c.take_event.new.board))
+          (read ++ take n more) offset (taken ++ live.0) event (Ok tt) (rw c.take_event.ensures.decoder (takes read (taken ++ live.0) live.1.decoded)) live.1.sends
+          (c.in_ok-take_event.ensures.taken setting (taken ++ live.0) offset kept) in (
+            live.0 ++ heard.0,
+            live_at c.take_event.new.self setting before (g.B.Write.contents (inner_of c.take_event.new.board))
+                (read ++ take n more) (bytes ++ take (at + n) chunk) ((taken ++ live.0) ++ heard.0) (taken ++ (live.0 ++ heard.0))
+                (chunk_more bytes chunk at n) (append_assoc taken live.0 heard.0) heard.1,
+          );
+    }
+
+pub returns-in_err-take_event-clause-hears : goal.returns-in_err-take_event-clause-hears
+returns-in_err-take_event-clause-hears g c = let p = err_from_is_err_and c.from_residual.result c.from_residual.ensures.1 in rw (p.1, p.2) (λ setting before bytes taken h.
+    let error = c.in_err-take_event.field-0.0 in
+    let chunk = c.args.chunk.now in
+    let at = c.events.at in
+    let n = c.in-Some.arrival.taken in
+    let event = c.in-Some.arrival.event in
+    let more = drop at chunk in
+    let sent = g.B.Write.contents (inner_of c.take_event.new.board) in
+    let all : take (length chunk - at) more ≡ more = take_all (length chunk - at) more (omega (arith, length-drop at chunk)) in
+    let takes : TakesUpTo c.events.self.decoder more n event c.push_until.new.self = rw all at c.in-Some.ensures.some in
+    let live = c.events.invariant.hears setting before bytes taken h in
+    let read = bytes ++ take at chunk in
+    let offset = length read + (n - 1) in
+    let kept : Kept (record c.events.self { decoder = c.push_until.new.self }) setting (taken ++ live.0) =
+    record { session = live.1.kept.session; messages = live.1.kept.messages; faults = live.1.kept.faults } in
+    let stopped : Stopped error c.take_event.new.self setting before sent (read ++ take n more) =
+    event_heard c.take_event.new.self setting before (g.B.Write.contents (inner_of c.events.board)) sent
+    (read ++ take n more) offset (taken ++ live.0) event (Err error) (rw c.take_event.ensures.decoder (takes read (taken ++ live.0) live.1.decoded)) live.1.sends
+    (c.in_err-take_event.ensures.taken setting (taken ++ live.0) offset kept) in
+    subst (λ (bs : List ℕ). Stopped error c.take_event.new.self setting before sent bs) (chunk_whole bytes chunk (at + n))
+    (stopped_more error c.take_event.new.self setting before sent (bytes ++ take (at + n) chunk) (drop (at + n) chunk)
+    (subst (λ (bs : List ℕ). Stopped error c.take_event.new.self setting before sent bs) (chunk_more bytes chunk at n) stopped)))
+
+pub returns-clause-hears : goal.returns-clause-hears
+returns-clause-hears g c = λ setting before bytes taken h.
+    let chunk = c.args.chunk.now in
+    let at = c.events.at in
+    let more = drop at chunk in
+    let all : take (length chunk - at) more ≡ more = take_all (length chunk - at) more (omega (arith, length-drop at chunk)) in
+    let takes : TakesAll c.events.self.decoder more c.push_until.new.self = rw all at c.in_default.ensures.none in
+    let live = c.events.invariant.hears setting before bytes taken h in (
+      live.0,
+      record {
+        decoded = rw (← (chunk_whole bytes chunk at)) (takes (bytes ++ take at chunk) (taken ++ live.0) live.1.decoded);
+        kept = record { session = live.1.kept.session; messages = live.1.kept.messages; faults = live.1.kept.faults };
+        sends = live.1.sends;
+      },
+    )

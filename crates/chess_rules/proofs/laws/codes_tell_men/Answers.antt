@@ -1,5 +1,0 @@
-use Rattle.chess_rules.proofs.LawLemmas.{codes_tell_men}
-use Rattle.chess_rules.proofs.laws.codes_tell_men.Goals as goal
-
-pub returns : goal.returns
-returns c = codes_tell_men

@@ -1,4 +1,0 @@
-use Rattle.chess_rules.proofs.men.Square.file.Goals as goal
-
-pub returns-clause-file : goal.returns-clause-file
-returns-clause-file c = cc

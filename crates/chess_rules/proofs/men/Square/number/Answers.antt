@@ -1,4 +1,0 @@
-use Rattle.chess_rules.proofs.men.Square.number.Goals as goal
-
-pub returns-clause-number : goal.returns-clause-number
-returns-clause-number c = cc

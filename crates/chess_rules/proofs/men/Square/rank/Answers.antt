@@ -1,6 +1,0 @@
-use Prim.{search}
-use Rattle.std.proofs.Common.{rules}
-use Rattle.chess_rules.proofs.men.Square.rank.Goals as goal
-
-pub returns-clause-rank : goal.returns-clause-rank
-returns-clause-rank c = search rules

@@ -1,0 +1,45 @@
+// The pieces, and the two sides.
+ghost use Rattle.std.specs.Prelude.{◌≡◌, IsTrue, ◌↔◌};
+
+/// One of the two players (Article 1).
+#[derive(Clone, Copy, PartialEq, Eq, Debug)]
+pub enum Side {
+    White,
+    Black,
+}
+
+impl Side {
+    /// Whether both are one side.
+    pub fn is(self, other: Side) -> bool
+        ensures { IsTrue result ↔ (self ≡ other) }
+    {
+        self == other
+    }
+}
+
+/// A kind of piece (Article 2.2), in the order of the board's piece codes.
+#[derive(Clone, Copy, PartialEq, Eq, Debug)]
+pub enum Kind {
+    Pawn,
+    Rook,
+    Knight,
+    Bishop,
+    King,
+    Queen,
+}
+
+impl Kind {
+    /// Whether both are one kind.
+    pub fn is(self, other: Kind) -> bool
+        ensures { IsTrue result ↔ (self ≡ other) }
+    {
+        self == other
+    }
+}
+
+/// A piece on the board.
+#[derive(Clone, Copy, PartialEq, Eq, Debug)]
+pub struct Piece {
+    pub side: Side,
+    pub kind: Kind,
+}

@@ -1,6 +1,0 @@
-use Rattle.std.proofs.Common.{◌≡◌, true}
-use Rattle.settle_core.specs.Standing.{has_seen}
-use Rattle.settling.proofs.work.waiting_updates.Given as goal
-
-abbrev pub invariant-loop-turn : goal.invariant-loop-turn
-invariant-loop-turn l = has_seen l.settler ≡ true

@@ -1,0 +1,110 @@
+//! Calls that take memory, each made a second time where it was refused. Each line says whether the call was granted, was
+//! refused and left all as it was so that the second one gave what is due, or is broken.
+#![tactic(auto)]
+
+mod calls;
+mod recordings;
+mod runs;
+mod settling;
+
+use std::alloc::Global;
+use std::io::{self, Read};
+
+/// How a call went.
+#[derive(Clone, Copy)]
+pub enum Outcome {
+    Granted,
+    /// Refused, with nothing changed; made again it was granted.
+    Refused,
+    Broken,
+}
+
+impl Outcome {
+    /// Where no allocation failed, and `holds` says whether the result is due.
+    fn granted(holds: bool) -> Outcome {
+        if holds {
+            Outcome::Granted
+        } else {
+            Outcome::Broken
+        }
+    }
+
+    /// Where an allocation failed, and `holds` says whether the second result is due.
+    fn refused(holds: bool) -> Outcome {
+        if holds {
+            Outcome::Refused
+        } else {
+            Outcome::Broken
+        }
+    }
+
+    /// How both calls went.
+    fn and(self, other: Outcome) -> Outcome {
+        match (self, other) {
+            (Outcome::Granted, Outcome::Granted) => Outcome::Granted,
+            (Outcome::Broken, _) => Outcome::Broken,
+            (_, Outcome::Broken) => Outcome::Broken,
+            _ => Outcome::Refused,
+        }
+    }
+
+    fn word(self) -> &'static str {
+        match self {
+            Outcome::Granted => "granted",
+            Outcome::Refused => "refused",
+            Outcome::Broken => "broken",
+        }
+    }
+}
+
+/// Makes so many allocations, and gives them back.
+fn spend(alloc: Global, count: u32) {
+    for _ in 0..count {
+        let mut spent = Vec::new(alloc);
+        let _ = spent.push(0u8);
+    }
+}
+
+fn make_calls(rt: &HostRuntime) -> io::Result<()> {
+    let alloc = rt.alloc();
+    println!(rt; "legal_moves {}", calls::legal_moves(alloc).word())?;
+    println!(rt; "see {}", settling::see(alloc).word())?;
+    println!(rt; "see_field {}", settling::see_field(alloc).word())?;
+    println!(rt; "set {}", calls::set(alloc).word())?;
+    println!(rt; "read_pgn {}", calls::reads_game(alloc).word())?;
+    println!(rt; "take {}", settling::take(alloc).word())?;
+    for (row, fronts) in &recordings::captures() {
+        let outcome = recordings::records(alloc, row, fronts);
+        println!(rt; "record, {} {}", row.name, outcome.word())?;
+    }
+    println!(rt;
+        "record without a move {}",
+        recordings::takes_no_memory(alloc).word()
+    )?;
+    for case in runs::cases() {
+        println!(rt; "run {} {}", case.name, runs::runs(alloc, case).word())?;
+    }
+    Ok(())
+}
+
+/// The decimal number in a text, of which other bytes are passed over.
+fn number_in(text: &[u8]) -> u32 {
+    let mut number: u32 = 0;
+    for byte in text {
+        if byte.is_ascii_digit() {
+            number = number
+                .saturating_mul(10)
+                .saturating_add(u32::from(*byte - b'0'));
+        }
+    }
+    number
+}
+
+/// Standard input has a number, or nothing: so many allocations are spent before the calls. So where the 1,000th one fails,
+/// and 1,000 less n are spent, the calls' nth is the one.
+fn main(rt: HostRuntime) -> io::Result<()> {
+    let mut buffer = [0u8; 16];
+    let count = rt.stdin().read(&mut buffer)?;
+    spend(rt.alloc(), number_in(buffer.get(..count).unwrap_or(&[])));
+    make_calls(&rt)
+}

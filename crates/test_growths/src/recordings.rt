@@ -1,0 +1,156 @@
+//! Whole recordings. Each is made again where a ply was refused.
+
+use crate::Outcome;
+use board_session::RecordError;
+use dgt_vectors::captures::INITIAL;
+use dgt_vectors::captures::Signal::{self, Dump, Lift, Put};
+use dgt_vectors::recording::{Recording, recorded, report_of};
+use dgt_vectors::row::{Row, commands, kings_pawn_opening};
+use dgt_vectors::rows::rows_by_subject;
+use std::alloc::Global;
+use test_streams::texts::text_of;
+
+const ROOK_FIRST: &[Signal<'static>] = &[
+    Dump("4k3/8/8/8/8/8/8/4K2R"),
+    Lift("h1"),
+    Put("f1", "R"),
+    Lift("e1"),
+    Put("g1", "K"),
+];
+
+/// The rook's move is a ply; castling takes its place, and no memory.
+fn rook_first<'a>() -> Row<'a> {
+    Row {
+        name: "castling, rook first",
+        start: "4k3/8/8/8/8/8/8/4K2R w K - 0 1",
+        capture: ROOK_FIRST,
+        movetext: "1. O-O *",
+        report: (5, 0, 1, 0),
+        ..kings_pawn_opening()
+    }
+}
+
+const NINE_PLIES: &[Signal<'static>] = &[
+    Dump(INITIAL),
+    Lift("e2"),
+    Put("e4", "P"),
+    Lift("e7"),
+    Put("e5", "p"),
+    Lift("g1"),
+    Put("f3", "N"),
+    Lift("b8"),
+    Put("c6", "n"),
+    Lift("f1"),
+    Put("b5", "B"),
+    Lift("a7"),
+    Put("a6", "p"),
+    Lift("b5"),
+    Put("a4", "B"),
+    Lift("g8"),
+    Put("f6", "n"),
+    Lift("d2"),
+    Put("d3", "P"),
+];
+
+fn nine_plies<'a>() -> Row<'a> {
+    Row {
+        name: "nine plies",
+        capture: NINE_PLIES,
+        movetext: "1. e4 e5 2. Nf3 Nc6 3. Bb5 a6 4. Ba4 Nf6 5. d3 *",
+        report: (19, 0, 9, 0),
+        ..kings_pawn_opening()
+    }
+}
+
+/// The first ply was refused.
+const NO_PLY: &[&str] = &["*"];
+
+/// One of the nine plies was refused.
+const FRONTS: &[&str] = &[
+    "*",
+    "1. e4 *",
+    "1. e4 e5 *",
+    "1. e4 e5 2. Nf3 *",
+    "1. e4 e5 2. Nf3 Nc6 *",
+    "1. e4 e5 2. Nf3 Nc6 3. Bb5 *",
+    "1. e4 e5 2. Nf3 Nc6 3. Bb5 a6 *",
+    "1. e4 e5 2. Nf3 Nc6 3. Bb5 a6 4. Ba4 *",
+    "1. e4 e5 2. Nf3 Nc6 3. Bb5 a6 4. Ba4 Nf6 *",
+];
+
+/// Captures with a ply, each with the movetexts that may stand where a ply was refused.
+pub fn captures<'a>() -> [(Row<'a>, &'a [&'a str]); 3] {
+    [
+        (kings_pawn_opening(), NO_PLY),
+        (rook_first(), NO_PLY),
+        (nine_plies(), FRONTS),
+    ]
+}
+
+fn is_whole(got: &Recording, row: &Row<'_>) -> bool {
+    got.answer == Ok(report_of(row.report))
+        && got.board_shown.get() == row.sent().get()
+        && got.text_shown.get() == row.text().get()
+}
+
+/// Out of memory is returned at a ply, and the text is that of the plies before it.
+fn is_front(got: &Recording, row: &Row<'_>, fronts: &[&str]) -> bool {
+    if got.answer != Err(RecordError::Memory) || got.board_shown.get() != commands(0).get() {
+        return false;
+    }
+    for front in fronts {
+        if got.text_shown.get() == text_of(row.start.as_bytes(), b"*", front.as_bytes()).get() {
+            return true;
+        }
+    }
+    false
+}
+
+/// Records the row's capture.
+fn recording(alloc: Global, row: &Row<'_>) -> Option<Recording> {
+    recorded(alloc, row, row.bytes().get(), 4096).ok()
+}
+
+/// Whether the whole capture is recorded.
+fn records_whole(alloc: Global, row: &Row<'_>) -> bool {
+    match recording(alloc, row) {
+        Some(got) => is_whole(&got, row),
+        None => false,
+    }
+}
+
+/// A refused ply ends the recording; made again it records all.
+pub fn records(alloc: Global, row: &Row<'_>, fronts: &[&str]) -> Outcome {
+    let Some(got) = recording(alloc, row) else {
+        return Outcome::Broken;
+    };
+    if is_whole(&got, row) {
+        return Outcome::Granted;
+    }
+    Outcome::refused(is_front(&got, row, fronts) && records_whole(alloc, row))
+}
+
+fn is_without_move(row: &Row<'_>) -> bool {
+    let (_, _, moves, _) = row.report;
+    moves == 0
+}
+
+/// Where no move is appended no allocation can fail.
+fn rows_take_no_memory(alloc: Global, rows: &[Row<'_>]) -> bool {
+    for row in rows {
+        if is_without_move(row) && !records_whole(alloc, row) {
+            return false;
+        }
+    }
+    true
+}
+
+/// Each capture without a move is recorded whole.
+pub fn takes_no_memory(alloc: Global) -> Outcome {
+    for rows in rows_by_subject() {
+        if !rows_take_no_memory(alloc, rows) {
+            return Outcome::Broken;
+        }
+    }
+    Outcome::Granted
+}
