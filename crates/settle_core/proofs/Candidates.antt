@@ -5,6 +5,7 @@ use Rattle.std.proofs.lemmas.List.{get_or_past}
 use Rattle.std.specs.Int.RustNames.{count_ones}
 use Rattle.std.specs.Simd.Lanes.{mask_l}
 use Rattle.chess_rules.specs.declared.pieces.Kind.{Kind}
+use Rattle.chess_rules.specs.declared.pieces.Kind.TheVariants.{King}
 use Rattle.chess_rules.specs.declared.chess_move.Move.{Move}
 use Rattle.chess_rules.specs.declared.parts.Parts.{Parts}
 use Rattle.chess_rules.specs.Board.{on, piece_of}
@@ -19,7 +20,7 @@ use Rattle.settle_core.specs.Masks.{IsDiff, IsNoMove}
 use Rattle.settle_core.specs.Candidate.{lands, leaves, is_king_code, side_number, promotion_between}
 use Rattle.settle_core.proofs.Pieces.{at_picture, squares_after}
 use Rattle.settle_core.proofs.Masking.{diffs, at_diffs, differ, length-diffs}
-use Rattle.settle_core.proofs.Counting.{mask_is, ones_trues, few_trues, trues}
+use Rattle.settle_core.proofs.Counting.{mask_is, ones_trues, few_trues, three_trues, trues}
 use Rattle.settle_core.proofs.Tracing.{IsTraced, traced, Lands, Leaves, lands_from, lands_parts, leaves_from, leaves_parts, king_code_is, piece_some, number_some, side_code}
 use Rattle.std.proofs.lemmas.Bool.{eq-eqb, ne_eqb}
 use Rattle.std.proofs.Common.{not}
@@ -80,6 +81,21 @@ pub to_some :
     → IsBetween p m before now → to < 64 → lands true (get_or before to 0) (get_or now to 0) ≡ true → to ≡ m.to
 to_some p m before now to b low h = (b.trace).only_king to (lands_at p m before now true to b low h)
 
+-- where no king lands, none is moved
+pub no_king :
+    (p : Parts) (m : Move) (before now : List ℕ) (b : IsBetween p m before now)
+    → ((s : ℕ) → s < 64 → lands true (get_or before s 0) (get_or now s 0) ≡ false)
+    → (b.trace).arrived ≢ King
+no_king p m before now b none k =
+    let t : IsTraced p m = b.trace in
+    let king : Lands true (code (on p.board m.to)) (code (on (board_after p m) m.to)) =
+    record {
+      differ = (t.lands).differ;
+      some = (t.lands).some;
+      king = λ e. ap (λ o. is_king_code (code o)) (t.code_to ∙ ap (piece_of t.side) k) ∙ king_code_is t.side;
+    } in
+    both_ways _ (none m.to b.to_low) (at_lands p m before now true m.to b b.to_low king)
+
 -- and so is another piece's, where no king lands
 pub to_none :
     (p : Parts) (m : Move) (before now : List ℕ) (to : ℕ)
@@ -89,17 +105,7 @@ pub to_none :
     → lands false (get_or before to 0) (get_or now to 0) ≡ true
     → to ≡ m.to
 to_none p m before now to b none low h =
-    let t : IsTraced p m = b.trace in
-    t.only_piece
-    (λ k.
-    let king : Lands true (code (on p.board m.to)) (code (on (board_after p m) m.to)) =
-    record {
-      differ = (t.lands).differ;
-      some = (t.lands).some;
-      king = λ e. ap (λ o. is_king_code (code o)) (t.code_to ∙ ap (piece_of t.side) k) ∙ king_code_is t.side;
-    } in
-    both_ways _ (none m.to b.to_low) (at_lands p m before now true m.to b b.to_low king))
-    to (lands_at p m before now false to b low h)
+    (b.trace).only_piece (no_king p m before now b none) to (lands_at p m before now false to b low h)
 
 pub no_land :
     (p : Parts) (m : Move) (before now : List ℕ)
@@ -182,3 +188,33 @@ few p m before now mask b nb nn low diff h =
       | inl less ↦ let lo : 2 ≤ trues (diffs before now) = bounds.0 in omega arith
       | inr more ↦ let hi : trues (diffs before now) ≤ 4 = bounds.1 in omega arith
     ]
+
+-- four squares differ only where a king lands
+pub three :
+    (p : Parts) (m : Move) (before now : List ℕ) (mask : ℕ)
+    → IsBetween p m before now
+    → length before ≡ 64
+    → length now ≡ 64
+    → mask < 2 ^ 64
+    → IsDiff mask before now
+    → ((s : ℕ) → s < 64 → lands true (get_or before s 0) (get_or now s 0) ≡ false)
+    → count_ones mask ≤ 3
+three p m before now mask b nb nn low diff none =
+    let t : IsTraced p m = b.trace in
+    let is : mask ≡ mask_l (diffs before now) = mask_is mask before now low nb nn diff in
+    let ones : count_ones mask ≡ trues (diffs before now) = ap count_ones is ∙ ones_trues (diffs before now) in
+    let one : t.third ≡ t.fourth = t.alone (no_king p m before now b none) in
+    let from_differs : get_or before m.from 0 ≢ get_or now m.from 0 =
+    λ e. from_moved p m before now b e in
+    let to_differs : get_or before m.to 0 ≢ get_or now m.to 0 =
+    λ e. (t.lands).differ (sym (b.at_before m.to b.to_low) ∙ e ∙ b.at_after m.to b.to_low) in
+    let bound : trues (diffs before now) ≤ 3 = three_trues (diffs before now) m.from m.to t.third
+    (at_diffs before now m.from nb nn b.from_low ∙ differ_true _ _ from_differs)
+    (at_diffs before now m.to nb nn b.to_low ∙ differ_true _ _ to_differs)
+    t.apart
+    (λ s nf nt nx.
+    elim (cases_lt s 64) [
+      | inl small ↦ at_diffs before now s nb nn small ∙ differ_no _ _ (b.at_before s small ∙ sym (ap code (t.others s nf nt nx (λ e. nx (e ∙ sym one)))) ∙ sym (b.at_after s small))
+      | inr past ↦ get_or_past (diffs before now) s false (rw (length-diffs before now nb nn) past)
+    ]) in
+    omega arith

@@ -190,6 +190,7 @@ pub record IsTraced (p : Parts) (m : Move) : Type 0 where
   pub apart : m.from ≢ m.to
   pub third : ℕ
   pub fourth : ℕ
+  pub alone : arrived ≢ King → third ≡ fourth
   pub others : (s : ℕ) → s ≢ m.from → s ≢ m.to → s ≢ third → s ≢ fourth → on (board_after p m) s ≡ on p.board s
 
 pub piece_some : (side : Side) (k : Kind) → code (piece_of side k) ≢ 0
@@ -247,6 +248,7 @@ traced_one p m v o =
       apart = o.apart;
       third = o.taken;
       fourth = o.taken;
+      alone = λ ne. refl;
       others = λ s nf nt nx ny. o.others s nf nt nx;
     }
 
@@ -293,6 +295,7 @@ traced_castled p m v l a =
       apart = λ e. none_piece (sym a.target_empty ∙ ap (on p.board) (sym e) ∙ a.king);
       third = rook_home p.side a.wing;
       fourth = crossed p.side a.wing;
+      alone = λ ne. absurd (ne refl);
       others = a.others;
     }
 

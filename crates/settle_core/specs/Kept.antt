@@ -11,7 +11,7 @@ use Rattle.settle_core.specs.declared.game.Ply.{Ply}
 use Rattle.settle_core.specs.Candidate.{lands}
 use Rattle.settle_core.specs.Settling.{reached, Played}
 use Rattle.settle_core.specs.Folding.{score_of}
-use Rattle.settle_core.specs.Masks.{IsDiff}
+use Rattle.settle_core.specs.Masks.{IsDiff, IsShown}
 use Rattle.settle_core.specs.Settler.{Sheet}
 
 -- The picture is the position's, and the mask has the squares on which another picture differs from it.
@@ -42,13 +42,14 @@ IsComparedIn None seen = Unit {0}
 IsComparedIn (Some compared) seen = IsCompared compared seen
 
 -- The moves, of which the latest comes first, are legal in their turn and lead to `here`, the last one from `before`; both
--- are compared with the last picture.
-pub record IsKept (start : Parts) (moves : List Move) (here : Compared) (before : Option Compared) (seen : List ℕ) : Type 0 where
+-- are compared with the last picture, of which it is known where it shows pieces.
+pub record IsKept (start : Parts) (moves : List Move) (here : Compared) (before : Option Compared) (seen : List ℕ) (shown : ℕ) : Type 0 where
   pub played : Played start moves
   pub position : here.position ≡ reached start moves
   pub before_is : position_in before ≡ before_last start moves
   pub here_compared : IsCompared here seen
   pub before_compared : IsComparedIn before seen
+  pub shown_is : IsShown shown seen
 
 -- the last picture, if one was seen
 abbrev pub last_of : Bool → List ℕ → Option (List ℕ)

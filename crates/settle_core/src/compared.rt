@@ -2,10 +2,10 @@
 ghost use Rattle.std.specs.Prelude.{◌≡◌, ◌≢◌, ◌<◌, ◌↔◌, ℕ, List, IfSome, IfNone, IsTrue, Some, length, slice_set};
 ghost use Rattle.chess_rules.specs.declared.chess_move.Move.{Move as MoveOf};
 ghost use Rattle.settle_core.specs.Settling.{Settles};
-ghost use Rattle.settle_core.specs.Masks.{IsDiff};
+ghost use Rattle.settle_core.specs.Masks.{IsDiff, IsShown};
 ghost use Rattle.settle_core.specs.Kept.{HasLanded, IsCompared, OnlyLacks};
 
-use crate::laws::{candidate, diff_mask, is_owned, landing};
+use crate::laws::{candidate_among, diff_mask, is_owned, landing};
 use chess_rules::laws::pictures_tell_moves;
 use chess_rules::{Move, Position};
 
@@ -27,6 +27,14 @@ fn changed(mask: u64, picture: &[u8; 64], at: u8, code: u8) -> u64
     } else {
         mask | (1 << at)
     }
+}
+
+/// The squares on which a picture shows pieces, where it now shows this code on one square.
+pub fn shown_after(shown: u64, at: u8, code: u8) -> u64
+    requires { at < 64 }
+    ensures { (seen : List ℕ) → length seen ≡ 64 → IsShown shown seen → IsShown result (slice_set seen at code) }
+{
+    changed(shown, &[0; 64], at, code)
 }
 
 impl Compared {
@@ -62,12 +70,13 @@ impl Compared {
     }
 
     /// A square on which a piece landed: the picture shows one that the position does not have there.
-    pub fn landed(&self, seen: &[u8; 64]) -> Option<u8>
-        requires { IsCompared self.now seen.now }
+    pub fn landed(&self, seen: &[u8; 64], shown: u64) -> Option<u8>
+        requires compared { IsCompared self.now seen.now }
+        requires shown { IsShown shown seen.now }
         ensures some { IfSome result (HasLanded self.now.picture seen.now) }
         ensures none { IfNone result (OnlyLacks self.now.picture seen.now) }
     {
-        landing(false, &self.picture, seen, self.mask)
+        landing(&self.picture, seen, self.mask, shown)
     }
 
     /// Whether the picture settles this move in the position.
@@ -91,31 +100,34 @@ impl Compared {
     }
 
     /// The one move that the picture may settle in the position, if any.
-    fn candidate(&self, seen: &[u8; 64]) -> Option<Move>
-        requires { IsCompared self.now seen.now }
+    fn candidate(&self, seen: &[u8; 64], shown: u64) -> Option<Move>
+        requires compared { IsCompared self.now seen.now }
+        requires shown { IsShown shown seen.now }
         ensures { (m : MoveOf) → Settles self.now.position seen.now m → result ≡ Some m }
     {
         self.position.parts();
-        candidate(&self.picture, seen, self.mask)
+        candidate_among(&self.picture, seen, self.mask, shown)
     }
 
     /// The move that the picture settles in the position, if any: the one candidate is tested.
-    pub fn settled(&self, seen: &[u8; 64]) -> Option<Move>
-        requires { IsCompared self.now seen.now }
+    pub fn settled(&self, seen: &[u8; 64], shown: u64) -> Option<Move>
+        requires compared { IsCompared self.now seen.now }
+        requires shown { IsShown shown seen.now }
         ensures some { IfSome result (Settles self.now.position seen.now) }
         ensures none { IfNone result ((m : MoveOf) → ¬ Settles self.now.position seen.now m) }
     {
-        let Some(landed) = self.landed(seen) else {
+        let Some(landed) = self.landed(seen, shown) else {
             // The position is valid.
             self.position.parts();
             return None;
         };
-        self.settled_by(seen, landed)
+        self.settled_by(seen, shown, landed)
     }
 
     /// The same, where it is known of a square that a piece landed there.
-    pub fn settled_by(&self, seen: &[u8; 64], landed: u8) -> Option<Move>
+    pub fn settled_by(&self, seen: &[u8; 64], shown: u64, landed: u8) -> Option<Move>
         requires compared { IsCompared self.now seen.now }
+        requires shown { IsShown shown seen.now }
         requires landed { HasLanded self.now.picture seen.now landed }
         ensures some { IfSome result (Settles self.now.position seen.now) }
         ensures none { IfNone result ((m : MoveOf) → ¬ Settles self.now.position seen.now m) }
@@ -123,7 +135,7 @@ impl Compared {
         if self.is_reply(seen, landed) {
             return None;
         }
-        let m = self.candidate(seen)?;
+        let m = self.candidate(seen, shown)?;
         if self.settles(seen, &m) {
             Some(m)
         } else {
@@ -132,19 +144,20 @@ impl Compared {
     }
 
     /// The move that the picture settles in the position, if it is another than this one, which is not tested.
-    pub fn settled_but(&self, seen: &[u8; 64], last: &Move) -> Option<Move>
-        requires { IsCompared self.now seen.now }
+    pub fn settled_but(&self, seen: &[u8; 64], shown: u64, last: &Move) -> Option<Move>
+        requires compared { IsCompared self.now seen.now }
+        requires shown { IsShown shown seen.now }
         ensures some { IfSome result (λ m. Settles self.now.position seen.now m × m ≢ last.now) }
         ensures none { IfNone result ((m : MoveOf) → Settles self.now.position seen.now m → m ≡ last.now) }
     {
-        let Some(landed) = self.landed(seen) else {
+        let Some(landed) = self.landed(seen, shown) else {
             self.position.parts();
             return None;
         };
         if self.is_reply(seen, landed) {
             return None;
         }
-        let m = self.candidate(seen)?;
+        let m = self.candidate(seen, shown)?;
         if !same_move(&m, last) && self.settles(seen, &m) {
             Some(m)
         } else {

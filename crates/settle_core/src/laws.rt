@@ -1,13 +1,14 @@
 //! What holds of all games, each law as the contract of a function; and how a move is read off two pictures.
-ghost use Rattle.std.specs.Prelude.{◌≡◌, ◌≢◌, ◌<◌, ℕ, IfSome, IfNone, Some, None, true, false, slice_index};
+ghost use Rattle.std.specs.Prelude.{◌≡◌, ◌≢◌, ◌<◌, ◌≤◌, ℕ, List, IfSome, IfNone, Some, None, true, false, slice_index};
 ghost use Rattle.std.specs.Int.{bit_at};
+ghost use Rattle.std.specs.Int.RustNames.{count_ones};
 ghost use Rattle.chess_rules.specs.declared.chess_move.Move.{Move as MoveOf};
 ghost use Rattle.chess_rules.specs.declared.parts.Parts.{Parts as PartsOf};
 ghost use Rattle.chess_rules.specs.Valid.{Valid};
 ghost use Rattle.chess_rules.specs.Picture.{picture};
 ghost use Rattle.settle_core.specs.Laws.{FoldsOnce, FoldsSome, FrontsOfHonestPlay, GivesSome, HonestPlayFolds, HonestPlayIsKept, HonestPlayKeepsClocks, HonestPlayStops, KingsEndHonestPlay, NoEntryGivesTwo, NoMoreIsInHand, OneHandTriesItsPiece, RepeatsCountOnce, RepliesReplaceNothing, RestingWaits, SettlersTellTheScore, SignsSettleNothing, ThreeUnseenAddNothing, ThreeUnseenSettleNothing, TwoUnseenChangeNothing, TwoUnseenWait, UnderWayIsInHand};
 ghost use Rattle.settle_core.specs.Settling.{Settles};
-ghost use Rattle.settle_core.specs.Masks.{IsDiff, IsNoMove};
+ghost use Rattle.settle_core.specs.Masks.{IsDiff, IsLanded, IsNoMove, IsShown};
 ghost use Rattle.settle_core.specs.Candidate.{is_king_code, is_owned_code, side_number, lands as lands_test, leaves as leaves_test, officer_of, promotion_between};
 
 use crate::tips::{Tip, repeats_at};
@@ -199,22 +200,68 @@ fn without(mask: u64, square: u8) -> u64
     mask & !(1 << square)
 }
 
-/// A square on which a piece landed, among those that differ.
-pub(crate) fn landing(kings: bool, before: &[u8; 64], after: &[u8; 64], mask: u64) -> Option<u8>
-    requires { IsDiff mask before.now after.now }
-    ensures range { IfSome result (λ s. s < 64) }
-    ensures some { IfSome result (λ s. lands_test kings (slice_index before.now s) (slice_index after.now s) ≡ true) }
-    ensures none { IfNone result ((s : ℕ) → s < 64 → lands_test kings (slice_index before.now s) (slice_index after.now s) ≡ false) }
+/// The squares on which a picture shows pieces: bit n is square n.
+pub(crate) fn shown_in(picture: &[u8; 64]) -> u64
+    ensures { IsShown result picture.now }
 {
-    let mut rest = mask;
+    diff_mask(&[0; 64], picture)
+}
+
+/// The squares on which a piece landed: those that differ, and show one.
+fn landed(mask: u64, shown: u64) -> u64
+    ensures { (before after : List ℕ) → IsDiff mask before after → IsShown shown after → IsLanded result before after }
+{
+    mask & shown
+}
+
+/// A square on which a piece landed.
+pub(crate) fn landing(before: &[u8; 64], after: &[u8; 64], mask: u64, shown: u64) -> Option<u8>
+    requires differ { IsDiff mask before.now after.now }
+    requires shown { IsShown shown after.now }
+    ensures range { IfSome result (λ s. s < 64) }
+    ensures some { IfSome result (λ s. lands_test false (slice_index before.now s) (slice_index after.now s) ≡ true) }
+    ensures none { IfNone result ((s : ℕ) → s < 64 → lands_test false (slice_index before.now s) (slice_index after.now s) ≡ false) }
+{
+    let squares = landed(mask, shown);
+    if squares > 0 {
+        Some(first_square(squares))
+    } else {
+        None
+    }
+}
+
+/// A square on which a king landed.
+pub(crate) fn king_landing(before: &[u8; 64], after: &[u8; 64], mask: u64, shown: u64) -> Option<u8>
+    requires differ { IsDiff mask before.now after.now }
+    requires shown { IsShown shown after.now }
+    ensures range { IfSome result (λ s. s < 64) }
+    ensures some { IfSome result (λ s. lands_test true (slice_index before.now s) (slice_index after.now s) ≡ true) }
+    ensures none { IfNone result ((s : ℕ) → s < 64 → lands_test true (slice_index before.now s) (slice_index after.now s) ≡ false) }
+{
+    let mut rest = landed(mask, shown);
     while rest > 0 {
         let square = first_square(rest);
-        if lands(kings, before[square as usize], after[square as usize]) {
+        if lands(true, before[square as usize], after[square as usize]) {
             return Some(square);
         }
         rest = without(rest, square);
     }
     None
+}
+
+/// A square on which a piece landed, where no more than three squares differ: only castling changes four.
+fn man_landing(before: &[u8; 64], after: &[u8; 64], mask: u64, shown: u64) -> Option<u8>
+    requires differ { IsDiff mask before.now after.now }
+    requires shown { IsShown shown after.now }
+    ensures range { IfSome result (λ s. s < 64) }
+    ensures some { IfSome result (λ s. lands_test false (slice_index before.now s) (slice_index after.now s) ≡ true) }
+    ensures none { IfNone result (count_ones mask ≤ 3 → (s : ℕ) → s < 64 → lands_test false (slice_index before.now s) (slice_index after.now s) ≡ false) }
+{
+    let bits = mask.count_ones();
+    if bits > 3 {
+        return None;
+    }
+    landing(before, after, mask, shown)
 }
 
 /// A square that the piece of this code left, among those that differ.
@@ -265,13 +312,28 @@ pub fn candidate(before: &[u8; 64], after: &[u8; 64], mask: u64) -> Option<Move>
     ensures finds { (p : PartsOf) (m : MoveOf) → Valid p → before.now ≡ picture p → Settles p after.now m → result ≡ Some m }
     ensures none { IsNoMove mask → result ≡ None }
 {
+    candidate_among(before, after, mask, shown_in(after))
+}
+
+/// The same, where it is known which squares show pieces.
+pub(crate) fn candidate_among(
+    before: &[u8; 64],
+    after: &[u8; 64],
+    mask: u64,
+    shown: u64,
+) -> Option<Move>
+    requires differ { IsDiff mask before.now after.now }
+    requires shown { IsShown shown after.now }
+    ensures finds { (p : PartsOf) (m : MoveOf) → Valid p → before.now ≡ picture p → Settles p after.now m → result ≡ Some m }
+    ensures none { IsNoMove mask → result ≡ None }
+{
     let bits = mask.count_ones();
     if bits < 2 || bits > 4 {
         return None;
     }
-    let to = match landing(true, before, after, mask) {
+    let to = match king_landing(before, after, mask, shown) {
         Some(to) => to,
-        None => landing(false, before, after, mask)?,
+        None => man_landing(before, after, mask, shown)?,
     };
     let from = leaving(after[to as usize], before, after, mask)?;
     Some(Move {

@@ -12,8 +12,9 @@ ghost use Rattle.settle_core.specs.Folding.{Folds, Replaces, SeenAs, moves_of, p
 ghost use Rattle.settle_core.specs.Settler.{StandsFor, Answers, GivesMove, has_seen, plies_of, position_of};
 ghost use Rattle.settle_core.specs.Kept.{CanReplace, IsComparedIn, IsLastSet, last_of, position_in};
 
-use crate::compared::{Compared, copy};
+use crate::compared::{Compared, copy, shown_after};
 use crate::game::{Outcome, Ply, Seen};
+use crate::laws::shown_in;
 use crate::signs::sign_of;
 use chess_rules::{Move, Position, Side, Square};
 use dgt_frame::{Hms, Reading};
@@ -29,6 +30,8 @@ pub struct Settler {
     seen: bool,
     /// The last picture; an empty board before the first.
     picture: [u8; 64],
+    /// The squares on which it shows pieces.
+    shown: u64,
     here: Compared,
     before: Option<Compared>,
 }
@@ -43,7 +46,7 @@ impl Model for Settler {
 
     ghost view = { λ s. sheet_of s.start s.plies.items s.sign s.seen s.picture };
 
-    ghost invariant = { λ s. IsKept s.start (moves_of (reverse s.plies.items)) s.here s.before s.picture };
+    ghost invariant = { λ s. IsKept s.start (moves_of (reverse s.plies.items)) s.here s.before s.picture s.shown };
 }
 
 /// The side's time in a reading.
@@ -100,6 +103,7 @@ impl Settler {
             sign: None,
             seen: false,
             picture,
+            shown: shown_in(&picture),
             here: Compared::new(start, &picture),
             before: None,
         }
@@ -192,6 +196,7 @@ impl Settler {
     {
         self.seen = seen;
         self.picture = *picture;
+        self.shown = shown_in(picture);
         self.here.compare(picture);
         compare_all(&mut self.before, picture);
     }
@@ -203,6 +208,7 @@ impl Settler {
             → self.new ≡ record self.old { last = Some (slice_set picture at code) } }
     {
         self.picture[at as usize] = code;
+        self.shown = shown_after(self.shown, at, code);
         self.here.change(at, code);
         change_all(&mut self.before, at, code);
     }
@@ -216,12 +222,12 @@ impl Settler {
         ensures memory { (picture : List ℕ) → self.old.last ≡ Some picture
             → OnErr result ((m : MoveOf) × Settles (position_of self.old) picture m) }
     {
-        let Some(landed) = self.here.landed(&self.picture) else {
+        let Some(landed) = self.here.landed(&self.picture, self.shown) else {
             // The start is valid, and so is each position of the line.
             self.start.parts();
             return Ok(Seen::Waits);
         };
-        if let Some(m) = self.here.settled_by(&self.picture, landed) {
+        if let Some(m) = self.here.settled_by(&self.picture, self.shown, landed) {
             self.add(copy(&m), clock)?;
             return Ok(Seen::Moved(m));
         }
@@ -266,7 +272,7 @@ impl Settler {
             return None;
         };
         let last = self.plies.last()?;
-        before.settled_but(&self.picture, &last.mv)
+        before.settled_but(&self.picture, self.shown, &last.mv)
     }
 
     /// Plays a move in the place of the last one.

@@ -9,6 +9,7 @@ ghost use Rattle.settle_core.specs.Entries.{Entry, repeats};
 ghost use Rattle.settle_core.specs.Tips.{IsTip, IsOther, LeadsTo};
 
 use crate::compared::{Compared, copy, same_move};
+use crate::laws::shown_in;
 use crate::signs::sign_of;
 use chess_rules::{Move, Position};
 
@@ -44,7 +45,7 @@ fn instead(last: &Last, picture: &[u8; 64]) -> Option<Move>
     ensures some { IfSome result (IsOther last.now picture.now) }
     ensures none { IfNone result ((m : MoveOf) → ¬ IsOther last.now picture.now m) }
 {
-    let m = Compared::new(last.before, picture).settled(picture)?;
+    let m = Compared::new(last.before, picture).settled(picture, shown_in(picture))?;
     if same_move(&m, &last.mv) {
         None
     } else {
@@ -77,7 +78,7 @@ impl Tip {
         ensures { (start : PartsOf) (moves : List MoveOf) → IsTip start moves self.now → LeadsTo start moves picture.now result }
     {
         let here = Compared::new(self.here, picture);
-        if let Some(m) = here.settled(picture) {
+        if let Some(m) = here.settled(picture, shown_in(picture)) {
             return played(self.here, m);
         }
         if let Some(_) = sign_of(&here, picture) {

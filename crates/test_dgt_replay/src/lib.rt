@@ -2,4 +2,22 @@
 #![tactic(auto)]
 
 #[cfg(test)]
-mod tests;
+mod cases;
+#[cfg(test)]
+mod checked_texts;
+#[cfg(test)]
+mod failed_streams;
+#[cfg(test)]
+mod followed_games;
+#[cfg(test)]
+mod inputs;
+#[cfg(test)]
+mod listed_moves;
+#[cfg(test)]
+mod picture_lines;
+#[cfg(test)]
+mod recorded_games;
+#[cfg(test)]
+mod refused_words;
+#[cfg(test)]
+mod show_lines;

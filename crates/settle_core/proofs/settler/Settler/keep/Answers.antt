@@ -8,4 +8,5 @@ invariant_of-self c = record {
   before_is = c.compare_all.ensures.positions ∙ c.self.invariant.before_is;
   here_compared = c.compare.ensures.compared _ c.self.invariant.here_compared;
   before_compared = c.compare_all.ensures.compared _ c.self.invariant.before_compared;
+  shown_is = c.shown_in-self-inside.ensures;
 }

@@ -41,6 +41,7 @@ invariant_of-self c =
       before_is = rw line.0 line.2;
       here_compared = c.new-self-inside.ensures.compared;
       before_compared = c.self.invariant.before_compared;
+      shown_is = c.self.invariant.shown_is;
     }
 
 pub returns : goal.returns

@@ -1,0 +1,218 @@
+//! What `record` writes, and the values that it refuses.
+
+use crate::cases::{Case, PLAIN, first_unlike};
+use crate::inputs::{
+    BREAK, BROKEN, CASTLED, CASTLING, CASTLING_FEN, CUT, E2_EMPTY, E4_PAWN, INITIAL, KINGS_PAWN,
+    NO_MOVE, ONE_MOVE, ROSTER, TIME, TURNED,
+};
+
+const RECORD: Case<'static> = Case {
+    words: &["record"],
+    ..PLAIN
+};
+
+const RECORDED_GAMES: &[Case<'static>] = &[
+    Case {
+        out: &NO_MOVE,
+        err: b"BK\nmessages 0, faults 0, moves 0, rest 0\n",
+        ..RECORD
+    },
+    Case {
+        input: &[INITIAL, E2_EMPTY, E4_PAWN],
+        out: &ONE_MOVE,
+        err: b"BK\nmessages 3, faults 0, moves 1, rest 0\n",
+        ..RECORD
+    },
+    Case {
+        input: &[INITIAL, CUT, KINGS_PAWN],
+        out: &ONE_MOVE,
+        err: b"BKB\nmessages 2, faults 1, moves 1, rest 0\n",
+        ..RECORD
+    },
+    Case {
+        input: &[BROKEN],
+        out: &NO_MOVE,
+        err: b"BKBBB\nmessages 0, faults 3, moves 0, rest 0\n",
+        ..RECORD
+    },
+    Case {
+        input: &[INITIAL, b"\x8E\x00\x05\x34"],
+        out: &NO_MOVE,
+        err: b"BK\nmessages 1, faults 0, moves 0, rest 4\n",
+        ..RECORD
+    },
+];
+
+/// White castles short.
+const CASTLING_CAPTURE: Case<'static> = Case {
+    input: &[
+        CASTLING,
+        b"\x8E\x00\x05\x3C\x00\x8E\x00\x05\x3E\x05\x8E\x00\x05\x3F\x00\x8E\x00\x05\x3D\x02",
+    ],
+    out: &CASTLED,
+    err: b"BK\nmessages 5, faults 0, moves 1, rest 0\n",
+    ..PLAIN
+};
+
+/// 1. e4 on a rotated board.
+const TURNED_CAPTURE: Case<'static> = Case {
+    input: &[TURNED, b"\x8E\x00\x05\x0B\x00\x8E\x00\x05\x1B\x01"],
+    ..PLAIN
+};
+
+const SET_UP_GAMES: &[Case<'static>] = &[
+    Case {
+        words: &["record", "--fen", CASTLING_FEN],
+        ..CASTLING_CAPTURE
+    },
+    Case {
+        words: &["record", "--fen", "4k3/8/8/8/8/8/8/4K2R w K -"],
+        ..CASTLING_CAPTURE
+    },
+    Case {
+        words: &["record", "--rotated"],
+        out: &ONE_MOVE,
+        err: b"BK\nmessages 3, faults 0, moves 1, rest 0\n",
+        ..TURNED_CAPTURE
+    },
+    Case {
+        words: &["record"],
+        out: &NO_MOVE,
+        err: b"BK\nmessages 3, faults 0, moves 0, rest 0\n",
+        ..TURNED_CAPTURE
+    },
+    Case {
+        words: &[
+            "record",
+            "--event",
+            "Open",
+            "--site",
+            "Oslo",
+            "--date",
+            "2024.??.??",
+            "--round",
+            "1",
+            "--white",
+            "Anna \"A\"",
+            "--black",
+            "",
+        ],
+        input: &[INITIAL, E2_EMPTY, E4_PAWN],
+        out: &[
+            b"[Event \"Open\"]\n[Site \"Oslo\"]\n[Date \"2024.??.??\"]\n[Round \"1\"]\n",
+            b"[White \"Anna \\\"A\\\"\"]\n[Black \"\"]\n[Result \"*\"]\n\n1. e4 *\n\n",
+        ],
+        err: b"BK\nmessages 3, faults 0, moves 1, rest 0\n",
+        ..PLAIN
+    },
+];
+
+/// 1. e4 e5 after a time. The first group of its digits is White's.
+const TIMED_CAPTURE: Case<'static> = Case {
+    input: &[
+        INITIAL,
+        TIME,
+        E2_EMPTY,
+        E4_PAWN,
+        b"\x8E\x00\x05\x0C\x00\x8E\x00\x05\x1C\x07",
+    ],
+    out: &[
+        ROSTER,
+        b"*",
+        BREAK,
+        b"1. e4 {[%clk 1:30:00]} 1... e5 {[%clk 1:29:59]} *\n\n",
+    ],
+    err: b"BK\nmessages 6, faults 0, moves 2, rest 0\n",
+    ..PLAIN
+};
+
+const TIMED_GAMES: &[Case<'static>] = &[
+    Case {
+        words: &["record"],
+        ..TIMED_CAPTURE
+    },
+    Case {
+        words: &["record", "--first", "white"],
+        ..TIMED_CAPTURE
+    },
+    Case {
+        words: &["record", "--first", "black"],
+        out: &[
+            ROSTER,
+            b"*",
+            BREAK,
+            b"1. e4 {[%clk 1:29:59]} 1... e5 {[%clk 1:30:00]} *\n\n",
+        ],
+        ..TIMED_CAPTURE
+    },
+];
+
+#[test]
+fn games_are_recorded(rt: HostRuntime) {
+    assert_eq!(rt; first_unlike(rt.alloc(), RECORDED_GAMES), None);
+    assert_eq!(rt; first_unlike(rt.alloc(), SET_UP_GAMES), None);
+    assert_eq!(rt; first_unlike(rt.alloc(), TIMED_GAMES), None);
+}
+
+/// A hundred and one bytes.
+const LONG_NAME: &str =
+    "xxxxxxxxxxxxxxxxxxxxxxxxxxxxxxxxxxxxxxxxxxxxxxxxxxxxxxxxxxxxxxxxxxxxxxxxxxxxxxxxxxxxxxxxxxxxxxxxxxxxx";
+
+/// A FEN without Black's king.
+const ONE_KING: &str = "8/8/8/8/8/8/8/4K3 w - - 0 1";
+
+const REFUSED_RECORD: Case<'static> = Case {
+    input: &[INITIAL, E2_EMPTY, E4_PAWN],
+    status: 1,
+    ..PLAIN
+};
+
+const REFUSED_VALUES: &[Case<'static>] = &[
+    Case {
+        words: &["record", "--fen", ONE_KING],
+        err: b"fen: kings\n",
+        ..REFUSED_RECORD
+    },
+    Case {
+        words: &["record", "--white", LONG_NAME],
+        err: b"tag White: long\n",
+        ..REFUSED_RECORD
+    },
+    Case {
+        words: &["record", "--event", "a\nb"],
+        err: b"tag Event: text\n",
+        ..REFUSED_RECORD
+    },
+    Case {
+        words: &["record", "--black", "M\u{FC}ller"],
+        err: b"tag Black: text\n",
+        ..REFUSED_RECORD
+    },
+    Case {
+        words: &["record", "--date", "2024.5.1"],
+        err: b"tag Date: date\n",
+        ..REFUSED_RECORD
+    },
+    Case {
+        words: &["record", "--date", ""],
+        err: b"tag Date: date\n",
+        ..REFUSED_RECORD
+    },
+    // the position before the tags, and these in their order
+    Case {
+        words: &["record", "--site", LONG_NAME, "--fen", ONE_KING],
+        err: b"fen: kings\n",
+        ..REFUSED_RECORD
+    },
+    Case {
+        words: &["record", "--round", LONG_NAME, "--site", LONG_NAME],
+        err: b"tag Site: long\n",
+        ..REFUSED_RECORD
+    },
+];
+
+#[test]
+fn values_are_refused(rt: HostRuntime) {
+    assert_eq!(rt; LONG_NAME.len(), 101);
+    assert_eq!(rt; first_unlike(rt.alloc(), REFUSED_VALUES), None);
+}

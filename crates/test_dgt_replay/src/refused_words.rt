@@ -1,0 +1,90 @@
+//! Words that are refused, help, and the version.
+
+use crate::cases::{Case, PLAIN, first_unlike, run_of};
+use dgt_vectors::running::run_with;
+use std::alloc::Global;
+use test_streams::streams::{Sink, Source};
+
+const REFUSED_WORDS: &[&[&str]] = &[
+    &[],
+    &["fly"],
+    &["record", "--first", "green"],
+    &["record", "--fen"],
+    &["follow", "--first", "green"],
+    &["follow", "--white", "Anna"],
+    &["show", "--rotated"],
+    &["moves", "--rotated"],
+    &["check", "game.pgn"],
+    &["pictures", "--rotated", "--rotated"],
+];
+
+/// These arguments over no input.
+fn without_input<'a>(words: &'a [&'a str]) -> Case<'a> {
+    Case { words, ..PLAIN }
+}
+
+/// These arguments have status 2 and something on standard error, and no output.
+fn are_refused(alloc: Global, words: &[&str]) -> bool {
+    match run_of(alloc, &without_input(words)) {
+        Some(left) => left.status == 2 && left.out.len() == 0 && left.err.len() > 0,
+        None => false,
+    }
+}
+
+/// The number of the first of these arguments that aren't refused, from 0.
+fn first_not_refused(alloc: Global, lines: &[&[&str]]) -> Option<usize> {
+    for (number, words) in lines.iter().enumerate() {
+        if !are_refused(alloc, words) {
+            return Some(number);
+        }
+    }
+    None
+}
+
+/// These arguments have status 0 and an output, and nothing on standard error.
+fn are_answered(alloc: Global, words: &[&str]) -> bool {
+    match run_of(alloc, &without_input(words)) {
+        Some(left) => left.status == 0 && left.shown.len() > 0 && left.err.len() == 0,
+        None => false,
+    }
+}
+
+/// Both words for the version print it.
+const VERSIONS: &[Case<'static>] = &[
+    Case {
+        words: &["--version"],
+        out: &[b"dgt_replay 0.1.0\n"],
+        ..PLAIN
+    },
+    Case {
+        words: &["-V"],
+        out: &[b"dgt_replay 0.1.0\n"],
+        ..PLAIN
+    },
+];
+
+#[test]
+fn versions_are_printed(rt: HostRuntime) {
+    assert_eq!(rt; first_unlike(rt.alloc(), VERSIONS), None);
+}
+
+/// The status without an argument, not even the name of the program.
+fn status_without_words(alloc: Global) -> u8 {
+    let none: [String; 0] = [];
+    run_with(
+        alloc,
+        &none,
+        Source::new(&[]),
+        Sink::new(2048),
+        Sink::new(2048),
+    )
+    .status
+}
+
+#[test]
+fn words_are_refused(rt: HostRuntime) {
+    assert_eq!(rt; first_not_refused(rt.alloc(), REFUSED_WORDS), None);
+    assert_eq!(rt; status_without_words(rt.alloc()), 2);
+    assert!(rt; are_answered(rt.alloc(), &["--help"]));
+    assert!(rt; are_answered(rt.alloc(), &["record", "--help"]));
+}
