@@ -12,6 +12,8 @@ mod endings;
 #[cfg(test)]
 mod games;
 #[cfg(test)]
+mod last;
+#[cfg(test)]
 mod moves;
 #[cfg(test)]
 mod starts;
