@@ -13,7 +13,7 @@ A line of a list is a ply, or the result, and then in words what the board sends
     1:29:56    a time message: the mover has this time left, the other side what it had
     dump       a dump
     clock      the clock acknowledges a command
-    version    the board's version, which is ignored
+    version    the board's version, another message: it changes nothing
 """
 
 import pathlib

@@ -48,7 +48,7 @@ awk -v calls="$calls" -v runs="$runs" '
             printf "%d runs of %d were made\n%s", seen, runs, text
         } else if (!ended) {
             failed++
-            printf "no end after %d growths\n", runs
+            printf "no end after %d allocations\n", runs
         }
         printf "%d passed, %d failed\n", passed, failed
         exit failed > 0

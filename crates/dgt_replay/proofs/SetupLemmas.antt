@@ -85,7 +85,7 @@ pub met_by_none : {A : Type 0} (options : RecordArguments) (setup : Setup) → M
 met_by_none options setup meets (inl none) = absurd (none setup.start meets.start)
 met_by_none options setup meets (inr (tag, none)) = absurd (none (value_of tag setup.tags) (meets.tags tag))
 
--- Where a setup is as the arguments say, only want of memory prevents it.
+-- Where a setup is as the arguments say, only an allocation that fails prevents it.
 pub only_for_memory : (options : RecordArguments) (setup : Setup) (refusal : Refusal) → Meets options setup → ForMemory refusal ⊎ MeetsNothing options → ForMemory refusal
 only_for_memory options setup refusal meets (inl memory) = memory
 only_for_memory options setup refusal meets (inr none) = met_by_none options setup meets none

@@ -1,4 +1,4 @@
--- Why arguments are refused, in words.
+-- The messages about arguments that are refused.
 use Rattle.std.specs.Prelude.{◌≡◌, ◌≢◌, ◌⊎◌, List, ◌∷◌, ◌++◌, All, ℕ, Option, MatchOption}
 use Rattle.clap.specs.Walk.{Text}
 use Rattle.chess_rules.specs.declared.parts.Parts.{Parts}
@@ -15,20 +15,20 @@ use Rattle.dgt_replay.specs.Messages.{fen_words, tag_words}
 
 -- The message about a refused FEN.
 abbrev pub RefusesStart : Option Text → List ℕ → Type 0
-RefusesStart fen arguments = MatchOption fen ⊥ (λ text. (error : FenError) × RefusedFirst text error × (arguments ≡ fen_words error))
+RefusesStart fen message = MatchOption fen ⊥ (λ text. (error : FenError) × RefusedFirst text error × (message ≡ fen_words error))
 
 -- The message about a refused value of a tag.
 abbrev pub RefusesValue : Tag → Option Text → List ℕ → Type 0
-RefusesValue tag text arguments = MatchOption text ⊥ (λ value. (error : TagError) × (error ≢ Memory) × Refuses tag value error × (arguments ≡ tag_words tag error))
+RefusesValue tag text message = MatchOption text ⊥ (λ value. (error : TagError) × (error ≢ Memory) × Refuses tag value error × (message ≡ tag_words tag error))
 
--- Why texts for tags are refused: the first that a tag may not have, in the order of the tags.
+-- The message about refused values of tags: it names the first that a tag may not have, in the order of the tags.
 abbrev pub RefusesTags : (Tag → Option Text) → List ℕ → Type 0
-RefusesTags text arguments = (before after : List Tag) × (tag : Tag) × (tags ≡ before ++ tag ∷ after)
-    × All (λ t. MayHave t (text t)) before × RefusesValue tag (text tag) arguments
+RefusesTags text message = (before after : List Tag) × (tag : Tag) × (tags ≡ before ++ tag ∷ after)
+    × All (λ t. MayHave t (text t)) before × RefusesValue tag (text tag) message
 
--- Why arguments set nothing up, in words: the FEN is refused, or, where it isn't, a tag.
+-- The message where arguments set nothing up: about the FEN, or, where that isn't refused, about a tag.
 abbrev pub RefusesSetup : Option Text → (Tag → Option Text) → List ℕ → Type 0
-RefusesSetup fen text arguments = RefusesStart fen arguments ⊎ (((start : Parts) × StartsAt fen start) × RefusesTags text arguments)
+RefusesSetup fen text message = RefusesStart fen message ⊎ (((start : Parts) × StartsAt fen start) × RefusesTags text message)
 
 -- the message of a refusal
 abbrev pub refusal_words : Refusal → List ℕ

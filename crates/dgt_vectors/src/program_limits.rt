@@ -25,7 +25,7 @@ fn fills(alloc: Global, room: usize, errors: usize, out: &[u8], err: &[u8]) -> b
 fn fails_after_all(alloc: Global) -> bool {
     let row = kings_pawn_opening();
     let bytes = row.bytes();
-    let source = Source::new(bytes.get()).answering(1);
+    let source = Source::new(bytes.get()).failing_after(1);
     match run_over(alloc, &["record"], source, Sink::new(512), Sink::new(512)) {
         Some(left) => left.status == 3
             && left.shown.get() == row.text().get()

@@ -40,9 +40,9 @@ fn recording(alloc: Global, row: &Row<'_>, streams: Streams) -> Option<Recording
     let bytes = row.bytes();
     let source = Source::new(bytes.get())
         .in_chunks(streams.chunk)
-        .answering(streams.reads);
-    let board = Sink::new(streams.board_room).answering(streams.board_calls);
-    let out = Sink::new(streams.out_room).answering(streams.out_calls);
+        .failing_after(streams.reads);
+    let board = Sink::new(streams.board_room).failing_after(streams.board_calls);
+    let out = Sink::new(streams.out_room).failing_after(streams.out_calls);
     match recorded_over(alloc, row, source, board, out) {
         Ok(got) => Some(got),
         Err(_) => None,

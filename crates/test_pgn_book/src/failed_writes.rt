@@ -8,7 +8,7 @@ use test_streams::streams::Sink;
 
 /// A stream that takes ten bytes, a few at a time, and then fails.
 fn ten() -> Sink {
-    Sink::new(10).in_pieces(3)
+    Sink::new(10).in_chunks(3)
 }
 
 /// Over a stream that takes ten bytes, writing this game fails after ten, and the stream says that it failed.

@@ -13,7 +13,7 @@ pub struct Source<'a> {
     at: usize,
     like: u8,
     left: u32,
-    piece: usize,
+    chunk: usize,
     calls_left: u32,
     fails: bool,
 }
@@ -26,7 +26,7 @@ impl<'a> Source<'a> {
             at: 0,
             like: 0,
             left: 0,
-            piece: usize::MAX,
+            chunk: usize::MAX,
             calls_left: ALWAYS,
             fails: false,
         }
@@ -40,13 +40,13 @@ impl<'a> Source<'a> {
     }
 
     /// At most so many bytes come with a read.
-    pub fn in_pieces(mut self, piece: usize) -> Source<'a> {
-        self.piece = piece;
+    pub fn in_chunks(mut self, chunk: usize) -> Source<'a> {
+        self.chunk = chunk;
         self
     }
 
-    /// Fails once so many calls were answered.
-    pub fn answering(mut self, calls: u32) -> Source<'a> {
+    /// Fails once so many calls have returned.
+    pub fn failing_after(mut self, calls: u32) -> Source<'a> {
         self.calls_left = calls;
         self
     }
@@ -71,7 +71,7 @@ impl Read for Source<'_> {
         self.calls_left -= 1;
         let mut count = 0;
         for place in buf.iter_mut() {
-            if count >= self.piece {
+            if count >= self.chunk {
                 break;
             }
             if let Some(byte) = self.bytes.get(self.at) {
@@ -98,7 +98,7 @@ pub struct Sink {
     bytes: Bytes,
     shown: usize,
     room: usize,
-    piece: usize,
+    chunk: usize,
     calls_left: u32,
     flushes: bool,
 }
@@ -110,20 +110,20 @@ impl Sink {
             bytes: Bytes::new(),
             shown: 0,
             room,
-            piece: ROOM,
+            chunk: ROOM,
             calls_left: ALWAYS,
             flushes: true,
         }
     }
 
     /// At most so many bytes are taken by a write.
-    pub fn in_pieces(mut self, piece: usize) -> Sink {
-        self.piece = piece;
+    pub fn in_chunks(mut self, chunk: usize) -> Sink {
+        self.chunk = chunk;
         self
     }
 
-    /// Fails once so many calls were answered.
-    pub fn answering(mut self, calls: u32) -> Sink {
+    /// Fails once so many calls have returned.
+    pub fn failing_after(mut self, calls: u32) -> Sink {
         self.calls_left = calls;
         self
     }
@@ -163,7 +163,7 @@ impl Write for Sink {
             if self.room == 0 {
                 break;
             }
-            if count >= self.piece {
+            if count >= self.chunk {
                 break;
             }
             self.room -= 1;
