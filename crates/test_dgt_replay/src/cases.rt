@@ -10,7 +10,7 @@ use test_streams::streams::{Sink, Source};
 #[derive(Clone, Copy)]
 pub struct Case<'a> {
     /// The arguments after the program's name.
-    pub words: &'a [&'a str],
+    pub arguments: &'a [&'a str],
     /// The parts of the input.
     pub input: &'a [&'a [u8]],
     /// So many zeros come after these.
@@ -32,7 +32,7 @@ pub struct Case<'a> {
 
 /// No input, over streams that work, and nothing is left.
 pub const PLAIN: Case<'static> = Case {
-    words: &[],
+    arguments: &[],
     input: &[],
     zeros: 0,
     fails: false,
@@ -51,7 +51,13 @@ pub fn run_of(alloc: Global, case: &Case<'_>) -> Option<Left> {
         .and_then(case.zeros, 0)
         .failing(case.fails);
     let out = Sink::new(case.room).flushing(case.flushes);
-    run_over(alloc, case.words, source, out, Sink::new(case.error_room))
+    run_over(
+        alloc,
+        case.arguments,
+        source,
+        out,
+        Sink::new(case.error_room),
+    )
 }
 
 /// The status is that of the case, and so is what stands on standard error.
@@ -87,6 +93,6 @@ pub fn ends(alloc: Global, case: &Case<'_>) -> bool {
 
 /// `follow` over no input.
 pub const FOLLOW: Case<'static> = Case {
-    words: &["follow"],
+    arguments: &["follow"],
     ..PLAIN
 };

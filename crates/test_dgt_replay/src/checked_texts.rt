@@ -6,7 +6,7 @@ use std::alloc::Global;
 use test_streams::bytes::Bytes;
 
 const CHECK: Case<'static> = Case {
-    words: &["check"],
+    arguments: &["check"],
     ..PLAIN
 };
 

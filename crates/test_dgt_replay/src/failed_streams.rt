@@ -19,28 +19,28 @@ pub const FAILED_READ: Case<'static> = Case {
 
 const FAILED_READS: &[Case<'static>] = &[
     Case {
-        words: &["show"],
+        arguments: &["show"],
         out: &[INITIAL_LINE, b"71 update 52 0\n76 update 36 1\n"],
         ..FAILED_READ
     },
     Case {
-        words: &["pictures"],
+        arguments: &["pictures"],
         out: &[INITIAL_PLACEMENT, LIFTED_PLACEMENT, KINGS_PAWN_PLACEMENT],
         ..FAILED_READ
     },
     Case {
-        words: &["follow"],
+        arguments: &["follow"],
         out: &[b"66 agrees\n71 differs e2\n76 move 1. e4\n"],
         ..FAILED_READ
     },
     Case {
-        words: &["record"],
+        arguments: &["record"],
         out: &ONE_MOVE,
         err: b"BK\nread fault\n",
         ..FAILED_READ
     },
     Case {
-        words: &["check"],
+        arguments: &["check"],
         ..FAILED_READ
     },
 ];
@@ -61,34 +61,34 @@ pub const FAILED_WRITE: Case<'static> = Case {
 /// What stands in the output after ten bytes.
 const FAILED_WRITES: &[Case<'static>] = &[
     Case {
-        words: &["show"],
+        arguments: &["show"],
         out: &[b"66 dump 89"],
         ..FAILED_WRITE
     },
     Case {
-        words: &["pictures"],
+        arguments: &["pictures"],
         out: &[b"rnbqkbnr/p"],
         ..FAILED_WRITE
     },
     Case {
-        words: &["follow"],
+        arguments: &["follow"],
         out: &[b"66 agrees\n"],
         ..FAILED_WRITE
     },
     Case {
-        words: &["record"],
+        arguments: &["record"],
         out: &[b"[Event \"?\""],
         err: b"BK\nwrite fault\n",
         ..FAILED_WRITE
     },
     Case {
-        words: &["check"],
+        arguments: &["check"],
         input: &ONE_MOVE,
         out: &[b"moves 1, r"],
         ..FAILED_WRITE
     },
     Case {
-        words: &["moves"],
+        arguments: &["moves"],
         out: &[b"a4\na3\nb4\nb"],
         ..FAILED_WRITE
     },
@@ -128,50 +128,50 @@ fn first_written(alloc: Global, cases: &[Case<'_>]) -> Option<usize> {
 const FAILED_TWICE: &[Case<'static>] = &[
     // a read that fails too
     Case {
-        words: &["show"],
+        arguments: &["show"],
         fails: true,
         room: 0,
         ..FAILED_WRITE
     },
     Case {
-        words: &["show"],
+        arguments: &["show"],
         fails: true,
         flushes: false,
         ..FAILED_WRITE
     },
     Case {
-        words: &["pictures"],
+        arguments: &["pictures"],
         fails: true,
         room: 0,
         ..FAILED_WRITE
     },
     Case {
-        words: &["pictures"],
+        arguments: &["pictures"],
         fails: true,
         flushes: false,
         ..FAILED_WRITE
     },
     Case {
-        words: &["follow"],
+        arguments: &["follow"],
         fails: true,
         room: 0,
         ..FAILED_WRITE
     },
     Case {
-        words: &["follow"],
+        arguments: &["follow"],
         fails: true,
         flushes: false,
         ..FAILED_WRITE
     },
     Case {
-        words: &["record"],
+        arguments: &["record"],
         fails: true,
         room: 0,
         err: b"BK\nwrite fault\n",
         ..FAILED_WRITE
     },
     Case {
-        words: &["record"],
+        arguments: &["record"],
         fails: true,
         flushes: false,
         err: b"BK\nwrite fault\n",
@@ -179,19 +179,19 @@ const FAILED_TWICE: &[Case<'static>] = &[
     },
     // a text that is refused or can't be read, and a flush that fails
     Case {
-        words: &["check"],
+        arguments: &["check"],
         flushes: false,
         ..FAILED_WRITE
     },
     Case {
-        words: &["check"],
+        arguments: &["check"],
         fails: true,
         flushes: false,
         ..FAILED_WRITE
     },
     // help that can't be written
     Case {
-        words: &["--help"],
+        arguments: &["--help"],
         room: 10,
         ..FAILED_WRITE
     },
@@ -209,7 +209,7 @@ fn first_other_end(alloc: Global, cases: &[Case<'_>]) -> Option<usize> {
 
 /// `follow` over an input that fails.
 const UNREAD: Case<'static> = Case {
-    words: &["follow"],
+    arguments: &["follow"],
     ..FAILED_READ
 };
 
@@ -253,7 +253,7 @@ fn first_read_untold(alloc: Global) -> Option<usize> {
 
 /// `follow` over an output that fails.
 const UNWRITTEN: Case<'static> = Case {
-    words: &["follow"],
+    arguments: &["follow"],
     ..FAILED_WRITE
 };
 
@@ -297,14 +297,14 @@ const FAILED_ERROR: Case<'static> = Case {
 /// Nothing is written after a failure, and only a status of 0 changes.
 const FAILED_ERRORS: &[Case<'static>] = &[
     Case {
-        words: &["record"],
+        arguments: &["record"],
         error_room: 0,
         status: 3,
         out: &NO_MOVE,
         ..FAILED_ERROR
     },
     Case {
-        words: &["record"],
+        arguments: &["record"],
         error_room: 1,
         status: 3,
         out: &NO_MOVE,
@@ -312,7 +312,7 @@ const FAILED_ERRORS: &[Case<'static>] = &[
         ..FAILED_ERROR
     },
     Case {
-        words: &["record"],
+        arguments: &["record"],
         error_room: 2,
         status: 3,
         out: &ONE_MOVE,
@@ -320,7 +320,7 @@ const FAILED_ERRORS: &[Case<'static>] = &[
         ..FAILED_ERROR
     },
     Case {
-        words: &["record"],
+        arguments: &["record"],
         error_room: 5,
         status: 3,
         out: &ONE_MOVE,
@@ -328,34 +328,34 @@ const FAILED_ERRORS: &[Case<'static>] = &[
         ..FAILED_ERROR
     },
     Case {
-        words: &["record", "--white", "a\nb"],
+        arguments: &["record", "--white", "a\nb"],
         error_room: 4,
         status: 1,
         err: b"tag ",
         ..FAILED_ERROR
     },
     Case {
-        words: &["moves", "--fen", "x"],
+        arguments: &["moves", "--fen", "x"],
         error_room: 0,
         status: 1,
         ..FAILED_ERROR
     },
     Case {
-        words: &["follow", "--fen", "x"],
+        arguments: &["follow", "--fen", "x"],
         error_room: 4,
         status: 1,
         err: b"fen:",
         ..FAILED_ERROR
     },
     Case {
-        words: &["check"],
+        arguments: &["check"],
         error_room: 3,
         status: 1,
         err: b"pgn",
         ..FAILED_ERROR
     },
     Case {
-        words: &["fly"],
+        arguments: &["fly"],
         error_room: 0,
         status: 2,
         ..FAILED_ERROR
@@ -364,7 +364,7 @@ const FAILED_ERRORS: &[Case<'static>] = &[
 
 /// A read fails, and standard error too.
 const READ_UNTOLD: Case<'static> = Case {
-    words: &["show"],
+    arguments: &["show"],
     fails: true,
     error_room: 0,
     status: 3,

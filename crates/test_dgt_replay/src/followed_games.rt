@@ -53,7 +53,7 @@ const FOLLOWED_CAPTURES: &[Case<'static>] = &[
         ..FOLLOW
     },
     Case {
-        words: &["follow", "--first", "black"],
+        arguments: &["follow", "--first", "black"],
         input: &[INITIAL, TIME, E2_EMPTY, E4_PAWN],
         out: &[b"66 agrees\n81 differs e2\n86 move 1. e4 1:29:59\nrest 0\n"],
         ..FOLLOW
@@ -79,7 +79,7 @@ const FOLLOWED_CAPTURES: &[Case<'static>] = &[
 
 const FOLLOWED_BOARDS: &[Case<'static>] = &[
     Case {
-        words: &["follow", "--rotated"],
+        arguments: &["follow", "--rotated"],
         input: &[TURNED, b"\x8E\x00\x05\x0B\x00", b"\x8E\x00\x05\x1B\x01"],
         out: &[b"66 agrees\n71 differs e2\n76 move 1. e4\nrest 0\n"],
         ..FOLLOW
@@ -101,7 +101,7 @@ const FOLLOWED_BOARDS: &[Case<'static>] = &[
     },
     // Black to move
     Case {
-        words: &["follow", "--fen", "4k3/8/8/8/8/8/8/4K3 b - - 0 5"],
+        arguments: &["follow", "--fen", "4k3/8/8/8/8/8/8/4K3 b - - 0 5"],
         input: &[TWO_KINGS, b"\x8E\x00\x05\x04\x00", b"\x8E\x00\x05\x0C\x0B"],
         out: &[b"66 agrees\n71 differs e8\n76 move 5... Ke7\nrest 0\n"],
         ..FOLLOW
@@ -111,7 +111,7 @@ const FOLLOWED_BOARDS: &[Case<'static>] = &[
 const FOLLOWED_MOVES: &[Case<'static>] = &[
     // a promotion to a queen, and then to a knight
     Case {
-        words: &["follow", "--fen", "8/P3k3/8/8/8/8/8/4K3 w - - 0 1"],
+        arguments: &["follow", "--fen", "8/P3k3/8/8/8/8/8/4K3 w - - 0 1"],
         input: &[
             PROMOTION,
             b"\x8E\x00\x05\x08\x00",
@@ -126,7 +126,7 @@ const FOLLOWED_MOVES: &[Case<'static>] = &[
     },
     // castling, the rook first
     Case {
-        words: &["follow", "--fen", CASTLING_FEN],
+        arguments: &["follow", "--fen", CASTLING_FEN],
         input: &[
             CASTLING,
             b"\x8E\x00\x05\x3F\x00",
@@ -140,7 +140,7 @@ const FOLLOWED_MOVES: &[Case<'static>] = &[
         ..FOLLOW
     },
     Case {
-        words: &["follow", "--fen", "4k3/8/8/3pP3/8/8/8/4K3 w - d6 0 2"],
+        arguments: &["follow", "--fen", "4k3/8/8/3pP3/8/8/8/4K3 w - d6 0 2"],
         input: &[
             EN_PASSANT,
             b"\x8E\x00\x05\x1B\x00",
@@ -155,7 +155,7 @@ const FOLLOWED_MOVES: &[Case<'static>] = &[
 const FOLLOWED_RESULTS: &[Case<'static>] = &[
     // the kings give a sign, and a move clears it
     Case {
-        words: &["follow", "--fen", "4k3/8/8/8/8/8/8/4K3 w - - 0 1"],
+        arguments: &["follow", "--fen", "4k3/8/8/8/8/8/8/4K3 w - - 0 1"],
         input: &[
             TWO_KINGS,
             b"\x8E\x00\x05\x3C\x00",
@@ -175,7 +175,7 @@ const FOLLOWED_RESULTS: &[Case<'static>] = &[
     },
     // a mate, corrected
     Case {
-        words: &["follow", "--fen", "k7/8/1K6/8/8/8/8/7R w - - 0 1"],
+        arguments: &["follow", "--fen", "k7/8/1K6/8/8/8/8/7R w - - 0 1"],
         input: &[
             MATE,
             b"\x8E\x00\x05\x3F\x00",
@@ -190,7 +190,7 @@ const FOLLOWED_RESULTS: &[Case<'static>] = &[
     },
     // no position has the FEN
     Case {
-        words: &["follow", "--fen", "8/8/8/8/8/8/8/4K3 w - - 0 1"],
+        arguments: &["follow", "--fen", "8/8/8/8/8/8/8/4K3 w - - 0 1"],
         input: &[INITIAL],
         status: 1,
         err: b"fen: kings\n",

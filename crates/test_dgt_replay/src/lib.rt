@@ -18,6 +18,6 @@ mod picture_lines;
 #[cfg(test)]
 mod recorded_games;
 #[cfg(test)]
-mod refused_words;
+mod refused_arguments;
 #[cfg(test)]
 mod show_lines;

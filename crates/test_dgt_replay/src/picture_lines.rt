@@ -7,7 +7,7 @@ use crate::inputs::{
 };
 
 const PICTURES: Case<'static> = Case {
-    words: &["pictures"],
+    arguments: &["pictures"],
     ..PLAIN
 };
 
@@ -86,7 +86,7 @@ const TURNED_PICTURES: &[Case<'static>] = &[
         ..PICTURES
     },
     Case {
-        words: &["pictures", "--rotated"],
+        arguments: &["pictures", "--rotated"],
         input: &[TURNED, b"\x8E\x00\x05\x0B\x00\x8E\x00\x05\x1B\x01"],
         out: &[INITIAL_PLACEMENT, LIFTED_PLACEMENT, KINGS_PAWN_PLACEMENT],
         ..PLAIN

@@ -7,7 +7,7 @@ use crate::inputs::{
 };
 
 const RECORD: Case<'static> = Case {
-    words: &["record"],
+    arguments: &["record"],
     ..PLAIN
 };
 
@@ -62,27 +62,27 @@ const TURNED_CAPTURE: Case<'static> = Case {
 
 const SET_UP_GAMES: &[Case<'static>] = &[
     Case {
-        words: &["record", "--fen", CASTLING_FEN],
+        arguments: &["record", "--fen", CASTLING_FEN],
         ..CASTLING_CAPTURE
     },
     Case {
-        words: &["record", "--fen", "4k3/8/8/8/8/8/8/4K2R w K -"],
+        arguments: &["record", "--fen", "4k3/8/8/8/8/8/8/4K2R w K -"],
         ..CASTLING_CAPTURE
     },
     Case {
-        words: &["record", "--rotated"],
+        arguments: &["record", "--rotated"],
         out: &ONE_MOVE,
         err: b"BK\nmessages 3, faults 0, moves 1, rest 0\n",
         ..TURNED_CAPTURE
     },
     Case {
-        words: &["record"],
+        arguments: &["record"],
         out: &NO_MOVE,
         err: b"BK\nmessages 3, faults 0, moves 0, rest 0\n",
         ..TURNED_CAPTURE
     },
     Case {
-        words: &[
+        arguments: &[
             "record",
             "--event",
             "Open",
@@ -128,15 +128,15 @@ const TIMED_CAPTURE: Case<'static> = Case {
 
 const TIMED_GAMES: &[Case<'static>] = &[
     Case {
-        words: &["record"],
+        arguments: &["record"],
         ..TIMED_CAPTURE
     },
     Case {
-        words: &["record", "--first", "white"],
+        arguments: &["record", "--first", "white"],
         ..TIMED_CAPTURE
     },
     Case {
-        words: &["record", "--first", "black"],
+        arguments: &["record", "--first", "black"],
         out: &[
             ROSTER,
             b"*",
@@ -169,43 +169,43 @@ const REFUSED_RECORD: Case<'static> = Case {
 
 const REFUSED_VALUES: &[Case<'static>] = &[
     Case {
-        words: &["record", "--fen", ONE_KING],
+        arguments: &["record", "--fen", ONE_KING],
         err: b"fen: kings\n",
         ..REFUSED_RECORD
     },
     Case {
-        words: &["record", "--white", LONG_NAME],
+        arguments: &["record", "--white", LONG_NAME],
         err: b"tag White: long\n",
         ..REFUSED_RECORD
     },
     Case {
-        words: &["record", "--event", "a\nb"],
+        arguments: &["record", "--event", "a\nb"],
         err: b"tag Event: text\n",
         ..REFUSED_RECORD
     },
     Case {
-        words: &["record", "--black", "M\u{FC}ller"],
+        arguments: &["record", "--black", "M\u{FC}ller"],
         err: b"tag Black: text\n",
         ..REFUSED_RECORD
     },
     Case {
-        words: &["record", "--date", "2024.5.1"],
+        arguments: &["record", "--date", "2024.5.1"],
         err: b"tag Date: date\n",
         ..REFUSED_RECORD
     },
     Case {
-        words: &["record", "--date", ""],
+        arguments: &["record", "--date", ""],
         err: b"tag Date: date\n",
         ..REFUSED_RECORD
     },
     // the position before the tags, and these in their order
     Case {
-        words: &["record", "--site", LONG_NAME, "--fen", ONE_KING],
+        arguments: &["record", "--site", LONG_NAME, "--fen", ONE_KING],
         err: b"fen: kings\n",
         ..REFUSED_RECORD
     },
     Case {
-        words: &["record", "--round", LONG_NAME, "--site", LONG_NAME],
+        arguments: &["record", "--round", LONG_NAME, "--site", LONG_NAME],
         err: b"tag Site: long\n",
         ..REFUSED_RECORD
     },

@@ -6,7 +6,7 @@ use crate::inputs::{
 };
 
 const SHOW: Case<'static> = Case {
-    words: &["show"],
+    arguments: &["show"],
     ..PLAIN
 };
 

@@ -1,11 +1,11 @@
-//! Words that are refused, help, and the version.
+//! Arguments that are refused, help, and the version.
 
 use crate::cases::{Case, PLAIN, first_unlike, run_of};
 use dgt_vectors::running::run_with;
 use std::alloc::Global;
 use test_streams::streams::{Sink, Source};
 
-const REFUSED_WORDS: &[&[&str]] = &[
+const REFUSED_ARGUMENTS: &[&[&str]] = &[
     &[],
     &["fly"],
     &["record", "--first", "green"],
@@ -19,13 +19,13 @@ const REFUSED_WORDS: &[&[&str]] = &[
 ];
 
 /// These arguments over no input.
-fn without_input<'a>(words: &'a [&'a str]) -> Case<'a> {
-    Case { words, ..PLAIN }
+fn without_input<'a>(arguments: &'a [&'a str]) -> Case<'a> {
+    Case { arguments, ..PLAIN }
 }
 
 /// These arguments have status 2 and something on standard error, and no output.
-fn are_refused(alloc: Global, words: &[&str]) -> bool {
-    match run_of(alloc, &without_input(words)) {
+fn are_refused(alloc: Global, arguments: &[&str]) -> bool {
+    match run_of(alloc, &without_input(arguments)) {
         Some(left) => left.status == 2 && left.out.len() == 0 && left.err.len() > 0,
         None => false,
     }
@@ -33,8 +33,8 @@ fn are_refused(alloc: Global, words: &[&str]) -> bool {
 
 /// The number of the first of these arguments that aren't refused, from 0.
 fn first_not_refused(alloc: Global, lines: &[&[&str]]) -> Option<usize> {
-    for (number, words) in lines.iter().enumerate() {
-        if !are_refused(alloc, words) {
+    for (number, arguments) in lines.iter().enumerate() {
+        if !are_refused(alloc, arguments) {
             return Some(number);
         }
     }
@@ -42,22 +42,22 @@ fn first_not_refused(alloc: Global, lines: &[&[&str]]) -> Option<usize> {
 }
 
 /// These arguments have status 0 and an output, and nothing on standard error.
-fn are_answered(alloc: Global, words: &[&str]) -> bool {
-    match run_of(alloc, &without_input(words)) {
+fn are_answered(alloc: Global, arguments: &[&str]) -> bool {
+    match run_of(alloc, &without_input(arguments)) {
         Some(left) => left.status == 0 && left.shown.len() > 0 && left.err.len() == 0,
         None => false,
     }
 }
 
-/// Both words for the version print it.
+/// Both arguments for the version print it.
 const VERSIONS: &[Case<'static>] = &[
     Case {
-        words: &["--version"],
+        arguments: &["--version"],
         out: &[b"dgt_replay 0.1.0\n"],
         ..PLAIN
     },
     Case {
-        words: &["-V"],
+        arguments: &["-V"],
         out: &[b"dgt_replay 0.1.0\n"],
         ..PLAIN
     },
@@ -69,7 +69,7 @@ fn versions_are_printed(rt: HostRuntime) {
 }
 
 /// The status without an argument, not even the name of the program.
-fn status_without_words(alloc: Global) -> u8 {
+fn status_without_arguments(alloc: Global) -> u8 {
     let none: [String; 0] = [];
     run_with(
         alloc,
@@ -82,9 +82,9 @@ fn status_without_words(alloc: Global) -> u8 {
 }
 
 #[test]
-fn words_are_refused(rt: HostRuntime) {
-    assert_eq!(rt; first_not_refused(rt.alloc(), REFUSED_WORDS), None);
-    assert_eq!(rt; status_without_words(rt.alloc()), 2);
+fn arguments_are_refused(rt: HostRuntime) {
+    assert_eq!(rt; first_not_refused(rt.alloc(), REFUSED_ARGUMENTS), None);
+    assert_eq!(rt; status_without_arguments(rt.alloc()), 2);
     assert!(rt; are_answered(rt.alloc(), &["--help"]));
     assert!(rt; are_answered(rt.alloc(), &["record", "--help"]));
 }
