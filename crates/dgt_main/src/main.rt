@@ -11,12 +11,12 @@ fn main(rt: HostRuntime) -> ExitCode {
     let Ok(args) = env::args(&rt) else {
         return ExitCode::from(4);
     };
-    let Ok(words) = args.collect::<Vec<String>>(alloc) else {
+    let Ok(arguments) = args.collect::<Vec<String>>(alloc) else {
         return ExitCode::from(4);
     };
     let mut reader = Watch::new(rt.stdin());
     let mut out = Watch::new(rt.stdout());
     let mut err = Watch::new(rt.stderr());
-    let status = run(alloc, words.as_slice(), &mut reader, &mut out, &mut err);
+    let status = run(alloc, arguments.as_slice(), &mut reader, &mut out, &mut err);
     ExitCode::from(status)
 }

@@ -9,7 +9,7 @@ use test_streams::streams::{Sink, Source};
 #[derive(Clone, Copy)]
 pub struct Case<'a> {
     pub name: &'a str,
-    pub words: &'a [&'a str],
+    pub arguments: &'a [&'a str],
     pub input: &'a [Signal<'a>],
     pub status: u8,
     pub out: &'a str,
@@ -26,11 +26,11 @@ pub fn leaves(left: &Left, status: u8, out: &[u8], err: &[u8]) -> bool {
     left.status == status && left.out.get() == out && left.err.get() == err
 }
 
-/// Runs the program with these arguments after its name over these bytes, where there is memory for the words.
-pub fn run_of(alloc: Global, words: &[&str], bytes: &[u8]) -> Option<Left> {
+/// Runs the program with these arguments after its name over these bytes, where there is memory for them.
+pub fn run_of(alloc: Global, arguments: &[&str], bytes: &[u8]) -> Option<Left> {
     run_over(
         alloc,
-        words,
+        arguments,
         Source::new(bytes),
         Sink::new(512),
         Sink::new(512),
@@ -47,7 +47,7 @@ pub fn case_holds(case: &Case<'_>, left: &Left) -> bool {
 /// The program, so run, leaves what the case says.
 pub fn is_done(alloc: Global, case: &Case<'_>) -> bool {
     let bytes = bytes_of(case.input);
-    match run_of(alloc, case.words, bytes.get()) {
+    match run_of(alloc, case.arguments, bytes.get()) {
         Some(left) => case_holds(case, &left),
         None => false,
     }

@@ -17,7 +17,7 @@ const RECORD: &[Recorded<'static>] = &[
     Recorded {
         case: Case {
             name: "an empty capture",
-            words: &["record"],
+            arguments: &["record"],
             input: &[],
             status: 0,
             out: "[Event \"?\"]\n[Site \"?\"]\n[Date \"????.??.??\"]\n[Round \"?\"]\n[White \"?\"]\n[Black \"?\"]\n[Result \"*\"]\n\n*\n\n",
@@ -28,7 +28,7 @@ const RECORD: &[Recorded<'static>] = &[
     Recorded {
         case: Case {
             name: "a move",
-            words: &["record"],
+            arguments: &["record"],
             input: &[Dump(INITIAL), Lift("e2"), Put("e4", "P")],
             status: 0,
             out: "[Event \"?\"]\n[Site \"?\"]\n[Date \"????.??.??\"]\n[Round \"?\"]\n[White \"?\"]\n[Black \"?\"]\n[Result \"*\"]\n\n1. e4 *\n\n",
@@ -39,7 +39,7 @@ const RECORD: &[Recorded<'static>] = &[
     Recorded {
         case: Case {
             name: "a turned board",
-            words: &["record", "--rotated"],
+            arguments: &["record", "--rotated"],
             input: &[TurnedDump(INITIAL), TurnedLift("e2"), TurnedPut("e4", "P")],
             status: 0,
             out: "[Event \"?\"]\n[Site \"?\"]\n[Date \"????.??.??\"]\n[Round \"?\"]\n[White \"?\"]\n[Black \"?\"]\n[Result \"*\"]\n\n1. e4 *\n\n",
@@ -50,7 +50,7 @@ const RECORD: &[Recorded<'static>] = &[
     Recorded {
         case: Case {
             name: "the first group is Black's",
-            words: &["record", "--first", "black"],
+            arguments: &["record", "--first", "black"],
             input: &[
                 Dump(INITIAL),
                 Time([0x01, 0x30, 0x00, 0x01, 0x29, 0x59, 0x00]),
@@ -66,7 +66,7 @@ const RECORD: &[Recorded<'static>] = &[
     Recorded {
         case: Case {
             name: "a position of four fields",
-            words: &["record", "--fen", "4k3/8/8/8/8/8/8/4K2R w K -"],
+            arguments: &["record", "--fen", "4k3/8/8/8/8/8/8/4K2R w K -"],
             input: &[
                 Dump("4k3/8/8/8/8/8/8/4K2R"),
                 Lift("e1"),
@@ -83,7 +83,7 @@ const RECORD: &[Recorded<'static>] = &[
     Recorded {
         case: Case {
             name: "a tag",
-            words: &["record", "--white", "Anna"],
+            arguments: &["record", "--white", "Anna"],
             input: &[],
             status: 0,
             out: "[Event \"?\"]\n[Site \"?\"]\n[Date \"????.??.??\"]\n[Round \"?\"]\n[White \"Anna\"]\n[Black \"?\"]\n[Result \"*\"]\n\n*\n\n",
@@ -94,7 +94,7 @@ const RECORD: &[Recorded<'static>] = &[
     Recorded {
         case: Case {
             name: "kings on dark squares: Black wins",
-            words: &["record"],
+            arguments: &["record"],
             input: &[
                 Dump(INITIAL),
                 Lift("e1"),
@@ -111,7 +111,7 @@ const RECORD: &[Recorded<'static>] = &[
     Recorded {
         case: Case {
             name: "kings on squares of both colours: a draw",
-            words: &["record"],
+            arguments: &["record"],
             input: &[
                 Dump(INITIAL),
                 Lift("e1"),
@@ -131,7 +131,7 @@ const RECORD: &[Recorded<'static>] = &[
 const REFUSED: &[Case<'static>] = &[
     Case {
         name: "a position without a king",
-        words: &["record", "--fen", "8/8/8/8/8/8/8/4K3 w - - 0 1"],
+        arguments: &["record", "--fen", "8/8/8/8/8/8/8/4K3 w - - 0 1"],
         input: &[Dump(INITIAL), Lift("e2"), Put("e4", "P")],
         status: 1,
         out: "",
@@ -139,7 +139,7 @@ const REFUSED: &[Case<'static>] = &[
     },
     Case {
         name: "a date",
-        words: &["record", "--date", "2024.5.1"],
+        arguments: &["record", "--date", "2024.5.1"],
         input: &[Dump(INITIAL), Lift("e2"), Put("e4", "P")],
         status: 1,
         out: "",
@@ -147,7 +147,7 @@ const REFUSED: &[Case<'static>] = &[
     },
     Case {
         name: "moves without a king",
-        words: &["moves", "--fen", "8/8/8/8/8/8/8/4K3 w - - 0 1"],
+        arguments: &["moves", "--fen", "8/8/8/8/8/8/8/4K3 w - - 0 1"],
         input: &[],
         status: 1,
         out: "",
@@ -155,7 +155,7 @@ const REFUSED: &[Case<'static>] = &[
     },
     Case {
         name: "no subcommand",
-        words: &[],
+        arguments: &[],
         input: &[Dump(INITIAL), Lift("e2"), Put("e4", "P")],
         status: 2,
         out: "",
@@ -163,7 +163,7 @@ const REFUSED: &[Case<'static>] = &[
     },
     Case {
         name: "an unknown subcommand",
-        words: &["fly"],
+        arguments: &["fly"],
         input: &[Dump(INITIAL), Lift("e2"), Put("e4", "P")],
         status: 2,
         out: "",
@@ -171,7 +171,7 @@ const REFUSED: &[Case<'static>] = &[
     },
     Case {
         name: "an unknown side",
-        words: &["record", "--first", "green"],
+        arguments: &["record", "--first", "green"],
         input: &[Dump(INITIAL), Lift("e2"), Put("e4", "P")],
         status: 2,
         out: "",
@@ -190,7 +190,7 @@ fn text_checks(alloc: Global, text: &[u8], checked: &str) -> bool {
 fn is_recorded(alloc: Global, recorded: &Recorded<'_>) -> bool {
     let case = recorded.case;
     let bytes = bytes_of(case.input);
-    match run_of(alloc, case.words, bytes.get()) {
+    match run_of(alloc, case.arguments, bytes.get()) {
         Some(left) => case_holds(&case, &left)
             && text_checks(alloc, left.out.get(), recorded.checked),
         None => false,

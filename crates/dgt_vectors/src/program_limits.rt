@@ -49,7 +49,7 @@ fn failed_streams_have_status_3(rt: HostRuntime) {
 /// A subcommand, so many like bytes, and what is left of them.
 #[derive(Clone, Copy)]
 struct Limit<'a> {
-    word: &'a str,
+    subcommand: &'a str,
     byte: u8,
     count: u32,
     status: u8,
@@ -61,7 +61,7 @@ struct Limit<'a> {
 
 const LIMITS: &[Limit<'static>] = &[
     Limit {
-        word: "show",
+        subcommand: "show",
         byte: 0,
         count: 67_108_865,
         status: 1,
@@ -70,7 +70,7 @@ const LIMITS: &[Limit<'static>] = &[
         unread: 0,
     },
     Limit {
-        word: "show",
+        subcommand: "show",
         byte: 0,
         count: 67_108_870,
         status: 1,
@@ -79,7 +79,7 @@ const LIMITS: &[Limit<'static>] = &[
         unread: 5,
     },
     Limit {
-        word: "pictures",
+        subcommand: "pictures",
         byte: 0,
         count: 67_108_865,
         status: 1,
@@ -88,7 +88,7 @@ const LIMITS: &[Limit<'static>] = &[
         unread: 0,
     },
     Limit {
-        word: "record",
+        subcommand: "record",
         byte: 0,
         count: 67_108_864,
         status: 0,
@@ -97,7 +97,7 @@ const LIMITS: &[Limit<'static>] = &[
         unread: 0,
     },
     Limit {
-        word: "record",
+        subcommand: "record",
         byte: 0,
         count: 67_108_865,
         status: 1,
@@ -114,7 +114,13 @@ fn limits<'a>() -> &'a [Limit<'a>] {
 /// The program leaves what the limit says.
 fn limit_holds(alloc: Global, limit: &Limit<'_>) -> bool {
     let source = Source::new(&[]).and_then(limit.count, limit.byte);
-    match run_over(alloc, &[limit.word], source, Sink::new(512), Sink::new(512)) {
+    match run_over(
+        alloc,
+        &[limit.subcommand],
+        source,
+        Sink::new(512),
+        Sink::new(512),
+    ) {
         Some(left) => left.status == limit.status
             && left.shown.get() == limit.out.as_bytes()
             && left.err.get() == limit.err.as_bytes()
@@ -127,7 +133,7 @@ fn limit_holds(alloc: Global, limit: &Limit<'_>) -> bool {
 fn first_limit_failing<'a>(alloc: Global, limits: &[Limit<'a>]) -> Option<(&'a str, u32)> {
     for limit in limits {
         if !limit_holds(alloc, limit) {
-            return Some((limit.word, limit.count));
+            return Some((limit.subcommand, limit.count));
         }
     }
     None
@@ -140,7 +146,7 @@ fn streams_have_at_most_67_108_864_bytes(rt: HostRuntime) {
 
 /// Spaces without end are no PGN, and are not read without end: 268,435,457 were read.
 const SPACES: Limit<'static> = Limit {
-    word: "check",
+    subcommand: "check",
     byte: 0x20,
     count: 4_294_967_295,
     status: 1,

@@ -9,7 +9,7 @@ use std::alloc::{AllocError, Global};
 const SHOW: &[Case<'static>] = &[
     Case {
         name: "nothing",
-        words: &["show"],
+        arguments: &["show"],
         input: &[],
         status: 0,
         out: "rest 0\n",
@@ -17,7 +17,7 @@ const SHOW: &[Case<'static>] = &[
     },
     Case {
         name: "a dump and two updates",
-        words: &["show"],
+        arguments: &["show"],
         input: &[Dump(INITIAL), Lift("e2"), Put("e4", "P")],
         status: 0,
         out: "66 dump 89acba9877777777000000000000000000000000000000001111111123465432\n71 update 52 0\n76 update 36 1\nrest 0\n",
@@ -25,7 +25,7 @@ const SHOW: &[Case<'static>] = &[
     },
     Case {
         name: "another message",
-        words: &["show"],
+        arguments: &["show"],
         input: &[Lift("e2"), Raw(&[0x93, 0x00, 0x05, 0x01, 0x08])],
         status: 0,
         out: "4 update 52 0\n9 other 93 5\nrest 0\n",
@@ -33,7 +33,7 @@ const SHOW: &[Case<'static>] = &[
     },
     Case {
         name: "another message between a lift and a put",
-        words: &["show"],
+        arguments: &["show"],
         input: &[
             Dump(INITIAL),
             Lift("e2"),
@@ -46,7 +46,7 @@ const SHOW: &[Case<'static>] = &[
     },
     Case {
         name: "a cut update and a dump",
-        words: &["show"],
+        arguments: &["show"],
         input: &[
             Dump(INITIAL),
             Raw(&[0x8E, 0x00, 0x05, 0x34]),
@@ -58,7 +58,7 @@ const SHOW: &[Case<'static>] = &[
     },
     Case {
         name: "a stray byte, a wrong size and a wrong field",
-        words: &["show"],
+        arguments: &["show"],
         input: &[Raw(&[0x05, 0x34, 0x00, 0x8E, 0x00, 0x06, 0x8E, 0x00, 0x05, 0x40])],
         status: 0,
         out: "0 fault stray\n5 fault size\n9 fault data\nrest 0\n",
@@ -66,7 +66,7 @@ const SHOW: &[Case<'static>] = &[
     },
     Case {
         name: "the byte that cuts a frame begins the next",
-        words: &["show"],
+        arguments: &["show"],
         input: &[Raw(&[0x8E]), Lift("e2")],
         status: 0,
         out: "1 fault cut\n5 update 52 0\nrest 0\n",
@@ -78,7 +78,7 @@ const SHOW: &[Case<'static>] = &[
 const FRAMES: &[Case<'static>] = &[
     Case {
         name: "a time",
-        words: &["show"],
+        arguments: &["show"],
         input: &[Time([0x01, 0x30, 0x00, 0x01, 0x29, 0x59, 0x00])],
         status: 0,
         out: "9 time 01 30 00 01 29 59 00\nrest 0\n",
@@ -86,7 +86,7 @@ const FRAMES: &[Case<'static>] = &[
     },
     Case {
         name: "a code past 15",
-        words: &["show"],
+        arguments: &["show"],
         input: &[Raw(&[0x8E, 0x00, 0x05, 0x00, 0x10])],
         status: 0,
         out: "4 fault data\nrest 0\n",
@@ -94,7 +94,7 @@ const FRAMES: &[Case<'static>] = &[
     },
     Case {
         name: "the smallest frame",
-        words: &["show"],
+        arguments: &["show"],
         input: &[Raw(&[0x80, 0x00, 0x03])],
         status: 0,
         out: "2 other 80 3\nrest 0\n",
@@ -102,7 +102,7 @@ const FRAMES: &[Case<'static>] = &[
     },
     Case {
         name: "a dump of another size",
-        words: &["show"],
+        arguments: &["show"],
         input: &[Raw(&[0x86, 0x00, 0x42])],
         status: 0,
         out: "2 fault size\nrest 0\n",
@@ -110,7 +110,7 @@ const FRAMES: &[Case<'static>] = &[
     },
     Case {
         name: "a dump of a large size",
-        words: &["show"],
+        arguments: &["show"],
         input: &[Raw(&[0x86, 0x01])],
         status: 0,
         out: "1 fault size\nrest 0\n",
@@ -118,7 +118,7 @@ const FRAMES: &[Case<'static>] = &[
     },
     Case {
         name: "a time of another size",
-        words: &["show"],
+        arguments: &["show"],
         input: &[Raw(&[0x8D, 0x00, 0x0B])],
         status: 0,
         out: "2 fault size\nrest 0\n",
@@ -126,7 +126,7 @@ const FRAMES: &[Case<'static>] = &[
     },
     Case {
         name: "a frame without room for its header",
-        words: &["show"],
+        arguments: &["show"],
         input: &[Raw(&[0x93, 0x00, 0x02])],
         status: 0,
         out: "2 fault size\nrest 0\n",
@@ -138,7 +138,7 @@ const FRAMES: &[Case<'static>] = &[
 const PICTURES: &[Case<'static>] = &[
     Case {
         name: "no picture",
-        words: &["pictures"],
+        arguments: &["pictures"],
         input: &[],
         status: 0,
         out: "",
@@ -146,7 +146,7 @@ const PICTURES: &[Case<'static>] = &[
     },
     Case {
         name: "a move",
-        words: &["pictures"],
+        arguments: &["pictures"],
         input: &[Dump(INITIAL), Lift("e2"), Put("e4", "P")],
         status: 0,
         out: "rnbqkbnr/pppppppp/8/8/8/8/PPPPPPPP/RNBQKBNR\nrnbqkbnr/pppppppp/8/8/8/8/PPPP1PPP/RNBQKBNR\nrnbqkbnr/pppppppp/8/8/4P3/8/PPPP1PPP/RNBQKBNR\n",
@@ -154,7 +154,7 @@ const PICTURES: &[Case<'static>] = &[
     },
     Case {
         name: "put down before lifted",
-        words: &["pictures"],
+        arguments: &["pictures"],
         input: &[Dump(INITIAL), Put("e4", "P"), Lift("e2")],
         status: 0,
         out: "rnbqkbnr/pppppppp/8/8/8/8/PPPPPPPP/RNBQKBNR\nrnbqkbnr/pppppppp/8/8/4P3/8/PPPPPPPP/RNBQKBNR\nrnbqkbnr/pppppppp/8/8/4P3/8/PPPP1PPP/RNBQKBNR\n",
@@ -162,7 +162,7 @@ const PICTURES: &[Case<'static>] = &[
     },
     Case {
         name: "put back",
-        words: &["pictures"],
+        arguments: &["pictures"],
         input: &[
             Dump(INITIAL),
             Lift("e2"),
@@ -177,7 +177,7 @@ const PICTURES: &[Case<'static>] = &[
     },
     Case {
         name: "a code that no piece has",
-        words: &["pictures"],
+        arguments: &["pictures"],
         input: &[Dump(INITIAL), Put("e2", "*")],
         status: 0,
         out: "rnbqkbnr/pppppppp/8/8/8/8/PPPPPPPP/RNBQKBNR\nrnbqkbnr/pppppppp/8/8/8/8/PPPP*PPP/RNBQKBNR\n",
@@ -185,7 +185,7 @@ const PICTURES: &[Case<'static>] = &[
     },
     Case {
         name: "nothing is trusted after a fault",
-        words: &["pictures"],
+        arguments: &["pictures"],
         input: &[
             Dump(INITIAL),
             Raw(&[0x8E, 0x00, 0x05, 0x34]),
@@ -197,7 +197,7 @@ const PICTURES: &[Case<'static>] = &[
     },
     Case {
         name: "a dump is trusted after a fault",
-        words: &["pictures"],
+        arguments: &["pictures"],
         input: &[
             Dump(INITIAL),
             Raw(&[0x8E, 0x00, 0x05, 0x34]),
@@ -209,7 +209,7 @@ const PICTURES: &[Case<'static>] = &[
     },
     Case {
         name: "faults alone show no picture",
-        words: &["pictures"],
+        arguments: &["pictures"],
         input: &[Raw(&[0x05, 0x34, 0x00, 0x8E, 0x00, 0x06, 0x8E, 0x00, 0x05, 0x40])],
         status: 0,
         out: "",
@@ -217,7 +217,7 @@ const PICTURES: &[Case<'static>] = &[
     },
     Case {
         name: "a turned board that isn't said to be so",
-        words: &["pictures"],
+        arguments: &["pictures"],
         input: &[TurnedDump(INITIAL), TurnedLift("e2"), TurnedPut("e4", "P")],
         status: 0,
         out: "RNBKQBNR/PPPPPPPP/8/8/8/8/pppppppp/rnbkqbnr\nRNBKQBNR/PPP1PPPP/8/8/8/8/pppppppp/rnbkqbnr\nRNBKQBNR/PPP1PPPP/8/3P4/8/8/pppppppp/rnbkqbnr\n",
@@ -225,7 +225,7 @@ const PICTURES: &[Case<'static>] = &[
     },
     Case {
         name: "a turned board",
-        words: &["pictures", "--rotated"],
+        arguments: &["pictures", "--rotated"],
         input: &[TurnedDump(INITIAL), TurnedLift("e2"), TurnedPut("e4", "P")],
         status: 0,
         out: "rnbqkbnr/pppppppp/8/8/8/8/PPPPPPPP/RNBQKBNR\nrnbqkbnr/pppppppp/8/8/8/8/PPPP1PPP/RNBQKBNR\nrnbqkbnr/pppppppp/8/8/4P3/8/PPPP1PPP/RNBQKBNR\n",

@@ -10,7 +10,7 @@ use test_streams::bytes::Bytes;
 const CHECK: &[Case<'static>] = &[
     Case {
         name: "one move",
-        words: &["check"],
+        arguments: &["check"],
         input: &[Text(
             "[Event \"?\"]\n[Site \"?\"]\n[Date \"????.??.??\"]\n[Round \"?\"]\n[White \"?\"]\n[Black \"?\"]\n[Result \"*\"]\n\n1. e4 *\n\n",
         )],
@@ -20,7 +20,7 @@ const CHECK: &[Case<'static>] = &[
     },
     Case {
         name: "no move",
-        words: &["check"],
+        arguments: &["check"],
         input: &[Text(
             "[Event \"?\"]\n[Site \"?\"]\n[Date \"????.??.??\"]\n[Round \"?\"]\n[White \"?\"]\n[Black \"?\"]\n[Result \"*\"]\n\n*\n\n",
         )],
@@ -30,7 +30,7 @@ const CHECK: &[Case<'static>] = &[
     },
     Case {
         name: "a result by agreement",
-        words: &["check"],
+        arguments: &["check"],
         input: &[Text(
             "[Event \"?\"]\n[Site \"?\"]\n[Date \"????.??.??\"]\n[Round \"?\"]\n[White \"?\"]\n[Black \"?\"]\n[Result \"1-0\"]\n\n1-0\n\n",
         )],
@@ -40,7 +40,7 @@ const CHECK: &[Case<'static>] = &[
     },
     Case {
         name: "two results",
-        words: &["check"],
+        arguments: &["check"],
         input: &[Text(
             "[Event \"?\"]\n[Site \"?\"]\n[Date \"????.??.??\"]\n[Round \"?\"]\n[White \"?\"]\n[Black \"?\"]\n[Result \"1-0\"]\n\n*\n\n",
         )],
@@ -50,7 +50,7 @@ const CHECK: &[Case<'static>] = &[
     },
     Case {
         name: "a line too many",
-        words: &["check"],
+        arguments: &["check"],
         input: &[Text(
             "[Event \"?\"]\n[Site \"?\"]\n[Date \"????.??.??\"]\n[Round \"?\"]\n[White \"?\"]\n[Black \"?\"]\n[Result \"*\"]\n\n*\n\n\n",
         )],
@@ -64,7 +64,7 @@ const CHECK: &[Case<'static>] = &[
 const NOT_EXPORT: &[Case<'static>] = &[
     Case {
         name: "a move by its squares",
-        words: &["check"],
+        arguments: &["check"],
         input: &[Text(
             "[Event \"?\"]\n[Site \"?\"]\n[Date \"????.??.??\"]\n[Round \"?\"]\n[White \"?\"]\n[Black \"?\"]\n[Result \"*\"]\n\n1. e2e4 *\n\n",
         )],
@@ -74,7 +74,7 @@ const NOT_EXPORT: &[Case<'static>] = &[
     },
     Case {
         name: "carriage returns",
-        words: &["check"],
+        arguments: &["check"],
         input: &[Text(
             "[Event \"?\"]\r\n[Site \"?\"]\r\n[Date \"????.??.??\"]\r\n[Round \"?\"]\r\n[White \"?\"]\r\n[Black \"?\"]\r\n[Result \"*\"]\r\n\r\n1. e4 *\r\n\r\n",
         )],
@@ -84,7 +84,7 @@ const NOT_EXPORT: &[Case<'static>] = &[
     },
     Case {
         name: "the initial position set up",
-        words: &["check"],
+        arguments: &["check"],
         input: &[Text(
             "[Event \"?\"]\n[Site \"?\"]\n[Date \"????.??.??\"]\n[Round \"?\"]\n[White \"?\"]\n[Black \"?\"]\n[Result \"*\"]\n[FEN \"rnbqkbnr/pppppppp/8/8/8/8/PPPPPPPP/RNBQKBNR w KQkq - 0 1\"]\n[SetUp \"1\"]\n\n1. e4 *\n\n",
         )],
@@ -94,7 +94,7 @@ const NOT_EXPORT: &[Case<'static>] = &[
     },
     Case {
         name: "a checkmate that White should have won",
-        words: &["check"],
+        arguments: &["check"],
         input: &[Text(
             "[Event \"?\"]\n[Site \"?\"]\n[Date \"????.??.??\"]\n[Round \"?\"]\n[White \"?\"]\n[Black \"?\"]\n[Result \"1-0\"]\n\n1. f3 e5 2. g4 Qh4# 1-0\n\n",
         )],
@@ -104,7 +104,7 @@ const NOT_EXPORT: &[Case<'static>] = &[
     },
     Case {
         name: "a set-up of four fields",
-        words: &["check"],
+        arguments: &["check"],
         input: &[Text(
             "[Event \"?\"]\n[Site \"?\"]\n[Date \"????.??.??\"]\n[Round \"?\"]\n[White \"?\"]\n[Black \"?\"]\n[Result \"*\"]\n[FEN \"4k3/8/8/8/8/8/8/4K2R w K -\"]\n[SetUp \"1\"]\n\n1. O-O *\n\n",
         )],
@@ -118,7 +118,7 @@ const NOT_EXPORT: &[Case<'static>] = &[
 const MOVES: &[Case<'static>] = &[
     Case {
         name: "the initial position",
-        words: &["moves"],
+        arguments: &["moves"],
         input: &[],
         status: 0,
         out: "a4\na3\nb4\nb3\nc4\nc3\nd4\nd3\ne4\ne3\nf4\nf3\ng4\ng3\nh4\nh3\nNa3\nNc3\nNf3\nNh3\n",
@@ -126,7 +126,7 @@ const MOVES: &[Case<'static>] = &[
     },
     Case {
         name: "a promotion",
-        words: &["moves", "--fen", "8/4P2k/8/8/8/8/8/4K3 w - - 0 1"],
+        arguments: &["moves", "--fen", "8/4P2k/8/8/8/8/8/4K3 w - - 0 1"],
         input: &[],
         status: 0,
         out: "e8=Q\ne8=R\ne8=B\ne8=N\nKd2\nKe2\nKf2\nKd1\nKf1\n",
@@ -134,7 +134,7 @@ const MOVES: &[Case<'static>] = &[
     },
     Case {
         name: "a checkmate",
-        words: &[
+        arguments: &[
             "moves",
             "--fen",
             "rnb1kbnr/pppp1ppp/8/4p3/6Pq/5P2/PPPPP2P/RNBQKBNR w KQkq - 1 3",

@@ -22,20 +22,26 @@ pub struct Left {
 
 /// The texts as arguments of the command line, after the name of the program.
 fn words_of(alloc: Global, texts: &[&str]) -> Result<Vec<String>, AllocError> {
-    let mut words = Vec::new(alloc);
-    words.push(String::from_str(alloc, "dgt_replay")?)?;
+    let mut arguments = Vec::new(alloc);
+    arguments.push(String::from_str(alloc, "dgt_replay")?)?;
     for text in texts {
-        words.push(String::from_str(alloc, text)?)?;
+        arguments.push(String::from_str(alloc, text)?)?;
     }
-    Ok(words)
+    Ok(arguments)
 }
 
 /// Runs the program with these arguments, its name among them, over these streams.
-pub fn run_with(alloc: Global, words: &[String], source: Source<'_>, out: Sink, err: Sink) -> Left {
+pub fn run_with(
+    alloc: Global,
+    arguments: &[String],
+    source: Source<'_>,
+    out: Sink,
+    err: Sink,
+) -> Left {
     let mut reader = Watch::new(source);
     let mut out = Watch::new(out);
     let mut err = Watch::new(err);
-    let status = run(alloc, words, &mut reader, &mut out, &mut err);
+    let status = run(alloc, arguments, &mut reader, &mut out, &mut err);
     Left {
         status,
         shown: Bytes::of(&[out.inner().shown()]),
@@ -54,7 +60,7 @@ pub fn run_over(
     err: Sink,
 ) -> Option<Left> {
     match words_of(alloc, texts) {
-        Ok(words) => Some(run_with(alloc, words.as_slice(), source, out, err)),
+        Ok(arguments) => Some(run_with(alloc, arguments.as_slice(), source, out, err)),
         Err(_) => None,
     }
 }

@@ -11,7 +11,7 @@ use test_streams::streams::{Sink, Source};
 #[derive(Clone, Copy)]
 pub struct Case<'a> {
     pub name: &'a str,
-    words: &'a [&'a str],
+    arguments: &'a [&'a str],
     input: &'a [Signal<'a>],
     out: &'a str,
     err: &'a str,
@@ -24,7 +24,7 @@ pub struct Case<'a> {
 const CASES: &[Case<'static>] = &[
     Case {
         name: "record",
-        words: &["record"],
+        arguments: &["record"],
         input: &[Dump(INITIAL), Lift("e2"), Put("e4", "P")],
         out: "[Event \"?\"]\n[Site \"?\"]\n[Date \"????.??.??\"]\n[Round \"?\"]\n[White \"?\"]\n[Black \"?\"]\n[Result \"*\"]\n\n1. e4 *\n\n",
         err: "BK\nmessages 3, faults 0, moves 1, rest 0\n",
@@ -33,7 +33,7 @@ const CASES: &[Case<'static>] = &[
     },
     Case {
         name: "follow",
-        words: &["follow"],
+        arguments: &["follow"],
         input: &[Dump(INITIAL), Lift("e2"), Put("e4", "P")],
         out: "66 agrees\n71 differs e2\n76 move 1. e4\nrest 0\n",
         err: "",
@@ -42,7 +42,7 @@ const CASES: &[Case<'static>] = &[
     },
     Case {
         name: "record with options",
-        words: &[
+        arguments: &[
             "record",
             "--fen",
             "4k3/8/8/8/8/8/8/4K2R w K -",
@@ -57,7 +57,7 @@ const CASES: &[Case<'static>] = &[
     },
     Case {
         name: "check",
-        words: &["check"],
+        arguments: &["check"],
         input: &[Text(
             "[Event \"?\"]\n[Site \"?\"]\n[Date \"????.??.??\"]\n[Round \"?\"]\n[White \"?\"]\n[Black \"?\"]\n[Result \"*\"]\n\n1. e4 *\n\n",
         )],
@@ -68,7 +68,7 @@ const CASES: &[Case<'static>] = &[
     },
     Case {
         name: "moves",
-        words: &["moves"],
+        arguments: &["moves"],
         input: &[],
         out: "a4\na3\nb4\nb3\nc4\nc3\nd4\nd3\ne4\ne3\nf4\nf3\ng4\ng3\nh4\nh3\nNa3\nNc3\nNf3\nNh3\n",
         err: "",
@@ -85,7 +85,13 @@ pub fn cases<'a>() -> &'a [Case<'a>] {
 fn run_of(alloc: Global, case: &Case<'_>) -> Option<Left> {
     let bytes = bytes_of(case.input);
     let source = Source::new(bytes.get());
-    run_over(alloc, case.words, source, Sink::new(512), Sink::new(512))
+    run_over(
+        alloc,
+        case.arguments,
+        source,
+        Sink::new(512),
+        Sink::new(512),
+    )
 }
 
 fn is_done(case: &Case<'_>, left: &Left) -> bool {
