@@ -6,8 +6,8 @@ use Rattle.std.proofs.KnownBytes.{Consumes-kept, Consumes-trans}
 use Rattle.std.specs.Io.KnownBytes.{Consumes, IsAtEnd, Keeps}
 use Rattle.dgt_frame.specs.declared.events.Event.{Event}
 use Rattle.dgt_frame.specs.Streams.{Timed}
-use Rattle.board_session.specs.declared.recording.RecordError.{RecordError}
-use Rattle.board_session.specs.declared.recording.RecordError.TheVariants.{Memory, Read, Board, Write, TooLong}
+use Rattle.board_session.specs.declared.refusal.RecordError.{RecordError}
+use Rattle.board_session.specs.declared.refusal.RecordError.TheVariants.{Memory, Read, Board, Write, TooLong}
 use Rattle.board_session.specs.declared.recorder.Recorder.{Recorder}
 use Rattle.board_session.specs.Settings.{Setting}
 use Rattle.board_session.specs.Commands.{past_of}

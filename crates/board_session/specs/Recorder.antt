@@ -8,8 +8,8 @@ use Rattle.dgt_frame.specs.Streams.{Shows, Timed}
 use Rattle.pgn_book.specs.Games.{Content}
 use Rattle.pgn_book.specs.Pgn.{Pgn}
 use Rattle.pgn_book.specs.Values.{TagValues}
-use Rattle.board_session.specs.declared.recording.RecordError.{RecordError}
-use Rattle.board_session.specs.declared.recording.RecordError.TheVariants.{Memory, Read, Board, Write, TooLong}
+use Rattle.board_session.specs.declared.refusal.RecordError.{RecordError}
+use Rattle.board_session.specs.declared.refusal.RecordError.TheVariants.{Memory, Read, Board, Write, TooLong}
 use Rattle.board_session.specs.declared.recording.Report.{Report}
 use Rattle.board_session.specs.declared.recorder.Recorder.{Recorder}
 use Rattle.board_session.specs.Commands.{asked, commands, faults_in, messages_in, past_of}

@@ -7,8 +7,8 @@ use Rattle.dgt_frame.specs.Streams.{Shows, Timed}
 use Rattle.settle_core.specs.Entries.{deduplicated}
 use Rattle.pgn_book.specs.Games.{Content}
 use Rattle.pgn_book.specs.Pgn.{Pgn}
-use Rattle.board_session.specs.declared.recording.RecordError.{RecordError}
-use Rattle.board_session.specs.declared.recording.RecordError.TheVariants.{Memory, Read, Board, Write, TooLong}
+use Rattle.board_session.specs.declared.refusal.RecordError.{RecordError}
+use Rattle.board_session.specs.declared.refusal.RecordError.TheVariants.{Memory, Read, Board, Write, TooLong}
 use Rattle.board_session.specs.declared.recording.Report.{Report}
 use Rattle.board_session.specs.declared.recording.Setup.{Setup}
 use Rattle.board_session.specs.Commands.{commands, faults_in, messages_in, past_of}

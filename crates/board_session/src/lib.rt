@@ -5,9 +5,11 @@
 pub mod laws;
 mod recorder;
 mod recording;
+mod refusal;
 mod session;
 mod view;
 
-pub use recording::{RecordError, Report, Setup, record};
+pub use recording::{Report, Setup, record};
+pub use refusal::RecordError;
 pub use session::{Session, Taken};
 pub use view::View;

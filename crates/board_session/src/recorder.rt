@@ -9,7 +9,7 @@ ghost use Rattle.board_session.specs.History.{is_fault};
 ghost use Rattle.board_session.specs.Recording.{AppendsPart};
 ghost use Rattle.board_session.specs.Recorder.{Hears, IsFed, IsRefusal, Kept, Listened, Live, TakesEvent, event_count};
 
-use crate::recording::RecordError;
+use crate::refusal::RecordError;
 use crate::session::Session;
 use chess_rules::Position;
 use dgt_frame::{Decoder, Event, First, Watch};

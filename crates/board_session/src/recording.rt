@@ -9,6 +9,7 @@ ghost use Rattle.board_session.specs.Settings.{Setting};
 ghost use Rattle.board_session.specs.Recording.{AppendsPart, Leaves, RecordsAll};
 ghost use Rattle.board_session.specs.Recorder.{Finished, Kept, event_count};
 
+use crate::refusal::RecordError;
 use crate::recorder::{LIMIT, Recorder};
 use chess_rules::Position;
 use dgt_frame::{First, Watch};
@@ -16,7 +17,6 @@ use pgn_book::laws::one_game;
 use pgn_book::{Game, Tags, write_pgn};
 use std::alloc::Global;
 use std::io::{Read, Write};
-use thiserror::Error;
 
 /// How a recording is set up.
 #[derive(Drop)]
@@ -42,27 +42,6 @@ pub struct Report {
     pub moves: u32,
     /// The bytes of an unfinished frame at the end.
     pub rest: u16,
-}
-
-/// Why a recording gave up. The first of `Memory`, `Read`, `Board` and `TooLong` that comes ends the reading; the text of the
-/// events taken so far is written after it, and where that fails too it is `Write`.
-#[derive(Clone, Copy, Debug, PartialEq, Eq, Error)]
-pub enum RecordError {
-    /// There was no memory for a move.
-    #[error("out of memory")]
-    Memory,
-    /// A read from the board failed; one that was interrupted counts as failed.
-    #[error("a read from the board failed")]
-    Read,
-    /// A command could not be sent to the board: a write failed or took no byte, or the flush failed.
-    #[error("a write to the board failed")]
-    Board,
-    /// The text could not be written: a write failed or took no byte, or the flush failed.
-    #[error("a write of the game failed")]
-    Write,
-    /// The stream has more than 67,108,864 bytes.
-    #[error("the stream is too long")]
-    TooLong,
 }
 
 /// Writes the text of the game at once.

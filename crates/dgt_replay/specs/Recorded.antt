@@ -1,8 +1,8 @@
 -- What `record` does.
 use Rattle.std.specs.Prelude.{◌≡◌, ◌⊎◌, ℕ, List, ◌++◌, codes, decimal, Bool, Option, Err, true}
 use Rattle.std.specs.Io.KnownBytes.{Appends, Keeps}
-use Rattle.board_session.specs.declared.recording.RecordError.{RecordError}
-use Rattle.board_session.specs.declared.recording.RecordError.TheVariants.{Read, Board, Write}
+use Rattle.board_session.specs.declared.refusal.RecordError.{RecordError}
+use Rattle.board_session.specs.declared.refusal.RecordError.TheVariants.{Read, Board, Write}
 use Rattle.board_session.specs.declared.recording.Report.{Report}
 use Rattle.board_session.specs.declared.recording.Setup.{Setup}
 use Rattle.board_session.specs.Recording.{AppendsPart, Leaves, RecordsAll}

@@ -2,7 +2,7 @@
 ghost use Rattle.std.specs.Prelude.{◌≡◌, ◌≢◌, ◌≤◌, ◌⊎◌, Bool, List, ℕ, Option, codes, map, string_bytes, false, true};
 ghost use Rattle.std.specs.Borrow.{Bor};
 ghost use Rattle.std.specs.Io.KnownBytes.{Keeps};
-ghost use Rattle.board_session.specs.declared.recording.RecordError.{RecordError};
+ghost use Rattle.board_session.specs.declared.refusal.RecordError.{RecordError};
 ghost use Rattle.board_session.specs.declared.recording.Setup.{Setup};
 ghost use Rattle.board_session.specs.Settings.{Setting};
 ghost use Rattle.chess_rules.specs.declared.parts.Parts.{Parts as PartsOf};

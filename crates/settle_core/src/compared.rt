@@ -5,7 +5,8 @@ ghost use Rattle.settle_core.specs.Settling.{Settles};
 ghost use Rattle.settle_core.specs.Masks.{IsDiff, IsShown};
 ghost use Rattle.settle_core.specs.Kept.{HasLanded, IsCompared, OnlyLacks};
 
-use crate::laws::{candidate_among, diff_mask, is_owned, landing};
+use crate::candidate::{candidate_among, is_owned, landing};
+use crate::masks::diff_mask;
 use chess_rules::laws::pictures_tell_moves;
 use chess_rules::{Move, Position};
 

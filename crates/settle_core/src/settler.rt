@@ -14,7 +14,7 @@ ghost use Rattle.settle_core.specs.Kept.{CanReplace, IsComparedIn, IsLastSet, la
 
 use crate::compared::{Compared, copy, shown_after};
 use crate::game::{Outcome, Ply, Seen};
-use crate::laws::shown_in;
+use crate::masks::shown_in;
 use crate::signs::sign_of;
 use chess_rules::{Move, Position, Side, Square};
 use dgt_frame::{Hms, Reading};

@@ -9,7 +9,7 @@ ghost use Rattle.settle_core.specs.Entries.{Entry, repeats};
 ghost use Rattle.settle_core.specs.Tips.{IsTip, IsOther, LeadsTo};
 
 use crate::compared::{Compared, copy, same_move};
-use crate::laws::shown_in;
+use crate::masks::shown_in;
 use crate::signs::sign_of;
 use chess_rules::{Move, Position};
 

@@ -1,7 +1,7 @@
 use Rattle.std.proofs.Common.{w64}
 use Rattle.std.proofs.lemmas.Nat.Bits.{bit_at_clear_same, bit_at_clear_other}
 use Rattle.settle_core.proofs.Visiting.{cleared_smaller}
-use Rattle.settle_core.proofs.laws.without.Goals as goal
+use Rattle.settle_core.proofs.masks.without.Goals as goal
 
 pub returns : goal.returns
 returns c = record {

@@ -1,6 +1,6 @@
 use Rattle.std.proofs.Common.{true}
 use Rattle.settle_core.proofs.Visiting.{not_landed}
-use Rattle.settle_core.proofs.laws.king_landing.Goals as goal
+use Rattle.settle_core.proofs.candidate.king_landing.Goals as goal
 
 pub loop-rest-init : goal.loop-rest-init
 loop-rest-init c k low unset =

@@ -1,6 +1,6 @@
 use Rattle.std.proofs.Common.{w64}
 use Rattle.std.proofs.lemmas.Nat.Bits.{bit_at-trailing_zeros}
-use Rattle.settle_core.proofs.laws.first_square.Goals as goal
+use Rattle.settle_core.proofs.masks.first_square.Goals as goal
 
 pub returns-clause-set : goal.returns-clause-set
 returns-clause-set c =

@@ -3,7 +3,7 @@ use Rattle.std.proofs.lemmas.Nat.Bits.{bit_at-zero}
 use Rattle.std.specs.Int.{bit_at}
 use Rattle.settle_core.specs.Masks.{IsLanded}
 use Rattle.settle_core.proofs.Visiting.{not_landed}
-use Rattle.settle_core.proofs.laws.landing.Goals as goal
+use Rattle.settle_core.proofs.candidate.landing.Goals as goal
 
 pub returns-then-squares-gt0-clause-some : goal.returns-then-squares-gt0-clause-some
 returns-then-squares-gt0-clause-some c =
