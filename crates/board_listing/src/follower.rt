@@ -122,7 +122,7 @@ impl Follower {
         ensures memory { (setting : Setting) (past : List EventOf) → HasFollowed self.old setting past
             → OnErr result (WantsMemory setting past event.now) }
     {
-        let taken = match self.session.take(*event) {
+        let taken = match self.session.take_ref(event) {
             Ok(taken) => taken,
             Err(error) => return Err(error),
         };

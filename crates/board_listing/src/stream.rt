@@ -117,7 +117,7 @@ fn list_piece<O: Write>(
 {
     let mut lines = Lines::new();
     let mut taken = 0;
-    'events: while let Some(arrival) = decoder.push_until(&piece[taken..]) {
+    'events: while let Some(arrival) = &decoder.push_until(&piece[taken..]) {
         let last = taken + arrival.taken - 1;
         if let Err(error) = gather(
             printer,

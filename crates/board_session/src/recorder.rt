@@ -71,22 +71,22 @@ impl Recorder {
     /// Takes the next event, and sends what it asks for.
     fn take_event<B: Write>(
         &mut self,
-        event: Event,
+        event: &Event,
         board: &mut Watch<B>,
     ) -> Result<(), RecordError>
-        requires frame { HasFrame event }
+        requires frame { HasFrame event.now }
         requires room { event_count self.old < 2 ^ 31 }
         requires working { has_failed board.old ≡ false }
         ensures count { event_count self.new ≤ event_count self.old + 1 }
         ensures decoder { self.new.decoder ≡ self.old.decoder }
         ensures taken { (setting : Setting) (taken : List Timed) (offset : ℕ) → Kept self.old setting taken
-            → TakesEvent self.new setting taken offset event result (B.contents (inner_of board.old)) (B.contents (inner_of board.new)) }
+            → TakesEvent self.new setting taken offset event.now result (B.contents (inner_of board.old)) (B.contents (inner_of board.new)) }
         ensures working { OnOk result (has_failed board.new ≡ false) }
         ensures failed { result ≡ Err RecordError.Board → has_failed board.new ≡ true }
         ensures blamed { has_failed board.new ≡ true → result ≡ Err RecordError.Board }
         ensures refusal { IfErr result IsRefusal }
     {
-        let Ok(taken) = self.session.take(event) else {
+        let Ok(taken) = self.session.take_ref(event) else {
             return Err(RecordError::Memory);
         };
         self.count(event);
@@ -98,13 +98,13 @@ impl Recorder {
     }
 
     /// Counts an event that was taken.
-    fn count(&mut self, event: Event)
+    fn count(&mut self, event: &Event)
         requires { event_count self.old < 2 ^ 31 }
         ensures count { event_count self.new ≡ event_count self.old + 1 }
         ensures decoder { self.new.decoder ≡ self.old.decoder }
         ensures session { self.new.session ≡ self.old.session }
-        ensures messages { self.new.messages ≡ (if is_fault event then self.old.messages else self.old.messages + 1) }
-        ensures faults { self.new.faults ≡ (if is_fault event then self.old.faults + 1 else self.old.faults) }
+        ensures messages { self.new.messages ≡ (if is_fault event.now then self.old.messages else self.old.messages + 1) }
+        ensures faults { self.new.faults ≡ (if is_fault event.now then self.old.faults + 1 else self.old.faults) }
     {
         match event {
             Event::Message(_) => self.messages += 1,
@@ -130,8 +130,8 @@ impl Recorder {
         ensures refusal { IfErr result IsRefusal }
     {
         let mut at = 0;
-        'events: while let Some(arrival) = self.decoder.push_until(&chunk[at..]) {
-            self.take_event(arrival.event, board)?;
+        'events: while let Some(arrival) = &self.decoder.push_until(&chunk[at..]) {
+            self.take_event(&arrival.event, board)?;
             at += arrival.taken;
         }
         Ok(())

@@ -9,8 +9,8 @@ ghost use Rattle.board_session.specs.Settings.{Setting};
 ghost use Rattle.board_session.specs.Recording.{AppendsPart, Leaves, RecordsAll};
 ghost use Rattle.board_session.specs.Recorder.{Finished, Kept, event_count};
 
-use crate::refusal::RecordError;
 use crate::recorder::{LIMIT, Recorder};
+use crate::refusal::RecordError;
 use chess_rules::Position;
 use dgt_frame::{First, Watch};
 use pgn_book::laws::one_game;

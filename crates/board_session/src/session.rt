@@ -93,11 +93,24 @@ impl Session {
         ensures memory { (setting : Setting) (past : List Event) → StandsFor self.old setting past
             → OnErr result (WantsMemory setting past event) }
     {
+        self.take_ref(&event)
+    }
+
+    /// The same, of an event that stays where it stands.
+    ///
+    /// # Errors
+    ///
+    /// As `take`.
+    #[inline(always)]
+    pub fn take_ref(&mut self, event: &Event) -> Result<Taken, AllocError>
+        requires { IsInRange event.now }
+        ensures { Takes self.old event.now result self.new }
+    {
         match event {
-            Event::Message(Message::Dump(codes)) => self.take_dump(codes),
-            Event::Message(Message::Update { field, code }) => self.take_update(field, code),
+            Event::Message(Message::Dump(codes)) => self.take_dump(*codes),
+            Event::Message(Message::Update { field, code }) => self.take_update(*field, *code),
             Event::Message(Message::Time(times)) => {
-                self.take_time(times);
+                self.take_time(*times);
                 Ok(NOTHING)
             }
             Event::Message(Message::Other { .. }) => Ok(NOTHING),

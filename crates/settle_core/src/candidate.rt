@@ -23,12 +23,7 @@ pub fn candidate(before: &[u8; 64], after: &[u8; 64], mask: u64) -> Option<Move>
 }
 
 /// The same, where it is known which squares show pieces.
-pub fn candidate_among(
-    before: &[u8; 64],
-    after: &[u8; 64],
-    mask: u64,
-    shown: u64,
-) -> Option<Move>
+pub fn candidate_among(before: &[u8; 64], after: &[u8; 64], mask: u64, shown: u64) -> Option<Move>
     requires differ { IsDiff mask before.now after.now }
     requires shown { IsShown shown after.now }
     ensures finds { (p : PartsOf) (m : MoveOf) → Valid p → before.now ≡ picture p → Settles p after.now m → result ≡ Some m }
@@ -86,7 +81,12 @@ pub fn king_landing(before: &[u8; 64], after: &[u8; 64], mask: u64, shown: u64) 
 }
 
 /// A square on which a piece landed, where no more than three squares differ: only castling changes four.
-fn landing_without_castling(before: &[u8; 64], after: &[u8; 64], mask: u64, shown: u64) -> Option<u8>
+fn landing_without_castling(
+    before: &[u8; 64],
+    after: &[u8; 64],
+    mask: u64,
+    shown: u64,
+) -> Option<u8>
     requires differ { IsDiff mask before.now after.now }
     requires shown { IsShown shown after.now }
     ensures range { IfSome result (λ s. s < 64) }

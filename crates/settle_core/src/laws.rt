@@ -3,7 +3,6 @@ ghost use Rattle.settle_core.specs.Laws.{FoldsOnce, FoldsSome, FrontsOfHonestPla
 
 pub use crate::candidate::candidate;
 pub use crate::masks::diff_mask;
-
 use crate::tips::{Tip, repeats_at};
 use chess_rules::Position;
 

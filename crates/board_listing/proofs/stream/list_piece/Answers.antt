@@ -1,6 +1,6 @@
-use Rattle.std.proofs.Common.{◌≡◌, ◌+◌, ◌-◌, ◌<◌, ◌≤◌, ◌++◌, List, ℕ, length, take, drop, sym, ap, ◌∙◌, subst, take_all, take-add, length-drop, arith, rules}
+use Rattle.std.proofs.Common.{◌≡◌, ◌+◌, ◌-◌, ◌<◌, ◌≤◌, ◌++◌, List, ℕ, length, take, drop, sym, ap, ◌∙◌, subst, take_all, take-add, length-drop, arith, rules, IfSome, IfNone}
 use Rattle.std.proofs.lemmas.List.{length-take-le, take-append-drop}
-use Rattle.dgt_frame.specs.Decoder.{TakesUpTo}
+use Rattle.dgt_frame.specs.Decoder.{TakesAll, TakesUpTo}
 use Rattle.dgt_frame.specs.Watch.{inner_of}
 use Rattle.board_listing.specs.Progress.{BreaksOff, ListsPiece}
 use Rattle.board_listing.proofs.PieceLemmas.{breaks_end, breaks_event, lists_end, lists_event, lists_none, lists_start, taken_more}
@@ -22,9 +22,13 @@ events-preserved g c =
     let front = take c.events.taken piece in
     let more = drop c.events.taken piece in
     let all : take (length piece - c.events.taken) more ≡ more = take_all (length piece - c.events.taken) more (omega (arith, length-drop c.events.taken piece)) in
-    let takes : TakesUpTo c.events.decoder more c.in-Some.arrival.taken c.in-Some.arrival.event c.push_until.new.self = rw all at c.in-Some.ensures.some in
-    let inside : c.in-Some.arrival.taken ≤ length more = rw all at c.in-Some.ensures.taken.1 in
-    let some : 0 < c.in-Some.arrival.taken = c.in-Some.ensures.taken.0 in
+    let taken : TakesUpTo c.events.decoder (take (length piece - c.events.taken) more) c.in-Some.arrival.taken c.in-Some.arrival.event c.push_until.new.self =
+    subst (λ found. IfSome found (λ arrival. TakesUpTo c.events.decoder (take (length piece - c.events.taken) more) arrival.taken arrival.event c.push_until.new.self)) c.in-Some.is c.push_until.ensures.some in
+    let takes : TakesUpTo c.events.decoder more c.in-Some.arrival.taken c.in-Some.arrival.event c.push_until.new.self = rw all at taken in
+    let counts : (0 < c.in-Some.arrival.taken) × (c.in-Some.arrival.taken ≤ length (take (length piece - c.events.taken) more)) =
+    subst (λ found. IfSome found (λ arrival. (0 < arrival.taken) × (arrival.taken ≤ length (take (length piece - c.events.taken) more)))) c.in-Some.is c.push_until.ensures.taken in
+    let inside : c.in-Some.arrival.taken ≤ length more = rw all at counts.1 in
+    let some : 0 < c.in-Some.arrival.taken = counts.0 in
     let front_long : length front ≡ c.events.taken = length-take-le c.events.taken piece c.events.invariant.inside in
     record {
       inside = omega (arith, inside, length-drop c.events.taken piece);
@@ -48,8 +52,12 @@ returns-in-Err-clause-broken g c =
     let front = take c.events.taken piece in
     let more = drop c.events.taken piece in
     let all : take (length piece - c.events.taken) more ≡ more = take_all (length piece - c.events.taken) more (omega (arith, length-drop c.events.taken piece)) in
-    let takes : TakesUpTo c.events.decoder more count c.in-Some.arrival.event c.push_until.new.self = rw all at c.in-Some.ensures.some in
-    let some : 0 < count = c.in-Some.ensures.taken.0 in
+    let taken : TakesUpTo c.events.decoder (take (length piece - c.events.taken) more) count c.in-Some.arrival.event c.push_until.new.self =
+    subst (λ found. IfSome found (λ arrival. TakesUpTo c.events.decoder (take (length piece - c.events.taken) more) arrival.taken arrival.event c.push_until.new.self)) c.in-Some.is c.push_until.ensures.some in
+    let takes : TakesUpTo c.events.decoder more count c.in-Some.arrival.event c.push_until.new.self = rw all at taken in
+    let counts : (0 < count) × (count ≤ length (take (length piece - c.events.taken) more)) =
+    subst (λ found. IfSome found (λ arrival. (0 < arrival.taken) × (arrival.taken ≤ length (take (length piece - c.events.taken) more)))) c.in-Some.is c.push_until.ensures.taken in
+    let some : 0 < count = counts.0 in
     let front_long : length front ≡ c.events.taken = length-take-le c.events.taken piece c.events.invariant.inside in
     let left = drop (c.events.taken + count) piece in
     let piece_is : (front ++ take count more) ++ left ≡ piece = ap (λ bs. bs ++ left) (sym (take-add c.events.taken count piece)) ∙ take-append-drop (c.events.taken + count) piece in
@@ -66,10 +74,12 @@ returns-in-Ok-clause-ok g c =
     let piece = c.args.piece.now in
     let more = drop c.events.taken piece in
     let all : take (length piece - c.events.taken) more ≡ more = take_all (length piece - c.events.taken) more (omega (arith, length-drop c.events.taken piece)) in
+    let none : TakesAll c.events.decoder (take (length piece - c.events.taken) more) c.push_until.new.self =
+    subst (λ found. IfNone found (TakesAll c.events.decoder (take (length piece - c.events.taken) more) c.push_until.new.self)) c.in_default.is c.push_until.ensures.none in
     let P : List ℕ → Type 0 = λ bytes. ListsPiece c.args.decoder.now c.args.printer.now c.args.start bytes c.push_until.new.self c.events.printer before written c.events.lines.items in
     let listing : ListsPiece c.args.decoder.now c.args.printer.now c.args.start piece c.push_until.new.self c.events.printer before written c.events.lines.items =
     subst P (take-append-drop c.events.taken piece) (lists_none c.args.decoder.now c.events.decoder c.push_until.new.self c.args.printer.now c.events.printer c.args.start
-    (take c.events.taken piece) more before written c.events.lines.items (rw all at c.in_default.ensures.none) c.events.invariant.listing) in
+    (take c.events.taken piece) more before written c.events.lines.items (rw all at none) c.events.invariant.listing) in
     lists_end c.args.decoder.now c.push_until.new.self c.args.printer.now c.events.printer c.args.start piece before written after c.events.lines.items (rw c.as_slice.ensures.value at c.in-Ok.ensures.ok) listing
 
 pub returns-in-Err-put-clause-broken : goal.returns-in-Err-put-clause-broken
@@ -80,9 +90,11 @@ returns-in-Err-put-clause-broken g c =
     let piece = c.args.piece.now in
     let more = drop c.events.taken piece in
     let all : take (length piece - c.events.taken) more ≡ more = take_all (length piece - c.events.taken) more (omega (arith, length-drop c.events.taken piece)) in
+    let none : TakesAll c.events.decoder (take (length piece - c.events.taken) more) c.push_until.new.self =
+    subst (λ found. IfNone found (TakesAll c.events.decoder (take (length piece - c.events.taken) more) c.push_until.new.self)) c.in_default.is c.push_until.ensures.none in
     let P : List ℕ → Type 0 = λ bytes. ListsPiece c.args.decoder.now c.args.printer.now c.args.start bytes c.push_until.new.self c.events.printer before written c.events.lines.items in
     let listing : ListsPiece c.args.decoder.now c.args.printer.now c.args.start piece c.push_until.new.self c.events.printer before written c.events.lines.items =
     subst P (take-append-drop c.events.taken piece) (lists_none c.args.decoder.now c.events.decoder c.push_until.new.self c.args.printer.now c.events.printer c.args.start
-    (take c.events.taken piece) more before written c.events.lines.items (rw all at c.in_default.ensures.none) c.events.invariant.listing) in
+    (take c.events.taken piece) more before written c.events.lines.items (rw all at none) c.events.invariant.listing) in
     breaks_end c.args.decoder.now c.push_until.new.self c.args.printer.now c.events.printer c.args.start c.in-Err-put.field-0.written piece before written after c.events.lines.items
     (rw c.as_slice.ensures.value at c.in-Err-put.ensures.fault.1) listing

@@ -11,13 +11,13 @@ returns-in-Err-clause-memory c setting past followed = c.in-Err.ensures.memory s
 pub returns-then-taken-clause-ok : goal.returns-then-taken-clause-ok
 returns-then-taken-clause-ok c setting past followed =
     let x : Timed = record { offset = c.args.offset; event = c.args.event.now } in
-    added_fault c.args.self.now c.take.new.self setting past x c.in-Ok.taken c.args.lines.now.items c.add_line.new.lines.items followed
+    added_fault c.args.self.now c.take_ref.new.self setting past x c.in-Ok.taken c.args.lines.now.items c.add_line.new.lines.items followed
     (c.in-Ok.ensures.stands setting past followed.stands) (c.in-Ok.ensures.tells setting past followed.stands) c.if-taken.true c.add_line.ensures
 
 pub returns-in_default-clause-ok : goal.returns-in_default-clause-ok
 returns-in_default-clause-ok c setting past followed =
     let x : Timed = record { offset = c.args.offset; event = c.args.event.now } in
-    added_nothing c.args.self.now c.take.new.self setting past x c.in-Ok.taken c.args.lines.now.items c.args.lines.now.items followed
+    added_nothing c.args.self.now c.take_ref.new.self setting past x c.in-Ok.taken c.args.lines.now.items c.args.lines.now.items followed
     (c.in-Ok.ensures.stands setting past followed.stands) (c.in-Ok.ensures.tells setting past followed.stands) c.if-taken.false c.in_default.is refl
 
 pub tell-requires-clause-may : goal.tell-requires-clause-may
@@ -25,8 +25,8 @@ tell-requires-clause-may c = rw c.in-Some.seen-is (λ other.
     let setting = c.requires.followed.0 in
     let past = c.requires.followed.1 in
     let followed = c.requires.followed.2 in
-    may_tell_news c.take.new.self.settler setting.start (entries_in setting past) (entry_at setting.first setting.rotated (c.args.event.now ∷ past)) c.in-Some.seen
-    (news c.args.self.now c.take.new.self setting past c.args.event.now c.in-Ok.taken c.in-Some.seen followed
+    may_tell_news c.take_ref.new.self.settler setting.start (entries_in setting past) (entry_at setting.first setting.rotated (c.args.event.now ∷ past)) c.in-Some.seen
+    (news c.args.self.now c.take_ref.new.self setting past c.args.event.now c.in-Ok.taken c.in-Some.seen followed
     (c.in-Ok.ensures.stands setting past followed.stands) (c.in-Ok.ensures.tells setting past followed.stands) c.in-Some.is other))
 
 pub returns-clause-ok : goal.returns-clause-ok
@@ -39,12 +39,12 @@ returns-clause-ok c setting past followed =
     elim (is_same c.in-Some.seen) [
       | inl same ↦
           let kept = told.same same in
-          let whole = added_same c.args.self.now c.take.new.self setting past x c.in-Ok.taken c.in-Some.seen c.args.lines.now.items c.tell.new.lines.items followed
+          let whole = added_same c.args.self.now c.take_ref.new.self setting past x c.in-Ok.taken c.in-Some.seen c.args.lines.now.items c.tell.new.lines.items followed
           stands tells c.if-taken.false c.in-Some.is same kept.1 in
           rw kept.0 whole
       | inr other ↦
-          let fresh = news c.args.self.now c.take.new.self setting past c.args.event.now c.in-Ok.taken c.in-Some.seen followed stands tells c.in-Some.is other in
+          let fresh = news c.args.self.now c.take_ref.new.self setting past c.args.event.now c.in-Ok.taken c.in-Some.seen followed stands tells c.in-Some.is other in
           added_news c.args.self.now c.tell.new.self setting past x c.in-Ok.taken c.in-Some.seen c.args.lines.now.items c.tell.new.lines.items followed
           (rw told.session stands) tells c.if-taken.false c.in-Some.is (rw told.session fresh)
-          (rw told.session (told.told other entry.picture fresh.last (told_waits c.args.self.now c.take.new.self.settler setting past entry c.in-Some.seen followed fresh)))
+          (rw told.session (told.told other entry.picture fresh.last (told_waits c.args.self.now c.take_ref.new.self.settler setting past entry c.in-Some.seen followed fresh)))
     ]

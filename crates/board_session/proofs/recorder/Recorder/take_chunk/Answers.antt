@@ -1,4 +1,4 @@
-use Rattle.std.proofs.Common.{◌≡◌, ℕ, ◌+◌, ◌-◌, ◌<◌, ◌≤◌, List, ◌++◌, length, length-drop, take, take_all, drop, arith, append_assoc, subst, Ok, Err}
+use Rattle.std.proofs.Common.{◌≡◌, ℕ, ◌+◌, ◌-◌, ◌<◌, ◌≤◌, List, ◌++◌, length, length-drop, take, take_all, drop, arith, append_assoc, subst, IfSome, IfNone, Ok, Err}
 use Rattle.std.proofs.lemmas.Result.{err_from_is_err_and}
 use Rattle.dgt_frame.specs.Decoder.{TakesAll, TakesUpTo}
 use Rattle.dgt_frame.specs.Watch.{inner_of}
@@ -14,15 +14,19 @@ events-preserved g c =
     let event = c.in-Some.arrival.event in
     let more = drop at chunk in
     let all : take (length chunk - at) more ≡ more = take_all (length chunk - at) more (omega (arith, length-drop at chunk)) in
-    let takes : TakesUpTo c.events.self.decoder more n event c.push_until.new.self = rw all at c.in-Some.ensures.some in
-    let inside : n ≤ length more = rw all at c.in-Some.ensures.taken.1 in
-    let some : 0 < n = c.in-Some.ensures.taken.0 in
+    let some : TakesUpTo c.events.self.decoder (take (length chunk - at) more) n event c.push_until.new.self =
+    subst (λ found. IfSome found (λ arrival. TakesUpTo c.events.self.decoder (take (length chunk - at) more) arrival.taken arrival.event c.push_until.new.self)) c.in-Some.is c.push_until.ensures.some in
+    let takes : TakesUpTo c.events.self.decoder more n event c.push_until.new.self = rw all at some in
+    let counts : (0 < n) × (n ≤ length (take (length chunk - at) more)) =
+    subst (λ found. IfSome found (λ arrival. (0 < arrival.taken) × (arrival.taken ≤ length (take (length chunk - at) more)))) c.in-Some.is c.push_until.ensures.taken in
+    let inside : n ≤ length more = rw all at counts.1 in
+    let any : 0 < n = counts.0 in
     let fed = c.events.invariant.fed in
     record {
       inside = omega (arith, inside, length-drop at chunk);
       fed = (_, _, rw (← c.take_event.ensures.decoder) at (takes fed.0 fed.1 fed.2));
       working = c.in_ok-take_event.ensures.working;
-      count = omega (arith, c.take_event.ensures.count, c.events.invariant.count, some);
+      count = omega (arith, c.take_event.ensures.count, c.events.invariant.count, any);
       hears = λ setting before bytes taken h.
           let live = c.events.invariant.hears setting before bytes taken h in
           let read = bytes ++ take at chunk in
@@ -49,7 +53,9 @@ returns-in_err-take_event-clause-hears g c = let p = err_from_is_err_and c.from_
     let more = drop at chunk in
     let sent = g.B.Write.contents (inner_of c.take_event.new.board) in
     let all : take (length chunk - at) more ≡ more = take_all (length chunk - at) more (omega (arith, length-drop at chunk)) in
-    let takes : TakesUpTo c.events.self.decoder more n event c.push_until.new.self = rw all at c.in-Some.ensures.some in
+    let some : TakesUpTo c.events.self.decoder (take (length chunk - at) more) n event c.push_until.new.self =
+    subst (λ found. IfSome found (λ arrival. TakesUpTo c.events.self.decoder (take (length chunk - at) more) arrival.taken arrival.event c.push_until.new.self)) c.in-Some.is c.push_until.ensures.some in
+    let takes : TakesUpTo c.events.self.decoder more n event c.push_until.new.self = rw all at some in
     let live = c.events.invariant.hears setting before bytes taken h in
     let read = bytes ++ take at chunk in
     let offset = length read + (n - 1) in
@@ -69,7 +75,9 @@ returns-clause-hears g c = λ setting before bytes taken h.
     let at = c.events.at in
     let more = drop at chunk in
     let all : take (length chunk - at) more ≡ more = take_all (length chunk - at) more (omega (arith, length-drop at chunk)) in
-    let takes : TakesAll c.events.self.decoder more c.push_until.new.self = rw all at c.in_default.ensures.none in
+    let none : TakesAll c.events.self.decoder (take (length chunk - at) more) c.push_until.new.self =
+    subst (λ found. IfNone found (TakesAll c.events.self.decoder (take (length chunk - at) more) c.push_until.new.self)) c.in_default.is c.push_until.ensures.none in
+    let takes : TakesAll c.events.self.decoder more c.push_until.new.self = rw all at none in
     let live = c.events.invariant.hears setting before bytes taken h in (
       live.0,
       record {
