@@ -14,6 +14,7 @@ pub fn lines_give_the_game()
 pub fn follow_tells_the_game()
     ensures { FollowTellsTheGame }
 {
+    // The law that this one rests on.
     shows_once();
 }
 
@@ -21,6 +22,7 @@ pub fn follow_tells_the_game()
 pub fn lines_give_one_game()
     ensures { LinesGiveOneGame }
 {
+    // The laws that this one rests on.
     texts_are_plain();
     texts_tell_moves();
 }

@@ -69,6 +69,7 @@ pub fn three_unseen_add_nothing()
 pub fn honest_play_is_written()
     ensures { HonestPlayIsWritten }
 {
+    // The law that this one rests on.
     shows_once();
 }
 
@@ -77,6 +78,7 @@ pub fn honest_play_is_written()
 pub fn honest_front_is_written()
     ensures { HonestFrontIsWritten }
 {
+    // The law that this one rests on.
     fronts_show_fronts();
 }
 
@@ -84,6 +86,7 @@ pub fn honest_front_is_written()
 pub fn kings_end_is_written()
     ensures { KingsEndIsWritten }
 {
+    // The law that this one rests on.
     shows_once();
 }
 

@@ -195,6 +195,7 @@ impl Position {
         ensures valid { IfOk result Valid }
         ensures err { IfErr result (FailsFirst parts) }
     {
+        // A board has 64 squares.
         count_squares(&parts.board);
         if !has_counters(&parts) {
             return Err(Invalid::Counters);

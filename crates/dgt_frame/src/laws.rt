@@ -24,5 +24,6 @@ pub fn shows_some(bytes: &[u8])
     for byte in bytes {
         decoder.push(*byte);
     }
+    // The bytes show the events so far and this rest: only that is wanted.
     decoder.pending();
 }

@@ -53,6 +53,7 @@ fn last_position(start: &Position, plies: &[Ply]) -> Position
 {
     let mut position = *start;
     for ply in plies {
+        // A reading of a clock is in range.
         count_clock(&ply.clock);
         position = position.play(ply.mv);
     }

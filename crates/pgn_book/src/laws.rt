@@ -7,6 +7,7 @@ use chess_text::laws::{moves_tell_texts, texts_are_plain, texts_tell_moves, text
 pub fn one_game()
     ensures { TextsTellGames }
 {
+    // The laws that this one rests on.
     texts_are_plain();
     texts_tell_moves();
     texts_tell_positions();
@@ -16,6 +17,7 @@ pub fn one_game()
 pub fn one_text()
     ensures { GamesTellTexts }
 {
+    // The laws that this one rests on.
     texts_are_plain();
     moves_tell_texts();
 }

@@ -106,6 +106,7 @@ impl Compared {
         requires shown { IsShown shown seen.now }
         ensures { (m : MoveOf) → Settles self.now.position seen.now m → result ≡ Some m }
     {
+        // The position is valid.
         self.position.parts();
         candidate_among(&self.picture, seen, self.mask, shown)
     }
@@ -152,6 +153,7 @@ impl Compared {
         ensures none { IfNone result ((m : MoveOf) → Settles self.now.position seen.now m → m ≡ last.now) }
     {
         let Some(landed) = self.landed(seen, shown) else {
+            // The position is valid.
             self.position.parts();
             return None;
         };
