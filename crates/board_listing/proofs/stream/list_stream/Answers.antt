@@ -33,7 +33,7 @@ pub returns-in-Err-clause-front : goal.returns-in-Err-clause-front
 returns-in-Err-clause-front g c =
     let so_far = g.O.Write.contents (inner_of c.chunks.out) in
     let after = g.O.Write.contents (inner_of c.list_chunk.new.out) in
-    front_at_chunk c.in-Err.error c.chunks.decoder c.list_chunk.new.decoder c.chunks.printer c.args.listing c.chunks.total c.pending-in-Err.result (67108864 - c.chunks.total) c.read_chunk.new.buffer c.in-Some.chunk
+    front_at_chunk c.in-Err.error c.chunks.decoder c.list_chunk.new.decoder c.chunks.printer c.args.listing c.chunks.total c.pending-in-Err.result _ c.read_chunk.new.buffer c.in-Some.chunk
     (g.R.Read.remaining (inner_of c.args.reader.now)) (g.R.Read.remaining (inner_of c.chunks.reader)) (g.R.Read.remaining (inner_of c.read_chunk.new.reader))
     (g.O.Write.contents (inner_of c.args.out.now)) so_far after c.chunks.invariant.done (rw c.in-Some.is at c.in-Ok.ensures.bytes)
     c.in-Err.ensures.broken c.pending-in-Err.ensures
@@ -45,7 +45,7 @@ returns-in-Err-clause-memory g c is =
     let chunk = take c.in-Some.chunk.within c.read_chunk.new.buffer in
     let same : c.in-Err.error ≡ Memory = cc in
     let P : ListError → Type 0 = λ error. BreaksOff error c.chunks.decoder c.chunks.printer c.chunks.total chunk c.list_chunk.new.decoder so_far after in
-    refused_at_chunk c.chunks.decoder c.list_chunk.new.decoder c.chunks.printer c.args.listing c.chunks.total c.pending-in-Err.result (67108864 - c.chunks.total) c.read_chunk.new.buffer c.in-Some.chunk
+    refused_at_chunk c.chunks.decoder c.list_chunk.new.decoder c.chunks.printer c.args.listing c.chunks.total c.pending-in-Err.result _ c.read_chunk.new.buffer c.in-Some.chunk
     (g.R.Read.remaining (inner_of c.args.reader.now)) (g.R.Read.remaining (inner_of c.chunks.reader)) (g.R.Read.remaining (inner_of c.read_chunk.new.reader))
     (g.O.Write.contents (inner_of c.args.out.now)) so_far after c.chunks.invariant.done (rw c.in-Some.is at c.in-Ok.ensures.bytes)
     (subst P same c.in-Err.ensures.broken) c.pending-in-Err.ensures
@@ -59,7 +59,7 @@ pub returns-then-chunk-clause-front : goal.returns-then-chunk-clause-front
 returns-then-chunk-clause-front g c =
     let so_far = g.O.Write.contents (inner_of c.chunks.out) in
     let after = g.O.Write.contents (inner_of c.list_chunk.new.out) in
-    front_past_limit c.chunks.decoder c.list_chunk.new.decoder c.chunks.printer c.list_chunk.new.printer c.args.listing c.chunks.total c.pending-then-chunk.result (67108864 - c.chunks.total) c.read_chunk.new.buffer c.in-Some.chunk
+    front_past_limit c.chunks.decoder c.list_chunk.new.decoder c.chunks.printer c.list_chunk.new.printer c.args.listing c.chunks.total c.pending-then-chunk.result _ c.read_chunk.new.buffer c.in-Some.chunk
     (g.R.Read.remaining (inner_of c.args.reader.now)) (g.R.Read.remaining (inner_of c.chunks.reader)) (g.R.Read.remaining (inner_of c.read_chunk.new.reader))
     (g.O.Write.contents (inner_of c.args.out.now)) so_far after c.chunks.invariant.done (rw c.in-Some.is at c.in-Ok.ensures.bytes)
     c.in_default-list_chunk.ensures.ok
@@ -69,7 +69,7 @@ pub returns-then-chunk-clause-long : goal.returns-then-chunk-clause-long
 returns-then-chunk-clause-long g c same =
     let so_far = g.O.Write.contents (inner_of c.chunks.out) in
     let after = g.O.Write.contents (inner_of c.list_chunk.new.out) in
-    first_at_limit c.chunks.decoder c.list_chunk.new.decoder c.chunks.printer c.list_chunk.new.printer c.args.listing c.chunks.total c.pending-then-chunk.result (67108864 - c.chunks.total) c.read_chunk.new.buffer c.in-Some.chunk
+    first_at_limit c.chunks.decoder c.list_chunk.new.decoder c.chunks.printer c.list_chunk.new.printer c.args.listing c.chunks.total c.pending-then-chunk.result _ c.read_chunk.new.buffer c.in-Some.chunk
     (g.R.Read.remaining (inner_of c.args.reader.now)) (g.R.Read.remaining (inner_of c.chunks.reader)) (g.R.Read.remaining (inner_of c.read_chunk.new.reader))
     (g.O.Write.contents (inner_of c.args.out.now)) so_far after (omega (arith, c.chunks.invariant.within)) c.if-chunk.true
     c.chunks.invariant.done (rw c.in-Some.is at c.in-Ok.ensures.bytes)
@@ -82,26 +82,26 @@ chunks-preserved g c =
     let after = g.O.Write.contents (inner_of c.list_chunk.new.out) in
     let now = g.R.Read.remaining (inner_of c.chunks.reader) in
     let left = g.R.Read.remaining (inner_of c.read_chunk.new.reader) in
-    let gives : GivesChunk (67108864 - c.chunks.total) c.read_chunk.new.buffer c.in-Some.chunk now left = rw c.in-Some.is at c.in-Ok.ensures.bytes in
+    let gives : GivesChunk _ c.read_chunk.new.buffer c.in-Some.chunk now left = rw c.in-Some.is at c.in-Ok.ensures.bytes in
     record {
       within = omega (arith, c.chunks.invariant.within, (gives.none_past c.if-chunk.false).1);
       reading = search rules;
       working = c.in_default-list_chunk.ensures.working;
-      done = listed_more c.chunks.decoder c.list_chunk.new.decoder c.chunks.printer c.list_chunk.new.printer c.args.listing c.chunks.total (67108864 - c.chunks.total)
+      done = listed_more c.chunks.decoder c.list_chunk.new.decoder c.chunks.printer c.list_chunk.new.printer c.args.listing c.chunks.total _
           c.read_chunk.new.buffer c.in-Some.chunk (g.R.Read.remaining (inner_of c.args.reader.now)) now left (g.O.Write.contents (inner_of c.args.out.now)) so_far after
           c.if-chunk.false c.chunks.invariant.done gives c.in_default-list_chunk.ensures.ok;
     }
 
 pub returns-in-Err-clause-bounded : goal.returns-in-Err-clause-bounded
 returns-in-Err-clause-bounded g c =
-    reads_within c.chunks.decoder c.chunks.printer c.args.listing c.chunks.total (67108864 - c.chunks.total) c.read_chunk.new.buffer c.in-Some.chunk
+    reads_within c.chunks.decoder c.chunks.printer c.args.listing c.chunks.total _ c.read_chunk.new.buffer c.in-Some.chunk
     (g.R.Read.remaining (inner_of c.args.reader.now)) (g.R.Read.remaining (inner_of c.chunks.reader)) (g.R.Read.remaining (inner_of c.read_chunk.new.reader))
     (g.O.Write.contents (inner_of c.args.out.now)) (g.O.Write.contents (inner_of c.chunks.out)) (omega (arith, c.chunks.invariant.within))
     c.chunks.invariant.done (rw c.in-Some.is at c.in-Ok.ensures.bytes)
 
 pub returns-then-chunk-clause-bounded : goal.returns-then-chunk-clause-bounded
 returns-then-chunk-clause-bounded g c =
-    reads_within c.chunks.decoder c.chunks.printer c.args.listing c.chunks.total (67108864 - c.chunks.total) c.read_chunk.new.buffer c.in-Some.chunk
+    reads_within c.chunks.decoder c.chunks.printer c.args.listing c.chunks.total _ c.read_chunk.new.buffer c.in-Some.chunk
     (g.R.Read.remaining (inner_of c.args.reader.now)) (g.R.Read.remaining (inner_of c.chunks.reader)) (g.R.Read.remaining (inner_of c.read_chunk.new.reader))
     (g.O.Write.contents (inner_of c.args.out.now)) (g.O.Write.contents (inner_of c.chunks.out)) (omega (arith, c.chunks.invariant.within))
     c.chunks.invariant.done (rw c.in-Some.is at c.in-Ok.ensures.bytes)

@@ -1,4 +1,4 @@
-use Rattle.std.proofs.Common.{◌≡◌, ◌-◌, ◌++◌, ◌∙◌, length, take, sym, arith, rules}
+use Rattle.std.proofs.Common.{◌≡◌, ◌++◌, ◌∙◌, take, sym, arith, rules}
 use Rattle.std.proofs.KnownBytes.{Consumes-trans}
 use Rattle.std.specs.Io.KnownBytes.{Consumes}
 use Rattle.dgt_frame.specs.Input.{GivesChunk}
@@ -9,17 +9,17 @@ use Rattle.dgt_replay.proofs.check.read_text.Goals as goal
 
 pub returns-then-chunk-clause-bounded : goal.returns-then-chunk-clause-bounded
 returns-then-chunk-clause-bounded g c =
-    read_more 268435456 (268435456 - c.len.result) (g.R.Read.remaining (inner_of c.args.reader.now)) (g.R.Read.remaining (inner_of c.chunks.reader)) (g.R.Read.remaining (inner_of c.read_chunk.new.reader))
+    read_more 268435456 _ (g.R.Read.remaining (inner_of c.args.reader.now)) (g.R.Read.remaining (inner_of c.chunks.reader)) (g.R.Read.remaining (inner_of c.read_chunk.new.reader))
     c.chunks.text.items c.read_chunk.new.buffer c.in-Some.chunk c.chunks.invariant.read (rw c.in-Some.is at c.in-Ok.ensures.bytes) (omega (arith, c.chunks.invariant.within, c.len.ensures))
 
 pub returns-then-is_err-clause-bounded : goal.returns-then-is_err-clause-bounded
 returns-then-is_err-clause-bounded g c =
-    read_more 268435456 (268435456 - c.len.result) (g.R.Read.remaining (inner_of c.args.reader.now)) (g.R.Read.remaining (inner_of c.chunks.reader)) (g.R.Read.remaining (inner_of c.read_chunk.new.reader))
+    read_more 268435456 _ (g.R.Read.remaining (inner_of c.args.reader.now)) (g.R.Read.remaining (inner_of c.chunks.reader)) (g.R.Read.remaining (inner_of c.read_chunk.new.reader))
     c.chunks.text.items c.read_chunk.new.buffer c.in-Some.chunk c.chunks.invariant.read (rw c.in-Some.is at c.in-Ok.ensures.bytes) (omega (arith, c.chunks.invariant.within, c.len.ensures))
 
 pub returns-then-chunk-clause-long : goal.returns-then-chunk-clause-long
 returns-then-chunk-clause-long g c same =
-    too_long 268435456 (268435456 - c.len.result) (g.R.Read.remaining (inner_of c.args.reader.now)) (g.R.Read.remaining (inner_of c.chunks.reader)) (g.R.Read.remaining (inner_of c.read_chunk.new.reader))
+    too_long 268435456 _ (g.R.Read.remaining (inner_of c.args.reader.now)) (g.R.Read.remaining (inner_of c.chunks.reader)) (g.R.Read.remaining (inner_of c.read_chunk.new.reader))
     c.chunks.text.items c.read_chunk.new.buffer c.in-Some.chunk c.chunks.invariant.read (rw c.in-Some.is at c.in-Ok.ensures.bytes) (omega (arith, c.chunks.invariant.within, c.len.ensures)) c.if-chunk.true
 
 pub chunks-preserved : goal.chunks-preserved
@@ -29,7 +29,7 @@ chunks-preserved g c =
     let left = g.R.Read.remaining (inner_of c.read_chunk.new.reader) in
     let text = c.chunks.text.items in
     let chunk = take c.in-Some.chunk.within c.read_chunk.new.buffer in
-    let gives : GivesChunk (268435456 - c.len.result) c.read_chunk.new.buffer c.in-Some.chunk now left = rw c.in-Some.is at c.in-Ok.ensures.bytes in
+    let gives : GivesChunk _ c.read_chunk.new.buffer c.in-Some.chunk now left = rw c.in-Some.is at c.in-Ok.ensures.bytes in
     let next : Consumes input left (text ++ chunk) = Consumes-trans input now left text chunk c.chunks.invariant.read (gives.none_past c.if-chunk.false).2 in
     let text_is : c.extend_from_slice.new.self.items ≡ text ++ chunk =
     c.extend_from_slice.ensures.items ∙ if_ok c.extend_from_slice.result (text ++ chunk) text (sym c.is_err.ensures.value ∙ c.if-is_err.false) in

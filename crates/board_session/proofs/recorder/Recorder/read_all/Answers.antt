@@ -1,4 +1,4 @@
-use Rattle.std.proofs.Common.{◌≡◌, ◌≤◌, ◌-◌, [], length, take, rules, arith}
+use Rattle.std.proofs.Common.{[], rules, arith}
 use Rattle.std.proofs.lemmas.List.{length-take-le}
 use Rattle.std.proofs.lemmas.Result.{err_from_is_err_and}
 use Rattle.std.specs.Io.KnownBytes.{Consumes, IsAtEnd}
@@ -25,23 +25,19 @@ pub returns-in_err-take_chunk-clause-listened : goal.returns-in_err-take_chunk-c
 returns-in_err-take_chunk-clause-listened g c = let p = err_from_is_err_and c.from_residual.result c.from_residual.ensures.1 in rw (p.1, p.2) (λ setting before h.
     let reads = c.chunks.invariant.reads setting before h in
     let count = c.chunks.invariant.within in
-    let gives : GivesChunk (67108864 - c.chunks.total) c.read_chunk.new.buffer c.in-Some.chunk (g.R.Read.remaining (inner_of c.chunks.reader)) (g.R.Read.remaining (inner_of c.read_chunk.new.reader)) =
-    rw c.in-Some.is at c.in-Ok.ensures.bytes in
-    stopped_in_chunk c.in_err-take_chunk.field-0.0 c.take_chunk.new.self setting _ _ _ before _ reads.0 c.read_chunk.new.buffer _ c.in-Some.chunk reads.3 gives (omega (arith, reads.2))
+    stopped_in_chunk c.in_err-take_chunk.field-0.0 c.take_chunk.new.self setting _ _ _ before _ reads.0 c.read_chunk.new.buffer _ c.in-Some.chunk reads.3 (rw c.in-Some.is at c.in-Ok.ensures.bytes) (omega (arith, reads.2))
     (c.in_err-take_chunk.ensures.hears setting before reads.0 reads.1 reads.4))
 
 pub returns-then-chunk-clause-listened : goal.returns-then-chunk-clause-listened
 returns-then-chunk-clause-listened g c = λ setting before h.
     let reads = c.chunks.invariant.reads setting before h in
     let count = c.chunks.invariant.within in
-    let gives : GivesChunk (67108864 - c.chunks.total) c.read_chunk.new.buffer c.in-Some.chunk (g.R.Read.remaining (inner_of c.chunks.reader)) (g.R.Read.remaining (inner_of c.read_chunk.new.reader)) =
-    rw c.in-Some.is at c.in-Ok.ensures.bytes in
     let hears = c.in_ok-take_chunk.ensures.hears setting before reads.0 reads.1 reads.4 in
-    too_long c.take_chunk.new.self setting _ _ _ before _ reads.0 c.read_chunk.new.buffer _ c.in-Some.chunk _ reads.3 gives (omega (arith, reads.2)) c.if-chunk.true hears.1
+    too_long c.take_chunk.new.self setting _ _ _ before _ reads.0 c.read_chunk.new.buffer _ c.in-Some.chunk _ reads.3 (rw c.in-Some.is at c.in-Ok.ensures.bytes) (omega (arith, reads.2)) c.if-chunk.true hears.1
 
 pub chunks-preserved : goal.chunks-preserved
 chunks-preserved g c =
-    let gives : GivesChunk (67108864 - c.chunks.total) c.read_chunk.new.buffer c.in-Some.chunk (g.R.Read.remaining (inner_of c.chunks.reader)) (g.R.Read.remaining (inner_of c.read_chunk.new.reader)) =
+    let gives : GivesChunk _ c.read_chunk.new.buffer c.in-Some.chunk (g.R.Read.remaining (inner_of c.chunks.reader)) (g.R.Read.remaining (inner_of c.read_chunk.new.reader)) =
     rw c.in-Some.is at c.in-Ok.ensures.bytes in
     let within = gives.none_past c.if-chunk.false in
     record {
