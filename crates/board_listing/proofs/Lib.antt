@@ -3,7 +3,7 @@ pub mod GatherLemmas
 pub mod GivenGameLemmas
 pub mod LineLemmas
 pub mod OnceLemmas
-pub mod PieceLemmas
+pub mod ChunkLemmas
 pub mod PrinterLemmas
 pub mod SquareLemmas
 pub mod StreamLemmas

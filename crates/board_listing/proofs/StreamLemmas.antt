@@ -1,35 +1,26 @@
 -- What stands when a stream has been listed, wholly or in part.
-use Rattle.std.proofs.Common.{◌≡◌, ◌⊎◌, inl, inr, ℕ, ◌+◌, ◌-◌, ◌<◌, ◌≤◌, List, [], ◌∷◌, ◌++◌, length, take, drop, Option, Some, None, Result, Ok, Err, OnErr, OnOk, false, refl, sym, ◌∙◌, ap, subst, append_assoc, append-nil, length-append, length-drop, take-add, arith}
+use Rattle.std.proofs.Common.{◌≡◌, ◌⊎◌, inl, inr, ℕ, ◌+◌, ◌≤◌, List, [], ◌∷◌, ◌++◌, length, take, Option, Some, None, Result, Ok, Err, OnErr, OnOk, false, true, refl, sym, ◌∙◌, ap, subst, append_assoc, append-nil, length-append, arith}
 use Rattle.std.specs.Prelude.{if◌then◌else◌, is_err, is_ok}
 use Rattle.std.proofs.KnownBytes.{Appends-trans, Consumes-kept, Consumes-trans}
 use Rattle.std.proofs.lemmas.List.{length-take-le}
 use Rattle.std.specs.Io.KnownBytes.{Appends, Consumes, IsAtEnd, Keeps}
 use Rattle.dgt_frame.specs.declared.decode.Decoder.{Decoder}
+use Rattle.dgt_frame.specs.declared.input.ReadChunk.{ReadChunk}
 use Rattle.dgt_frame.specs.Decoder.{Decoded}
+use Rattle.dgt_frame.specs.Input.{GivesChunk}
 use Rattle.dgt_frame.specs.Streams.{Shows, Timed}
 use Rattle.board_session.specs.Recording.{limit}
 use Rattle.board_listing.specs.declared.printer.Printer.{Printer}
 use Rattle.board_listing.specs.declared.listing.Listing.{Listing}
 use Rattle.board_listing.specs.Printers.{HasBegun}
 use Rattle.board_listing.specs.Listings.{Gathers, Leaves, ListsAll, ListsFirst, ListsFront, ListsRead, ListsRefused, ReadsWithin, WritesFront, last_line}
-use Rattle.board_listing.specs.Progress.{BreaksOff, FinishBreaksOff, Finishes, HasListed, HasTaken, ListsPiece, Stops}
+use Rattle.board_listing.specs.Progress.{BreaksOff, FinishBreaksOff, Finishes, HasListed, HasTaken, ListsChunk, Stops}
 use Rattle.board_listing.specs.declared.stream.ListError.{ListError}
 use Rattle.board_listing.specs.declared.stream.ListError.TheVariants.{Memory, Read, TooLong, Write}
 
 pub if_ok : {T E : Type 0} (r : Result T E) (xs ys : List ℕ) → is_err r ≡ false → (if is_ok r then xs else ys) ≡ xs
 if_ok (Ok v) xs ys h = refl
 if_ok (Err e) xs ys h = absurd (cc)
-
--- the bytes that were read, in two parts
-pub cut_within : (buffer : List ℕ) (within n : ℕ) → within ≤ n → take n buffer ≡ take within buffer ++ take (n - within) (drop within buffer)
-cut_within buffer within n inside =
-    let sum : n ≡ within + (n - within) = omega arith in
-    ap (λ k. take k buffer) sum ∙ take-add within (n - within) buffer
-
-pub left_over : (buffer : List ℕ) (within n : ℕ) → within < n → n ≤ length buffer → 0 < length (take (n - within) (drop within buffer))
-left_over buffer within n some fits =
-    let room : n - within ≤ length (drop within buffer) = omega (arith, length-drop within buffer) in
-    omega (arith, length-take-le (n - within) (drop within buffer) room)
 
 -- the decoder was given so many bytes
 pub has_taken : (decoder : Decoder) (printer : Printer) (listing : Listing) (count : ℕ) (input now written so_far : Option (List ℕ))
@@ -77,28 +68,29 @@ front_stopped Write extra written written' text stops = stops
 front_stopped Read extra written written' text stops = absurd stops
 front_stopped TooLong extra written written' text stops = absurd stops
 
-cut_bytes : (bytes piece taken unread dropped : List ℕ) → piece ≡ taken ++ unread → bytes ++ (piece ++ dropped) ≡ (bytes ++ taken) ++ (unread ++ dropped)
-cut_bytes bytes piece taken unread dropped is = ap (λ bs. bytes ++ (bs ++ dropped)) is ∙ ap (λ bs. bytes ++ bs) (append_assoc taken unread dropped) ∙ sym (append_assoc bytes taken (unread ++ dropped))
+cut_bytes : (bytes chunk taken unread dropped : List ℕ) → chunk ≡ taken ++ unread → bytes ++ (chunk ++ dropped) ≡ (bytes ++ taken) ++ (unread ++ dropped)
+cut_bytes bytes chunk taken unread dropped is = ap (λ bs. bytes ++ (bs ++ dropped)) is ∙ ap (λ bs. bytes ++ bs) (append_assoc taken unread dropped) ∙ sym (append_assoc bytes taken (unread ++ dropped))
 
 -- A refusal came amid a chunk.
-pub front_at_piece : (error : ListError) (old new : Decoder) (printer : Printer) (listing : Listing) (count rest : ℕ) (piece dropped : List ℕ) (input now left written so_far after : Option (List ℕ))
-    → HasListed old printer listing count input now written so_far → Consumes now left (piece ++ dropped) → BreaksOff error old printer count piece new so_far after → Concludes new rest
+pub front_at_chunk : (error : ListError) (old new : Decoder) (printer : Printer) (listing : Listing) (count rest room : ℕ) (buffer : List ℕ) (chunk : ReadChunk) (input now left written so_far after : Option (List ℕ))
+    → HasListed old printer listing count input now written so_far → GivesChunk room buffer chunk now left → BreaksOff error old printer count (take chunk.within buffer) new so_far after → Concludes new rest
     → ListsFront listing input left written after
-front_at_piece error old new printer listing count rest piece dropped input now left written so_far after done read breaks concludes =
+front_at_chunk error old new printer listing count rest room buffer chunk input now left written so_far after done gives breaks concludes =
+    let heard = take chunk.within buffer in
     let bytes = done.0 in
     let events = done.1 in
     let cut = breaks listing bytes events written done.2 done.4 in
     let broken = cut.5 in
-    let consumed : Consumes input left (bytes ++ (piece ++ dropped)) = Consumes-trans input now left bytes (piece ++ dropped) done.3 read in
+    let consumed : Consumes input left (bytes ++ (heard ++ gives.beyond)) = Consumes-trans input now left bytes (heard ++ gives.beyond) done.3 gives.consumes in
     let P : List ℕ → Type 0 = λ bs. Consumes input left bs in
     let Q : List Timed → Type 0 = λ es. Shows (bytes ++ cut.0) es rest in (
       bytes ++ cut.0,
-      cut.1 ++ dropped,
+      cut.1 ++ gives.beyond,
       broken.taken,
       broken.extra,
       rest,
       broken.text,
-      subst P (cut_bytes bytes piece cut.0 cut.1 dropped cut.3) consumed,
+      subst P (cut_bytes bytes heard cut.0 cut.1 gives.beyond cut.3) consumed,
       subst Q broken.parts (concludes (bytes ++ cut.0) (events ++ cut.2) cut.4),
       broken.leaves,
       broken.lines,
@@ -106,27 +98,28 @@ front_at_piece error old new printer listing count rest piece dropped input now 
     )
 
 -- Memory ran out amid a chunk.
-pub refused_at_piece : (old new : Decoder) (printer : Printer) (listing : Listing) (count rest : ℕ) (piece dropped : List ℕ) (input now left written so_far after : Option (List ℕ))
-    → HasListed old printer listing count input now written so_far → Consumes now left (piece ++ dropped) → BreaksOff Memory old printer count piece new so_far after → Concludes new rest
+pub refused_at_chunk : (old new : Decoder) (printer : Printer) (listing : Listing) (count rest room : ℕ) (buffer : List ℕ) (chunk : ReadChunk) (input now left written so_far after : Option (List ℕ))
+    → HasListed old printer listing count input now written so_far → GivesChunk room buffer chunk now left → BreaksOff Memory old printer count (take chunk.within buffer) new so_far after → Concludes new rest
     → ListsRefused listing input left written after
-refused_at_piece old new printer listing count rest piece dropped input now left written so_far after done read breaks concludes =
+refused_at_chunk old new printer listing count rest room buffer chunk input now left written so_far after done gives breaks concludes =
+    let heard = take chunk.within buffer in
     let bytes = done.0 in
     let events = done.1 in
     let cut = breaks listing bytes events written done.2 done.4 in
     let broken = cut.5 in
     let refused = broken.stops.0.0 in
     let only : broken.extra ≡ refused ∷ [] = broken.stops.0.1 in
-    let consumed : Consumes input left (bytes ++ (piece ++ dropped)) = Consumes-trans input now left bytes (piece ++ dropped) done.3 read in
+    let consumed : Consumes input left (bytes ++ (heard ++ gives.beyond)) = Consumes-trans input now left bytes (heard ++ gives.beyond) done.3 gives.consumes in
     let P : List ℕ → Type 0 = λ bs. Consumes input left bs in
     let Q : List Timed → Type 0 = λ es. Shows (bytes ++ cut.0) es rest in
     let L : List Timed → Type 0 = λ es. Leaves listing broken.taken es in (
       bytes ++ cut.0,
-      cut.1 ++ dropped,
+      cut.1 ++ gives.beyond,
       broken.taken,
       refused,
       rest,
       broken.text,
-      subst P (cut_bytes bytes piece cut.0 cut.1 dropped cut.3) consumed,
+      subst P (cut_bytes bytes heard cut.0 cut.1 gives.beyond cut.3) consumed,
       subst Q (broken.parts ∙ ap (λ es. broken.taken ++ es) only) (concludes (bytes ++ cut.0) (events ++ cut.2) cut.4),
       subst L only broken.leaves,
       broken.lines,
@@ -134,69 +127,80 @@ refused_at_piece old new printer listing count rest piece dropped input now left
     )
 
 -- A chunk was listed.
-pub listed_more : (old new : Decoder) (printer printer' : Printer) (listing : Listing) (count : ℕ) (piece : List ℕ) (input now left written so_far after : Option (List ℕ))
-    → HasListed old printer listing count input now written so_far → Consumes now left piece → ListsPiece old printer count piece new printer' so_far after []
-    → HasListed new printer' listing (count + length piece) input left written after
-listed_more old new printer printer' listing count piece input now left written so_far after done read pieces =
-    let given = pieces listing done.0 done.1 written done.2 done.4 in (
-      done.0 ++ piece,
+pub listed_more : (old new : Decoder) (printer printer' : Printer) (listing : Listing) (count room : ℕ) (buffer : List ℕ) (chunk : ReadChunk) (input now left written so_far after : Option (List ℕ))
+    → chunk.past ≡ false → HasListed old printer listing count input now written so_far → GivesChunk room buffer chunk now left
+    → ListsChunk old printer count (take chunk.within buffer) new printer' so_far after []
+    → HasListed new printer' listing (count + chunk.within) input left written after
+listed_more old new printer printer' listing count room buffer chunk input now left written so_far after within done gives lists =
+    let heard = take chunk.within buffer in
+    let given = lists listing done.0 done.1 written done.2 done.4 in (
+      done.0 ++ heard,
       done.1 ++ given.0,
-      length-append done.0 piece ∙ ap (λ n. n + length piece) done.2,
-      Consumes-trans input now left done.0 piece done.3 read,
+      omega (arith, length-append done.0 heard, length-take-le chunk.within buffer gives.fits, done.2),
+      Consumes-trans input now left done.0 heard done.3 (gives.none_past within).2,
       given.1,
     )
 
 -- The lines of a chunk were written, and more bytes had been read.
-pub front_past_limit : (old new : Decoder) (printer printer' : Printer) (listing : Listing) (count rest : ℕ) (piece dropped : List ℕ) (input now left written so_far after : Option (List ℕ))
-    → HasListed old printer listing count input now written so_far → Consumes now left (piece ++ dropped) → ListsPiece old printer count piece new printer' so_far after [] → Concludes new rest
+pub front_past_limit : (old new : Decoder) (printer printer' : Printer) (listing : Listing) (count rest room : ℕ) (buffer : List ℕ) (chunk : ReadChunk) (input now left written so_far after : Option (List ℕ))
+    → HasListed old printer listing count input now written so_far → GivesChunk room buffer chunk now left → ListsChunk old printer count (take chunk.within buffer) new printer' so_far after [] → Concludes new rest
     → ListsFront listing input left written after
-front_past_limit old new printer printer' listing count rest piece dropped input now left written so_far after done read pieces concludes =
-    let given = pieces listing done.0 done.1 written done.2 done.4 in
+front_past_limit old new printer printer' listing count rest room buffer chunk input now left written so_far after done gives lists concludes =
+    let heard = take chunk.within buffer in
+    let given = lists listing done.0 done.1 written done.2 done.4 in
     let events = done.1 ++ given.0 in
-    let consumed : Consumes input left (done.0 ++ (piece ++ dropped)) = Consumes-trans input now left done.0 (piece ++ dropped) done.3 read in (
-      done.0 ++ piece,
-      dropped,
+    let consumed : Consumes input left (done.0 ++ (heard ++ gives.beyond)) = Consumes-trans input now left done.0 (heard ++ gives.beyond) done.3 gives.consumes in (
+      done.0 ++ heard,
+      gives.beyond,
       events,
       [],
       rest,
       given.1.text,
-      (let P : List ℕ → Type 0 = λ bs. Consumes input left bs in subst P (sym (append_assoc done.0 piece dropped)) consumed),
-      (let P : List Timed → Type 0 = λ es. Shows (done.0 ++ piece) es rest in subst P (sym (append-nil events)) (concludes (done.0 ++ piece) events given.1.decoded)),
+      (let P : List ℕ → Type 0 = λ bs. Consumes input left bs in subst P (sym (append_assoc done.0 heard gives.beyond)) consumed),
+      (let P : List Timed → Type 0 = λ es. Shows (done.0 ++ heard) es rest in subst P (sym (append-nil events)) (concludes (done.0 ++ heard) events given.1.decoded)),
       tt,
       given.1.lines,
       (last_line listing rest, (given.1.text, refl, written_all written after given.1.text given.1.gathers)),
     )
 
 -- There are more bytes than may be.
-pub first_at_limit : (old new : Decoder) (printer printer' : Printer) (listing : Listing) (count rest : ℕ) (piece dropped : List ℕ) (input now left written so_far after : Option (List ℕ))
-    → count + length piece ≡ limit → 0 < length dropped
-    → HasListed old printer listing count input now written so_far → Consumes now left (piece ++ dropped) → ListsPiece old printer count piece new printer' so_far after [] → Concludes new rest
+pub first_at_limit : (old new : Decoder) (printer printer' : Printer) (listing : Listing) (count rest room : ℕ) (buffer : List ℕ) (chunk : ReadChunk) (input now left written so_far after : Option (List ℕ))
+    → count + room ≡ limit → chunk.past ≡ true → HasListed old printer listing count input now written so_far → GivesChunk room buffer chunk now left → ListsChunk old printer count (take chunk.within buffer) new printer' so_far after [] → Concludes new rest
     → ListsFirst listing input written after
-first_at_limit old new printer printer' listing count rest piece dropped None now left written so_far after long some done read pieces concludes = tt
-first_at_limit old new printer printer' listing count rest piece dropped (Some all) None left written so_far after long some done read pieces concludes = absurd done.3
-first_at_limit old new printer printer' listing count rest piece dropped (Some all) (Some ahead) None written so_far after long some done read pieces concludes = absurd read
-first_at_limit old new printer printer' listing count rest piece dropped (Some all) (Some ahead) (Some left) written so_far after long some done read pieces concludes =
+first_at_limit old new printer printer' listing count rest room buffer chunk None now left written so_far after full past done gives lists concludes = tt
+first_at_limit old new printer printer' listing count rest room buffer chunk (Some all) None left written so_far after full past done gives lists concludes = absurd done.3
+first_at_limit old new printer printer' listing count rest room buffer chunk (Some all) (Some ahead) None written so_far after full past done gives lists concludes = absurd gives.consumes
+first_at_limit old new printer printer' listing count rest room buffer chunk (Some all) (Some ahead) (Some left) written so_far after full past done gives lists concludes =
+    let heard = take chunk.within buffer in
     let bytes = done.0 in
-    let given = pieces listing bytes done.1 written done.2 done.4 in
+    let given = lists listing bytes done.1 written done.2 done.4 in
     let events = done.1 ++ given.0 in (
-      bytes ++ piece,
-      dropped ++ left,
+      bytes ++ heard,
+      gives.beyond ++ left,
       events,
       rest,
       given.1.text,
-      done.3 ∙ ap (λ bs. bytes ++ bs) (read ∙ append_assoc piece dropped left) ∙ sym (append_assoc bytes piece (dropped ++ left)),
-      length-append bytes piece ∙ ap (λ n. n + length piece) done.2 ∙ long,
-      omega (arith, length-append dropped left),
-      concludes (bytes ++ piece) events given.1.decoded,
+      done.3 ∙ ap (λ bs. bytes ++ bs) (gives.consumes ∙ append_assoc heard gives.beyond left) ∙ sym (append_assoc bytes heard (gives.beyond ++ left)),
+      omega (arith, length-append bytes heard, length-take-le chunk.within buffer gives.fits, done.2, (gives.one_past past).0, full),
+      omega (arith, length-append gives.beyond left, (gives.one_past past).1),
+      concludes (bytes ++ heard) events given.1.decoded,
       given.1.lines,
       written_all written after given.1.text given.1.gathers,
     )
 
 -- How many bytes were read.
-pub reads_within : (decoder : Decoder) (printer : Printer) (listing : Listing) (count : ℕ) (piece : List ℕ) (input now left written so_far : Option (List ℕ)) → count + length piece ≤ limit + 1
-    → HasListed decoder printer listing count input now written so_far → Consumes now left piece → ReadsWithin limit input left
-reads_within decoder printer listing count piece input now left written so_far within done read =
-    (done.0 ++ piece, Consumes-trans input now left done.0 piece done.3 read, omega (arith, length-append done.0 piece, done.2, within))
+pub reads_within : (decoder : Decoder) (printer : Printer) (listing : Listing) (count room : ℕ) (buffer : List ℕ) (chunk : ReadChunk) (input now left written so_far : Option (List ℕ)) → count + room ≡ limit
+    → HasListed decoder printer listing count input now written so_far → GivesChunk room buffer chunk now left → ReadsWithin limit input left
+reads_within decoder printer listing count room buffer chunk input now left written so_far full done gives =
+    let heard = take chunk.within buffer in
+    let read = heard ++ gives.beyond in
+    let long : length read ≤ room + 1 = omega (arith, length-append heard gives.beyond, length-take-le chunk.within buffer gives.fits, gives.bounded) in
+    (done.0 ++ read, Consumes-trans input now left done.0 read done.3 gives.consumes, omega (arith, length-append done.0 read, done.2, full, long))
+
+pub reads_none : (decoder : Decoder) (printer : Printer) (listing : Listing) (count : ℕ) (input now left written so_far : Option (List ℕ)) → count ≤ limit
+    → HasListed decoder printer listing count input now written so_far → Consumes now left [] → ReadsWithin limit input left
+reads_none decoder printer listing count input now left written so_far within done read =
+    (done.0 ++ [], Consumes-trans input now left done.0 [] done.3 read, omega (arith, length-append done.0 [], done.2, within))
 
 pub reads_no_more : (decoder : Decoder) (printer : Printer) (listing : Listing) (count : ℕ) (input now left written so_far : Option (List ℕ)) → count ≤ limit
     → HasListed decoder printer listing count input now written so_far → Keeps now left → ReadsWithin limit input left
@@ -279,9 +283,9 @@ never error extra written written' text stops (inl is) = (let P : ListError → 
 never error extra written written' text stops (inr is) = (let P : ListError → Type 0 = λ e. Stops e extra written written' text in subst P is stops)
 
 -- Amid a chunk only a write fails or memory runs out.
-pub no_other : (error : ListError) (old new : Decoder) (printer : Printer) (listing : Listing) (count : ℕ) (piece : List ℕ) (input now written so_far after : Option (List ℕ))
-    → HasListed old printer listing count input now written so_far → BreaksOff error old printer count piece new so_far after → (error ≡ Read) ⊎ (error ≡ TooLong) → ⊥
-no_other error old new printer listing count piece input now written so_far after done breaks is =
+pub no_other : (error : ListError) (old new : Decoder) (printer : Printer) (listing : Listing) (count : ℕ) (chunk : List ℕ) (input now written so_far after : Option (List ℕ))
+    → HasListed old printer listing count input now written so_far → BreaksOff error old printer count chunk new so_far after → (error ≡ Read) ⊎ (error ≡ TooLong) → ⊥
+no_other error old new printer listing count chunk input now written so_far after done breaks is =
     let cut = breaks listing done.0 done.1 written done.2 done.4 in
     let broken = cut.5 in
     never error broken.extra written after broken.text broken.stops is

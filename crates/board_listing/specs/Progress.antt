@@ -50,16 +50,16 @@ pub record Stands (decoder : Decoder) (printer : Printer) (listing : Listing) (b
   pub gathers : Gathers begin written waiting text
 
 -- Where that stood before this chunk, whose first byte has this offset, it stands with the chunk.
-abbrev pub ListsPiece : Decoder → Printer → ℕ → List ℕ → Decoder → Printer → Option (List ℕ) → Option (List ℕ) → List ℕ → Type 0
-ListsPiece old printer start piece new printer' written written' waiting = (listing : Listing) (bytes : List ℕ) (events : List Timed) (begin : Option (List ℕ))
+abbrev pub ListsChunk : Decoder → Printer → ℕ → List ℕ → Decoder → Printer → Option (List ℕ) → Option (List ℕ) → List ℕ → Type 0
+ListsChunk old printer start chunk new printer' written written' waiting = (listing : Listing) (bytes : List ℕ) (events : List Timed) (begin : Option (List ℕ))
     → length bytes ≡ start → Stands old printer listing bytes events begin written []
-    → (later : List Timed) × Stands new printer' listing (bytes ++ piece) (events ++ later) begin written' waiting
+    → (later : List Timed) × Stands new printer' listing (bytes ++ chunk) (events ++ later) begin written' waiting
 
 -- Where that stood before this chunk, a part of it was decoded, and this refusal came.
 abbrev pub BreaksOff : ListError → Decoder → Printer → ℕ → List ℕ → Decoder → Option (List ℕ) → Option (List ℕ) → Type 0
-BreaksOff error old printer start piece new written written' = (listing : Listing) (bytes : List ℕ) (events : List Timed) (begin : Option (List ℕ))
+BreaksOff error old printer start chunk new written written' = (listing : Listing) (bytes : List ℕ) (events : List Timed) (begin : Option (List ℕ))
     → length bytes ≡ start → Stands old printer listing bytes events begin written []
-    → (taken after : List ℕ) × (later : List Timed) × (piece ≡ taken ++ after)
+    → (taken after : List ℕ) × (later : List Timed) × (chunk ≡ taken ++ after)
     × Decoded new (bytes ++ taken) (events ++ later) × Broken error listing (events ++ later) begin written'
 
 -- So many bytes were read, and their events listed.

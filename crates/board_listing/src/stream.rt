@@ -5,21 +5,15 @@ ghost use Rattle.dgt_frame.specs.Watch.{inner_of, has_failed};
 ghost use Rattle.board_listing.specs.Listings.{ListsAll, ListsFirst, ListsFront, ListsRead, ListsRefused, ReadsWithin};
 ghost use Rattle.arrayvec.specs.ArrayVec.{array_vec_len};
 ghost use Rattle.board_listing.specs.Printers.{HasBegun};
-ghost use Rattle.board_listing.specs.Progress.{BreaksLines, BreaksOff, FinishBreaksOff, Finishes, GathersEvent, HasTaken, ListsPiece};
+ghost use Rattle.board_listing.specs.Progress.{BreaksLines, BreaksOff, FinishBreaksOff, Finishes, GathersEvent, HasTaken, ListsChunk};
 ghost use Rattle.board_listing.specs.Status.{status_of, words_of};
 
 use crate::listing::Listing;
 use crate::printer::Printer;
 use crate::text::{GATHERED, LONGEST, Lines};
-use dgt_frame::{Decoder, Event, Watch};
-use pgn_book::{WriteFault, put};
+use dgt_frame::{CHUNK, Decoder, Event, LIMIT, Watch, WriteFault, put, read_chunk};
 use std::alloc::Global;
 use std::io::{Read, Write};
-
-/// The most bytes of a stream.
-pub const LIMIT: u32 = 67_108_864;
-
-const PIECE: usize = 4096;
 
 /// Why a listing gave up.
 #[derive(Clone, Copy, Debug, PartialEq, Eq)]
@@ -97,27 +91,27 @@ fn gather<O: Write>(
 }
 
 // Gives the decoder a chunk of the stream, and writes the lines of its events.
-fn list_piece<O: Write>(
+fn list_chunk<O: Write>(
     decoder: &mut Decoder,
     printer: &mut Printer,
     start: u32,
-    piece: &[u8],
+    chunk: &[u8],
     out: &mut Watch<O>,
 ) -> Result<(), ListError>
     requires working { has_failed out.old ≡ false }
-    requires room { start + length piece.now < 2 ^ 32 }
+    requires room { start + length chunk.now < 2 ^ 32 }
     requires taken { HasTaken decoder.old start }
     requires begun { HasBegun printer.old }
-    ensures ok { OnOk result (ListsPiece decoder.old printer.old start piece.now decoder.new printer.new
+    ensures ok { OnOk result (ListsChunk decoder.old printer.old start chunk.now decoder.new printer.new
         (O.contents (inner_of out.old)) (O.contents (inner_of out.new)) []) }
     ensures working { OnOk result (has_failed out.new ≡ false) }
-    ensures broken { IfErr result (λ error. BreaksOff error decoder.old printer.old start piece.now decoder.new
+    ensures broken { IfErr result (λ error. BreaksOff error decoder.old printer.old start chunk.now decoder.new
         (O.contents (inner_of out.old)) (O.contents (inner_of out.new))) }
     ensures failed { result ≡ Err ListError.Write → has_failed out.new ≡ true }
 {
     let mut lines = Lines::new();
     let mut taken = 0;
-    'events: while let Some(arrival) = &decoder.push_until(&piece[taken..]) {
+    'events: while let Some(arrival) = &decoder.push_until(&chunk[taken..]) {
         let last = taken + arrival.taken - 1;
         if let Err(error) = gather(
             printer,
@@ -183,27 +177,25 @@ pub fn list_stream<R: Read, O: Write>(
 {
     let mut decoder = Decoder::new();
     let mut printer = Printer::new(alloc, listing);
-    let mut buffer = [0u8; PIECE];
+    let mut buffer = [0u8; CHUNK];
     let mut total: u32 = 0;
-    'pieces: loop {
-        let room = ((LIMIT + 1 - total) as usize).min(PIECE);
-        let space = &mut buffer[..room];
-        let Ok(n) = reader.read(space) else {
+    'chunks: loop {
+        let Ok(read) = read_chunk(reader, &mut buffer, (LIMIT - total) as usize) else {
             decoder.pending();
             return Err(ListError::Read);
         };
-        if n == 0 {
+        let Some(chunk) = read else {
             return finish(&decoder, &printer, out).map_err(|_| ListError::Write);
-        }
-        let within = n.min((LIMIT - total) as usize);
-        if let Err(error) = list_piece(&mut decoder, &mut printer, total, &space[..within], out) {
+        };
+        let bytes = &buffer[..chunk.within];
+        if let Err(error) = list_chunk(&mut decoder, &mut printer, total, bytes, out) {
             decoder.pending();
             return Err(error);
         }
-        if within < n {
+        if chunk.past {
             decoder.pending();
             return Err(ListError::TooLong);
         }
-        total += n as u32;
+        total += chunk.within as u32;
     }
 }

@@ -1,10 +1,11 @@
 -- How reading goes on and ends.
-use Rattle.std.proofs.Common.{◌≡◌, ℕ, ◌+◌, ◌≤◌, ◌<◌, List, [], ◌∷◌, ◌++◌, length, length-append, length-drop, take, drop, Option, Ok, Err, refl, sym, subst, ◌∙◌, ap, append_assoc, arith}
-use Rattle.std.proofs.lemmas.List.{append-nil, take-append-drop, length-take}
-use Rattle.std.proofs.lemmas.Grind.{common_steps}
+use Rattle.std.proofs.Common.{◌≡◌, ℕ, ◌+◌, ◌≤◌, List, [], ◌∷◌, ◌++◌, length, length-append, take, Option, Ok, Err, true, false, refl, sym, subst, ◌∙◌, append_assoc, arith}
+use Rattle.std.proofs.lemmas.List.{append-nil, length-take-le}
 use Rattle.std.proofs.KnownBytes.{Consumes-kept, Consumes-trans}
 use Rattle.std.specs.Io.KnownBytes.{Consumes, IsAtEnd, Keeps}
 use Rattle.dgt_frame.specs.declared.events.Event.{Event}
+use Rattle.dgt_frame.specs.declared.ReadChunk.{ReadChunk}
+use Rattle.dgt_frame.specs.Input.{GivesChunk}
 use Rattle.dgt_frame.specs.Streams.{Timed}
 use Rattle.board_session.specs.declared.refusal.RecordError.{RecordError}
 use Rattle.board_session.specs.declared.refusal.RecordError.TheVariants.{Memory, Read, Board, Write, TooLong}
@@ -51,10 +52,6 @@ read_ended recorder setting input input' input'' before sent bytes taken consume
   sends = live.sends;
 }
 
--- the part of a chunk that lies within the limit, and the rest of it
-parted : (buffer : List ℕ) (within n : ℕ) → within ≤ n → n ≤ length buffer → take within buffer ++ drop within (take n buffer) ≡ take n buffer
-parted buffer within n less fits = grind (arith, common_steps, take-append-drop within (take n buffer))
-
 fails_asking : (read : List ℕ) (past : List Event) → EndsAtFault past → FailsAsking read past
 fails_asking read [] h = absurd h
 fails_asking read (event ∷ past) h = h
@@ -67,60 +64,71 @@ ends_so Board setting input front back taken extra h = (fails_asking (front ++ b
 ends_so Write setting input front back taken extra h = absurd h
 ends_so TooLong setting input front back taken extra h = absurd h
 
-pub stopped_in_chunk : (error : RecordError) (recorder : Recorder) (setting : Setting) (input input' input'' before sent : Option (List ℕ)) (bytes buffer : List ℕ) (within n : ℕ)
-    → Consumes input input' bytes → Consumes input' input'' (take n buffer) → within ≤ n → n ≤ length buffer → length bytes + n ≤ 67108865
-    → Stopped error recorder setting before sent (bytes ++ take within buffer)
+-- at most one byte past the limit was read
+read_bounded : (bytes buffer : List ℕ) (left : ℕ) (chunk : ReadChunk) (input' input'' : Option (List ℕ)) → (gives : GivesChunk left buffer chunk input' input'') → length bytes + left ≡ 67108864
+    → length (bytes ++ (take chunk.within buffer ++ gives.beyond)) ≤ 67108865
+read_bounded bytes buffer left chunk input' input'' gives room =
+    let heard = take chunk.within buffer in
+    omega (arith, length-append bytes (heard ++ gives.beyond), length-append heard gives.beyond, length-take-le chunk.within buffer gives.fits, gives.bounded, room)
+
+-- The recorder has stopped within a chunk.
+pub stopped_in_chunk : (error : RecordError) (recorder : Recorder) (setting : Setting) (input input' input'' before sent : Option (List ℕ)) (bytes buffer : List ℕ) (left : ℕ) (chunk : ReadChunk)
+    → Consumes input input' bytes → GivesChunk left buffer chunk input' input'' → length bytes + left ≡ 67108864
+    → Stopped error recorder setting before sent (bytes ++ take chunk.within buffer)
     → Listened (Err error) recorder setting input input'' before sent
-stopped_in_chunk error recorder setting input input' input'' before sent bytes buffer within n consumes more less fits room stopped =
-    let all : (bytes ++ take within buffer) ++ drop within (take n buffer) ≡ bytes ++ take n buffer =
-    append_assoc bytes (take within buffer) (drop within (take n buffer)) ∙ ap (λ (bs : List ℕ). bytes ++ bs) (parted buffer within n less fits) in
-    let whole = stopped_more error recorder setting before sent (bytes ++ take within buffer) (drop within (take n buffer)) stopped in
+stopped_in_chunk error recorder setting input input' input'' before sent bytes buffer left chunk consumes gives room stopped =
+    let heard = take chunk.within buffer in
+    let whole = stopped_more error recorder setting before sent (bytes ++ heard) gives.beyond stopped in
     record {
-      read = bytes ++ take n buffer;
+      read = bytes ++ (heard ++ gives.beyond);
       front = whole.front;
       back = whole.back;
       taken = whole.taken;
       extra = whole.extra;
-      consumes = Consumes-trans input input' input'' bytes (take n buffer) consumes more;
-      bounded = omega (arith, length-append bytes (take n buffer), length-take n buffer);
-      parts = sym all ∙ whole.parts;
+      consumes = Consumes-trans input input' input'' bytes (heard ++ gives.beyond) consumes gives.consumes;
+      bounded = read_bounded bytes buffer left chunk input' input'' gives room;
+      parts = sym (append_assoc bytes heard gives.beyond) ∙ whole.parts;
       decoded = whole.decoded;
       kept = whole.kept;
       ends = ends_so error setting input'' whole.front whole.back whole.taken whole.extra whole.stops;
       sends = whole.sends;
     }
 
-pub too_long : (recorder : Recorder) (setting : Setting) (input input' input'' before sent : Option (List ℕ)) (bytes buffer : List ℕ) (within n : ℕ) (taken : List Timed)
-    → Consumes input input' bytes → Consumes input' input'' (take n buffer) → within < n → n ≤ length buffer → length bytes + n ≤ 67108865
-    → length bytes + within ≡ 67108864 → Live recorder setting before sent (bytes ++ take within buffer) taken
+-- A byte past the limit was read.
+pub too_long : (recorder : Recorder) (setting : Setting) (input input' input'' before sent : Option (List ℕ)) (bytes buffer : List ℕ) (left : ℕ) (chunk : ReadChunk) (taken : List Timed)
+    → Consumes input input' bytes → GivesChunk left buffer chunk input' input'' → length bytes + left ≡ 67108864 → chunk.past ≡ true
+    → Live recorder setting before sent (bytes ++ take chunk.within buffer) taken
     → Listened (Err TooLong) recorder setting input input'' before sent
-too_long recorder setting input input' input'' before sent bytes buffer within n taken consumes more less fits room full live = record {
-  read = bytes ++ take n buffer;
-  front = bytes ++ take within buffer;
-  back = drop within (take n buffer);
-  taken = taken;
-  extra = [];
-  consumes = Consumes-trans input input' input'' bytes (take n buffer) consumes more;
-  bounded = omega (arith, length-append bytes (take n buffer), length-take n buffer);
-  parts = ap (λ (bs : List ℕ). bytes ++ bs) (sym (parted buffer within n (omega arith) fits)) ∙ sym (append_assoc bytes (take within buffer) (drop within (take n buffer)));
-  decoded = rw (append-nil taken) live.decoded;
-  kept = live.kept;
-  ends = (
-    omega (arith, length-append bytes (take within buffer), length-take within buffer, full),
-    omega (arith, length-drop within (take n buffer), length-take n buffer, full, room),
-    refl,
-  );
-  sends = live.sends;
-}
+too_long recorder setting input input' input'' before sent bytes buffer left chunk taken consumes gives room past live =
+    let heard = take chunk.within buffer in record {
+      read = bytes ++ (heard ++ gives.beyond);
+      front = bytes ++ heard;
+      back = gives.beyond;
+      taken = taken;
+      extra = [];
+      consumes = Consumes-trans input input' input'' bytes (heard ++ gives.beyond) consumes gives.consumes;
+      bounded = read_bounded bytes buffer left chunk input' input'' gives room;
+      parts = sym (append_assoc bytes heard gives.beyond);
+      decoded = rw (append-nil taken) live.decoded;
+      kept = live.kept;
+      ends = (
+        omega (arith, length-append bytes heard, length-take-le chunk.within buffer gives.fits, (gives.one_past past).0, room),
+        (gives.one_past past).1,
+        refl,
+      );
+      sends = live.sends;
+    }
 
-pub goes_on : (recorder : Recorder) (setting : Setting) (input input' input'' before sent : Option (List ℕ)) (bytes buffer : List ℕ) (within n count : ℕ) (taken : List Timed)
-    → Consumes input input' bytes → Consumes input' input'' (take n buffer) → within ≡ n → n ≤ length buffer → length bytes ≡ count
-    → Live recorder setting before sent (bytes ++ take within buffer) taken
-    → (bytes' : List ℕ) × (taken' : List Timed) × (length bytes' ≡ count + n) × Consumes input input'' bytes' × Live recorder setting before sent bytes' taken'
-goes_on recorder setting input input' input'' before sent bytes buffer within n count taken consumes more same fits size live = (
-  bytes ++ take n buffer,
-  taken,
-  omega (arith, length-append bytes (take n buffer), length-take n buffer),
-  Consumes-trans input input' input'' bytes (take n buffer) consumes more,
-  subst (λ (k : ℕ). Live recorder setting before sent (bytes ++ take k buffer) taken) same live,
-)
+-- The whole chunk lies within the limit.
+pub goes_on : (recorder : Recorder) (setting : Setting) (input input' input'' before sent : Option (List ℕ)) (bytes buffer : List ℕ) (left : ℕ) (chunk : ReadChunk) (count : ℕ) (taken : List Timed)
+    → Consumes input input' bytes → GivesChunk left buffer chunk input' input'' → chunk.past ≡ false → length bytes ≡ count
+    → Live recorder setting before sent (bytes ++ take chunk.within buffer) taken
+    → (bytes' : List ℕ) × (taken' : List Timed) × (length bytes' ≡ count + chunk.within) × Consumes input input'' bytes' × Live recorder setting before sent bytes' taken'
+goes_on recorder setting input input' input'' before sent bytes buffer left chunk count taken consumes gives within size live =
+    let heard = take chunk.within buffer in (
+      bytes ++ heard,
+      taken,
+      omega (arith, length-append bytes heard, length-take-le chunk.within buffer gives.fits, size),
+      Consumes-trans input input' input'' bytes heard consumes (gives.none_past within).2,
+      live,
+    )

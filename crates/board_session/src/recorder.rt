@@ -12,16 +12,9 @@ ghost use Rattle.board_session.specs.Recorder.{Hears, IsFed, IsRefusal, Kept, Li
 use crate::refusal::RecordError;
 use crate::session::Session;
 use chess_rules::Position;
-use dgt_frame::{Decoder, Event, First, Watch};
-use pgn_book::put;
+use dgt_frame::{CHUNK, Decoder, Event, First, LIMIT, Watch, put, read_chunk};
 use std::alloc::Global;
 use std::io::{Read, Write};
-
-/// The most bytes of a stream.
-pub const LIMIT: u32 = 67_108_864;
-
-/// The size of the buffer between the stream and the decoder.
-const CHUNK: usize = 4096;
 
 /// The command that asks the board for a dump.
 const SEND_DUMP: u8 = 0x42;
@@ -160,20 +153,17 @@ impl Recorder {
         let mut buffer = [0u8; CHUNK];
         let mut total: u32 = 0;
         'chunks: loop {
-            let room = ((LIMIT + 1 - total) as usize).min(CHUNK);
-            let space = &mut buffer[..room];
-            let Ok(n) = reader.read(space) else {
+            let Ok(read) = read_chunk(reader, &mut buffer, (LIMIT - total) as usize) else {
                 return Err(RecordError::Read);
             };
-            if n == 0 {
+            let Some(chunk) = read else {
                 return Ok(());
-            }
-            let within = n.min((LIMIT - total) as usize);
-            self.take_chunk(&space[..within], board)?;
-            if within < n {
+            };
+            self.take_chunk(&buffer[..chunk.within], board)?;
+            if chunk.past {
                 return Err(RecordError::TooLong);
             }
-            total += n as u32;
+            total += chunk.within as u32;
         }
     }
 

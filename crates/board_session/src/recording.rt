@@ -9,10 +9,10 @@ ghost use Rattle.board_session.specs.Settings.{Setting};
 ghost use Rattle.board_session.specs.Recording.{AppendsPart, Leaves, RecordsAll};
 ghost use Rattle.board_session.specs.Recorder.{Finished, Kept, event_count};
 
-use crate::recorder::{LIMIT, Recorder};
+use crate::recorder::Recorder;
 use crate::refusal::RecordError;
 use chess_rules::Position;
-use dgt_frame::{First, Watch};
+use dgt_frame::{First, LIMIT, Watch};
 use pgn_book::laws::one_game;
 use pgn_book::{Game, Tags, write_pgn};
 use std::alloc::Global;

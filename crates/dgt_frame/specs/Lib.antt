@@ -2,6 +2,7 @@ pub mod Clock
 pub mod Decoder
 pub mod Encoding
 pub mod Frames
+pub mod Input
 pub mod Layout
 pub mod Room
 pub mod Stored

@@ -1,7 +1,10 @@
 -- What `check` has said of a text.
-use Rattle.std.proofs.Common.{◌≡◌, ℕ, ◌+◌, ◌<◌, ◌≤◌, List, ◌++◌, length, length-append, Option, Some, None, IfSome, ap, subst, arith}
+use Rattle.std.proofs.Common.{◌≡◌, ℕ, ◌+◌, ◌<◌, ◌≤◌, List, ◌++◌, length, length-append, Option, Some, None, IfSome, true, take, ap, subst, arith}
+use Rattle.std.proofs.lemmas.List.{length-take-le}
 use Rattle.std.proofs.KnownBytes.{Consumes-trans}
 use Rattle.std.specs.Io.KnownBytes.{Appends, Consumes}
+use Rattle.dgt_frame.specs.declared.input.ReadChunk.{ReadChunk}
+use Rattle.dgt_frame.specs.Input.{GivesChunk}
 use Rattle.pgn_book.specs.Games.{Content}
 use Rattle.pgn_book.specs.Pgn.{Pgn}
 use Rattle.dgt_replay.specs.Checked.{ChecksGame, summary_line, text_limit}
@@ -19,14 +22,21 @@ no_game (Some bytes) text text_is within none =
     let P : List ℕ → Type 0 = λ bs. (length bs ≤ text_limit) × ((game : Content) → Pgn game bs → ⊥) in subst P text_is (within, none)
 
 -- At most so many bytes were read.
-pub read_more : (limit : ℕ) (input now left : Option (List ℕ)) (text piece : List ℕ) → Consumes input now text → Consumes now left piece → length text + length piece ≤ limit + 1 → ReadsWithin limit input left
-read_more limit input now left text piece before more within = (text ++ piece, Consumes-trans input now left text piece before more, omega (arith, length-append text piece, within))
+pub read_more : (limit room : ℕ) (input now left : Option (List ℕ)) (text buffer : List ℕ) (chunk : ReadChunk) → Consumes input now text → GivesChunk room buffer chunk now left
+    → length text + room ≡ limit → ReadsWithin limit input left
+read_more limit room input now left text buffer chunk before gives full =
+    let heard = take chunk.within buffer in
+    let read = heard ++ gives.beyond in
+    let long : length read ≤ room + 1 = omega (arith, length-append heard gives.beyond, length-take-le chunk.within buffer gives.fits, gives.bounded) in
+    (text ++ read, Consumes-trans input now left text read before gives.consumes, omega (arith, length-append text read, full, long))
 
 -- More bytes than the limit were read.
-pub too_long : (limit : ℕ) (input now left : Option (List ℕ)) (text piece : List ℕ) → Consumes input now text → Consumes now left piece → limit < length text + length piece
-    → IfSome input (λ bytes. limit < length bytes)
-too_long limit None now left text piece before more past = tt
-too_long limit (Some bytes) None left text piece before more past = absurd before
-too_long limit (Some bytes) (Some rest) None text piece before more past = absurd more
-too_long limit (Some bytes) (Some rest) (Some last) text piece before more past =
-    omega (arith, ap length before, ap length more, length-append text rest, length-append piece last, past)
+pub too_long : (limit room : ℕ) (input now left : Option (List ℕ)) (text buffer : List ℕ) (chunk : ReadChunk) → Consumes input now text → GivesChunk room buffer chunk now left
+    → length text + room ≡ limit → chunk.past ≡ true → IfSome input (λ bytes. limit < length bytes)
+too_long limit room None now left text buffer chunk before gives full past = tt
+too_long limit room (Some bytes) None left text buffer chunk before gives full past = absurd before
+too_long limit room (Some bytes) (Some rest) None text buffer chunk before gives full past = absurd gives.consumes
+too_long limit room (Some bytes) (Some rest) (Some last) text buffer chunk before gives full past =
+    let heard = take chunk.within buffer in
+    let long : length heard ≡ chunk.within = length-take-le chunk.within buffer gives.fits in
+    omega (arith, ap length before, ap length gives.consumes, length-append text rest, length-append (heard ++ gives.beyond) last, length-append heard gives.beyond, long, gives.one_past past, full)

@@ -9,17 +9,15 @@ ghost use Rattle.dgt_replay.specs.Messages.{Tells};
 
 use crate::messages::{refused, refused_run};
 use board_listing::{GATHERED, LONGEST, Lines, add};
-use dgt_frame::Watch;
+use dgt_frame::{CHUNK, Watch, put, read_chunk};
 use itoa::Buffer;
-use pgn_book::{PgnError, put, read_pgn, result_str};
+use pgn_book::{PgnError, read_pgn, result_str};
 use settle_core::Outcome;
 use std::alloc::Global;
 use std::io::{Read, Write};
 
 /// The most bytes of a PGN text.
 pub const TEXT_LIMIT: usize = 268_435_456;
-
-const PIECE: usize = 4096;
 
 /// Why a text could not be read.
 enum TextError {
@@ -39,20 +37,18 @@ fn read_text<R: Read>(alloc: Global, reader: &mut Watch<R>) -> Result<Vec<u8>, T
     ensures long { result ≡ Err TextError.TooLong → IfSome (R.remaining (inner_of reader.old)) (λ bytes. TEXT_LIMIT < length bytes) }
 {
     let mut text = Vec::new(alloc);
-    let mut buffer = [0u8; PIECE];
-    'pieces: loop {
-        let room = (TEXT_LIMIT + 1 - text.len()).min(PIECE);
-        let space = &mut buffer[..room];
-        let Ok(n) = reader.read(space) else {
+    let mut buffer = [0u8; CHUNK];
+    'chunks: loop {
+        let Ok(read) = read_chunk(reader, &mut buffer, TEXT_LIMIT - text.len()) else {
             return Err(TextError::Read);
         };
-        if n == 0 {
+        let Some(chunk) = read else {
             return Ok(text);
-        }
-        if n > TEXT_LIMIT - text.len() {
+        };
+        if chunk.past {
             return Err(TextError::TooLong);
         }
-        if text.extend_from_slice(&space[..n]).is_err() {
+        if text.extend_from_slice(&buffer[..chunk.within]).is_err() {
             return Err(TextError::Memory);
         }
     }

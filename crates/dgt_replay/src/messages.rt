@@ -6,8 +6,8 @@ ghost use Rattle.dgt_replay.specs.Messages.{Says, fen_words, tag_name, tag_words
 
 use board_listing::{Lines, add};
 use chess_text::FenError;
-use dgt_frame::Watch;
-use pgn_book::{Tag, TagError, put};
+use dgt_frame::{Watch, put};
+use pgn_book::{Tag, TagError};
 use std::io::Write;
 
 /// Writes the message about a refusal, unless standard error has failed before, and returns its status.

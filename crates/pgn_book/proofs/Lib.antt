@@ -1,4 +1,3 @@
-pub mod Bytes
 pub mod Flowing
 pub mod Standing
 pub mod Plies

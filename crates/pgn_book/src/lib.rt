@@ -13,8 +13,8 @@ mod values;
 mod words;
 mod writing;
 
+pub use dgt_frame::{WriteFault, put};
 pub use game::{Game, result_at};
-pub use output::{WriteFault, put};
 pub use reading::{PgnError, read_pgn};
 pub use tags::Tags;
 pub use values::{Tag, TagError};

@@ -13,7 +13,7 @@ ghost use Rattle.pgn_book.specs.Written.{AppendsFront};
 ghost use Rattle.pgn_book.specs.Flow.{Adds, Writes, flow};
 
 use crate::game::Game;
-use crate::output::{WriteFault, add};
+use crate::output::add;
 use crate::parts::same_parts;
 use crate::place::Place;
 use crate::values::Tag;
@@ -21,7 +21,7 @@ use arrayvec::ArrayString;
 use chess_rules::{Position, Side};
 use chess_text::laws::texts_are_plain;
 use chess_text::{write_fen, write_san};
-use dgt_frame::{Hms, Watch};
+use dgt_frame::{Hms, Watch, WriteFault};
 use itoa::Buffer;
 use settle_core::{Outcome, Ply};
 use std::io::Write;

@@ -1,7 +1,7 @@
-//! Streams that fail as a script says, and what a `Watch` tells of them.
+//! Streams that fail as a script says: what a `Watch` tells of them, what is read of them and what is written.
 ghost use Rattle.std.specs.Prelude.{◌≤◌, IfOk};
 
-use dgt_frame::Watch;
+use dgt_frame::{CHUNK, ReadChunk, Watch, WriteFault, put, read_chunk};
 use std::io::{self, ErrorKind, Read, Write};
 
 /// A stream whose calls do in turn what the script says, and which counts the calls.
@@ -145,4 +145,77 @@ fn writes_are_watched(rt: HostRuntime) {
         calls: 0,
     });
     assert_eq!(rt; first_unlike_flush(&mut flushed), None);
+}
+
+const TAKEN: [Result<usize, ErrorKind>; 4] = [Ok(3), Ok(3), Ok(3), Ok(3)];
+
+const CUT_OFF: [Result<usize, ErrorKind>; 2] = [Ok(3), Err(ErrorKind::BrokenPipe)];
+
+/// Ten bytes are put on this stream by so many calls, with this result.
+fn puts_ten(
+    answers: &[Result<usize, ErrorKind>],
+    calls: usize,
+    expected: Result<(), WriteFault>,
+) -> bool {
+    let mut out = Watch::new(Scripted { answers, calls: 0 });
+    put(&mut out, b"0123456789") == expected && is_after(&out, calls, expected.is_err())
+}
+
+#[test]
+fn texts_are_put_whole(rt: HostRuntime) {
+    assert!(rt; puts_ten(&TAKEN, 4, Ok(())));
+    assert!(rt; puts_ten(&CUT_OFF, 2, Err(WriteFault { written: 3 })));
+    assert!(rt; puts_ten(&[], 1, Err(WriteFault { written: 0 })));
+}
+
+const OFFERED: [Result<usize, ErrorKind>; 6] = [
+    Ok(3),
+    Ok(7),
+    Ok(8),
+    Ok(1),
+    Ok(0),
+    Err(ErrorKind::Interrupted),
+];
+
+/// How many bytes are left up to the limit, and what a read then gives, if it doesn't fail: how many bytes within the limit,
+/// and whether one past it.
+const CHUNKS: [(usize, Option<Option<(usize, bool)>>); 6] = [
+    (10, Some(Some((3, false)))),
+    (7, Some(Some((7, false)))),
+    (7, Some(Some((7, true)))),
+    (0, Some(Some((0, true)))),
+    (0, Some(None)),
+    (0, None),
+];
+
+/// Whether a read gave this chunk, the end, or an error.
+fn is_chunk(given: io::Result<Option<ReadChunk>>, expected: Option<Option<(usize, bool)>>) -> bool {
+    match (given, expected) {
+        (Ok(Some(chunk)), Some(Some((within, past)))) => chunk == ReadChunk { within, past },
+        (Ok(None), Some(None)) => true,
+        (Err(_), None) => true,
+        _ => false,
+    }
+}
+
+/// The number of the first read that gives another chunk.
+fn first_unlike_chunk(reader: &mut Watch<Scripted<'_>>) -> Option<usize> {
+    let mut buffer = [0u8; CHUNK];
+    for (i, (left, expected)) in CHUNKS.iter().enumerate() {
+        if !is_chunk(read_chunk(reader, &mut buffer, *left), *expected)
+            || !is_after(reader, i + 1, expected.is_none())
+        {
+            return Some(i);
+        }
+    }
+    None
+}
+
+#[test]
+fn chunks_end_at_the_limit(rt: HostRuntime) {
+    let mut reader = Watch::new(Scripted {
+        answers: &OFFERED,
+        calls: 0,
+    });
+    assert_eq!(rt; first_unlike_chunk(&mut reader), None);
 }

@@ -1,40 +1,36 @@
-use Rattle.std.proofs.Common.{◌≡◌, ◌+◌, ◌++◌, ◌<◌, ◌≤◌, ◌∙◌, length, take, sym, arith, rules}
+use Rattle.std.proofs.Common.{◌≡◌, ◌++◌, ◌∙◌, take, sym, arith, rules}
 use Rattle.std.proofs.KnownBytes.{Consumes-trans}
 use Rattle.std.specs.Io.KnownBytes.{Consumes}
-use Rattle.std.proofs.lemmas.List.{length-take-le}
+use Rattle.dgt_frame.specs.Input.{GivesChunk}
 use Rattle.dgt_frame.specs.Watch.{inner_of}
 use Rattle.dgt_replay.proofs.CheckLemmas.{read_more, too_long}
 use Rattle.board_listing.proofs.StreamLemmas.{if_ok}
 use Rattle.dgt_replay.proofs.check.read_text.Goals as goal
 
-pub returns-then-n-len-clause-bounded : goal.returns-then-n-len-clause-bounded
-returns-then-n-len-clause-bounded g c =
-    let fits : length c.pieces.text.items + c.in-Ok.n ≤ 268435457 = search rules in
-    read_more 268435456 (g.R.Read.remaining (inner_of c.args.reader.now)) (g.R.Read.remaining (inner_of c.pieces.reader)) (g.R.Read.remaining (inner_of c.read.new.self))
-    c.pieces.text.items (take c.in-Ok.n c.read.new.buf) c.pieces.invariant.read c.in-Ok.ensures.bytes.0
-    (omega (arith, fits, length-take-le c.in-Ok.n c.read.new.buf c.in-Ok.ensures.bound.0))
+pub returns-then-chunk-clause-bounded : goal.returns-then-chunk-clause-bounded
+returns-then-chunk-clause-bounded g c =
+    read_more 268435456 _ (g.R.Read.remaining (inner_of c.args.reader.now)) (g.R.Read.remaining (inner_of c.chunks.reader)) (g.R.Read.remaining (inner_of c.read_chunk.new.reader))
+    c.chunks.text.items c.read_chunk.new.buffer c.in-Some.chunk c.chunks.invariant.read (rw c.in-Some.is at c.in-Ok.ensures.bytes) (omega (arith, c.chunks.invariant.within, c.len.ensures))
 
 pub returns-then-is_err-clause-bounded : goal.returns-then-is_err-clause-bounded
 returns-then-is_err-clause-bounded g c =
-    let fits : length c.pieces.text.items + c.in-Ok.n ≤ 268435457 = search rules in
-    read_more 268435456 (g.R.Read.remaining (inner_of c.args.reader.now)) (g.R.Read.remaining (inner_of c.pieces.reader)) (g.R.Read.remaining (inner_of c.read.new.self))
-    c.pieces.text.items (take c.in-Ok.n c.read.new.buf) c.pieces.invariant.read c.in-Ok.ensures.bytes.0
-    (omega (arith, fits, length-take-le c.in-Ok.n c.read.new.buf c.in-Ok.ensures.bound.0))
+    read_more 268435456 _ (g.R.Read.remaining (inner_of c.args.reader.now)) (g.R.Read.remaining (inner_of c.chunks.reader)) (g.R.Read.remaining (inner_of c.read_chunk.new.reader))
+    c.chunks.text.items c.read_chunk.new.buffer c.in-Some.chunk c.chunks.invariant.read (rw c.in-Some.is at c.in-Ok.ensures.bytes) (omega (arith, c.chunks.invariant.within, c.len.ensures))
 
-pub returns-then-n-len-clause-long : goal.returns-then-n-len-clause-long
-returns-then-n-len-clause-long g c same =
-    let past : 268435456 < length c.pieces.text.items + c.in-Ok.n = search rules in
-    too_long 268435456 (g.R.Read.remaining (inner_of c.args.reader.now)) (g.R.Read.remaining (inner_of c.pieces.reader)) (g.R.Read.remaining (inner_of c.read.new.self))
-    c.pieces.text.items (take c.in-Ok.n c.read.new.buf) c.pieces.invariant.read c.in-Ok.ensures.bytes.0
-    (omega (arith, past, length-take-le c.in-Ok.n c.read.new.buf c.in-Ok.ensures.bound.0))
+pub returns-then-chunk-clause-long : goal.returns-then-chunk-clause-long
+returns-then-chunk-clause-long g c same =
+    too_long 268435456 _ (g.R.Read.remaining (inner_of c.args.reader.now)) (g.R.Read.remaining (inner_of c.chunks.reader)) (g.R.Read.remaining (inner_of c.read_chunk.new.reader))
+    c.chunks.text.items c.read_chunk.new.buffer c.in-Some.chunk c.chunks.invariant.read (rw c.in-Some.is at c.in-Ok.ensures.bytes) (omega (arith, c.chunks.invariant.within, c.len.ensures)) c.if-chunk.true
 
-pub pieces-preserved : goal.pieces-preserved
-pieces-preserved g c =
+pub chunks-preserved : goal.chunks-preserved
+chunks-preserved g c =
     let input = g.R.Read.remaining (inner_of c.args.reader.now) in
-    let left = g.R.Read.remaining (inner_of c.read.new.self) in
-    let piece = take c.in-Ok.n c.read.new.buf in
-    let next : Consumes input left (c.pieces.text.items ++ piece) =
-    Consumes-trans input (g.R.Read.remaining (inner_of c.pieces.reader)) left c.pieces.text.items piece c.pieces.invariant.read c.in-Ok.ensures.bytes.0 in
-    let text_is : c.extend_from_slice.new.self.items ≡ c.pieces.text.items ++ piece =
-    c.extend_from_slice.ensures.items ∙ if_ok c.extend_from_slice.result (c.pieces.text.items ++ piece) c.pieces.text.items (sym c.is_err.ensures.value ∙ c.if-is_err.false) in
+    let now = g.R.Read.remaining (inner_of c.chunks.reader) in
+    let left = g.R.Read.remaining (inner_of c.read_chunk.new.reader) in
+    let text = c.chunks.text.items in
+    let chunk = take c.in-Some.chunk.within c.read_chunk.new.buffer in
+    let gives : GivesChunk _ c.read_chunk.new.buffer c.in-Some.chunk now left = rw c.in-Some.is at c.in-Ok.ensures.bytes in
+    let next : Consumes input left (text ++ chunk) = Consumes-trans input now left text chunk c.chunks.invariant.read (gives.none_past c.if-chunk.false).2 in
+    let text_is : c.extend_from_slice.new.self.items ≡ text ++ chunk =
+    c.extend_from_slice.ensures.items ∙ if_ok c.extend_from_slice.result (text ++ chunk) text (sym c.is_err.ensures.value ∙ c.if-is_err.false) in
     record { working = search rules; within = search rules; read = rw text_is next }

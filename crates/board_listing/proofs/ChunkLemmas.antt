@@ -1,4 +1,4 @@
--- Pieces of a stream, one event at a time.
+-- Chunks of a stream, one event at a time.
 use Rattle.std.proofs.Common.{◌≡◌, ℕ, ◌+◌, ◌-◌, ◌≤◌, List, [], ◌∷◌, ◌++◌, length, take, Option, refl, sym, ◌∙◌, ap, subst, append_assoc, append-nil, add_assoc, length-append}
 use Rattle.std.proofs.lemmas.List.{length-take-le}
 use Rattle.std.specs.Io.KnownBytes.{Appends}
@@ -9,12 +9,12 @@ use Rattle.dgt_frame.specs.Streams.{Timed}
 use Rattle.board_listing.specs.declared.printer.Printer.{Printer}
 use Rattle.board_listing.specs.declared.stream.ListError.{ListError}
 use Rattle.board_listing.specs.declared.stream.ListError.TheVariants.{Write}
-use Rattle.board_listing.specs.Progress.{BreaksLines, BreaksOff, Broken, GathersEvent, HasTaken, ListsPiece}
+use Rattle.board_listing.specs.Progress.{BreaksLines, BreaksOff, Broken, GathersEvent, HasTaken, ListsChunk}
 use Rattle.board_listing.proofs.GatherLemmas.{front_written, gathers_sent}
 
 -- nothing was taken yet
 pub lists_start : (decoder : Decoder) (printer : Printer) (start : ℕ) (written : Option (List ℕ)) (waiting : List ℕ) → waiting ≡ []
-    → ListsPiece decoder printer start [] decoder printer written written waiting
+    → ListsChunk decoder printer start [] decoder printer written written waiting
 lists_start decoder printer start written waiting none listing bytes events begin at stands = (
   [],
   record {
@@ -27,13 +27,13 @@ lists_start decoder printer start written waiting none listing bytes events begi
 )
 
 -- more bytes, at none of which an event came
-pub lists_none : (old now new : Decoder) (printer printer' : Printer) (start : ℕ) (piece more : List ℕ) (written written' : Option (List ℕ)) (waiting : List ℕ)
-    → TakesAll now more new → ListsPiece old printer start piece now printer' written written' waiting → ListsPiece old printer start (piece ++ more) new printer' written written' waiting
-lists_none old now new printer printer' start piece more written written' waiting takes part listing bytes events begin at stands =
+pub lists_none : (old now new : Decoder) (printer printer' : Printer) (start : ℕ) (chunk more : List ℕ) (written written' : Option (List ℕ)) (waiting : List ℕ)
+    → TakesAll now more new → ListsChunk old printer start chunk now printer' written written' waiting → ListsChunk old printer start (chunk ++ more) new printer' written written' waiting
+lists_none old now new printer printer' start chunk more written written' waiting takes part listing bytes events begin at stands =
     let before = part listing bytes events begin at stands in (
       before.0,
       record {
-        decoded = rw (← append_assoc bytes piece more) (takes (bytes ++ piece) (events ++ before.0) before.1.decoded);
+        decoded = rw (← append_assoc bytes chunk more) (takes (bytes ++ chunk) (events ++ before.0) before.1.decoded);
         follows = before.1.follows;
         text = before.1.text;
         lines = before.1.lines;
@@ -43,29 +43,29 @@ lists_none old now new printer printer' start piece more written written' waitin
 
 -- the event that came, after these bytes of the chunk and so many more
 abbrev pub arrived : List ℕ → List ℕ → ℕ → Event → Timed
-arrived bytes piece count event = record { offset = length (bytes ++ piece) + (count - 1); event = event }
+arrived bytes chunk count event = record { offset = length (bytes ++ chunk) + (count - 1); event = event }
 
-decoded_more : (now new : Decoder) (count : ℕ) (event : Event) (bytes piece more : List ℕ) (events later : List Timed) → TakesUpTo now more count event new
-    → Decoded now (bytes ++ piece) (events ++ later) → Decoded new (bytes ++ (piece ++ take count more)) (events ++ (later ++ arrived bytes piece count event ∷ []))
-decoded_more now new count event bytes piece more events later takes decoded =
-    rw (← append_assoc bytes piece (take count more), ← append_assoc events later (arrived bytes piece count event ∷ [])) (takes (bytes ++ piece) (events ++ later) decoded)
+decoded_more : (now new : Decoder) (count : ℕ) (event : Event) (bytes chunk more : List ℕ) (events later : List Timed) → TakesUpTo now more count event new
+    → Decoded now (bytes ++ chunk) (events ++ later) → Decoded new (bytes ++ (chunk ++ take count more)) (events ++ (later ++ arrived bytes chunk count event ∷ []))
+decoded_more now new count event bytes chunk more events later takes decoded =
+    rw (← append_assoc bytes chunk (take count more), ← append_assoc events later (arrived bytes chunk count event ∷ [])) (takes (bytes ++ chunk) (events ++ later) decoded)
 
 -- an event came, and its lines were gathered
-pub lists_event : (old now new : Decoder) (printer printer' printer'' : Printer) (start count offset : ℕ) (event : Event) (piece more : List ℕ) (begin written written' : Option (List ℕ)) (waiting waiting' : List ℕ)
-    → offset ≡ start + length piece + (count - 1) → TakesUpTo now more count event new
+pub lists_event : (old now new : Decoder) (printer printer' printer'' : Printer) (start count offset : ℕ) (event : Event) (chunk more : List ℕ) (begin written written' : Option (List ℕ)) (waiting waiting' : List ℕ)
+    → offset ≡ start + length chunk + (count - 1) → TakesUpTo now more count event new
     → GathersEvent printer' written waiting (record { offset = offset; event = event }) printer'' written' waiting'
-    → ListsPiece old printer start piece now printer' begin written waiting → ListsPiece old printer start (piece ++ take count more) new printer'' begin written' waiting'
-lists_event old now new printer printer' printer'' start count offset event piece more begin written written' waiting waiting' offset_is takes gathers part listing bytes events from at stands =
+    → ListsChunk old printer start chunk now printer' begin written waiting → ListsChunk old printer start (chunk ++ take count more) new printer'' begin written' waiting'
+lists_event old now new printer printer' printer'' start count offset event chunk more begin written written' waiting waiting' offset_is takes gathers part listing bytes events from at stands =
     let before = part listing bytes events from at stands in
     let later = before.0 in
-    let x = arrived bytes piece count event in
-    let here : offset ≡ length (bytes ++ piece) + (count - 1) = offset_is ∙ ap (λ n. n + (count - 1)) (ap (λ n. n + length piece) (sym at) ∙ sym (length-append bytes piece)) in
+    let x = arrived bytes chunk count event in
+    let here : offset ≡ length (bytes ++ chunk) + (count - 1) = offset_is ∙ ap (λ n. n + (count - 1)) (ap (λ n. n + length chunk) (sym at) ∙ sym (length-append bytes chunk)) in
     let gathers_x : GathersEvent printer' written waiting x printer'' written' waiting' =
     (let P : ℕ → Type 0 = λ n. GathersEvent printer' written waiting (record { offset = n; event = event }) printer'' written' waiting' in subst P here gathers) in
     let given = gathers_x listing (events ++ later) before.1.text from before.1.follows before.1.lines before.1.gathers in (
       later ++ x ∷ [],
       record {
-        decoded = decoded_more now new count event bytes piece more events later takes before.1.decoded;
+        decoded = decoded_more now new count event bytes chunk more events later takes before.1.decoded;
         follows = rw (← append_assoc events later (x ∷ [])) given.0;
         text = given.1.0;
         lines = rw (← append_assoc events later (x ∷ [])) given.1.1;
@@ -74,30 +74,30 @@ lists_event old now new printer printer' printer'' start count offset event piec
     )
 
 -- an event came, and there it ended
-pub breaks_event : (error : ListError) (old now new : Decoder) (printer printer' : Printer) (start count offset : ℕ) (event : Event) (piece more after : List ℕ) (begin written written' : Option (List ℕ)) (waiting : List ℕ)
-    → offset ≡ start + length piece + (count - 1) → TakesUpTo now more count event new → BreaksLines printer' written waiting (record { offset = offset; event = event }) error written'
-    → ListsPiece old printer start piece now printer' begin written waiting → BreaksOff error old printer start ((piece ++ take count more) ++ after) new begin written'
-breaks_event error old now new printer printer' start count offset event piece more after begin written written' waiting offset_is takes breaks part listing bytes events from at stands =
+pub breaks_event : (error : ListError) (old now new : Decoder) (printer printer' : Printer) (start count offset : ℕ) (event : Event) (chunk more after : List ℕ) (begin written written' : Option (List ℕ)) (waiting : List ℕ)
+    → offset ≡ start + length chunk + (count - 1) → TakesUpTo now more count event new → BreaksLines printer' written waiting (record { offset = offset; event = event }) error written'
+    → ListsChunk old printer start chunk now printer' begin written waiting → BreaksOff error old printer start ((chunk ++ take count more) ++ after) new begin written'
+breaks_event error old now new printer printer' start count offset event chunk more after begin written written' waiting offset_is takes breaks part listing bytes events from at stands =
     let before = part listing bytes events from at stands in
     let later = before.0 in
-    let x = arrived bytes piece count event in
-    let here : offset ≡ length (bytes ++ piece) + (count - 1) = offset_is ∙ ap (λ n. n + (count - 1)) (ap (λ n. n + length piece) (sym at) ∙ sym (length-append bytes piece)) in
+    let x = arrived bytes chunk count event in
+    let here : offset ≡ length (bytes ++ chunk) + (count - 1) = offset_is ∙ ap (λ n. n + (count - 1)) (ap (λ n. n + length chunk) (sym at) ∙ sym (length-append bytes chunk)) in
     let breaks_x : BreaksLines printer' written waiting x error written' =
     (let P : ℕ → Type 0 = λ n. BreaksLines printer' written waiting (record { offset = n; event = event }) error written' in subst P here breaks) in
     let broken = breaks_x listing (events ++ later) before.1.text from before.1.follows before.1.lines before.1.gathers in
     let B : List Timed → Type 0 = λ es. Broken error listing es from written' in (
-      piece ++ take count more,
+      chunk ++ take count more,
       after,
       later ++ x ∷ [],
       refl,
-      decoded_more now new count event bytes piece more events later takes before.1.decoded,
+      decoded_more now new count event bytes chunk more events later takes before.1.decoded,
       subst B (append_assoc events later (x ∷ [])) broken,
     )
 
 -- what waits was written
-pub lists_end : (old new : Decoder) (printer printer' : Printer) (start : ℕ) (piece : List ℕ) (begin written written' : Option (List ℕ)) (waiting : List ℕ)
-    → Appends written written' waiting → ListsPiece old printer start piece new printer' begin written waiting → ListsPiece old printer start piece new printer' begin written' []
-lists_end old new printer printer' start piece begin written written' waiting sent part listing bytes events from at stands =
+pub lists_end : (old new : Decoder) (printer printer' : Printer) (start : ℕ) (chunk : List ℕ) (begin written written' : Option (List ℕ)) (waiting : List ℕ)
+    → Appends written written' waiting → ListsChunk old printer start chunk new printer' begin written waiting → ListsChunk old printer start chunk new printer' begin written' []
+lists_end old new printer printer' start chunk begin written written' waiting sent part listing bytes events from at stands =
     let before = part listing bytes events from at stands in (
       before.0,
       record {
@@ -110,14 +110,14 @@ lists_end old new printer printer' start piece begin written written' waiting se
     )
 
 -- the write of what waits failed
-pub breaks_end : (old new : Decoder) (printer printer' : Printer) (start n : ℕ) (piece : List ℕ) (begin written written' : Option (List ℕ)) (waiting : List ℕ)
-    → Appends written written' (take n waiting) → ListsPiece old printer start piece new printer' begin written waiting → BreaksOff Write old printer start piece new begin written'
-breaks_end old new printer printer' start n piece begin written written' waiting took part listing bytes events from at stands =
+pub breaks_end : (old new : Decoder) (printer printer' : Printer) (start n : ℕ) (chunk : List ℕ) (begin written written' : Option (List ℕ)) (waiting : List ℕ)
+    → Appends written written' (take n waiting) → ListsChunk old printer start chunk new printer' begin written waiting → BreaksOff Write old printer start chunk new begin written'
+breaks_end old new printer printer' start n chunk begin written written' waiting took part listing bytes events from at stands =
     let before = part listing bytes events from at stands in (
-      piece,
+      chunk,
       [],
       before.0,
-      sym (append-nil piece),
+      sym (append-nil chunk),
       before.1.decoded,
       record {
         taken = events ++ before.0;

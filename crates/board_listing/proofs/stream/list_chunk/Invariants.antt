@@ -2,18 +2,18 @@ use Rattle.std.proofs.Common.{◌≡◌, ◌+◌, ◌-◌, ◌≤◌, length, ta
 use Rattle.dgt_frame.specs.Watch.{inner_of, has_failed}
 use Rattle.arrayvec.specs.ArrayVec.{array_vec_len}
 use Rattle.board_listing.specs.Printers.{HasBegun}
-use Rattle.board_listing.specs.Progress.{HasTaken, ListsPiece}
-use Rattle.board_listing.proofs.stream.list_piece.Given as goal
+use Rattle.board_listing.specs.Progress.{HasTaken, ListsChunk}
+use Rattle.board_listing.proofs.stream.list_chunk.Given as goal
 
 abbrev pub invariant-events : goal.invariant-events
 invariant-events g l = record {
-  inside : l.taken ≤ length l.piece;
+  inside : l.taken ≤ length l.chunk;
   working : has_failed l.out ≡ false;
   begun : HasBegun l.printer;
   room : array_vec_len l.lines + 256 ≤ 8192;
   taken : HasTaken l.decoder (l.start + l.taken);
-  listing : ListsPiece l.fn.decoder l.fn.printer l.start (take l.taken l.piece) l.decoder l.printer (g.O.Write.contents (inner_of l.fn.out)) (g.O.Write.contents (inner_of l.out)) l.lines.items;
+  listing : ListsChunk l.fn.decoder l.fn.printer l.start (take l.taken l.chunk) l.decoder l.printer (g.O.Write.contents (inner_of l.fn.out)) (g.O.Write.contents (inner_of l.out)) l.lines.items;
 }
 
 abbrev pub decreases-events : goal.decreases-events
-decreases-events g l = length l.piece - l.taken
+decreases-events g l = length l.chunk - l.taken

@@ -1,7 +1,7 @@
 use Rattle.std.proofs.Common.{arith, length, take, drop, ◌-◌}
 use Rattle.dgt_frame.specs.Watch.{inner_of, has_failed}
-use Rattle.pgn_book.proofs.Bytes.{appends_on, within_on, works_on}
-use Rattle.pgn_book.proofs.output.put.Goals as goal
+use Rattle.dgt_frame.proofs.PutLemmas.{appends_on, within_on, works_on}
+use Rattle.dgt_frame.proofs.output.put.Goals as goal
 
 pub loop-at-preserved : goal.loop-at-preserved
 loop-at-preserved g c = record {
