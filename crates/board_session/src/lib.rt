@@ -10,4 +10,4 @@ mod view;
 
 pub use recording::{RecordError, Report, Setup, record};
 pub use session::{Session, Taken};
-pub use view::View;
+pub use view::{Change, View};
