@@ -1,5 +1,5 @@
 -- Ranks that are kept, and the picture that they make.
-use Rattle.std.proofs.Common.{◌≡◌, ℕ, zero, suc, ◌+◌, ◌-◌, ◌*◌, ◌<◌, ◌≤◌, List, [], ◌∷◌, ◌++◌, length, replicate, take, drop, get_or, slice_set, refl, sym, ap, ◌∙◌, arith, append_assoc, append-nil, take-add, take_at, drop_at, length-append}
+use Rattle.std.proofs.Common.{◌≡◌, ℕ, zero, suc, ◌+◌, ◌-◌, ◌*◌, ◌<◌, ◌≤◌, List, [], ◌∷◌, ◌++◌, length, take, drop, get_or, slice_set, refl, sym, ap, ◌∙◌, arith, append_assoc, append-nil, take-add, take_at, drop_at, length-append}
 use Rattle.std.specs.List.{flat_map}
 use Rattle.std.specs.List.{between}
 use borrow.Rule.Slice.PartMut.{put_mid}
@@ -98,8 +98,3 @@ pub line_whole : (line : List ℕ) (len i : ℕ) (ranks : List RankText) → len
     → between 1 len line ≡ placement (codes_in ranks)
 line_whole line len i ranks eight past is =
     between_is line 1 len ∙ ap (drop 1) (is ∙ ap texts_in (take_all i ranks past) ∙ placement_by ranks eight)
-
--- Eight empty ranks.
-pub no_pieces : (ranks : List RankText) (empty : RankText) → ranks ≡ replicate 8 empty → empty.codes ≡ replicate 8 0 → codes_in ranks ≡ replicate 64 0
-no_pieces ranks empty is codes =
-    ap codes_in is ∙ ap (λ (l : List ℕ). l ++ l ++ l ++ l ++ l ++ l ++ l ++ l ++ []) codes

@@ -6,23 +6,16 @@ ghost use Rattle.chess_text.specs.Placement.{placement};
 use crate::rank_text::RankText;
 use arrayvec::ArrayVec;
 
-// How many ranks are remembered.
-const REMEMBERED: usize = 512;
+// A remembered rank for each code of each square.
+const REMEMBERED: usize = 1024;
 
-/// A picture whose ranks' texts are kept, so that after a change of one square only its rank is written anew; and of that the
-/// text is remembered from before, if no other rank took its place.
+/// A picture whose ranks' texts are kept, so that after a change of one square only its rank is written anew; and not that one
+/// where it is as it was when the square last showed this code.
 #[derive(Drop)]
 pub struct PlacementText {
     ranks: [RankText; 8],
     remembered: [RankText; REMEMBERED],
     ghost eight: { length ranks ≡ 8 },
-}
-
-// Where the text of a rank is remembered.
-fn place_of(codes: [u8; 8]) -> usize
-    ensures { result < 512 }
-{
-    (u64::from_le_bytes(codes).wrapping_mul(0x9e37_79b9_7f4a_7c15) >> 40) as usize % REMEMBERED
 }
 
 impl PlacementText {
@@ -39,11 +32,13 @@ impl PlacementText {
         }
     }
 
-    fn rank_of(&mut self, codes: [u8; 8]) -> RankText
+    // The rank with these codes, which may be remembered in this place.
+    #[inline(always)]
+    fn rank_of(&mut self, codes: [u8; 8], place: usize) -> RankText
+        requires { place < 1024 }
         ensures codes { result.codes ≡ codes }
         ensures ranks { self.new.ranks ≡ self.old.ranks }
     {
-        let place = place_of(codes);
         let known = self.remembered[place];
         if known.codes == codes {
             return known;
@@ -61,7 +56,7 @@ impl PlacementText {
         let rank = square as usize / 8;
         let mut codes = self.ranks[rank].codes;
         codes[square as usize % 8] = code;
-        self.ranks[rank] = self.rank_of(codes);
+        self.ranks[rank] = self.rank_of(codes, square as usize * 16 + code as usize % 16);
     }
 
     /// Changes the picture.
@@ -71,7 +66,7 @@ impl PlacementText {
         for rank in 0..8 {
             let mut codes = [0; 8];
             codes.copy_from_slice(&picture[8 * rank..8 * rank + 8]);
-            self.ranks[rank] = self.rank_of(codes);
+            self.ranks[rank] = self.rank_of(codes, rank * 128 + codes[0] as usize % 16);
         }
     }
 
