@@ -4,7 +4,7 @@ use Rattle.std.specs.Str.{bytes_eq}
 use Rattle.std.proofs.lemmas.Bool.{false_from_ne_true, cases_Bool}
 use Rattle.std.proofs.lemmas.List.{get_or-replicate, set-get_or}
 use Rattle.std.proofs.lemmas.Slice.Eq.{bytes_eq-Decides}
-use Rattle.dgt_frame.specs.declared.events.Message.TheVariants.{Dump, Update}
+use Rattle.dgt_frame.specs.declared.events.Message.TheVariants.{Update}
 use Rattle.dgt_frame.specs.declared.events.Event.{Event}
 use Rattle.dgt_frame.specs.declared.events.Event.TheVariants.{Message as MessageEvent}
 use Rattle.dgt_frame.specs.declared.time.First.TheVariants.{White}

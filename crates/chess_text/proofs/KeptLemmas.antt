@@ -1,11 +1,11 @@
 -- Ranks that are kept, and the picture that they make.
-use Rattle.std.proofs.Common.{◌≡◌, ℕ, zero, suc, ◌+◌, ◌-◌, ◌*◌, ◌<◌, ◌≤◌, List, [], ◌∷◌, ◌++◌, length, take, drop, get_or, slice_set, refl, sym, ap, ◌∙◌, arith, append_assoc, append-nil, take-add, take_at, drop_at, length-append}
+use Rattle.std.proofs.Common.{◌≡◌, ℕ, zero, suc, ◌+◌, ◌*◌, ◌<◌, ◌≤◌, List, [], ◌∷◌, ◌++◌, length, take, drop, get_or, slice_set, refl, sym, ap, ◌∙◌, arith, append_assoc, append-nil, take-add, take_at, drop_at, length-append}
 use Rattle.std.specs.List.{flat_map}
 use Rattle.std.specs.List.{between}
 use borrow.Rule.Slice.PartMut.{put_mid}
 use lib.Seq.{take-append-add}
 use Rattle.std.proofs.lemmas.Slice.{between_is}
-use Rattle.std.proofs.lemmas.List.{length-set, length-take, length-drop, length-take-le, take-append-le, take_all, take_more, take_more_set}
+use Rattle.std.proofs.lemmas.List.{length-set, length-drop, length-take-le, take-append-le, take_all, take_more, take_more_set}
 use Rattle.std.proofs.lemmas.List.Concat.{flat_map-append}
 use Rattle.chess_text.specs.declared.rank_text.RankText.{RankText}
 use Rattle.chess_text.specs.Placement.{rank_text, ranks_text, placement}

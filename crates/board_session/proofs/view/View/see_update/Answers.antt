@@ -1,9 +1,8 @@
-use Rattle.std.proofs.Common.{◌≡◌, ◌∙◌, ◌∷◌, refl, sym, true}
+use Rattle.std.proofs.Common.{◌≡◌, ◌∙◌, refl, sym, true}
 use Rattle.dgt_frame.specs.declared.events.Event.{Event}
 use Rattle.dgt_frame.specs.declared.events.Message.TheVariants.{Update}
 use Rattle.dgt_frame.specs.declared.events.Event.TheVariants.{Message as MessageEvent}
 use Rattle.dgt_frame.specs.declared.time.First.TheVariants.{White}
-use Rattle.board_session.specs.History.{is_trusted, picture_of}
 use Rattle.board_session.proofs.TakeLemmas.{entries_updated}
 use Rattle.board_session.proofs.ViewLemmas.{changed_picture, other_picture_shown, same_picture_shown, shows_same, square_changed, trusted_last, views_now}
 use Rattle.board_session.proofs.view.View.see_update.Goals as goal

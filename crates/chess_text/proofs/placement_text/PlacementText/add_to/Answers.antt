@@ -1,4 +1,4 @@
-use Rattle.std.proofs.Common.{◌≡◌, ◌∙◌, ◌+◌, ◌-◌, ◌++◌, ◌≤◌, ℕ, sym, ap, arith, rules, length, get_or, slice_set}
+use Rattle.std.proofs.Common.{◌≡◌, ◌∙◌, ◌+◌, ◌-◌, ◌++◌, ◌≤◌, ap, arith, rules, length, get_or, slice_set}
 use Prim.{search}
 use Rattle.std.specs.List.{between}
 use Rattle.std.proofs.lemmas.List.{length-set}

@@ -1,4 +1,4 @@
-use Rattle.std.proofs.Common.{◌≡◌, ◌∙◌, ◌+◌, ◌*◌, ◌/◌, ◌%◌, ℕ, sym, ap, arith, slice_set}
+use Rattle.std.proofs.Common.{◌≡◌, ◌∙◌, ◌+◌, ◌*◌, ◌/◌, ◌%◌, ℕ, ap, arith, slice_set}
 use Rattle.chess_text.specs.KeptRanks.{codes_in}
 use Rattle.chess_text.proofs.KeptLemmas.{rank_changed}
 use Rattle.chess_text.proofs.placement_text.PlacementText.change.Goals as goal
