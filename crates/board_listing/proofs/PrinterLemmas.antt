@@ -1,41 +1,100 @@
 -- What a printer adds at an event.
 use Rattle.std.specs.Prelude.{⊤}
-use Rattle.std.proofs.Common.{◌≡◌, ℕ, Bool, List, [], ◌∷◌, None, Result, Ok, Err, OnOk, sym, subst, append-nil}
+use Rattle.std.proofs.Common.{◌≡◌, ℕ, Bool, List, ◌∷◌, ◌++◌, slice_set, Option, None, Some, Result, Ok, Err, OnOk, refl, sym, ap, ◌∙◌, subst, append-nil}
 use Rattle.dgt_frame.specs.declared.events.Event.{Event}
 use Rattle.dgt_frame.specs.Streams.{Timed}
 use Rattle.board_session.specs.declared.view.View.{View}
 use Rattle.board_session.specs.Commands.{past_of}
 use Rattle.board_session.specs.Settings.{Setting}
-use Rattle.board_session.specs.Pictures.{Adds, pictures}
+use Rattle.board_session.specs.declared.view.Change.TheVariants.{Nothing, Square, Picture}
+use Rattle.board_session.specs.Pictures.{Adds, Changes, IsLast, pictures}
 use Rattle.board_session.specs.View.{Views}
 use Rattle.board_session.proofs.HearLemmas.{past_more}
+use Rattle.chess_text.specs.declared.placement_text.PlacementText.{PlacementText}
+use Rattle.chess_text.specs.KeptRanks.{picture_in}
+use Rattle.board_listing.specs.PictureLines.{placement_line}
 use Rattle.board_listing.specs.declared.follower.Follower.{Follower}
 use Rattle.board_listing.specs.declared.printer.Printer.{Printer}
 use Rattle.board_listing.specs.declared.printer.Printer.TheVariants.{Pictures as EachPicture, Game as EachMove}
 use Rattle.board_listing.specs.declared.listing.Listing.TheVariants.{Events, Pictures, Game}
 use Rattle.board_listing.specs.Followers.{AddsEvent, HasFollowed}
 use Rattle.board_listing.specs.Printers.{AddsLines}
-use Rattle.board_listing.proofs.LineLemmas.{game_more, pictures_added}
+use Rattle.board_listing.proofs.LineLemmas.{game_more, pictures_added, placed}
 
-none_by : (view new : View) (x : Timed) (lines : List ℕ) → ((rotated : Bool) (past : List Event) → Views view rotated past → Views new rotated (x.event ∷ past))
-    → ((rotated : Bool) (past : List Event) → Views view rotated past → Adds None (pictures rotated past) (pictures rotated (x.event ∷ past)))
-    → AddsLines (EachPicture view) lines x (EachPicture new) lines
-none_by view new x lines views shown Events events follows = absurd follows
-none_by view new x lines views shown (Game start first rotated) events follows = absurd follows
-none_by view new x lines views shown (Pictures rotated) events follows =
-    let P : List Event → Type 0 = λ past. Views new rotated past in (
-      subst P (sym (past_more events x.offset x.event)) (views rotated (past_of events) follows),
-      ([], sym (append-nil lines), λ text is. pictures_added rotated events x None text (shown rotated (past_of events) follows) is),
+-- What a view knows and a kept placement has, whatever events there were.
+abbrev pub Draws : View → PlacementText → Bool → List Event → Type 0
+Draws view placement rotated past = Views view rotated past × IsLast (picture_in placement) (pictures rotated past)
+
+-- The same after this event, and what it adds to the pictures.
+abbrev pub DrawsNext : View → PlacementText → View → PlacementText → Timed → Option (List ℕ) → Type 0
+DrawsNext view kept new kept' x answer = (rotated : Bool) (past : List Event) → Draws view kept rotated past
+    → Draws new kept' rotated (x.event ∷ past) × Adds answer (pictures rotated past) (pictures rotated (x.event ∷ past))
+
+pictures_by : (view new : View) (kept kept' : PlacementText) (x : Timed) (lines : List ℕ) (answer : Option (List ℕ)) → DrawsNext view kept new kept' x answer
+    → AddsLines (EachPicture view kept) lines x (EachPicture new kept') (lines ++ placed answer)
+pictures_by view new kept kept' x lines answer draws Events events follows = absurd follows
+pictures_by view new kept kept' x lines answer draws (Game start first rotated) events follows = absurd follows
+pictures_by view new kept kept' x lines answer draws (Pictures rotated) events follows =
+    let P : List Event → Type 0 = λ past. Draws new kept' rotated past in
+    let drawn = draws rotated (past_of events) follows in (
+      subst P (sym (past_more events x.offset x.event)) drawn.0,
+      (placed answer, refl, λ text is. pictures_added rotated events x answer text drawn.1 is),
     )
 
--- No picture was returned.
-pub none_adds : (old : Printer) (view new : View) (x : Timed) (lines : List ℕ) → old ≡ EachPicture view
+-- No picture was shown.
+pub none_adds : (old : Printer) (view new : View) (kept : PlacementText) (x : Timed) (lines : List ℕ) → old ≡ EachPicture view kept
     → ((rotated : Bool) (past : List Event) → Views view rotated past → Views new rotated (x.event ∷ past))
-    → ((rotated : Bool) (past : List Event) → Views view rotated past → Adds None (pictures rotated past) (pictures rotated (x.event ∷ past)))
-    → AddsLines old lines x (EachPicture new) lines
-none_adds old view new x lines is views shown =
-    let P : Printer → Type 0 = λ l. AddsLines l lines x (EachPicture new) lines in
-    subst P (sym is) (none_by view new x lines views shown)
+    → ((rotated : Bool) (past : List Event) → Views view rotated past → Changes Nothing (pictures rotated past) (pictures rotated (x.event ∷ past)))
+    → AddsLines old lines x (EachPicture new kept) lines
+none_adds old view new kept x lines is views shown =
+    let P : Printer → Type 0 = λ l. AddsLines l lines x (EachPicture new kept) lines in
+    let Q : List ℕ → Type 0 = λ l. AddsLines (EachPicture view kept) lines x (EachPicture new kept) l in
+    let same : DrawsNext view kept new kept x None = λ rotated past drawn. (
+      (views rotated past drawn.0, subst (IsLast (picture_in kept)) (sym (shown rotated past drawn.0)) drawn.1),
+      shown rotated past drawn.0,
+    ) in
+    subst P (sym is) (subst Q (append-nil lines) (pictures_by view new kept kept x lines None same))
+
+last_is : (picture last : List ℕ) (earlier pictures : List (List ℕ)) → pictures ≡ last ∷ earlier → IsLast picture pictures → picture ≡ last
+last_is picture last earlier pictures is here = subst (IsLast picture) is here
+
+is_last : (picture last : List ℕ) (earlier pictures : List (List ℕ)) → pictures ≡ last ∷ earlier → picture ≡ last → IsLast picture pictures
+is_last picture last earlier pictures is same = subst (IsLast picture) (sym is) same
+
+-- A square of the last picture changed.
+pub square_adds : (old : Printer) (view new : View) (kept kept' : PlacementText) (x : Timed) (lines : List ℕ) (square code : ℕ) → old ≡ EachPicture view kept
+    → ((rotated : Bool) (past : List Event) → Views view rotated past → Views new rotated (x.event ∷ past))
+    → ((rotated : Bool) (past : List Event) → Views view rotated past → Changes (Square square code) (pictures rotated past) (pictures rotated (x.event ∷ past)))
+    → picture_in kept' ≡ slice_set (picture_in kept) square code
+    → AddsLines old lines x (EachPicture new kept') (lines ++ placement_line (picture_in kept'))
+square_adds old view new kept kept' x lines square code is views shown changed =
+    let P : Printer → Type 0 = λ l. AddsLines l lines x (EachPicture new kept') (lines ++ placement_line (picture_in kept')) in
+    let draws : DrawsNext view kept new kept' x (Some (picture_in kept')) = λ rotated past drawn.
+    let here = shown rotated past drawn.0 in
+    let now : picture_in kept' ≡ slice_set here.0 square code = changed ∙ ap (λ p. slice_set p square code) (last_is (picture_in kept) here.0 here.1 (pictures rotated past) here.2 drawn.1) in (
+      (views rotated past drawn.0, is_last (picture_in kept') (slice_set here.0 square code) (pictures rotated past) (pictures rotated (x.event ∷ past)) here.3 now),
+      here.3 ∙ ap (λ p. p ∷ pictures rotated past) (sym now),
+    ) in
+    subst P (sym is) (pictures_by view new kept kept' x lines (Some (picture_in kept')) draws)
+
+-- Another picture was shown.
+pub picture_adds : (old : Printer) (view new : View) (kept kept' : PlacementText) (x : Timed) (lines picture : List ℕ) → old ≡ EachPicture view kept
+    → ((rotated : Bool) (past : List Event) → Views view rotated past → Views new rotated (x.event ∷ past))
+    → ((rotated : Bool) (past : List Event) → Views view rotated past → Changes Picture (pictures rotated past) (pictures rotated (x.event ∷ past)))
+    → ((rotated : Bool) (past : List Event) → Views new rotated past → IsLast picture (pictures rotated past))
+    → picture_in kept' ≡ picture
+    → AddsLines old lines x (EachPicture new kept') (lines ++ placement_line (picture_in kept'))
+picture_adds old view new kept kept' x lines picture is views shown last same =
+    let P : Printer → Type 0 = λ l. AddsLines l lines x (EachPicture new kept') (lines ++ placement_line (picture_in kept')) in
+    let draws : DrawsNext view kept new kept' x (Some (picture_in kept')) = λ rotated past drawn.
+    let here = shown rotated past drawn.0 in
+    let seen = views rotated past drawn.0 in
+    let newest = last rotated (x.event ∷ past) seen in
+    let now : picture_in kept' ≡ here.0 = same ∙ last_is picture here.0 (pictures rotated past) (pictures rotated (x.event ∷ past)) here.1 newest in (
+      (seen, is_last (picture_in kept') here.0 (pictures rotated past) (pictures rotated (x.event ∷ past)) here.1 now),
+      here.1 ∙ ap (λ p. p ∷ pictures rotated past) (sym now),
+    ) in
+    subst P (sym is) (pictures_by view new kept kept' x lines (Some (picture_in kept')) draws)
 
 game_by : (follower new : Follower) (x : Timed) (lines lines' : List ℕ) → AddsEvent follower lines x new lines' → AddsLines (EachMove follower) lines x (EachMove new) lines'
 game_by follower new x lines lines' adds Events events follows = absurd follows

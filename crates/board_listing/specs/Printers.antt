@@ -2,7 +2,9 @@
 use Rattle.std.specs.Prelude.{◌≡◌, ℕ, List, [], ◌∷◌, ◌++◌, ⊤}
 use Rattle.dgt_frame.specs.Streams.{Timed}
 use Rattle.board_session.specs.Commands.{past_of}
+use Rattle.board_session.specs.Pictures.{IsLast, pictures}
 use Rattle.board_session.specs.View.{Views}
+use Rattle.chess_text.specs.KeptRanks.{picture_in}
 use Rattle.board_listing.specs.declared.printer.Printer.{Printer}
 use Rattle.board_listing.specs.declared.printer.Printer.TheVariants.{Events as EachEvent, Pictures as EachPicture, Game as EachMove}
 use Rattle.board_listing.specs.declared.listing.Listing.{Listing}
@@ -15,9 +17,9 @@ abbrev pub Follows : Printer → Listing → List Timed → Type 0
 Follows EachEvent Events events = ⊤
 Follows EachEvent (Pictures rotated) events = ⊥
 Follows EachEvent (Game start first rotated) events = ⊥
-Follows (EachPicture view) Events events = ⊥
-Follows (EachPicture view) (Pictures rotated) events = Views view rotated (past_of events)
-Follows (EachPicture view) (Game start first rotated) events = ⊥
+Follows (EachPicture view placement) Events events = ⊥
+Follows (EachPicture view placement) (Pictures rotated) events = Views view rotated (past_of events) × IsLast (picture_in placement) (pictures rotated (past_of events))
+Follows (EachPicture view placement) (Game start first rotated) events = ⊥
 Follows (EachMove follower) Events events = ⊥
 Follows (EachMove follower) (Pictures rotated) events = ⊥
 Follows (EachMove follower) (Game start first rotated) events = HasFollowed follower (record { start = start; first = first; rotated = rotated }) (past_of events)

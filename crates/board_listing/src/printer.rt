@@ -11,7 +11,8 @@ use crate::follower::Follower;
 use crate::listing::Listing;
 use crate::pictures::add_placement;
 use crate::text::{GATHERED, LONGEST, Lines};
-use board_session::View;
+use board_session::{Change, View};
+use chess_text::PlacementText;
 use dgt_frame::Event;
 use std::alloc::{AllocError, Global};
 
@@ -19,7 +20,7 @@ use std::alloc::{AllocError, Global};
 #[derive(Drop)]
 pub enum Printer {
     Events,
-    Pictures(View),
+    Pictures(View, PlacementText),
     Game(Follower),
 }
 
@@ -30,7 +31,9 @@ impl Printer {
     {
         match listing {
             Listing::Events => Printer::Events,
-            Listing::Pictures { rotated } => Printer::Pictures(View::new(rotated)),
+            Listing::Pictures { rotated } => {
+                Printer::Pictures(View::new(rotated), PlacementText::new())
+            }
             Listing::Game {
                 start,
                 first,
@@ -58,9 +61,17 @@ impl Printer {
                 add_line(lines, offset, event);
                 Ok(())
             }
-            Printer::Pictures(view) => {
-                if let Some(picture) = view.take(*event) {
-                    add_placement(lines, &picture);
+            Printer::Pictures(view, placement) => {
+                match view.see(event) {
+                    Change::Nothing => {}
+                    Change::Square { square, code } => {
+                        placement.change(square, code);
+                        add_placement(lines, placement);
+                    }
+                    Change::Picture => {
+                        placement.show(view.picture());
+                        add_placement(lines, placement);
+                    }
                 }
                 Ok(())
             }
@@ -76,7 +87,7 @@ impl Printer {
     {
         match self {
             Printer::Events | Printer::Game(_) => add_rest(lines, rest),
-            Printer::Pictures(_) => {}
+            Printer::Pictures(..) => {}
         }
     }
 }

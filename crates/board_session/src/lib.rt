@@ -12,4 +12,4 @@ mod view;
 pub use recording::{Report, Setup, record};
 pub use refusal::RecordError;
 pub use session::{Session, Taken};
-pub use view::View;
+pub use view::{Change, View};

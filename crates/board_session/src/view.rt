@@ -1,6 +1,5 @@
 //! The pictures that events show, without a game.
-ghost use Rattle.std.specs.Prelude.{◌≡◌, ◌≢◌, [], ◌∷◌, List, Bool, All, ◌<◌, IfNone, IfSome, Some};
-ghost use Rattle.std.specs.Option.{ForSome};
+ghost use Rattle.std.specs.Prelude.{◌≡◌, [], ◌∷◌, List, Bool, All, ◌<◌, IfSome};
 ghost use Rattle.dgt_frame.specs.declared.events.Event.{Event};
 ghost use Rattle.dgt_frame.specs.declared.events.Message.{Message};
 ghost use Rattle.board_session.specs.History.{IsInRange};
@@ -9,17 +8,30 @@ ghost use Rattle.board_session.specs.Pictures.{Adds, pictures};
 use crate::session::{picture_of, square_of};
 use dgt_frame::{Event, Message};
 
+/// What an event does to the picture of a board.
+#[derive(Clone, Copy, Debug, PartialEq, Eq)]
+pub enum Change {
+    /// It shows none, or the one before again.
+    Nothing,
+    /// It shows the one before with another code on a square.
+    Square { square: u8, code: u8 },
+    /// It shows another picture, or the first.
+    Picture,
+}
+
 /// Follows the pictures of a board: from a dump on until a fault, each dump and each update shows one. With `rotated`, field n
 /// means square 63 - n. Takes no memory.
 #[derive(Clone, Copy, Debug)]
 pub struct View {
     rotated: bool,
     trusted: bool,
-    last: Option<[u8; 64]>,
-    ghost in_range: { ForSome last (λ picture. All (λ code. code < 16) picture) },
+    seen: bool,
+    picture: [u8; 64],
+    ghost in_range: { All (λ code. code < 16) picture },
 }
 
 impl View {
+    ghost use Rattle.board_session.specs.Pictures.{Changes, IsLast, IsOnBoard};
     ghost use Rattle.board_session.specs.View.{Views};
 
     /// A view that has taken no event.
@@ -29,7 +41,8 @@ impl View {
         View {
             rotated,
             trusted: false,
-            last: None,
+            seen: false,
+            picture: no_pieces(),
         }
     }
 
@@ -42,53 +55,82 @@ impl View {
             → Adds result (pictures rotated past) (pictures rotated (event ∷ past)) }
         ensures codes { IfSome result (λ picture. All (λ code. code < 16) picture) }
     {
+        match self.see(&event) {
+            Change::Nothing => None,
+            _ => Some(self.picture),
+        }
+    }
+
+    /// Takes the next event, and says what it does to the picture; `picture` has what it shows. Codes are at most 15 and
+    /// fields at most 63, as the decoder gives them.
+    pub fn see(&mut self, event: &Event) -> Change
+        requires { IsInRange event.now }
+        ensures views { (rotated : Bool) (past : List Event) → Views self.old rotated past → Views self.new rotated (event.now ∷ past) }
+        ensures shown { (rotated : Bool) (past : List Event) → Views self.old rotated past
+            → Changes result (pictures rotated past) (pictures rotated (event.now ∷ past)) }
+        ensures inside { IsOnBoard result }
+    {
         match event {
-            Event::Message(Message::Dump(codes)) => {
-                let picture = picture_of(self.rotated, codes);
-                self.trusted = true;
-                self.show(picture)
-            }
-            Event::Message(Message::Update { field, code }) => self.take_update(field, code),
-            Event::Message(Message::Time(_) | Message::Other { .. }) => None,
+            Event::Message(Message::Dump(codes)) => self.see_dump(codes),
+            Event::Message(Message::Update { field, code }) => self.see_update(*field, *code),
+            Event::Message(Message::Time(_) | Message::Other { .. }) => Change::Nothing,
             Event::Fault(_) => {
                 self.trusted = false;
-                None
+                Change::Nothing
             }
         }
     }
 
-    fn take_update(&mut self, field: u8, code: u8) -> Option<[u8; 64]>
+    /// The picture that was shown last: where none was, that of an empty board.
+    pub fn picture(&self) -> &[u8; 64]
+        ensures last { (rotated : Bool) (past : List Event) → Views self.now rotated past → IsLast result.now (pictures rotated past) }
+        ensures codes { All (λ code. code < 16) result.now }
+    {
+        &self.picture
+    }
+
+    fn see_dump(&mut self, codes: &[u8; 64]) -> Change
+        requires { All (λ code. code < 16) codes.now }
+        ensures views { (rotated : Bool) (past : List Event) → Views self.old rotated past
+            → Views self.new rotated (Event.Message (Message.Dump codes.now) ∷ past) }
+        ensures shown { (rotated : Bool) (past : List Event) → Views self.old rotated past
+            → Changes result (pictures rotated past) (pictures rotated (Event.Message (Message.Dump codes.now) ∷ past)) }
+        ensures inside { IsOnBoard result }
+    {
+        let picture = picture_of(self.rotated, *codes);
+        self.trusted = true;
+        if self.seen && self.picture == picture {
+            return Change::Nothing;
+        }
+        self.seen = true;
+        self.picture = picture;
+        Change::Picture
+    }
+
+    fn see_update(&mut self, field: u8, code: u8) -> Change
         requires field { field < 64 }
         requires code { code < 16 }
         ensures views { (rotated : Bool) (past : List Event) → Views self.old rotated past
             → Views self.new rotated (Event.Message (Message.Update field code) ∷ past) }
         ensures shown { (rotated : Bool) (past : List Event) → Views self.old rotated past
-            → Adds result (pictures rotated past) (pictures rotated (Event.Message (Message.Update field code) ∷ past)) }
-        ensures codes { IfSome result (λ picture. All (λ code. code < 16) picture) }
+            → Changes result (pictures rotated past) (pictures rotated (Event.Message (Message.Update field code) ∷ past)) }
+        ensures inside { IsOnBoard result }
     {
         if !self.trusted {
-            return None;
+            return Change::Nothing;
         }
-        let Some(mut picture) = self.last else {
-            return None;
-        };
-        picture[square_of(self.rotated, field).number() as usize] = code;
-        self.show(picture)
+        let square = square_of(self.rotated, field).number();
+        if self.picture[square as usize] == code {
+            return Change::Nothing;
+        }
+        self.picture[square as usize] = code;
+        Change::Square { square, code }
     }
+}
 
-    /// Keeps the picture, and returns it where it differs from the last one.
-    fn show(&mut self, picture: [u8; 64]) -> Option<[u8; 64]>
-        requires { All (λ code. code < 16) picture }
-        ensures same { IfNone result (self.old.last ≡ Some picture) }
-        ensures shown { IfSome result (λ shown. (shown ≡ picture) × (self.old.last ≢ Some picture)) }
-        ensures last { self.new.last ≡ Some picture }
-        ensures rotated { self.new.rotated ≡ self.old.rotated }
-        ensures trusted { self.new.trusted ≡ self.old.trusted }
-    {
-        if self.last == Some(picture) {
-            return None;
-        }
-        self.last = Some(picture);
-        Some(picture)
-    }
+/// The picture of an empty board.
+fn no_pieces() -> [u8; 64]
+    ensures { All (λ code. code < 16) result }
+{
+    [0; 64]
 }

@@ -17,3 +17,4 @@ pub mod FenPlain
 pub mod Refusals
 pub mod DigitsApart
 pub mod RankTexts
+pub mod KeptLemmas

@@ -3,6 +3,7 @@ pub mod Placement
 pub mod Fen
 pub mod FieldReading
 pub mod PlacementReading
+pub mod KeptRanks
 pub mod San
 pub mod Laws
 pub mod Rivals

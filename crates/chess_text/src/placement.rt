@@ -44,7 +44,7 @@ fn put_run(out: &mut ArrayString<128>, empty: u8)
     }
 }
 
-fn put_rank(out: &mut ArrayString<128>, rank: &[u8])
+pub fn put_rank(out: &mut ArrayString<128>, rank: &[u8])
     requires squares { length rank.now ≡ 8 }
     requires room { array_string_len out.old + 8 ≤ 128 }
     ensures text { out.new.bytes ≡ out.old.bytes ++ rank_text 0 rank.now }

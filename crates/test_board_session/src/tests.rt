@@ -3,7 +3,7 @@ ghost use Rattle.board_session.specs.History.{IsInRange};
 
 use crate::streams::{OPENING, Streams, WORKING, answer_leaving, setup};
 use board_session::laws::read_recorded;
-use board_session::{RecordError, Report, Session, Taken, record};
+use board_session::{Change, RecordError, Report, Session, Taken, View, record};
 use chess_rules::Position;
 use dgt_frame::{Event, FaultKind, First, Message, Watch};
 use settle_core::Seen;
@@ -443,6 +443,39 @@ fn a_session_trusts_from_a_dump_to_a_fault(rt: HostRuntime) {
     assert!(rt; trusts_nothing_yet(&mut session));
     assert!(rt; trusts_a_dump(&mut session));
     assert!(rt; trusts_nothing_after_a_fault(&mut session));
+}
+
+/// Of the event the view says this.
+fn changes(view: &mut View, event: Event, change: Change) -> bool
+    requires { IsInRange event }
+{
+    view.see(&event) == change
+}
+
+fn sees_a_lifted_pawn(view: &mut View, square: u8) -> bool {
+    changes(view, lift(), Change::Nothing)
+        && changes(view, dump(), Change::Picture)
+        && changes(view, dump(), Change::Nothing)
+        && changes(view, lift(), Change::Square { square, code: 0 })
+        && changes(view, lift(), Change::Nothing)
+}
+
+fn sees_the_next_dump_after_a_fault(view: &mut View) -> bool {
+    changes(view, Event::Fault(FaultKind::Stray), Change::Nothing)
+        && changes(view, lift(), Change::Nothing)
+        && changes(view, dump(), Change::Picture)
+        && changes(view, dump(), Change::Nothing)
+}
+
+#[test]
+fn a_view_tells_what_changes(rt: HostRuntime) {
+    let mut view = View::new(false);
+    assert!(rt; sees_a_lifted_pawn(&mut view, 52));
+    assert!(rt; sees_the_next_dump_after_a_fault(&mut view));
+    assert_eq!(rt; view.picture()[52], 1);
+    let mut turned = View::new(true);
+    assert!(rt; sees_a_lifted_pawn(&mut turned, 11));
+    assert_eq!(rt; turned.picture()[12], 1);
 }
 
 /// The row's text reads back as a game with its moves.

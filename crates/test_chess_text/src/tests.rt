@@ -1,8 +1,11 @@
 // Worked positions. The positions and texts are those of the PGN standard, of known games, or worked out by hand.
 ghost use Rattle.std.specs.Prelude.{All, ◌≤◌};
 
+use arrayvec::ArrayVec;
 use chess_rules::{Kind, Move, Position, Square};
-use chess_text::{FenError, SanError, read_fen, read_san, write_fen, write_placement, write_san};
+use chess_text::{
+    FenError, PlacementText, SanError, read_fen, read_san, write_fen, write_placement, write_san,
+};
 use std::alloc::{AllocError, Global};
 use std::test::Fail;
 
@@ -244,6 +247,61 @@ fn placement_shows_unknown_codes(rt: HostRuntime) -> Result<(), Fail> {
     let picture = changed(&Position::initial().picture(), e2, 13);
     assert!(rt; is_placement(&picture, "rnbqkbnr/pppppppp/8/8/8/8/PPPP*PPP/RNBQKBNR"));
     Ok(())
+}
+
+/// Whether the placement that is kept has this text.
+fn has_text(placement: &PlacementText, text: &str) -> bool {
+    let mut out: ArrayVec<u8, 71> = ArrayVec::new();
+    placement.add_to(&mut out);
+    out.as_slice() == text.as_bytes()
+}
+
+/// The number of the first change, a square's number and its code, after which the placement has another text.
+fn first_unlike_change(placement: &mut PlacementText, rows: &[(u8, u8, &str)]) -> Option<usize> {
+    for (i, (square, code, text)) in rows.iter().enumerate() {
+        if *square > 63 {
+            return Some(i);
+        }
+        placement.change(*square, *code);
+        if !has_text(placement, text) {
+            return Some(i);
+        }
+    }
+    None
+}
+
+static RANK_FILLS_AND_EMPTIES: [(u8, u8, &str); 8] = [
+    (36, 1, "8/8/8/8/4P3/8/8/8"),
+    (32, 7, "8/8/8/8/p3P3/8/8/8"),
+    (39, 12, "8/8/8/8/p3P2q/8/8/8"),
+    (36, 0, "8/8/8/8/p6q/8/8/8"),
+    (32, 0, "8/8/8/8/7q/8/8/8"),
+    (39, 0, "8/8/8/8/8/8/8/8"),
+    (0, 13, "*7/8/8/8/8/8/8/8"),
+    (63, 5, "*7/8/8/8/8/8/8/7K"),
+];
+
+static FULL_RANKS_CHANGE: [(u8, u8, &str); 5] = [
+    (52, 0, "rnbqkbnr/pppppppp/8/8/8/8/PPPP1PPP/RNBQKBNR"),
+    (12, 0, "rnbqkbnr/pppp1ppp/8/8/8/8/PPPP1PPP/RNBQKBNR"),
+    (52, 1, "rnbqkbnr/pppp1ppp/8/8/8/8/PPPPPPPP/RNBQKBNR"),
+    (55, 0, "rnbqkbnr/pppp1ppp/8/8/8/8/PPPPPPP1/RNBQKBNR"),
+    (12, 7, "rnbqkbnr/pppppppp/8/8/8/8/PPPPPPP1/RNBQKBNR"),
+];
+
+#[test]
+fn placement_follows_its_squares(rt: HostRuntime) {
+    let mut placement = PlacementText::new();
+    assert!(rt; has_text(&placement, "8/8/8/8/8/8/8/8"));
+    assert_eq!(rt;
+        first_unlike_change(&mut placement, &RANK_FILLS_AND_EMPTIES),
+        None
+    );
+    placement.show(&Position::initial().picture());
+    assert_eq!(rt;
+        first_unlike_change(&mut placement, &FULL_RANKS_CHANGE),
+        None
+    );
 }
 
 #[test]

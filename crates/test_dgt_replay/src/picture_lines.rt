@@ -38,6 +38,22 @@ const PRINTED_PICTURES: &[Case<'static>] = &[
         ],
         ..PICTURES
     },
+    // a rank that grows, shrinks and empties
+    Case {
+        input: &[
+            INITIAL,
+            E4_PAWN,
+            b"\x8E\x00\x05\x20\x07\x8E\x00\x05\x24\x00\x8E\x00\x05\x20\x00",
+        ],
+        out: &[
+            INITIAL_PLACEMENT,
+            b"rnbqkbnr/pppppppp/8/8/4P3/8/PPPPPPPP/RNBQKBNR\n",
+            b"rnbqkbnr/pppppppp/8/8/p3P3/8/PPPPPPPP/RNBQKBNR\n",
+            b"rnbqkbnr/pppppppp/8/8/p7/8/PPPPPPPP/RNBQKBNR\n",
+            INITIAL_PLACEMENT,
+        ],
+        ..PICTURES
+    },
     Case {
         input: &[INITIAL, b"\x8E\x00\x05\x34\x0D"],
         out: &[
@@ -63,6 +79,17 @@ const TRUSTED_PICTURES: &[Case<'static>] = &[
     Case {
         input: &[INITIAL, CUT, E2_EMPTY, E4_PAWN, INITIAL, E2_EMPTY],
         out: &[INITIAL_PLACEMENT, LIFTED_PLACEMENT],
+        ..PICTURES
+    },
+    // a dump after a fault, and an update of what it shows
+    Case {
+        input: &[INITIAL, E2_EMPTY, CUT, INITIAL, E4_PAWN],
+        out: &[
+            INITIAL_PLACEMENT,
+            LIFTED_PLACEMENT,
+            INITIAL_PLACEMENT,
+            b"rnbqkbnr/pppppppp/8/8/4P3/8/PPPPPPPP/RNBQKBNR\n",
+        ],
         ..PICTURES
     },
     Case {

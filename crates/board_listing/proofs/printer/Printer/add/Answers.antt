@@ -2,12 +2,12 @@ use Rattle.dgt_frame.specs.Streams.{Timed}
 use Rattle.board_listing.proofs.PrinterLemmas.{game_adds, none_adds}
 use Rattle.board_listing.proofs.printer.Printer.add.Goals as goal
 
-pub returns-in_default-clause-ok : goal.returns-in_default-clause-ok
-returns-in_default-clause-ok c =
-    let x : Timed = record { offset = c.args.offset; event = c.args.event.now } in
-    none_adds c.args.self.now c.in-Pictures.view c.take.new.self x c.args.lines.now.items c.in-Pictures.is c.in_default.ensures.views c.in_default.ensures.shown
-
 pub returns-in-Game-clause-ok : goal.returns-in-Game-clause-ok
 returns-in-Game-clause-ok c =
     let x : Timed = record { offset = c.args.offset; event = c.args.event.now } in
     game_adds c.add.result c.args.self.now c.in-Game.follower c.add.new.self x c.args.lines.now.items c.add.new.lines.items c.in-Game.is c.add.ensures.ok
+
+pub returns-in-Nothing-clause-ok : goal.returns-in-Nothing-clause-ok
+returns-in-Nothing-clause-ok c =
+    let x : Timed = record { offset = c.args.offset; event = c.args.event.now } in
+    none_adds c.args.self.now c.in-Pictures.view c.see.new.self c.in-Pictures.placement x c.args.lines.now.items c.in-Pictures.is c.in-Nothing.ensures.views c.in-Nothing.ensures.shown
