@@ -15,7 +15,7 @@ use Rattle.settle_core.specs.declared.game.Seen.TheVariants.{Same, Moved, Sign, 
 use Rattle.settle_core.specs.Entries.{Entry, repeats, deduplicated}
 use Rattle.settle_core.specs.Folding.{Folds, Replaces, Score, SeenAs, moves_of, played, score_after}
 use Rattle.settle_core.specs.Settling.{reached}
-use Rattle.settle_core.specs.Settler.{Answers, AnswersNew, Sheet, StandsFor as Settled}
+use Rattle.settle_core.specs.Settler.{ReturnsSeen, ReturnsNewSeen, Sheet, StandsFor as Settled}
 use Rattle.settle_core.proofs.Once.{folds_once}
 use Rattle.board_session.specs.declared.session.Taken.{Taken}
 use Rattle.board_session.specs.Entries.{entry_at, is_entry}
@@ -69,7 +69,7 @@ last_told offset word lines lines' start (last ∷ earlier) found p ply legal at
     (line offset (move_words word (reached start (moves_of earlier)) here.0 last.clock), (here.0, here.1, refl), here.2)
 
 -- The result for a picture that is none that was seen last.
-pub new_answer : (start : Parts) (past : List Entry) (shown : List ℕ) (seen : Seen) → seen ≢ Same → Answers start past shown seen → AnswersNew start past shown seen
+pub new_answer : (start : Parts) (past : List Entry) (shown : List ℕ) (seen : Seen) → seen ≢ Same → ReturnsSeen start past shown seen → ReturnsNewSeen start past shown seen
 new_answer start past shown Same other answer = absurd (other refl)
 new_answer start past shown (Moved m) other answer = answer
 new_answer start past shown (Sign outcome) other answer = answer
@@ -102,7 +102,7 @@ pub without_repeats : (entry : Entry) (past : List Entry) → repeats entry.pict
 without_repeats entry past new = ap (λ b. if b then deduplicated past else entry ∷ deduplicated past) new
 
 news_of : (sheet : Sheet) (start : Parts) (past : List Entry) (entry : Entry) (seen : Seen) → Valid start → Settled sheet start (entry ∷ past)
-    → AnswersNew start past entry.picture seen → News sheet start past entry seen
+    → ReturnsNewSeen start past entry.picture seen → News sheet start past entry seen
 news_of sheet start past entry seen valid stands answer =
     let before = answer.1.0 in
     let after = score_after start before entry.reading seen in
@@ -132,7 +132,7 @@ pub news : (old : Follower) (new : State) (setting : Setting) (past : List Event
 news old new setting past event taken seen followed stands tells is other =
     let entry : is_entry event past ≡ true = sym tells.entry ∙ ap is_some is in
     let P : List Entry → Type 0 = λ es. Settled new.settler setting.start es in
-    let Q : Option Seen → Type 0 = λ s. IfSome s (Answers setting.start (entries_in setting past) (picture_of setting.rotated (event ∷ past))) in
+    let Q : Option Seen → Type 0 = λ s. IfSome s (ReturnsSeen setting.start (entries_in setting past) (picture_of setting.rotated (event ∷ past))) in
     news_of new.settler setting.start (entries_in setting past) (entry_at setting.first setting.rotated (event ∷ past)) seen followed.valid
     (subst P (entries_new setting event past entry) stands.settler)
     (new_answer setting.start (entries_in setting past) (picture_of setting.rotated (event ∷ past)) seen other (subst Q is tells.seen))
@@ -220,7 +220,7 @@ pub added_same : (old : Follower) (new : State) (setting : Setting) (past : List
     → Added (record { session = new; told = old.told }) setting past x lines lines'
 added_same old new setting past x taken seen lines lines' followed stands tells asks some same lines_are =
     let entry : is_entry x.event past ≡ true = sym tells.entry ∙ ap is_some some in
-    let Q : Option Seen → Type 0 = λ s. IfSome s (Answers setting.start (entries_in setting past) (picture_of setting.rotated (x.event ∷ past))) in
+    let Q : Option Seen → Type 0 = λ s. IfSome s (ReturnsSeen setting.start (entries_in setting past) (picture_of setting.rotated (x.event ∷ past))) in
     let repeated : repeats (picture_of setting.rotated (x.event ∷ past)) (entries_in setting past) ≡ true = subst Q (some ∙ ap Some same) tells.seen in
     let here = entry_at setting.first setting.rotated (x.event ∷ past) in
     let shorter : deduplicated (here ∷ entries_in setting past) ≡ deduplicated (entries_in setting past) =

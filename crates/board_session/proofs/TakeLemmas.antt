@@ -8,7 +8,7 @@ use Rattle.dgt_frame.specs.declared.events.Event.TheVariants.{Message as Message
 use Rattle.dgt_frame.specs.declared.First.{First}
 use Rattle.settle_core.specs.declared.game.Seen.{Seen}
 use Rattle.settle_core.specs.Entries.{Entry, changed, entry_of, last_picture}
-use Rattle.settle_core.specs.Settler.{Sheet, StandsFor as Settled, Answers, GivesMove}
+use Rattle.settle_core.specs.Settler.{Sheet, StandsFor as Settled, ReturnsSeen, GivesMove}
 use Rattle.board_session.specs.States.{State}
 use Rattle.board_session.specs.Settings.{Setting}
 use Rattle.board_session.specs.History.{is_trusted, picture_of, turned}
@@ -50,7 +50,7 @@ same_state old settler e t = ap (λ (s : Sheet). trusting s old) e ∙ ap (λ (b
 -- A settler took this entry, and one whose picture was the last one left it as it was.
 pub record SeesEntry (old new : Sheet) (start : Parts) (past : List Entry) (entry : Entry) (seen : Seen) : Type 0 where
   pub stands : Settled old start past → Settled new start (entry ∷ past)
-  pub answers : Settled old start past → Answers start past entry.picture seen
+  pub answers : Settled old start past → ReturnsSeen start past entry.picture seen
   pub same : Settled old start past → last_picture past ≡ Some entry.picture → new ≡ old
 
 -- A settler ran out of memory at this entry: the picture was not the last one, and gives a move.
@@ -78,7 +78,7 @@ dump_taken old settler codes picture seen is sees = record {
       record {
         asks = refl;
         entry = refl;
-        seen = subst (λ (p : List ℕ). Answers setting.start (entries_in setting past) p seen) shown ((sees setting.start (entries_in setting past)).answers h.settler);
+        seen = subst (λ (p : List ℕ). ReturnsSeen setting.start (entries_in setting past) p seen) shown ((sees setting.start (entries_in setting past)).answers h.settler);
       };
   idle = λ setting past h idle.
       let shown : picture ≡ picture_of setting.rotated (MessageEvent (Dump codes) ∷ past) = is past ∙ ap (λ (r : Bool). picture_of r (MessageEvent (Dump codes) ∷ past)) h.rotated in
@@ -165,8 +165,8 @@ update_taken old settler field code square seen f trusted turns sees = record {
       record {
         asks = refl;
         entry = sym found.trust;
-        seen = subst (λ (es : List Entry). Answers setting.start es (picture_of setting.rotated (MessageEvent (Update field code) ∷ past)) seen) (sym found.are)
-            (subst (λ (p : List ℕ). Answers setting.start (found.before ∷ found.earlier) p seen) found.shown ((sees setting.start found.before found.earlier).answers found.settled));
+        seen = subst (λ (es : List Entry). ReturnsSeen setting.start es (picture_of setting.rotated (MessageEvent (Update field code) ∷ past)) seen) (sym found.are)
+            (subst (λ (p : List ℕ). ReturnsSeen setting.start (found.before ∷ found.earlier) p seen) found.shown ((sees setting.start found.before found.earlier).answers found.settled));
       };
   idle = λ setting past h idle.
       let found = last_of old setting past field code square f trusted turns h in

@@ -15,7 +15,7 @@ use Rattle.board_session.specs.declared.recorder.Recorder.{Recorder}
 use Rattle.board_session.specs.Commands.{asked, commands, faults_in, messages_in, past_of}
 use Rattle.board_session.specs.Game.{IsGameOf}
 use Rattle.board_session.specs.History.{is_fault}
-use Rattle.board_session.specs.Recording.{Answers, AppendsPart, Ends, Sends, limit}
+use Rattle.board_session.specs.Recording.{Returns, AppendsPart, Ends, Sends, limit}
 use Rattle.board_session.specs.Settings.{Setting}
 use Rattle.board_session.specs.Session.{StandsFor, WantsMemory}
 
@@ -119,4 +119,4 @@ pub record Finished (answer : Result Report RecordError) (ending : Result ⊤ Re
   pub shows : Shows front events rest
   pub game_is : IsGameOf game setting tags (past_of taken)
   pub text_is : Pgn game text
-  pub answers : Answers answer ending taken game rest written written' text
+  pub answers : Returns answer ending taken game rest written written' text

@@ -93,14 +93,14 @@ abbrev pub TellsEnding : RecordError → Result ⊤ RecordError → Option (List
 TellsEnding error ending written written' text = (ending ≡ Err error) × Appends written written' text
 
 -- The result, by why reading ended and by what was written of the text: a part of it is Write, else the whole stands.
-abbrev pub Answers : Result Report RecordError → Result ⊤ RecordError → List Timed → Content → ℕ → Option (List ℕ) → Option (List ℕ) → List ℕ → Type 0
-Answers (Ok report) ending taken game rest written written' text =
+abbrev pub Returns : Result Report RecordError → Result ⊤ RecordError → List Timed → Content → ℕ → Option (List ℕ) → Option (List ℕ) → List ℕ → Type 0
+Returns (Ok report) ending taken game rest written written' text =
     (ending ≡ Ok tt) × Appends written written' text × Reports report taken game rest
-Answers (Err Memory) ending taken game rest written written' text = TellsEnding Memory ending written written' text
-Answers (Err Read) ending taken game rest written written' text = TellsEnding Read ending written written' text
-Answers (Err Board) ending taken game rest written written' text = TellsEnding Board ending written written' text
-Answers (Err Write) ending taken game rest written written' text = AppendsPart written written' text
-Answers (Err TooLong) ending taken game rest written written' text = TellsEnding TooLong ending written written' text
+Returns (Err Memory) ending taken game rest written written' text = TellsEnding Memory ending written written' text
+Returns (Err Read) ending taken game rest written written' text = TellsEnding Read ending written written' text
+Returns (Err Board) ending taken game rest written written' text = TellsEnding Board ending written written' text
+Returns (Err Write) ending taken game rest written written' text = AppendsPart written written' text
+Returns (Err TooLong) ending taken game rest written written' text = TellsEnding TooLong ending written written' text
 
 -- What a recording leaves, whatever it returns: these bytes were read, and of the events that their front shows these were
 -- taken; the board was sent what they ask for; and the PGN text of their game was written, wholly or as far as it went.
@@ -122,4 +122,4 @@ pub record Leaves (setup : Setup) (answer : Result Report RecordError) (input in
   pub sends : Sends ending sent sent' taken
   pub game_is : IsGameOf game (setting_of setup) setup.tags (past_of taken)
   pub text_is : Pgn game text
-  pub answers : Answers answer ending taken game rest written written' text
+  pub answers : Returns answer ending taken game rest written written' text

@@ -3,7 +3,7 @@ use Rattle.std.specs.Prelude.{◌≡◌, true, List, ◌∷◌, Result, IfSome, 
 use Rattle.std.specs.declared.alloc.AllocError.{AllocError}
 use Rattle.dgt_frame.specs.declared.events.Event.{Event}
 use Rattle.settle_core.specs.Entries.{Entry}
-use Rattle.settle_core.specs.Settler.{StandsFor as Settled, Answers, GivesMove}
+use Rattle.settle_core.specs.Settler.{StandsFor as Settled, ReturnsSeen, GivesMove}
 use Rattle.board_session.specs.declared.session.Taken.{Taken}
 use Rattle.board_session.specs.Settings.{Setting}
 use Rattle.board_session.specs.States.{State}
@@ -27,7 +27,7 @@ pub record StandsFor (session : State) (setting : Setting) (past : List Event) :
 pub record TellsTaken (setting : Setting) (past : List Event) (event : Event) (taken : Taken) : Type 0 where
   pub asks : taken.asks_dump ≡ is_fault event
   pub entry : is_some taken.seen ≡ is_entry event past
-  pub seen : IfSome taken.seen (Answers setting.start (entries_in setting past) (picture_of setting.rotated (event ∷ past)))
+  pub seen : IfSome taken.seen (ReturnsSeen setting.start (entries_in setting past) (picture_of setting.rotated (event ∷ past)))
 
 -- After these events the next one gives a move, for which memory is taken.
 abbrev pub WantsMemory : Setting → List Event → Event → Type 0

@@ -70,7 +70,7 @@ TakesUpTo old more count event new = (bytes : List ℕ) (events : List Timed) �
     → Decoded new (bytes ++ take count more) (events ++ record { offset = length bytes + (count - 1); event = event } ∷ [])
 
 -- what the progress of a byte shows, with the data that is stored
-abbrev pub answered : Progress → List ℕ → Option Event
-answered Waits stored = None
-answered (Fails kind) stored = Some (Fault kind)
-answered (Ends id size) stored = Some (MessageEvent (message_stored id size stored))
+abbrev pub event_at_byte : Progress → List ℕ → Option Event
+event_at_byte Waits stored = None
+event_at_byte (Fails kind) stored = Some (Fault kind)
+event_at_byte (Ends id size) stored = Some (MessageEvent (message_stored id size stored))

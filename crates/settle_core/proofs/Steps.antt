@@ -21,7 +21,7 @@ use Rattle.settle_core.specs.declared.game.Seen.TheVariants.{Same, Moved, Sign, 
 use Rattle.settle_core.specs.Entries.{Entry, entry_of, repeats, deduplicated}
 use Rattle.settle_core.specs.Settling.{Settles, reached, Played}
 use Rattle.settle_core.specs.Folding.{Score, Folds, SeenAs, Replaces, moves_of, score_after}
-use Rattle.settle_core.specs.Settler.{Sheet, StandsFor, Answers, GivesMove}
+use Rattle.settle_core.specs.Settler.{Sheet, StandsFor, ReturnsSeen, GivesMove}
 use Rattle.settle_core.proofs.Changing.{set_differs}
 use Rattle.settle_core.specs.Kept.{IsLastSet, CanReplace, before_last, last_of, position_in}
 
@@ -153,7 +153,7 @@ taken_stands old new start past picture reading seen st fresh shows is =
 
 answers_new : (start : Parts) (past : List Entry) (seen : List ℕ) (score : Score) (answer : Seen)
     → repeats seen past ≡ false → Folds start (deduplicated past) score → SeenAs start (moves_of score.plies) seen answer
-    → Answers start past seen answer
+    → ReturnsSeen start past seen answer
 answers_new start past seen score Same new f h = absurd h
 answers_new start past seen score (Moved m) new f h = (new, (score, f, h))
 answers_new start past seen score (Sign outcome) new f h = (new, (score, f, h))
@@ -166,7 +166,7 @@ pub taken_answers :
     → StandsFor old start past
     → repeats picture past ≡ false
     → SeenAs old.start (moves_of old.score.plies) picture seen
-    → Answers start past picture seen
+    → ReturnsSeen start past picture seen
 taken_answers old start past picture seen st fresh shows =
     let S : Parts → Type 0 = λ s. SeenAs s (moves_of old.score.plies) picture seen in
     answers_new start past picture old.score seen fresh st.folds (subst S st.start_is shows)

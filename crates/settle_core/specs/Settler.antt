@@ -35,18 +35,18 @@ pub record StandsFor (sheet : Sheet) (start : Parts) (past : List Entry) : Type 
   pub folds : Folds start (deduplicated past) sheet.score
 
 -- what a picture that is not the last one shows after these entries
-abbrev pub AnswersNew : Parts → List Entry → List ℕ → Seen → Type 0
-AnswersNew start past seen answer = (repeats seen past ≡ false)
+abbrev pub ReturnsNewSeen : Parts → List Entry → List ℕ → Seen → Type 0
+ReturnsNewSeen start past seen answer = (repeats seen past ≡ false)
     × ((score : Score) × Folds start (deduplicated past) score × SeenAs start (moves_of score.plies) seen answer)
 
 -- the result for a picture after these entries
-abbrev pub Answers : Parts → List Entry → List ℕ → Seen → Type 0
-Answers start past seen Same = repeats seen past ≡ true
-Answers start past seen (Moved m) = AnswersNew start past seen (Moved m)
-Answers start past seen (Sign outcome) = AnswersNew start past seen (Sign outcome)
-Answers start past seen (Replaced m) = AnswersNew start past seen (Replaced m)
-Answers start past seen Waits = AnswersNew start past seen Waits
+abbrev pub ReturnsSeen : Parts → List Entry → List ℕ → Seen → Type 0
+ReturnsSeen start past seen Same = repeats seen past ≡ true
+ReturnsSeen start past seen (Moved m) = ReturnsNewSeen start past seen (Moved m)
+ReturnsSeen start past seen (Sign outcome) = ReturnsNewSeen start past seen (Sign outcome)
+ReturnsSeen start past seen (Replaced m) = ReturnsNewSeen start past seen (Replaced m)
+ReturnsSeen start past seen Waits = ReturnsNewSeen start past seen Waits
 
 -- The picture gives a move after these entries, for which memory is taken.
 abbrev pub GivesMove : Parts → List Entry → List ℕ → Type 0
-GivesMove start past seen = (m : Move) × Answers start past seen (Moved m)
+GivesMove start past seen = (m : Move) × ReturnsSeen start past seen (Moved m)

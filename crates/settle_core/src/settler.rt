@@ -9,7 +9,7 @@ ghost use Rattle.settle_core.specs.declared.game.Ply.{Ply as PlyOf};
 ghost use Rattle.settle_core.specs.Masks.{IsDiff};
 ghost use Rattle.settle_core.specs.Settling.{Settles, Line, position_after, reached};
 ghost use Rattle.settle_core.specs.Folding.{Folds, Replaces, SeenAs, moves_of, played, score_after, score_of, time_of as time_in};
-ghost use Rattle.settle_core.specs.Settler.{StandsFor, Answers, GivesMove, has_seen, plies_of, position_of};
+ghost use Rattle.settle_core.specs.Settler.{StandsFor, ReturnsSeen, GivesMove, has_seen, plies_of, position_of};
 ghost use Rattle.settle_core.specs.Kept.{CanReplace, IsComparedIn, IsLastSet, last_of, position_in};
 
 use crate::compared::{Compared, copy, shown_after};
@@ -119,7 +119,7 @@ impl Settler {
         ensures stands { (start : PartsOf) (past : List Entry) → StandsFor self.old start past
             → OnOk result (StandsFor self.new start (entry_of picture.now clock ∷ past)) }
         ensures answer { (start : PartsOf) (past : List Entry) → StandsFor self.old start past
-            → IfOk result (Answers start past picture.now) }
+            → IfOk result (ReturnsSeen start past picture.now) }
         // An equal picture leaves the settler as it was.
         ensures same { self.old.last ≡ Some picture.now → (self.new ≡ self.old) × (result ≡ Ok Seen.Same) }
         ensures seen { has_seen self.new ≡ (has_seen self.old || is_ok result) }
@@ -159,7 +159,7 @@ impl Settler {
         ensures stands { (start : PartsOf) (before : Entry) (past : List Entry) → StandsFor self.old start (before ∷ past)
             → OnOk result (StandsFor self.new start (changed before square code clock ∷ before ∷ past)) }
         ensures answer { (start : PartsOf) (before : Entry) (past : List Entry) → StandsFor self.old start (before ∷ past)
-            → IfOk result (Answers start (before ∷ past) (slice_set before.picture square code)) }
+            → IfOk result (ReturnsSeen start (before ∷ past) (slice_set before.picture square code)) }
         // A code that the square showed leaves the settler as it was.
         ensures same { (picture : List ℕ) → self.old.last ≡ Some picture → slice_set picture square code ≡ picture
             → (self.new ≡ self.old) × (result ≡ Ok Seen.Same) }

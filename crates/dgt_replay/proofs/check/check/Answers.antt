@@ -6,7 +6,7 @@ use Rattle.dgt_replay.specs.Checked.{RefusesText, summary_line}
 use Rattle.dgt_replay.proofs.CheckLemmas.{checked, no_game}
 use Rattle.pgn_book.specs.Pgn.{Pgn}
 use Rattle.dgt_replay.proofs.EndLemmas.{true_or}
-use Rattle.dgt_replay.proofs.MessageLemmas.{tells_fault, tells_or_fault, tells_refused}
+use Rattle.dgt_replay.proofs.MessageLemmas.{tells_fault, tells_memory, tells_or_fault, tells_refused}
 use Rattle.board_listing.proofs.GatherLemmas.{at_err, at_ok}
 use Rattle.dgt_replay.proofs.check.check.Goals as goal
 use Rattle.dgt_replay.proofs.check.check.Goals.{then-is_err-via-then-is_err, then-is_err-via-else-is_err+then-is_err-2}
@@ -53,3 +53,15 @@ returns-in-Err-Read-clause-tells g c =
     let failed : has_failed c.read_text.new.reader ≡ true = search rules in
     tells_or_fault c.refused_run-in-Err-Read.result 3 (RefusesText input) _ _ _ _ _ _ c.refused_run-in-Err-Read.ensures.ended
     (λ three says. tells_fault c.refused_run-in-Err-Read.result (RefusesText input) _ _ _ _ _ three (inl (failed, says)))
+
+pub returns-in-Err-TooLong-clause-tells : goal.returns-in-Err-TooLong-clause-tells
+returns-in-Err-TooLong-clause-tells g c =
+    let input = g.R.Read.remaining (inner_of c.args.reader.now) in
+    tells_or_fault c.refused_run-in-Err-TooLong.result 1 (RefusesText input) _ _ _ _ _ _ c.refused_run-in-Err-TooLong.ensures.ended
+    (λ one says. tells_refused c.refused_run-in-Err-TooLong.result (RefusesText input) _ _ _ _ _ (codes "input: too long\n") one (inl (search rules, refl)) says)
+
+pub returns-in-Err-Memory-read_pgn-clause-tells : goal.returns-in-Err-Memory-read_pgn-clause-tells
+returns-in-Err-Memory-read_pgn-clause-tells g c =
+    let input = g.R.Read.remaining (inner_of c.args.reader.now) in
+    tells_or_fault c.refused_run-in-Err-Memory-read_pgn.result 4 (RefusesText input) _ _ _ _ _ _ c.refused_run-in-Err-Memory-read_pgn.ensures.ended
+    (λ four says. tells_memory c.refused_run-in-Err-Memory-read_pgn.result (RefusesText input) _ _ _ _ _ four says)

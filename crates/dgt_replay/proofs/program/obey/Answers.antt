@@ -1,4 +1,4 @@
-use Rattle.std.proofs.Common.{◌≡◌, false, subst}
+use Rattle.std.proofs.Common.{◌≡◌, false, refl, rules, subst}
 use Rattle.dgt_frame.specs.Watch.{inner_of, has_failed}
 use Rattle.replay_arguments.specs.declared.arguments.RecordArguments.{RecordArguments}
 use Rattle.replay_arguments.specs.Setups.{MeetsNothing, given, tag_text}
@@ -13,3 +13,9 @@ returns-in-Record-clause-refusal_tells g c options is nothing =
     let P : RecordArguments → Type 0 = λ w. MeetsNothing w → Tells c.record_game.result (RefusesSetup (given w.fen) (tag_text w))
     (g.E.Write.contents (inner_of c.args.err.now)) (g.E.Write.contents (inner_of c.record_game.new.err)) false false (has_failed c.record_game.new.err) in
     subst P same c.record_game.ensures.tells nothing
+
+pub returns-in-Moves-clause-moves_unread : goal.returns-in-Moves-clause-moves_unread
+returns-in-Moves-clause-moves_unread g c fen is = refl
+
+pub returns-in-Moves-clause-works : goal.returns-in-Moves-clause-works
+returns-in-Moves-clause-works g c zero = (c.requires.reading, search rules)

@@ -1,4 +1,4 @@
-use Rattle.std.proofs.Common.{◌≡◌, ◌++◌, ◌∙◌, List, ℕ, ap, inl, inr, rules, subst}
+use Rattle.std.proofs.Common.{◌≡◌, ◌++◌, ◌∙◌, List, ℕ, ap, arith, inl, inr, rules, subst}
 use Rattle.dgt_frame.specs.Watch.{inner_of}
 use Rattle.board_session.specs.Recording.{AppendsPart}
 use Rattle.dgt_replay.specs.Recorded.{report_line}
@@ -22,3 +22,18 @@ returns-in-Err-Board-clause-fails g c three = inr (inr (search rules, inl (searc
 
 pub returns-in-Err-Write-clause-fails : goal.returns-in-Err-Write-clause-fails
 returns-in-Err-Write-clause-fails g c three = inr (inl (search rules, search rules))
+
+pub returns-in-Err-Memory-clause-fails : goal.returns-in-Err-Memory-clause-fails
+returns-in-Err-Memory-clause-fails g c three = let four = c.refused.ensures.status in absurd (omega arith)
+
+pub returns-in-Err-Read-clause-all : goal.returns-in-Err-Read-clause-all
+returns-in-Err-Read-clause-all g c zero = let three = c.refused-in-Err-Read.ensures.status in absurd (omega arith)
+
+pub returns-in-Err-Read-clause-works : goal.returns-in-Err-Read-clause-works
+returns-in-Err-Read-clause-works g c zero = let three = c.refused-in-Err-Read.ensures.status in absurd (omega arith)
+
+pub returns-in-Err-Read-clause-long : goal.returns-in-Err-Read-clause-long
+returns-in-Err-Read-clause-long g c one = let three = c.refused-in-Err-Read.ensures.status in absurd (omega arith)
+
+pub returns-in-Err-TooLong-clause-long : goal.returns-in-Err-TooLong-clause-long
+returns-in-Err-TooLong-clause-long g c one = search rules
