@@ -192,10 +192,8 @@ first_at_limit old new printer printer' listing count rest room buffer chunk (So
 pub reads_within : (decoder : Decoder) (printer : Printer) (listing : Listing) (count room : ℕ) (buffer : List ℕ) (chunk : ReadChunk) (input now left written so_far : Option (List ℕ)) → count + room ≡ limit
     → HasListed decoder printer listing count input now written so_far → GivesChunk room buffer chunk now left → ReadsWithin limit input left
 reads_within decoder printer listing count room buffer chunk input now left written so_far full done gives =
-    let heard = take chunk.within buffer in
-    let read = heard ++ gives.beyond in
-    let long : length read ≤ room + 1 = omega (arith, length-append heard gives.beyond, length-take-le chunk.within buffer gives.fits, gives.bounded) in
-    (done.0 ++ read, Consumes-trans input now left done.0 read done.3 gives.consumes, omega (arith, length-append done.0 read, done.2, full, long))
+    let read = take chunk.within buffer ++ gives.beyond in
+    (done.0 ++ read, Consumes-trans input now left done.0 read done.3 gives.consumes, omega (arith, length-append done.0 read, done.2, full, gives.bounded))
 
 pub reads_none : (decoder : Decoder) (printer : Printer) (listing : Listing) (count : ℕ) (input now left written so_far : Option (List ℕ)) → count ≤ limit
     → HasListed decoder printer listing count input now written so_far → Consumes now left [] → ReadsWithin limit input left

@@ -64,13 +64,6 @@ ends_so Board setting input front back taken extra h = (fails_asking (front ++ b
 ends_so Write setting input front back taken extra h = absurd h
 ends_so TooLong setting input front back taken extra h = absurd h
 
--- at most one byte past the limit was read
-read_bounded : (bytes buffer : List ℕ) (left : ℕ) (chunk : ReadChunk) (input' input'' : Option (List ℕ)) → (gives : GivesChunk left buffer chunk input' input'') → length bytes + left ≡ 67108864
-    → length (bytes ++ (take chunk.within buffer ++ gives.beyond)) ≤ 67108865
-read_bounded bytes buffer left chunk input' input'' gives room =
-    let heard = take chunk.within buffer in
-    omega (arith, length-append bytes (heard ++ gives.beyond), length-append heard gives.beyond, length-take-le chunk.within buffer gives.fits, gives.bounded, room)
-
 -- The recorder has stopped within a chunk.
 pub stopped_in_chunk : (error : RecordError) (recorder : Recorder) (setting : Setting) (input input' input'' before sent : Option (List ℕ)) (bytes buffer : List ℕ) (left : ℕ) (chunk : ReadChunk)
     → Consumes input input' bytes → GivesChunk left buffer chunk input' input'' → length bytes + left ≡ 67108864
@@ -86,7 +79,7 @@ stopped_in_chunk error recorder setting input input' input'' before sent bytes b
       taken = whole.taken;
       extra = whole.extra;
       consumes = Consumes-trans input input' input'' bytes (heard ++ gives.beyond) consumes gives.consumes;
-      bounded = read_bounded bytes buffer left chunk input' input'' gives room;
+      bounded = omega (arith, length-append bytes (heard ++ gives.beyond), gives.bounded, room);
       parts = sym (append_assoc bytes heard gives.beyond) ∙ whole.parts;
       decoded = whole.decoded;
       kept = whole.kept;
@@ -107,7 +100,7 @@ too_long recorder setting input input' input'' before sent bytes buffer left chu
       taken = taken;
       extra = [];
       consumes = Consumes-trans input input' input'' bytes (heard ++ gives.beyond) consumes gives.consumes;
-      bounded = read_bounded bytes buffer left chunk input' input'' gives room;
+      bounded = omega (arith, length-append bytes (heard ++ gives.beyond), gives.bounded, room);
       parts = sym (append_assoc bytes heard gives.beyond);
       decoded = rw (append-nil taken) live.decoded;
       kept = live.kept;

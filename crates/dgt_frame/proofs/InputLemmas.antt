@@ -16,12 +16,13 @@ pub gives_chunk : (left within n : ℕ) (buffer rest : List ℕ) (input input' :
 gives_chunk left within n buffer rest input input' inside few reached some most fits read =
     let beyond = take (n - within) (drop within buffer) in
     let long : length beyond ≡ n - within = length-take-le (n - within) (drop within buffer) (omega (arith, length-drop within buffer)) in
+    let read_is = parted buffer rest within n inside fits in
     let P : List ℕ → Type 0 = λ bs. Consumes input input' bs in
     record {
       beyond = beyond;
-      consumes = subst P (parted buffer rest within n inside fits) read;
+      consumes = subst P read_is read;
       fits = omega (arith, length-append buffer rest);
-      bounded = omega (arith, long);
+      bounded = omega (arith, ap length read_is, length-take-le n buffer fits);
       none_past = λ is.
           let all : n ≤ within = ltb-false within n is in
           let same : n ≡ within = omega arith in

@@ -9,7 +9,7 @@ pub record GivesChunk (left : ℕ) (buffer : List ℕ) (chunk : ReadChunk) (inpu
   pub beyond : List ℕ
   pub consumes : Consumes input input' (take chunk.within buffer ++ beyond)
   pub fits : chunk.within ≤ length buffer
-  pub bounded : chunk.within + length beyond ≤ left + 1
+  pub bounded : length (take chunk.within buffer ++ beyond) ≤ left + 1
   pub none_past : chunk.past ≡ false → (0 < chunk.within) × (chunk.within ≤ left) × Consumes input input' (take chunk.within buffer)
   pub one_past : chunk.past ≡ true → (chunk.within ≡ left) × (length beyond ≡ 1)
 

@@ -25,10 +25,8 @@ no_game (Some bytes) text text_is within none =
 pub read_more : (limit room : ℕ) (input now left : Option (List ℕ)) (text buffer : List ℕ) (chunk : ReadChunk) → Consumes input now text → GivesChunk room buffer chunk now left
     → length text + room ≡ limit → ReadsWithin limit input left
 read_more limit room input now left text buffer chunk before gives full =
-    let heard = take chunk.within buffer in
-    let read = heard ++ gives.beyond in
-    let long : length read ≤ room + 1 = omega (arith, length-append heard gives.beyond, length-take-le chunk.within buffer gives.fits, gives.bounded) in
-    (text ++ read, Consumes-trans input now left text read before gives.consumes, omega (arith, length-append text read, full, long))
+    let read = take chunk.within buffer ++ gives.beyond in
+    (text ++ read, Consumes-trans input now left text read before gives.consumes, omega (arith, length-append text read, full, gives.bounded))
 
 -- More bytes than the limit were read.
 pub too_long : (limit room : ℕ) (input now left : Option (List ℕ)) (text buffer : List ℕ) (chunk : ReadChunk) → Consumes input now text → GivesChunk room buffer chunk now left

@@ -177,23 +177,26 @@ const OFFERED: [Result<usize, ErrorKind>; 6] = [
     Err(ErrorKind::Interrupted),
 ];
 
-/// How many bytes are left up to the limit, and what a read then gives, if it doesn't fail: how many bytes within the limit,
-/// and whether one past it.
-const CHUNKS: [(usize, Option<Option<(usize, bool)>>); 6] = [
-    (10, Some(Some((3, false)))),
-    (7, Some(Some((7, false)))),
-    (7, Some(Some((7, true)))),
-    (0, Some(Some((0, true)))),
-    (0, Some(None)),
-    (0, None),
+/// How many bytes are left up to the limit, and what a read then gives: how many bytes within the limit, and whether one past
+/// it.
+const CHUNKS: [(usize, Result<Option<(usize, bool)>, ErrorKind>); 6] = [
+    (10, Ok(Some((3, false)))),
+    (7, Ok(Some((7, false)))),
+    (7, Ok(Some((7, true)))),
+    (0, Ok(Some((0, true)))),
+    (0, Ok(None)),
+    (0, Err(ErrorKind::Interrupted)),
 ];
 
-/// Whether a read gave this chunk, the end, or an error.
-fn is_chunk(given: io::Result<Option<ReadChunk>>, expected: Option<Option<(usize, bool)>>) -> bool {
+/// Whether a read gave this chunk, the end, or an error of this kind.
+fn is_chunk(
+    given: io::Result<Option<ReadChunk>>,
+    expected: Result<Option<(usize, bool)>, ErrorKind>,
+) -> bool {
     match (given, expected) {
-        (Ok(Some(chunk)), Some(Some((within, past)))) => chunk == ReadChunk { within, past },
-        (Ok(None), Some(None)) => true,
-        (Err(_), None) => true,
+        (Ok(Some(chunk)), Ok(Some((within, past)))) => chunk == ReadChunk { within, past },
+        (Ok(None), Ok(None)) => true,
+        (Err(error), Err(kind)) => error.kind() == kind,
         _ => false,
     }
 }
@@ -203,7 +206,7 @@ fn first_unlike_chunk(reader: &mut Watch<Scripted<'_>>) -> Option<usize> {
     let mut buffer = [0u8; CHUNK];
     for (i, (left, expected)) in CHUNKS.iter().enumerate() {
         if !is_chunk(read_chunk(reader, &mut buffer, *left), *expected)
-            || !is_after(reader, i + 1, expected.is_none())
+            || !is_after(reader, i + 1, expected.is_err())
         {
             return Some(i);
         }

@@ -1,4 +1,4 @@
-use Rattle.std.proofs.Common.{◌≡◌, ◌-◌, [], take, subst, inl, inr, arith, rules}
+use Rattle.std.proofs.Common.{◌≡◌, [], take, subst, inl, inr, arith, rules}
 use Rattle.std.specs.Io.KnownBytes.{Consumes, IsAtEnd}
 use Rattle.dgt_frame.specs.Input.{GivesChunk}
 use Rattle.dgt_frame.specs.Watch.{inner_of}
