@@ -137,6 +137,7 @@ impl Session {
         })
     }
 
+    #[inline(always)]
     fn take_update(&mut self, field: u8, code: u8) -> Result<Taken, AllocError>
         requires field { field < 64 }
         requires code { code < 16 }
