@@ -70,8 +70,8 @@ fn move_rook(board: &mut Board, side: Side, wing: Wing)
     });
 }
 
-/// Whether the move is a king's of two files.
-fn is_castling(parts: &Parts, m: &Move) -> bool
+/// Whether the move is a king's of two files (Article 3.8.2).
+pub fn is_castling(parts: &Parts, m: &Move) -> bool
     ensures { result ≡ castling_test parts.now m.now }
 {
     let from = m.from.number();
@@ -87,7 +87,8 @@ fn is_double_step(parts: &Parts, m: &Move) -> bool
     holds_pawn(parts.board[from as usize]) && gap_of(from / 8, to / 8) == 2
 }
 
-fn is_en_passant(parts: &Parts, m: &Move) -> bool
+/// Whether the move is a pawn's to another file, on which nothing stands (Article 3.7.3).
+pub fn is_en_passant(parts: &Parts, m: &Move) -> bool
     ensures { result ≡ en_passant_test parts.now m.now }
 {
     let from = m.from.number();
@@ -97,7 +98,8 @@ fn is_en_passant(parts: &Parts, m: &Move) -> bool
         && !parts.board[to as usize].is_some()
 }
 
-fn wing_towards(m: &Move) -> Wing
+/// The wing towards which the move goes: the king side where it stays on its file.
+pub fn wing_towards(m: &Move) -> Wing
     ensures { result ≡ wing_of m.now }
 {
     let from = m.from.number() % 8;

@@ -16,9 +16,11 @@ mod rules;
 mod square;
 mod walk;
 
+pub use advance::{is_castling, is_en_passant, wing_towards};
 pub use chess_move::Move;
 pub use lines::Wing;
 pub use parts::{Invalid, Parts, Rights, Status};
 pub use pieces::{Kind, Piece, Side};
 pub use position::Position;
+pub use rules::kind_on;
 pub use square::Square;

@@ -24,7 +24,7 @@ pub fn other_side(side: Side) -> Side
     }
 }
 
-/// The kind of this side's piece on the square.
+/// The kind of this side's piece on the square, 0 to 63.
 pub fn kind_on(board: &[Option<Piece>; 64], side: Side, square: u8) -> Option<Kind>
     requires { square < 64 }
     ensures some { IfSome result (λ kind. on board.now square ≡ piece_of side kind) }

@@ -3,11 +3,11 @@
 
 mod aim;
 mod bytes;
+mod capture;
 mod fen;
 mod field_text;
 mod fields;
 pub mod laws;
-mod moves;
 mod placement;
 mod placement_text;
 mod rank_text;

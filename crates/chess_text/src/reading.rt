@@ -8,9 +8,8 @@ ghost use Rattle.chess_text.specs.Aim.{aimed_from, IsAimedAt, AimsAt};
 
 use crate::aim::{Aim, aim_of};
 use crate::bytes::same_bytes;
-use crate::moves::kind_on;
 use crate::san::write_san;
-use chess_rules::{Move, Position, Square};
+use chess_rules::{Move, Position, Square, kind_on};
 use thiserror::Error;
 
 /// Why a text is refused.

@@ -9,10 +9,10 @@ ghost use Rattle.chess_text.specs.Squares.{file_byte as file_byte_lem, rank_byte
 ghost use Rattle.chess_text.specs.San.{San, IsBody, IsMark, IsNeeded, mark_text, cross, pawn_cross, castling_text, origin_text, promotion_text, pawn_text, piece_text, letter as letter_of};
 ghost use Rattle.chess_text.specs.Rivals.{HasRival, IsRivalAt, Shares};
 
-use crate::moves::{is_capture, is_castling, kind_on, wing_towards};
+use crate::capture::is_capture;
 use crate::squares::{file_byte, rank_byte, square_at};
 use arrayvec::ArrayString;
-use chess_rules::{Kind, Move, Position, Square, Status, Wing};
+use chess_rules::{Kind, Move, Position, Square, Status, Wing, is_castling, kind_on, wing_towards};
 
 /// Which part of the origin a text names.
 #[derive(Clone, Copy)]
