@@ -187,8 +187,6 @@ class Live:
         until(lambda: not alive(self.process.pid), f"the end of all that dgt_live {self.name} started")
         if not self.was_killed:
             same(list(self.scratch.iterdir()), [])
-            # So a shell tells of a process that was killed, and here dgt_live itself has.
-            assert "Killed" not in self.complaint(), self.complaint()
         return self.process.returncode
 
     def stop(self, number=signal.SIGINT):

@@ -165,15 +165,12 @@ def killed_in_part(folder):
 
 
 def with_bash(folder):
-    """The same where bash is sh: a whole game, signals, and KILL of five of its processes, each alone."""
+    """The same where bash is sh: a whole game, and KILL of five of its processes, each alone."""
     if not shutil.which("bash"):
         print("   there is no bash here", flush=True)
         return
     with shell("bash", "--posix"):
-        for case in (whole_game, signals):
-            place = folder / case.__name__
-            place.mkdir()
-            case(place)
+        whole_game(folder)
         for number in range(3, 8):
             kill_part(folder / str(number), number)
 
