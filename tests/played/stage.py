@@ -24,6 +24,7 @@ from play_board import BLACK, DUMP, EMPTY, KING, UPDATE, field, frame  # noqa: E
 
 LIVE = TOP / "bin" / "dgt_live"
 PROGRAM = TOP / "bin" / "dgt_replay"
+SHELL = os.environ.get("SHELL_UNDER_TEST", "").split()  # the words that start dgt_live; without any its first line does
 LIMIT = 120  # seconds that a case may take
 RUY = ["e2e4", "e7e5", "g1f3", "b8c6", "f1b5"]
 SAMPLE_TEXT = (
@@ -108,13 +109,13 @@ class Board(play_board.Board):
             self.show(number, code)
 
 
-def until(holds, what):
-    """Lets the boards answer until it holds."""
+def until(holds, what, pause=0.01):
+    """Lets the boards answer until it holds, with so many seconds between."""
     while not holds():
         assert time.monotonic() < case_ends, f"{LIMIT} s are over, still to come: {what}"
         for board in boards:
             board.listen(0)
-        time.sleep(0.01)
+        time.sleep(pause)
 
 
 class Pipe:
@@ -168,7 +169,7 @@ class Live:
                 signal.signal(signal.SIGXFSZ, signal.SIG_DFL if killed_by_limit else signal.SIG_IGN)
 
         self.process = subprocess.Popen(
-            [*start, program, *([device] if device else []), *([self.name] if name else []), *options],
+            [*start, *SHELL, program, *([device] if device else []), *([self.name] if name else []), *options],
             stdin=subprocess.DEVNULL,
             stdout=self.told.start,
             stderr=self.wrong.start,
@@ -263,6 +264,17 @@ def same_once(got, wanted, live):
 
 def begun(live, line="agrees"):
     live.until_line(line)
+
+
+@contextlib.contextmanager
+def shell(*words):
+    """Within it, the shell that these words start runs dgt_live."""
+    before = list(SHELL)
+    SHELL[:] = words
+    try:
+        yield
+    finally:
+        SHELL[:] = before
 
 
 def begin_game(folder):

@@ -2,8 +2,11 @@
 
 import contextlib
 import os
+import shutil
 import signal
+import time
 
+from played.games import whole_game
 from played.stage import (
     Board,
     Live,
@@ -18,6 +21,7 @@ from played.stage import (
     processes,
     run,
     same,
+    shell,
     until,
     until_game,
 )
@@ -25,7 +29,7 @@ from play_board import DUMP, field, frame
 
 
 def signals(folder):
-    """INT, TERM and HUP in mid-game: the game so far, status 0."""
+    """INT, TERM and HUP in mid-game: the game so far, status 0. TERM just as it begins: a game without moves, status 0."""
     for number in (signal.SIGINT, signal.SIGTERM, signal.SIGHUP):
         place = folder / number.name
         place.mkdir()
@@ -37,6 +41,13 @@ def signals(folder):
         live.until_line("move 3. Bb5")
         same(live.stop(number), 0)
         same(movetext(live.name), RUY_TEXT)
+        same(live.complaint(), "")
+    for number in range(8):
+        place = folder / str(number)
+        place.mkdir()
+        live = Live(Board(place).device, place / "game")
+        until((place / "game.pgn").exists, "the first text", 0)
+        same(live.stop(signal.SIGTERM), 0)
         same(live.complaint(), "")
 
 
@@ -53,6 +64,7 @@ def group_signal(folder):
         for _ in range(5):
             with contextlib.suppress(ProcessLookupError):
                 os.killpg(live.process.pid, number)
+            time.sleep(0.02)
         same(live.ended(), 0)
         same(bytes_of(live.name + ".pgn"), run("record", given=bytes_of(live.name + ".dgt")).stdout)
 
@@ -120,32 +132,47 @@ def killed_in_move(folder):
         same(again.stop(), 0)
 
 
+def kill_part(place, number):
+    """KILL of one of its processes alone, and INT at once. It answers how many processes there were."""
+    place.mkdir()
+    board, live = begin_game(place)
+    parts = processes(live.process.pid)
+    live.was_killed = True
+    with contextlib.suppress(ProcessLookupError):
+        os.kill(parts[number], signal.SIGKILL)
+    with contextlib.suppress(ProcessLookupError):
+        os.kill(live.process.pid, signal.SIGINT)
+    assert live.ended() in (-signal.SIGKILL, 0, 3), live.complaint()
+    same(movetext(live.name), "1. e4 e5 *")
+    board.pull()
+    board.plug()
+    again = go_on(board, live)
+    for move in RUY[2:]:
+        board.play(move)
+    until_game(live.name, RUY_TEXT)
+    same(again.stop(), 0)
+    return len(parts)
+
+
 def killed_in_part(folder):
     """KILL of each of its processes alone: what was played is kept, all of it ends, and it goes on when started again."""
     number, count = 0, 1
     while number < count:
-        place = folder / str(number)
-        place.mkdir()
-        board, live = begin_game(place)
-        parts = processes(live.process.pid)
         # The last two are a timer and its sleep, which may have ended.
-        count = max(count, len(parts) - 2)
-        live.was_killed = True
-        with contextlib.suppress(ProcessLookupError):
-            os.kill(parts[number], signal.SIGKILL)
-        with contextlib.suppress(ProcessLookupError):
-            os.kill(live.process.pid, signal.SIGINT)
-        assert live.ended() in (-signal.SIGKILL, 0, 3), live.complaint()
-        same(movetext(live.name), "1. e4 e5 *")
-        board.pull()
-        board.plug()
-        again = go_on(board, live)
-        for move in RUY[2:]:
-            board.play(move)
-        until_game(live.name, RUY_TEXT)
-        same(again.stop(), 0)
+        count = max(count, kill_part(folder / str(number), number) - 2)
         number += 1
     assert count > 8, count
+
+
+def with_bash(folder):
+    """The same where bash is sh: a whole game, and KILL of five of its processes, each alone."""
+    if not shutil.which("bash"):
+        print("   there is no bash here", flush=True)
+        return
+    with shell("bash", "--posix"):
+        whole_game(folder)
+        for number in range(3, 8):
+            kill_part(folder / str(number), number)
 
 
 def power_cut(folder):
