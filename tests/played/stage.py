@@ -163,6 +163,9 @@ class Live:
         self.was_killed = False
 
         def prepare():
+            # One that was ignored can't be caught by a shell, and a call in the background ignores INT.
+            for number in (signal.SIGINT, signal.SIGTERM, signal.SIGHUP):
+                signal.signal(number, signal.SIG_DFL)
             if limit is not None:
                 resource.setrlimit(resource.RLIMIT_CORE, (0, 0))
                 resource.setrlimit(resource.RLIMIT_FSIZE, (limit, limit))
