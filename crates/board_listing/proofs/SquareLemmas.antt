@@ -1,5 +1,5 @@
 -- The squares on which a picture differs, one square at a time.
-use Rattle.std.proofs.Common.{◌≡◌, ℕ, ◌+◌, ◌-◌, ◌/◌, ◌%◌, ◌^◌, ◌<◌, ◌≤◌, ◌==◌, List, [], ◌∷◌, ◌++◌, slice_index, refl, sym, ◌∙◌, ap, inl, inr, append-nil, append_assoc, arith, zero, suc, eq-zero-or-pos, w64}
+use Rattle.std.proofs.Common.{◌≡◌, ℕ, ◌+◌, ◌-◌, ◌/◌, ◌%◌, ◌^◌, ◌<◌, ◌≤◌, ◌==◌, List, [], ◌∷◌, ◌++◌, slice_index, refl, sym, ◌∙◌, ap, inl, inr, append-nil, append_assoc, codes, arith, zero, suc, eq-zero-or-pos, w64}
 use Rattle.std.specs.Prelude.{if◌then◌else◌}
 use Rattle.std.specs.List.{flat_map, range_with_len}
 use Rattle.std.specs.Int.{bit_at, trailing_zeros}
@@ -10,7 +10,7 @@ use Rattle.std.proofs.lemmas.Bool.Decides.{eqb_tells}
 use Rattle.std.proofs.lemmas.Grind.{flat_map-append}
 use Rattle.chess_text.specs.Squares.{square_text}
 use Rattle.settle_core.specs.Masks.{IsDiff}
-use Rattle.board_listing.specs.GameLines.{differing, squares_text}
+use Rattle.board_listing.specs.GameLines.{differing, squares_text, waiting_words}
 
 -- what is said of one square
 abbrev pub told : List ℕ → List ℕ → ℕ → List ℕ
@@ -105,14 +105,58 @@ pub all_squares : (stands seen : List ℕ) → differing 64 stands seen ≡ squa
 unfolding squares_text
 all_squares stands seen = refl
 
-pub three_pushed : (a b c d : List ℕ) (x y z : ℕ) → b ≡ a ++ x ∷ [] → c ≡ b ++ y ∷ [] → d ≡ c ++ z ∷ [] → d ≡ a ++ x ∷ y ∷ z ∷ []
-three_pushed a b c d x y z first second third = third
-    ∙ ap (λ text. text ++ z ∷ []) (second ∙ ap (λ text. text ++ y ∷ []) first ∙ append_assoc a (x ∷ []) (y ∷ []))
-    ∙ append_assoc a (x ∷ y ∷ []) (z ∷ [])
+-- the first squares come first
+grows : (n t : ℕ) (stands seen : List ℕ) → (rest : List ℕ) × (differing (n + t) stands seen ≡ differing n stands seen ++ rest)
+grows n zero stands seen =
+    let none : n + 0 ≡ n = omega arith in ([], ap (λ k. differing k stands seen) none ∙ sym (append-nil (differing n stands seen)))
+grows n (suc t) stands seen =
+    let on : n + suc t ≡ n + t + 1 = omega arith in
+    let before = grows n t stands seen in (
+      before.0 ++ told stands seen (n + t),
+      ap (λ k. differing k stands seen) on ∙ differing_more (n + t) stands seen ∙ ap (λ text. text ++ told stands seen (n + t)) before.1
+      ∙ append_assoc (differing n stands seen) before.0 (told stands seen (n + t)),
+    )
+
+begins : (front rest text : List ℕ) (byte : ℕ) → text ≡ (front ++ byte ∷ []) ++ rest → (first : ℕ) × (more : List ℕ) × (text ≡ first ∷ more)
+begins [] rest text byte is = (byte, rest, is)
+begins (first ∷ front) rest text byte is = (first, (front ++ byte ∷ []) ++ rest, is)
+
+-- some square differs
+some_square : (mask : ℕ) (stands seen : List ℕ) → mask < 2 ^ 64 → 0 < mask → IsDiff mask stands seen
+    → (first : ℕ) × (more : List ℕ) × (squares_text stands seen ≡ first ∷ more)
+some_square mask stands seen fits some diff =
+    let one : mask / 2 ^ 0 ≡ mask = omega arith in
+    let low = lowest_from mask 0 fits (rw one some) in
+    let k = 0 + trailing_zeros w64 (mask / 2 ^ 0) in
+    let rest = grows (k + 1) (64 - (k + 1)) stands seen in
+    let whole : k + 1 + (64 - (k + 1)) ≡ 64 = omega (arith, low.0) in
+    let text : squares_text stands seen ≡ (differing k stands seen ++ 32 ∷ square_text k) ++ rest.0 =
+    sym (all_squares stands seen) ∙ ap (λ n. differing n stands seen) (sym whole) ∙ rest.1
+    ∙ ap (λ t. t ++ rest.0) (differs_there mask k stands seen low.0 diff low.1.0) in
+    begins (differing k stands seen) (square_text k ++ rest.0) (squares_text stands seen) 32
+    (text ∙ append_assoc (differing k stands seen) (32 ∷ square_text k) rest.0 ∙ sym (append_assoc (differing k stands seen) (32 ∷ []) (square_text k ++ rest.0)))
+
+pub some_waiting : (mask : ℕ) (stands seen : List ℕ) → mask < 2 ^ 64 → 0 < mask → IsDiff mask stands seen
+    → waiting_words (squares_text stands seen) ≡ codes "differs" ++ squares_text stands seen
+some_waiting mask stands seen fits some diff =
+    let found = some_square mask stands seen fits some diff in
+    ap waiting_words found.2 ∙ ap (λ text. codes "differs" ++ text) (sym found.2)
+
+-- none does
+pub no_square : (stands seen : List ℕ) → IsDiff 0 stands seen → squares_text stands seen ≡ []
+no_square stands seen diff =
+    sym (all_squares stands seen) ∙ sym (skipped_to 0 0 64 stands seen (omega arith) (omega arith) diff (λ s from below. bit_at-zero s))
 
 -- one more behind a text that was added
-more_added : (front l l' a b : List ℕ) → l ≡ front ++ a → l' ≡ l ++ b → l' ≡ front ++ (a ++ b)
+pub more_added : (front l l' a b : List ℕ) → l ≡ front ++ a → l' ≡ l ++ b → l' ≡ front ++ (a ++ b)
 more_added front l l' a b e e' = e' ∙ ap (λ text. text ++ b) e ∙ append_assoc front a b
+
+-- a line that was added behind its offset
+pub line_added : (l0 l1 l2 offset space words end : List ℕ) → l1 ≡ l0 ++ offset ++ space → l2 ≡ l1 ++ (words ++ end)
+    → l2 ≡ l0 ++ (offset ++ space ++ words ++ end)
+line_added l0 l1 l2 offset space words end e1 e2 =
+    more_added l0 l1 l2 (offset ++ space) (words ++ end) (e1 ∙ append_assoc l0 offset space) e2
+    ∙ ap (λ text. l0 ++ text) (sym (append_assoc (offset ++ space) words end))
 
 -- Texts that are added one behind the other, and the line that they make.
 pub words_added : (l0 l1 l2 l3 l4 l5 l6 l7 l8 offset space word number san clock end : List ℕ)

@@ -9,7 +9,6 @@ ghost use Rattle.pgn_book.specs.Movetext.{number_token};
 ghost use Rattle.board_listing.specs.GameLines.{clock_words, line, move_words, result_words, squares_text, time_text, waiting_words};
 
 use crate::text::{GATHERED, Lines, add, add_number};
-use arrayvec::ArrayVec;
 use chess_rules::{Position, Side};
 use chess_text::write_san;
 use dgt_frame::Hms;
@@ -115,22 +114,20 @@ fn next_square(mask: u64, square: u8) -> u8
     square + rest.trailing_zeros() as u8
 }
 
-// The squares of a mask, each behind a space.
-fn squares_of(mask: u64) -> ArrayVec<u8, 192>
-    ensures { (stands seen : List ℕ) → IsDiff mask stands seen → result.items ≡ squares_text stands seen }
+// Adds the squares of a mask, each behind a space.
+fn add_squares(lines: &mut Lines, mask: u64)
+    requires { array_vec_len lines.old + 192 ≤ GATHERED }
+    ensures items { (stands seen : List ℕ) → IsDiff mask stands seen → lines.new.items ≡ lines.old.items ++ squares_text stands seen }
+    ensures len { array_vec_len lines.new ≤ array_vec_len lines.old + 192 }
 {
-    let mut squares = ArrayVec::new();
     let mut square: u8 = 0;
     'squares: while square < 64 {
         square = next_square(mask, square);
         if square < 64 {
-            squares.push(b' ');
-            squares.push(b'a' + square % 8);
-            squares.push(b'8' - square / 8);
+            add(lines, &[b' ', b'a' + square % 8, b'8' - square / 8]);
             square += 1;
         }
     }
-    squares
 }
 
 /// Adds the line of a picture that waits, and differs from the position on these squares.
@@ -140,13 +137,12 @@ pub fn add_waiting(lines: &mut Lines, offset: u32, differs: u64)
         → lines.new.items ≡ lines.old.items ++ line offset (waiting_words (squares_text stands seen)) }
     ensures len { array_vec_len lines.new ≤ array_vec_len lines.old + 224 }
 {
-    let squares = squares_of(differs);
     add_offset(lines, offset);
-    if squares.is_empty() {
-        add(lines, b"agrees");
+    if differs == 0 {
+        add(lines, b"agrees\n");
     } else {
         add(lines, b"differs");
-        add(lines, squares.as_slice());
+        add_squares(lines, differs);
+        add(lines, b"\n");
     }
-    add(lines, b"\n");
 }

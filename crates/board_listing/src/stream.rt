@@ -11,7 +11,7 @@ ghost use Rattle.board_listing.specs.Status.{status_of, words_of};
 use crate::listing::Listing;
 use crate::printer::Printer;
 use crate::text::{GATHERED, LONGEST, Lines};
-use dgt_frame::{CHUNK, Decoder, Event, LIMIT, Watch, WriteFault, put, read_chunk};
+use dgt_frame::{BLANK, CHUNK, Decoder, Event, LIMIT, Watch, WriteFault, put, read_chunk};
 use std::alloc::Global;
 use std::io::{Read, Write};
 
@@ -110,19 +110,14 @@ fn list_chunk<O: Write>(
     ensures failed { result ≡ Err ListError.Write → has_failed out.new ≡ true }
 {
     let mut lines = Lines::new();
+    let mut event = BLANK;
     let mut taken = 0;
-    'events: while let Some(arrival) = &decoder.push_until(&chunk[taken..]) {
-        let last = taken + arrival.taken - 1;
-        if let Err(error) = gather(
-            printer,
-            &mut lines,
-            start + last as u32,
-            &arrival.event,
-            out,
-        ) {
+    'events: while let Some(more) = decoder.push_into(&chunk[taken..], &mut event) {
+        taken += more;
+        let last = start + (taken - 1) as u32;
+        if let Err(error) = gather(printer, &mut lines, last, &event, out) {
             return Err(error);
         }
-        taken += arrival.taken;
     }
     match put(out, lines.as_slice()) {
         Ok(()) => Ok(()),

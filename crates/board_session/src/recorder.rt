@@ -12,7 +12,7 @@ ghost use Rattle.board_session.specs.Recorder.{Hears, IsFed, IsRefusal, Kept, Li
 use crate::refusal::RecordError;
 use crate::session::Session;
 use chess_rules::Position;
-use dgt_frame::{CHUNK, Decoder, Event, First, LIMIT, Watch, put, read_chunk};
+use dgt_frame::{BLANK, CHUNK, Decoder, Event, First, LIMIT, Watch, put, read_chunk};
 use std::alloc::Global;
 use std::io::{Read, Write};
 
@@ -122,10 +122,11 @@ impl Recorder {
         ensures blamed { has_failed board.new ≡ true → result ≡ Err RecordError.Board }
         ensures refusal { IfErr result IsRefusal }
     {
+        let mut event = BLANK;
         let mut at = 0;
-        'events: while let Some(arrival) = &self.decoder.push_until(&chunk[at..]) {
-            self.take_event(&arrival.event, board)?;
-            at += arrival.taken;
+        'events: while let Some(taken) = self.decoder.push_into(&chunk[at..], &mut event) {
+            self.take_event(&event, board)?;
+            at += taken;
         }
         Ok(())
     }

@@ -34,6 +34,9 @@ enum State {
     Filling { id: u8, size: u16, count: u16 },
 }
 
+/// What a place for events holds before one is put there.
+pub const BLANK: Event = Event::Fault(FaultKind::Stray);
+
 /// An event among several bytes.
 #[derive(Clone, Copy, Debug, PartialEq, Eq)]
 pub struct Arrival {
@@ -112,32 +115,45 @@ impl Decoder {
         ensures taken { IfSome result (λ arrival. (0 < arrival.taken) × (arrival.taken ≤ length bytes.now)) }
         ensures frame { (before : List ℕ) (events : List Timed) → Decoded self.old before events → IfSome result (λ arrival. HasFrame arrival.event) }
     {
+        let mut event = BLANK;
+        let taken = self.push_into(bytes, &mut event)?;
+        Some(Arrival { taken, event })
+    }
+
+    /// The same, with the event put where the caller wants it: the result is how many bytes were taken up to it, its own among
+    /// them, and at least 1. Where none comes, `event` says nothing.
+    pub fn push_into(&mut self, bytes: &[u8], event: &mut Event) -> Option<usize>
+        ensures none { IfNone result (TakesAll self.old bytes.now self.new) }
+        ensures some { IfSome result (λ taken. TakesUpTo self.old bytes.now taken event.new self.new) }
+        ensures taken { IfSome result (λ taken. (0 < taken) × (taken ≤ length bytes.now)) }
+        ensures frame { (before : List ℕ) (events : List Timed) → Decoded self.old before events → IfSome result (λ taken. HasFrame event.new) }
+    {
         if self.is_idle() {
-            if let Some(arrival) = whole(bytes) {
-                return Some(arrival);
+            if let Some(size) = whole(bytes, event) {
+                return Some(size);
             }
         }
-        self.push_each(bytes)
+        self.push_each(bytes, event)
     }
 
     /// The same, byte by byte.
-    fn push_each(&mut self, bytes: &[u8]) -> Option<Arrival>
+    fn push_each(&mut self, bytes: &[u8], event: &mut Event) -> Option<usize>
         ensures none { IfNone result (TakesAll self.old bytes.now self.new) }
-        ensures some { IfSome result (λ arrival. TakesUpTo self.old bytes.now arrival.taken arrival.event self.new) }
-        ensures taken { IfSome result (λ arrival. (0 < arrival.taken) × (arrival.taken ≤ length bytes.now)) }
-        ensures frame { (before : List ℕ) (events : List Timed) → Decoded self.old before events → IfSome result (λ arrival. HasFrame arrival.event) }
+        ensures some { IfSome result (λ taken. TakesUpTo self.old bytes.now taken event.new self.new) }
+        ensures taken { IfSome result (λ taken. (0 < taken) × (taken ≤ length bytes.now)) }
+        ensures frame { (before : List ℕ) (events : List Timed) → Decoded self.old before events → IfSome result (λ taken. HasFrame event.new) }
     {
         for (i, byte) in bytes.iter().enumerate() {
             let taken = i + 1;
             match self.step(*byte) {
                 Progress::Waits => {}
                 Progress::Fails(kind) => {
-                    let event = Event::Fault(kind);
-                    return Some(Arrival { taken, event });
+                    *event = Event::Fault(kind);
+                    return Some(taken);
                 }
                 Progress::Ends { id, size } => {
-                    let event = Event::Message(message(id, size, &self.stored));
-                    return Some(Arrival { taken, event });
+                    *event = Event::Message(message(id, size, &self.stored));
+                    return Some(taken);
                 }
             }
         }

@@ -12,7 +12,7 @@ pub mod time;
 pub mod watched;
 mod whole;
 
-pub use decode::{Arrival, Decoder};
+pub use decode::{Arrival, BLANK, Decoder};
 pub use encoding::encode;
 pub use events::{Event, FaultKind, Message};
 pub use input::{CHUNK, LIMIT, ReadChunk, read_chunk};

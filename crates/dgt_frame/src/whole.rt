@@ -2,29 +2,29 @@
 ghost use Rattle.std.specs.Prelude.{IfSome};
 ghost use Rattle.dgt_frame.specs.Whole.{IsWhole};
 
-use crate::decode::{Arrival, DUMP, TIME, UPDATE};
+use crate::decode::{DUMP, TIME, UPDATE};
 use crate::events::{Event, Message};
 use std::simd::prelude::*;
 
-/// The dump whose frame the bytes begin with.
-fn dump(bytes: &[u8]) -> Option<Arrival>
-    ensures { IfSome result (λ arrival. IsWhole bytes.now arrival.taken arrival.event) }
+/// The dump whose frame the bytes begin with, and the size of that frame.
+fn dump(bytes: &[u8], event: &mut Event) -> Option<usize>
+    ensures { IfSome result (λ size. IsWhole bytes.now size event.new) }
 {
     if bytes.len() < 67 || bytes[0] != DUMP || bytes[1] != 0 || bytes[2] != 67 {
         return None;
     }
     let codes = u8x64::from_slice(&bytes[3..]);
     if codes.simd_ge(u8x64::splat(16)).to_bitmask() == 0 {
-        let event = Event::Message(Message::Dump(codes.to_array()));
-        Some(Arrival { taken: 67, event })
+        *event = Event::Message(Message::Dump(codes.to_array()));
+        Some(67)
     } else {
         None
     }
 }
 
-/// The update whose frame the bytes begin with.
-fn update(bytes: &[u8]) -> Option<Arrival>
-    ensures { IfSome result (λ arrival. IsWhole bytes.now arrival.taken arrival.event) }
+/// The update whose frame the bytes begin with, and the size of that frame.
+fn update(bytes: &[u8], event: &mut Event) -> Option<usize>
+    ensures { IfSome result (λ size. IsWhole bytes.now size event.new) }
 {
     if bytes.len() < 5 || bytes[0] != UPDATE || bytes[1] != 0 || bytes[2] != 5 {
         return None;
@@ -32,16 +32,16 @@ fn update(bytes: &[u8]) -> Option<Arrival>
     let field = bytes[3];
     let code = bytes[4];
     if field < 64 && code < 16 {
-        let event = Event::Message(Message::Update { field, code });
-        Some(Arrival { taken: 5, event })
+        *event = Event::Message(Message::Update { field, code });
+        Some(5)
     } else {
         None
     }
 }
 
-/// The time message whose frame the bytes begin with.
-fn time(bytes: &[u8]) -> Option<Arrival>
-    ensures { IfSome result (λ arrival. IsWhole bytes.now arrival.taken arrival.event) }
+/// The time message whose frame the bytes begin with, and the size of that frame.
+fn time(bytes: &[u8], event: &mut Event) -> Option<usize>
+    ensures { IfSome result (λ size. IsWhole bytes.now size event.new) }
 {
     if bytes.len() < 10 || bytes[0] != TIME || bytes[1] != 0 || bytes[2] != 10 {
         return None;
@@ -57,24 +57,24 @@ fn time(bytes: &[u8]) -> Option<Arrival>
         && times[5] < 128
         && times[6] < 128
     {
-        let event = Event::Message(Message::Time(times));
-        Some(Arrival { taken: 10, event })
+        *event = Event::Message(Message::Time(times));
+        Some(10)
     } else {
         None
     }
 }
 
-/// The dump, update or time whose frame the bytes begin with, where all of it is there.
-pub fn whole(bytes: &[u8]) -> Option<Arrival>
-    ensures { IfSome result (λ arrival. IsWhole bytes.now arrival.taken arrival.event) }
+/// The dump, update or time whose frame the bytes begin with, where all of it is there, and the size of that frame.
+pub fn whole(bytes: &[u8], event: &mut Event) -> Option<usize>
+    ensures { IfSome result (λ size. IsWhole bytes.now size event.new) }
 {
     if bytes.is_empty() {
         return None;
     }
     match bytes[0] {
-        UPDATE => update(bytes),
-        DUMP => dump(bytes),
-        TIME => time(bytes),
+        UPDATE => update(bytes, event),
+        DUMP => dump(bytes, event),
+        TIME => time(bytes, event),
         _ => None,
     }
 }

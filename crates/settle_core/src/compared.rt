@@ -81,6 +81,7 @@ impl Compared {
     }
 
     /// Whether the picture settles this move in the position.
+    #[inline(never)]
     fn settles(&self, seen: &[u8; 64], m: &Move) -> bool
         ensures { IsTrue result ↔ Settles self.now.position seen.now m.now }
     {

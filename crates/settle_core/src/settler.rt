@@ -148,6 +148,7 @@ impl Settler {
     /// # Errors
     ///
     /// As `see`.
+    #[inline(always)]
     pub fn see_field(
         &mut self,
         square: Square,
@@ -214,6 +215,7 @@ impl Settler {
     }
 
     /// What the last picture settles; the score is brought to it.
+    #[inline(always)]
     fn judge(&mut self, clock: Option<Reading>) -> Result<Seen, AllocError>
         ensures ok { (picture : List ℕ) → self.old.last ≡ Some picture
             → IfOk result (λ seen. SeenAs self.old.start (moves_of self.old.score.plies) picture seen
