@@ -1,5 +1,5 @@
 -- Lines that are gathered, and written in chunks.
-use Rattle.std.proofs.Common.{◌<◌, ℕ, List, [], ◌∷◌, ◌++◌, take, drop, Option, Result, Ok, Err, OnErr, OnOk, IfErr, IfOk, refl, sym, subst, true, false, ◌≡◌, ◌∙◌, ap, append_assoc, append-nil}
+use Rattle.std.proofs.Common.{◌<◌, ℕ, List, [], ◌∷◌, ◌++◌, take, drop, Option, Result, Ok, Err, OnErr, OnOk, IfErr, refl, sym, subst, true, false, ◌≡◌, ◌∙◌, ap, append_assoc, append-nil}
 use Rattle.std.specs.Prelude.{is_err, is_ok}
 use Rattle.std.proofs.KnownBytes.{Appends-trans}
 use Rattle.std.proofs.lemmas.List.{take-append-drop}
@@ -20,16 +20,6 @@ on_err P (Err e) p = p
 pub on_ok : {T E : Type 0} (P Q : Type 0) (r : Result T E) → OnOk r P → (P → Q) → OnOk r Q
 on_ok P Q (Ok v) p k = k p
 on_ok P Q (Err e) p k = tt
-
--- What is said of a result that is known.
-pub known_ok : {T E : Type 0} (P : Type 0) (r : Result T E) (v : T) → r ≡ Ok v → OnOk r P → P
-known_ok P r v is p = subst (λ found. OnOk found P) is p
-
-pub known_value : {T E : Type 0} (P : T → Type 0) (r : Result T E) (v : T) → r ≡ Ok v → IfOk r P → P v
-known_value P r v is p = subst (λ found. IfOk found P) is p
-
-pub known_err : {T E : Type 0} (P : Type 0) (r : Result T E) (e : E) → r ≡ Err e → OnErr r P → P
-known_err P r e is p = subst (λ found. OnErr found P) is p
 
 -- What follows from the bytes that a write took before it failed.
 pub on_fault : {T : Type 0} (P : Type 0) (whole : ℕ) (Q : ℕ → Type 0) (r : Result T WriteFault) → IfErr r (λ fault. (fault.written < whole) × Q fault.written)

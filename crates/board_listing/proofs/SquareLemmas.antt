@@ -114,7 +114,7 @@ grows n (suc t) stands seen =
     let before = grows n t stands seen in (
       before.0 ++ told stands seen (n + t),
       ap (λ k. differing k stands seen) on ∙ differing_more (n + t) stands seen ∙ ap (λ text. text ++ told stands seen (n + t)) before.1
-      ∙ append_assoc (differing n stands seen) before.0 (told stands seen (n + t)),
+          ∙ append_assoc (differing n stands seen) before.0 (told stands seen (n + t)),
     )
 
 begins : (front rest text : List ℕ) (byte : ℕ) → text ≡ (front ++ byte ∷ []) ++ rest → (first : ℕ) × (more : List ℕ) × (text ≡ first ∷ more)

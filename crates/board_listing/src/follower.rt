@@ -122,16 +122,15 @@ impl Follower {
         ensures memory { (setting : Setting) (past : List EventOf) → HasFollowed self.old setting past
             → OnErr result (WantsMemory setting past event.now) }
     {
-        let result = self.session.take_ref(event);
-        let taken = match &result {
+        let taken = match self.session.take_ref(event) {
             Ok(taken) => taken,
-            Err(error) => return Err(*error),
+            Err(error) => return Err(error),
         };
         if taken.asks_dump {
             add_line(lines, offset, event);
             return Ok(());
         }
-        let Some(seen) = &taken.seen else {
+        let Some(seen) = taken.seen else {
             return Ok(());
         };
         self.tell(lines, offset, seen);
@@ -139,21 +138,21 @@ impl Follower {
     }
 
     // Adds the lines of what the last picture showed.
-    fn tell(&mut self, lines: &mut Lines, offset: u32, seen: &Seen)
+    fn tell(&mut self, lines: &mut Lines, offset: u32, seen: Seen)
         requires room { array_vec_len lines.old + LONGEST ≤ GATHERED }
-        requires may { seen.now ≢ SeenOf.Same → MayTell self.old.session.settler.start self.old.session.settler.score seen.now }
-        ensures same { seen.now ≡ SeenOf.Same → (self.new ≡ self.old) × (lines.new.items ≡ lines.old.items) }
-        ensures told { seen.now ≢ SeenOf.Same → (shown : List ℕ) → self.old.session.settler.last ≡ Some shown
-            → (seen.now ≡ SeenOf.Waits → HasResult self.old.session.settler.start self.old.session.settler.score self.old.told)
-            → AddsNews offset self.old.session.settler.start self.old.session.settler.score shown seen.now self.old.told self.new.told lines.old.items lines.new.items }
+        requires may { seen ≢ SeenOf.Same → MayTell self.old.session.settler.start self.old.session.settler.score seen }
+        ensures same { seen ≡ SeenOf.Same → (self.new ≡ self.old) × (lines.new.items ≡ lines.old.items) }
+        ensures told { seen ≢ SeenOf.Same → (shown : List ℕ) → self.old.session.settler.last ≡ Some shown
+            → (seen ≡ SeenOf.Waits → HasResult self.old.session.settler.start self.old.session.settler.score self.old.told)
+            → AddsNews offset self.old.session.settler.start self.old.session.settler.score shown seen self.old.told self.new.told lines.old.items lines.new.items }
         ensures session { self.new.session ≡ self.old.session }
     {
-        if !is_news(seen) {
+        if !is_news(&seen) {
             return;
         }
         let settler = self.session.settler();
-        add_seen(lines, offset, seen, settler);
-        let now = result_now(settler, seen, self.told);
+        add_seen(lines, offset, &seen, settler);
+        let now = result_now(settler, &seen, self.told);
         add_new_result(lines, offset, self.told, now);
         self.told = now;
     }

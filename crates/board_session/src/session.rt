@@ -124,6 +124,7 @@ impl Session {
         }
     }
 
+    #[inline(always)]
     fn take_dump(&mut self, codes: [u8; 64]) -> Result<Taken, AllocError>
         requires { All (λ code. code < 16) codes }
         ensures { Takes self.old (Event.Message (Message.Dump codes)) result self.new }

@@ -1,4 +1,4 @@
-use Rattle.std.proofs.Common.{◌≡◌, ◌++◌, [], ◌∷◌, sym, ◌∙◌, ap, append-nil, append_assoc, arith}
+use Rattle.std.proofs.Common.{◌≡◌, ◌++◌, sym, ◌∙◌, ap, append-nil, arith}
 use Rattle.board_listing.specs.GameLines.{differing}
 use Rattle.board_listing.proofs.SquareLemmas.{all_squares, differs_there, more_added, skipped_to}
 use Rattle.board_listing.proofs.game.add_squares.Goals as goal

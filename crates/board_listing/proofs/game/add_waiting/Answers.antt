@@ -1,4 +1,4 @@
-use Rattle.std.proofs.Common.{◌≡◌, ◌++◌, [], List, ℕ, codes, decimal, sym, ap, ◌∙◌, subst, arith}
+use Rattle.std.proofs.Common.{◌++◌, codes, decimal, sym, ap, ◌∙◌, subst, arith}
 use Rattle.settle_core.specs.Masks.{IsDiff}
 use Rattle.board_listing.specs.GameLines.{line, squares_text, waiting_words}
 use Rattle.board_listing.proofs.SquareLemmas.{line_added, more_added, no_square, some_waiting}

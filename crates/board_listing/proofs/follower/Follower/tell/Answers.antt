@@ -11,7 +11,7 @@ returns-clause-told c other shown last waits =
     let sheet = c.args.self.now.session.settler in
     let same = c.settler-settler.ensures.same in
     let seen = c.add_seen.ensures.told shown (rw same last) in
-    let first_is : TellsSeen c.args.offset sheet.start sheet.score shown c.args.seen.now seen.0 = (let P : Sheet → Type 0 = λ s. TellsSeen c.args.offset s.start s.score shown c.args.seen.now seen.0 in subst P same seen.1) in
+    let first_is : TellsSeen c.args.offset sheet.start sheet.score shown c.args.seen seen.0 = (let P : Sheet → Type 0 = λ s. TellsSeen c.args.offset s.start s.score shown c.args.seen seen.0 in subst P same seen.1) in
     let news = c.add_new_result.ensures in
     record {
       first = seen.0;

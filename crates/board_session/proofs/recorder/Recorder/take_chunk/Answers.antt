@@ -13,9 +13,9 @@ events-init g c = record {
   working = c.requires.working;
   count = omega arith;
   hears = λ setting before bytes taken live. (
-      [],
-      live_at c.args.self.now setting before (g.B.Write.contents (inner_of c.args.board.now)) bytes (bytes ++ []) taken (taken ++ [])
-          (sym (append-nil bytes)) (sym (append-nil taken)) live,
+    [],
+    live_at c.args.self.now setting before (g.B.Write.contents (inner_of c.args.board.now)) bytes (bytes ++ []) taken (taken ++ [])
+        (sym (append-nil bytes)) (sym (append-nil taken)) live,
   );
 }
 
