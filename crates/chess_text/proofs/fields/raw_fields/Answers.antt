@@ -24,3 +24,6 @@ returns-in-Some-end-clause-not_six c = λ six.
     let s5 = step c.in-Some-behind_halfmove.rest.now c.first_field-6.result.0.now c.first_field-6.result.1 c.in-Some-end._more c.first_field-6.ensures.split c.in-Some-end.is in
     let last = some_field c.in-Some-end._more.now in
     omega (arith, s0, s1, s2, s3, s4, s5, last, six)
+
+pub returns-in_default-behind_halfmove-clause-some : goal.returns-in_default-behind_halfmove-clause-some
+returns-in_default-behind_halfmove-clause-some c = tt

@@ -26,3 +26,9 @@ returns-clause-none c = λ b h e.
       | else-is_board_picture-via-then-is_board_picture+else-same_bytes w ↦ false≢true (sym w.if-same_bytes.false ∙ w.same_bytes.ensures.1 (w.as_bytes.ensures.value ∙ w.as_str.ensures.value ∙ w.write_placement.ensures.text ∙ ap placement (k ∙ f ∙ s) ∙ sym e))
       | else-is_board_picture-via-else-is_board_picture w ↦ false≢true (sym w.if-is_board_picture.false ∙ c.is_board_picture.ensures.1 (subst IsBoardPicture (sym (k ∙ f ∙ s)) h))
     ]
+
+pub returns-then-same_bytes-clause-some : goal.returns-then-same_bytes-clause-some
+returns-then-same_bytes-clause-some c = (
+  c.is_board_picture.ensures.0 c.if-is_board_picture.true,
+  sym (c.same_bytes.ensures.0 c.if-same_bytes.true) ∙ c.as_bytes.ensures.value ∙ c.as_str.ensures.value ∙ c.write_placement.ensures.text,
+)

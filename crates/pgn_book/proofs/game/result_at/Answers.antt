@@ -1,4 +1,5 @@
-use Rattle.std.proofs.Common.{refl}
+use Prim.{search}
+use Rattle.std.proofs.Common.{refl, rules}
 use Rattle.pgn_book.proofs.game.result_at.Goals as goal
 
 pub returns-in-Running : goal.returns-in-Running
@@ -9,3 +10,6 @@ returns-in-Running c =
       stale = λ s. let stalemate = c.status.ensures.stalemate.1 s in absurd cc;
       running = λ _ _. refl;
     }
+
+pub returns-in-Checkmate : goal.returns-in-Checkmate
+returns-in-Checkmate c = search rules
