@@ -21,3 +21,6 @@ returns-clause-count c start past st =
 
 pub returns-clause-sign : goal.returns-clause-sign
 returns-clause-sign c = search rules
+
+pub returns-clause-folds : goal.returns-clause-folds
+returns-clause-folds c = search rules

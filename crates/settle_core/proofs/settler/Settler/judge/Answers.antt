@@ -59,3 +59,13 @@ returns-in_default-clause-ok c seen last =
       subst S c.self.view_is (subst R shown (waits_lacking c.self.inside.start moves c.self.inside.picture c.parts.ensures.valid c.self.invariant.played lacks)),
       refl,
     )
+
+pub returns-in-Some-settled_by-clause-ok : goal.returns-in-Some-settled_by-clause-ok
+returns-in-Some-settled_by-clause-ok c picture seen =
+    let now : Sheet = c.args.self.now in
+    let at : c.self.inside.here.position ≡ position_of now = c.self.invariant.position ∙ ap position_of c.self.view_is in
+    let shown : c.self.inside.picture ≡ picture = last_is c.self.inside.seen c.self.inside.picture picture (ap (λ (s : Sheet). s.last) c.self.view_is ∙ seen) in
+    let S : Parts → List ℕ → Type 0 = λ p xs. Settles p xs c.in-Some-settled_by.m in (
+      elsewhere S _ _ _ _ at shown c.in-Some-settled_by.ensures.some,
+      c.in_ok-add.ensures.ok ∙ ap (λ (m : Move). record { start = now.start; score = played now.start now.score.plies c.args.clock m; last = now.last }) c.copy.ensures,
+    )

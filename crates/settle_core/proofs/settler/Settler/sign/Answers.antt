@@ -1,0 +1,6 @@
+use Prim.{search}
+use Rattle.std.proofs.Common.{rules}
+use Rattle.settle_core.proofs.settler.Settler.sign.Goals as goal
+
+pub returns : goal.returns
+returns c = search rules
