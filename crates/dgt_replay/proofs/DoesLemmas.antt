@@ -1,5 +1,5 @@
 -- What the subcommands do, from the arguments that ask for it.
-use Rattle.std.proofs.Common.{◌≡◌, ℕ, List, Option, Bool, false, codes, inl, inr, subst, sym, arith}
+use Rattle.std.proofs.Common.{◌≡◌, ℕ, List, Option, Bool, false, codes, inr, subst, sym, arith}
 use Rattle.std.specs.Io.KnownBytes.{Keeps}
 use Rattle.clap.specs.Walk.{Row, Text, first_of}
 use Rattle.board_session.specs.Recording.{limit}

@@ -25,5 +25,5 @@ returns-in-Err-clause-refuses g c none = record {
   known = inl c.refused_fen.ensures.status;
   untouched = (Keeps-refl (g.R.Read.remaining (inner_of c.args.reader.now)), Keeps-refl (g.O.Write.contents (inner_of c.args.out.now)));
   tells = tells_refused c.refused_fen.result (RefusesStart (given c.args.options.now.fen)) _ _ _ _ _ (fen_words c.in-Err.error) c.refused_fen.ensures.status
-    (start_refused (given c.args.options.now.fen) c.in-Err.error c.in-Err.ensures.refusal (λ start starts. let bad = sym c.in-Err.is ∙ (c.start_of.ensures.start start).1 starts in cc)) c.refused_fen.ensures.says;
+      (start_refused (given c.args.options.now.fen) c.in-Err.error c.in-Err.ensures.refusal (λ start starts. let bad = sym c.in-Err.is ∙ (c.start_of.ensures.start start).1 starts in cc)) c.refused_fen.ensures.says;
 }

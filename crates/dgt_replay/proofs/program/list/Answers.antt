@@ -32,9 +32,9 @@ returns-in-Err-clause-lists g c =
     let working = λ (e : c.in-Err.error ≡ Write). c.flush.ensures.failed ∙ ap (λ failed. failed || is_err c.flush.result) (done.working (is ∙ ap Err e)) in
     record {
       ends = ends_refused c.args.listing c.in-Err.error c.refused-in-Err.result (g.R.Read.remaining (inner_of c.args.reader.now)) (g.R.Read.remaining (inner_of c.list_stream-done.new.reader))
-        (g.O.Write.contents (inner_of c.args.out.now)) (g.O.Write.contents (inner_of c.list_stream-done.new.out)) (g.O.Write.contents (inner_of c.flush.new.self))
-        (has_failed c.list_stream-done.new.reader) (has_failed c.flush.new.self) status reading working (λ e. done.read (is ∙ ap Err e)) done.front (λ e. done.long (is ∙ ap Err e))
-        (λ e. done.memory (is ∙ ap Err e)) done.bounded c.flush.ensures.bytes;
+          (g.O.Write.contents (inner_of c.args.out.now)) (g.O.Write.contents (inner_of c.list_stream-done.new.out)) (g.O.Write.contents (inner_of c.flush.new.self))
+          (has_failed c.list_stream-done.new.reader) (has_failed c.flush.new.self) status reading working (λ e. done.read (is ∙ ap Err e)) done.front (λ e. done.long (is ∙ ap Err e))
+          (λ e. done.memory (is ∙ ap Err e)) done.bounded c.flush.ensures.bytes;
       tells = tells_refused_listing c.in-Err.error c.refused-in-Err.result _ _ _ _ _ _ status c.line.ensures c.refused-in-Err.ensures.says reading working;
     }
 

@@ -1,4 +1,4 @@
-use Rattle.std.proofs.Common.{◌≡◌, inl, inr, refl, rules}
+use Rattle.std.proofs.Common.{inl, inr, refl, rules}
 use Rattle.dgt_replay.proofs.TextLemmas.{events_end, pictures_end}
 use Rattle.dgt_replay.proofs.program.obey.Goals as goal
 
