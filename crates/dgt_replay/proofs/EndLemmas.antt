@@ -1,12 +1,14 @@
 -- How a listing ends.
-use Rattle.std.proofs.Common.{◌≡◌, ℕ, List, [], Option, Some, None, Bool, true, false, ◌||◌, ◌⊎◌, refl, sym, inl, inr, arith}
+use Rattle.std.proofs.Common.{◌≡◌, ℕ, List, [], Option, Some, None, Bool, true, false, ◌||◌, ◌⊎◌, refl, subst, sym, inl, inr, arith}
 use Rattle.std.specs.Io.KnownBytes.{Keeps}
 use Rattle.board_session.specs.Recording.{limit}
 use Rattle.board_listing.specs.Listings.{EndsForMemory, ListingEnds, ListsAll, ListsFirst, ListsFront, ListsRead, ListsRefused, ReadsWithin}
-use Rattle.board_listing.specs.Status.{status_of}
+use Rattle.board_listing.specs.Status.{status_of, words_of}
 use Rattle.board_listing.specs.declared.stream.ListError.{ListError}
 use Rattle.board_listing.specs.declared.stream.ListError.TheVariants.{Memory, Read, Write, TooLong}
 use Rattle.std.proofs.KnownBytes.{Appends-kept}
+use Rattle.dgt_replay.specs.Messages.{IsTooLong, Says, Tells}
+use Rattle.dgt_replay.proofs.MessageLemmas.{tells_fault, tells_memory, tells_refused}
 use Rattle.board_listing.specs.declared.listing.Listing.{Listing}
 use Rattle.board_listing.specs.declared.listing.Listing.TheVariants.{Events, Pictures, Game}
 
@@ -41,10 +43,10 @@ refused_for_memory Events input left written after lists = absurd lists.8
 refused_for_memory (Pictures rotated) input left written after lists = absurd lists.8
 refused_for_memory (Game start first rotated) input left written after lists = inr lists
 
-none_read : (input left : Option (List ℕ)) → Keeps input left → ReadsWithin limit input left
-none_read None left kept = ([], tt, omega arith)
-none_read (Some bytes) None kept = absurd kept
-none_read (Some bytes) (Some more) kept = ([], sym kept, omega arith)
+pub none_read : (most : ℕ) (input left : Option (List ℕ)) → Keeps input left → ReadsWithin most input left
+none_read most None left kept = ([], tt, omega arith)
+none_read most (Some bytes) None kept = absurd kept
+none_read most (Some bytes) (Some more) kept = ([], sym kept, omega arith)
 
 pub ends_in_fault : (listing : Listing) (status : ℕ) (input left written after : Option (List ℕ)) (reader_failed out_failed : Bool) → status ≡ 3 → ReadsWithin limit input left
     → ((reader_failed ≡ true) × ListsRead listing input left written after) ⊎ ((out_failed ≡ true) × ListsFront listing input left written after)
@@ -67,7 +69,7 @@ ends_for_memory listing status input left written after reader_failed out_failed
   fault = λ e. absurd (omega arith);
   memory = λ e. nothing_for_memory listing input left written after read wrote;
   known = (3, omega arith, sym four);
-  bounded = none_read input left read;
+  bounded = none_read limit input left read;
   whole = λ e. absurd (omega arith);
 }
 
@@ -113,3 +115,15 @@ ends_refused listing Memory status input left written so_far after reader_failed
 pub true_or : (a b : Bool) → b ≡ true → (a || b) ≡ true
 true_or true b h = refl
 true_or false b h = h
+
+-- What is said of each refusal.
+pub tells_refused_listing : (error : ListError) (status : ℕ) (words : List ℕ) (said said' : Option (List ℕ)) (reader_failed out_failed err_failed : Bool) → status ≡ status_of error → words ≡ words_of error
+    → Says said said' err_failed words → (error ≡ Read → reader_failed ≡ true) → (error ≡ Write → out_failed ≡ true) → Tells status IsTooLong said said' reader_failed out_failed err_failed
+tells_refused_listing Read status words said said' reader_failed out_failed err_failed is are says reading working =
+    tells_fault status IsTooLong said said' reader_failed out_failed err_failed is (inl (reading refl, subst (Says said said' err_failed) are says))
+tells_refused_listing Write status words said said' reader_failed out_failed err_failed is are says reading working =
+    tells_fault status IsTooLong said said' reader_failed out_failed err_failed is (inr (working refl, subst (Says said said' err_failed) are says))
+tells_refused_listing TooLong status words said said' reader_failed out_failed err_failed is are says reading working =
+    tells_refused status IsTooLong said said' reader_failed out_failed err_failed words is are says
+tells_refused_listing Memory status words said said' reader_failed out_failed err_failed is are says reading working =
+    tells_memory status IsTooLong said said' reader_failed out_failed err_failed is (subst (Says said said' err_failed) are says)

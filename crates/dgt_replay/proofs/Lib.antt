@@ -1,4 +1,5 @@
 pub mod CheckLemmas
+pub mod DoesLemmas
 pub mod EndLemmas
 pub mod FaultLemmas
 pub mod MessageLemmas

@@ -92,3 +92,8 @@ tells_alike status May Might said said' reader_failed out_failed err_failed alik
   fault = tells.fault;
   memory = tells.memory;
 }
+
+pub never_done : {A : Type 0} (status wanted : ℕ) (said said' : Option (List ℕ)) (out_failed err_failed : Bool) (words : List ℕ) → 0 < wanted
+    → ((status ≡ wanted) × Says said said' err_failed words) ⊎ ((status ≡ 3) × (out_failed ≡ true) × Says said said' err_failed (codes "write fault\n")) → status ≡ 0 → A
+never_done status wanted said said' out_failed err_failed words some (inl (is, says)) zero = absurd (omega arith)
+never_done status wanted said said' out_failed err_failed words some (inr (three, failed, says)) zero = absurd (omega arith)

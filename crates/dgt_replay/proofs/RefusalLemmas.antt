@@ -1,5 +1,5 @@
 -- What is said of arguments that are refused.
-use Rattle.std.proofs.Common.{◌≡◌, ◌≢◌, ℕ, Bool, false, List, Option, Some, None, codes, inl, inr, refl, subst}
+use Rattle.std.proofs.Common.{◌≡◌, ◌≢◌, ◌⊎◌, ℕ, Bool, false, List, Option, Some, None, codes, inl, inr, refl, subst}
 use Rattle.std.specs.Prelude.{IfSome, MatchOption, slice_index_or}
 use Rattle.clap.specs.Walk.{Text}
 use Rattle.chess_rules.specs.declared.parts.Parts.{Parts}
@@ -58,6 +58,13 @@ tells_refusal options (OfTag tag NoDate) status said said' err_failed first memo
     let value : NoDate ≢ Memory = λ e. cc in tells_value options tag NoDate status said said' err_failed value first (refused value) says
 tells_refusal options (OfTag tag Memory) status said said' err_failed first memory refused says =
     tells_memory status (RefusesSetup (given options.fen) (tag_text options)) said said' false false err_failed (memory refl) says
+
+pub refusal_status : (refusal : Refusal) (status : ℕ) → (ForMemory refusal → status ≡ 4) → (¬ ForMemory refusal → status ≡ 1) → (status ≡ 1) ⊎ (status ≡ 4)
+refusal_status (Fen error) status memory refused = inl (refused (λ m. m))
+refusal_status (OfTag tag NoText) status memory refused = let value : NoText ≢ Memory = λ e. cc in inl (refused value)
+refusal_status (OfTag tag Long) status memory refused = let value : Long ≢ Memory = λ e. cc in inl (refused value)
+refusal_status (OfTag tag NoDate) status memory refused = let value : NoDate ≢ Memory = λ e. cc in inl (refused value)
+refusal_status (OfTag tag Memory) status memory refused = inr (memory refl)
 
 pub says_memory : (refusal : Refusal) (said said' : Option (List ℕ)) (err_failed : Bool) → ForMemory refusal → Says said said' err_failed (refusal_words refusal)
     → Says said said' err_failed (codes "memory\n")

@@ -12,7 +12,7 @@ use Rattle.replay_arguments.specs.declared.setup.Refusal.{Refusal}
 use Rattle.board_listing.specs.declared.listing.Listing.TheVariants.{Game}
 use Rattle.replay_arguments.specs.declared.arguments.FollowArguments.{FollowArguments}
 use Rattle.replay_arguments.specs.declared.arguments.RecordArguments.{RecordArguments}
-use Rattle.replay_arguments.specs.Setups.{ForMemory, HasNoStart, HasNoValue, HasValue, HasValues, Meets, MeetsNothing, MeetsToFollow, SetsFollowingUp, SetsUp, SetsUpNothing, StartsAt, Wants, WantsToFollow, given, tags, tag_text}
+use Rattle.replay_arguments.specs.Setups.{ForMemory, HasNoStart, HasNoValue, HasValue, HasValues, Meets, MeetsNothing, MeetsToFollow, SetsFollowingUp, SetsUp, SetsUpNothing, StartsAt, Wants, WantsToFollow, given, tag_text}
 
 -- What the rows of a parse set up is what the fields want.
 pub meets : (rows : List Row) (options : RecordArguments) (setup : Setup) → Wants rows options → SetsUp rows setup → Meets options setup

@@ -5,7 +5,6 @@ use Rattle.std.specs.Option.{option_map_or}
 use Rattle.std.specs.Borrow.{Bor}
 use Rattle.clap.specs.Walk.{Row, Text, first_of}
 use Rattle.clap.specs.Simple.{subcommand_of}
-use Rattle.chess_rules.specs.declared.parts.Parts.{Parts}
 use Rattle.board_session.specs.declared.recording.Setup.{Setup}
 use Rattle.board_session.specs.Settings.{Setting}
 use Rattle.replay_arguments.specs.declared.arguments.Subcommand.{Subcommand}
@@ -13,9 +12,9 @@ use Rattle.replay_arguments.specs.declared.arguments.Subcommand.TheVariants.{Sho
 use Rattle.replay_arguments.specs.declared.arguments.FollowArguments.{FollowArguments}
 use Rattle.replay_arguments.specs.declared.arguments.RecordArguments.{RecordArguments}
 use Rattle.replay_arguments.specs.Command.{replay}
-use Rattle.replay_arguments.specs.Subcommands.{Asks, AsksForPictures, AsksToCheck, AsksToShow, AsksFor, AsksForMoves, AsksForNoMoves, AsksToFollow, AsksToFollowNothing, AsksToRecord, AsksToRecordNothing, Chooses, IsRefused, is_subcommand}
-use Rattle.replay_arguments.specs.Setups.{HasNoStart, Meets, MeetsNothing, MeetsToFollow, StartsAt, Wants, WantsToFollow, given}
-use Rattle.dgt_replay.proofs.SetupLemmas.{meets, meets_nothing, meets_to_follow}
+use Rattle.replay_arguments.specs.Subcommands.{Asks, AsksForPictures, AsksToCheck, AsksToShow, AsksFor, AsksToFollow, AsksToRecord, Chooses, IsRefused, is_subcommand}
+use Rattle.replay_arguments.specs.Setups.{Meets, MeetsToFollow, Wants, WantsToFollow, given}
+use Rattle.dgt_replay.proofs.SetupLemmas.{meets, meets_to_follow}
 
 -- what the arguments of this name ask for
 chosen_with : (found : Option (Text × List Row)) (name : Text) (rows : List Row) (subcommand : Subcommand) → found ≡ Some (name, rows)
@@ -61,12 +60,6 @@ chooses_record arguments setup subcommand (rows, asks, sets) asked =
     let found = record_chosen arguments rows subcommand asks asked in
     (found.0, found.1, meets rows found.0 setup found.2 sets)
 
-pub chooses_no_setup : (arguments : List Text) (subcommand : Subcommand) → AsksToRecordNothing arguments → AsksFor arguments subcommand
-    → (options : RecordArguments) × (subcommand ≡ Record options) × MeetsNothing options
-chooses_no_setup arguments subcommand (rows, asks, nothing) asked =
-    let found = record_chosen arguments rows subcommand asks asked in
-    (found.0, found.1, meets_nothing rows found.0 found.2 nothing)
-
 -- `follow` asks that a game be followed as its options say
 pub follow_chosen : (arguments : List Text) (rows : List Row) (subcommand : Subcommand) → Asks arguments (codes "follow") rows → AsksFor arguments subcommand
     → (options : FollowArguments) × (subcommand ≡ Follow options) × WantsToFollow rows options
@@ -80,31 +73,12 @@ chooses_follow arguments setting subcommand (rows, asks, sets) asked =
     let found = follow_chosen arguments rows subcommand asks asked in
     (found.0, found.1, meets_to_follow rows found.0 setting found.2 sets)
 
-pub chooses_no_follow : (arguments : List Text) (subcommand : Subcommand) → AsksToFollowNothing arguments → AsksFor arguments subcommand
-    → (options : FollowArguments) × (subcommand ≡ Follow options) × HasNoStart (given options.fen)
-chooses_no_follow arguments subcommand (rows, asks, none) asked =
-    let found = follow_chosen arguments rows subcommand asks asked in
-    (found.0, found.1, subst HasNoStart (sym found.2.fen) none)
-
 -- `moves` asks for those of the position that its option says
 pub moves_chosen : (arguments : List Text) (rows : List Row) (subcommand : Subcommand) → Asks arguments (codes "moves") rows → AsksFor arguments subcommand
     → (fen : Option (Bor Text)) × (subcommand ≡ Moves fen) × (given fen ≡ first_of (codes "fen") rows)
 moves_chosen arguments rows subcommand asks asked =
     let found = (chosen arguments (codes "moves") rows subcommand asks asked).moves refl in
     (found.0, same_subcommand subcommand (Moves found.0) found.1, found.2)
-
-pub chooses_moves : (arguments : List Text) (start : Parts) (subcommand : Subcommand) → AsksForMoves arguments start → AsksFor arguments subcommand
-    → (fen : Option (Bor Text)) × (subcommand ≡ Moves fen) × StartsAt (given fen) start
-chooses_moves arguments start subcommand (rows, asks, starts) asked =
-    let found = moves_chosen arguments rows subcommand asks asked in
-    let P : Option Text → Type 0 = λ fen. StartsAt fen start in
-    (found.0, found.1, subst P (sym found.2) starts)
-
-pub chooses_no_moves : (arguments : List Text) (subcommand : Subcommand) → AsksForNoMoves arguments → AsksFor arguments subcommand
-    → (fen : Option (Bor Text)) × (subcommand ≡ Moves fen) × HasNoStart (given fen)
-chooses_no_moves arguments subcommand (rows, asks, none) asked =
-    let found = moves_chosen arguments rows subcommand asks asked in
-    (found.0, found.1, subst HasNoStart (sym found.2) none)
 
 -- None of them is refused.
 pub show_unrefused : (arguments : List Text) → AsksToShow arguments → IsRefused arguments → ⊥
@@ -119,20 +93,8 @@ check_unrefused arguments (rows, asks) = unrefused arguments (codes "check") row
 pub record_unrefused : (arguments : List Text) (setup : Setup) → AsksToRecord arguments setup → IsRefused arguments → ⊥
 record_unrefused arguments setup (rows, asks, sets) = unrefused arguments (codes "record") rows asks
 
-pub no_setup_unrefused : (arguments : List Text) → AsksToRecordNothing arguments → IsRefused arguments → ⊥
-no_setup_unrefused arguments (rows, asks, nothing) = unrefused arguments (codes "record") rows asks
-
 pub follow_unrefused : (arguments : List Text) (setting : Setting) → AsksToFollow arguments setting → IsRefused arguments → ⊥
 follow_unrefused arguments setting (rows, asks, sets) = unrefused arguments (codes "follow") rows asks
-
-pub no_follow_unrefused : (arguments : List Text) → AsksToFollowNothing arguments → IsRefused arguments → ⊥
-no_follow_unrefused arguments (rows, asks, none) = unrefused arguments (codes "follow") rows asks
-
-pub moves_unrefused : (arguments : List Text) (start : Parts) → AsksForMoves arguments start → IsRefused arguments → ⊥
-moves_unrefused arguments start (rows, asks, starts) = unrefused arguments (codes "moves") rows asks
-
-pub no_moves_unrefused : (arguments : List Text) → AsksForNoMoves arguments → IsRefused arguments → ⊥
-no_moves_unrefused arguments (rows, asks, none) = unrefused arguments (codes "moves") rows asks
 
 pub or_refused : {P Q : Type 0} → P ⊎ Q → (Q → ⊥) → P
 or_refused (inl p) k = p

@@ -1,12 +1,14 @@
 //! The subcommand `record`.
-ghost use Rattle.std.specs.Prelude.{◌≡◌, ◌≢◌, ◌≤◌, ◌⊎◌, ◌+◌, ◌++◌, codes, false};
+ghost use Rattle.std.specs.Prelude.{◌≡◌, ◌≢◌, ◌≤◌, ◌+◌, ◌++◌, false};
 ghost use Rattle.arrayvec.specs.ArrayVec.{array_vec_len};
 ghost use Rattle.board_session.specs.declared.recording.Setup.{Setup as SetupOf};
 ghost use Rattle.dgt_frame.specs.Watch.{inner_of, has_failed};
-ghost use Rattle.dgt_replay.specs.Messages.{Says, Tells};
-ghost use Rattle.dgt_replay.specs.Recorded.{EndsFor, Fails, RecordsAndTells, Untouched, report_line};
+ghost use Rattle.dgt_replay.specs.Does.{Records, Refuses};
+ghost use Rattle.dgt_replay.specs.Messages.{Says};
+ghost use Rattle.dgt_replay.specs.Recorded.{EndsFor, Fails, RecordsAndTells, report_line};
 ghost use Rattle.replay_arguments.specs.Setups.{ForMemory, Meets, MeetsNothing, given, tag_text};
 ghost use Rattle.dgt_replay.specs.Refusals.{RefusesSetup, refusal_words};
+ghost use Rattle.dgt_replay.specs.Streams.{streams};
 
 use crate::messages::{refused, refused_fen, refused_tag};
 use board_listing::{GATHERED, LONGEST, Lines, add, add_number};
@@ -56,15 +58,10 @@ fn record_as<R: Read, O: Write, E: Write>(
     requires reading { has_failed reader.old ≡ false }
     requires working { has_failed out.old ≡ false }
     requires erring { has_failed err.old ≡ false }
-    ensures all { result ≡ 0 → RecordsAndTells setup (R.remaining (inner_of reader.old))
-        (E.contents (inner_of err.old)) (E.contents (inner_of err.new)) (O.contents (inner_of out.old)) (O.contents (inner_of out.new)) }
-    ensures long { result ≡ 1 → EndsFor RecordError.TooLong setup (R.remaining (inner_of reader.old)) (R.remaining (inner_of reader.new))
-        (E.contents (inner_of err.old)) (E.contents (inner_of err.new)) (has_failed err.new) (O.contents (inner_of out.old)) (O.contents (inner_of out.new)) }
-    ensures fails { result ≡ 3 → Fails setup (R.remaining (inner_of reader.old)) (R.remaining (inner_of reader.new))
-        (E.contents (inner_of err.old)) (E.contents (inner_of err.new)) (O.contents (inner_of out.old)) (O.contents (inner_of out.new))
-        (has_failed reader.new) (has_failed out.new) (has_failed err.new) }
-    ensures memory { result ≡ 4 → EndsFor RecordError.Memory setup (R.remaining (inner_of reader.old)) (R.remaining (inner_of reader.new))
-        (E.contents (inner_of err.old)) (E.contents (inner_of err.new)) (has_failed err.new) (O.contents (inner_of out.old)) (O.contents (inner_of out.new)) }
+    ensures all { result ≡ 0 → RecordsAndTells setup (streams R.remaining O.contents E.contents reader.old reader.new out.old out.new err.old err.new) }
+    ensures long { result ≡ 1 → EndsFor RecordError.TooLong setup (streams R.remaining O.contents E.contents reader.old reader.new out.old out.new err.old err.new) }
+    ensures fails { result ≡ 3 → Fails setup (streams R.remaining O.contents E.contents reader.old reader.new out.old out.new err.old err.new) }
+    ensures memory { result ≡ 4 → EndsFor RecordError.Memory setup (streams R.remaining O.contents E.contents reader.old reader.new out.old out.new err.old err.new) }
     ensures works { result ≡ 0 → (has_failed reader.new ≡ false) × ((has_failed out.new ≡ false) × (has_failed err.new ≡ false)) }
     ensures known { result ≤ 4 }
     ensures status { result ≢ 2 }
@@ -98,21 +95,8 @@ pub fn record_game<R: Read, O: Write, E: Write>(
     requires reading { has_failed reader.old ≡ false }
     requires working { has_failed out.old ≡ false }
     requires erring { has_failed err.old ≡ false }
-    ensures all { (setup : SetupOf) → Meets options.now setup → result ≡ 0 → RecordsAndTells setup (R.remaining (inner_of reader.old))
-        (E.contents (inner_of err.old)) (E.contents (inner_of err.new)) (O.contents (inner_of out.old)) (O.contents (inner_of out.new)) }
-    ensures long { (setup : SetupOf) → Meets options.now setup → result ≡ 1 → EndsFor RecordError.TooLong setup (R.remaining (inner_of reader.old)) (R.remaining (inner_of reader.new))
-        (E.contents (inner_of err.old)) (E.contents (inner_of err.new)) (has_failed err.new) (O.contents (inner_of out.old)) (O.contents (inner_of out.new)) }
-    ensures fails { (setup : SetupOf) → Meets options.now setup → result ≡ 3 → Fails setup (R.remaining (inner_of reader.old)) (R.remaining (inner_of reader.new))
-        (E.contents (inner_of err.old)) (E.contents (inner_of err.new)) (O.contents (inner_of out.old)) (O.contents (inner_of out.new))
-        (has_failed reader.new) (has_failed out.new) (has_failed err.new) }
-    ensures memory { (setup : SetupOf) → Meets options.now setup → result ≡ 4 → EndsFor RecordError.Memory setup (R.remaining (inner_of reader.old)) (R.remaining (inner_of reader.new))
-        (E.contents (inner_of err.old)) (E.contents (inner_of err.new)) (has_failed err.new) (O.contents (inner_of out.old)) (O.contents (inner_of out.new))
-        ⊎ (Untouched (R.remaining (inner_of reader.old)) (R.remaining (inner_of reader.new)) (O.contents (inner_of out.old)) (O.contents (inner_of out.new))
-        × Says (E.contents (inner_of err.old)) (E.contents (inner_of err.new)) (has_failed err.new) (codes "memory\n")) }
-    ensures refuses { MeetsNothing options.now → ((result ≡ 1) ⊎ (result ≡ 4))
-        × Untouched (R.remaining (inner_of reader.old)) (R.remaining (inner_of reader.new)) (O.contents (inner_of out.old)) (O.contents (inner_of out.new)) }
-    ensures tells { MeetsNothing options.now → Tells result (RefusesSetup (given options.now.fen) (tag_text options.now))
-        (E.contents (inner_of err.old)) (E.contents (inner_of err.new)) false false (has_failed err.new) }
+    ensures records { (setup : SetupOf) → Meets options.now setup → Records setup result (streams R.remaining O.contents E.contents reader.old reader.new out.old out.new err.old err.new) }
+    ensures refuses { MeetsNothing options.now → Refuses (RefusesSetup (given options.now.fen) (tag_text options.now)) result (streams R.remaining O.contents E.contents reader.old reader.new out.old out.new err.old err.new) }
     ensures works { result ≡ 0 → (has_failed reader.new ≡ false) × ((has_failed out.new ≡ false) × (has_failed err.new ≡ false)) }
     ensures known { result ≤ 4 }
     ensures status { result ≢ 2 }

@@ -17,7 +17,7 @@ use Rattle.replay_arguments.specs.declared.arguments.Subcommand.TheVariants.{Sho
 use Rattle.replay_arguments.specs.declared.arguments.FollowArguments.{FollowArguments}
 use Rattle.replay_arguments.specs.declared.arguments.RecordArguments.{RecordArguments}
 use Rattle.replay_arguments.specs.Command.{replay}
-use Rattle.replay_arguments.specs.Setups.{HasNoStart, SetsFollowingUp, SetsUp, SetsUpNothing, StartsAt, Wants, WantsToFollow, flag_text, given, side_in}
+use Rattle.replay_arguments.specs.Setups.{SetsFollowingUp, SetsUp, StartsAt, Wants, WantsToFollow, flag_text, given, side_in}
 
 -- whether the subcommand is one of the program's, and the side after `--first`, if there is one, is white or black
 abbrev pub is_subcommand : Text → List Row → Bool
@@ -79,25 +79,13 @@ AsksToCheck arguments = (rows : List Row) × Asks arguments (codes "check") rows
 abbrev pub AsksToRecord : List Text → Setup → Type 0
 AsksToRecord arguments setup = (rows : List Row) × Asks arguments (codes "record") rows × SetsUp rows setup
 
--- The arguments ask for a recording, and no setup is what they say.
-abbrev pub AsksToRecordNothing : List Text → Type 0
-AsksToRecordNothing arguments = (rows : List Row) × Asks arguments (codes "record") rows × SetsUpNothing rows
-
 -- The arguments ask that a game be followed that is set up so.
 abbrev pub AsksToFollow : List Text → Setting → Type 0
 AsksToFollow arguments setting = (rows : List Row) × Asks arguments (codes "follow") rows × SetsFollowingUp rows setting
 
--- The arguments ask that a game be followed, and no position has the FEN.
-abbrev pub AsksToFollowNothing : List Text → Type 0
-AsksToFollowNothing arguments = (rows : List Row) × Asks arguments (codes "follow") rows × HasNoStart (first_of (codes "fen") rows)
-
 -- The arguments ask for the moves of this position.
 abbrev pub AsksForMoves : List Text → Parts → Type 0
 AsksForMoves arguments start = (rows : List Row) × Asks arguments (codes "moves") rows × StartsAt (first_of (codes "fen") rows) start
-
--- The arguments ask for the moves of a position, and no position has the FEN.
-abbrev pub AsksForNoMoves : List Text → Type 0
-AsksForNoMoves arguments = (rows : List Row) × Asks arguments (codes "moves") rows × HasNoStart (first_of (codes "fen") rows)
 
 -- The arguments are a program's name, whatever it is, and `show`.
 abbrev pub IsShow : List Text → Type 0

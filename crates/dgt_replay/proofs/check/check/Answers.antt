@@ -1,4 +1,4 @@
-use Rattle.std.proofs.Common.{◌≡◌, List, ℕ, length, codes, inl, inr, refl, rules, subst, sym, true, ◌∙◌, ◌++◌}
+use Rattle.std.proofs.Common.{◌≡◌, List, ℕ, arith, length, codes, inl, inr, refl, rules, subst, sym, true, ◌∙◌, ◌++◌}
 use Rattle.std.proofs.KnownBytes.{Appends-kept}
 use Rattle.std.specs.Io.KnownBytes.{Appends}
 use Rattle.dgt_frame.specs.Watch.{inner_of, has_failed}
@@ -6,7 +6,7 @@ use Rattle.dgt_replay.specs.Checked.{RefusesText, summary_line}
 use Rattle.dgt_replay.proofs.CheckLemmas.{checked, no_game}
 use Rattle.pgn_book.specs.Pgn.{Pgn}
 use Rattle.dgt_replay.proofs.EndLemmas.{true_or}
-use Rattle.dgt_replay.proofs.MessageLemmas.{tells_fault, tells_memory, tells_or_fault, tells_refused}
+use Rattle.dgt_replay.proofs.MessageLemmas.{never_done, tells_fault, tells_memory, tells_or_fault, tells_refused}
 use Rattle.board_listing.proofs.GatherLemmas.{at_err, at_ok}
 use Rattle.dgt_replay.proofs.check.check.Goals as goal
 use Rattle.dgt_replay.proofs.check.check.Goals.{then-is_err-via-then-is_err, then-is_err-via-else-is_err+then-is_err-2}
@@ -65,3 +65,9 @@ returns-in-Err-Memory-read_pgn-clause-tells g c =
     let input = g.R.Read.remaining (inner_of c.args.reader.now) in
     tells_or_fault c.refused_run-in-Err-Memory-read_pgn.result 4 (RefusesText input) _ _ _ _ _ _ c.refused_run-in-Err-Memory-read_pgn.ensures.ended
     (λ four says. tells_memory c.refused_run-in-Err-Memory-read_pgn.result (RefusesText input) _ _ _ _ _ four says)
+
+pub returns-in-Err-NotExport-clause-passes : goal.returns-in-Err-NotExport-clause-passes
+returns-in-Err-NotExport-clause-passes g c zero = never_done c.refused_run-in-Err-NotExport.result 1 _ _ _ _ _ (omega arith) c.refused_run-in-Err-NotExport.ensures.ended zero
+
+pub returns-in-Err-NotExport-clause-works : goal.returns-in-Err-NotExport-clause-works
+returns-in-Err-NotExport-clause-works g c zero = never_done c.refused_run-in-Err-NotExport.result 1 _ _ _ _ _ (omega arith) c.refused_run-in-Err-NotExport.ensures.ended zero

@@ -1,4 +1,4 @@
-use Rattle.std.proofs.Common.{◌≡◌, List, get_or, inr, sym, ◌∙◌, subst, true}
+use Rattle.std.proofs.Common.{◌≡◌, List, get_or, inr, rules, sym, ◌∙◌, subst, true}
 use Rattle.std.specs.List.{Contains}
 use Rattle.std.proofs.lemmas.List.Elements.{Contains-get_or}
 use Rattle.chess_rules.specs.declared.chess_move.Move.{Move}
@@ -40,3 +40,6 @@ returns-then-is_err-clause-tells g c =
       | then-is_err-via-else-is_err+then-is_err-2 w ↦ rw w.out-is (w.flush.ensures.failed ∙ true_or _ _ (sym w.is_err-else-is_err.ensures.value ∙ w.if-is_err-2.true))
     ] in
     tells_fault c.refused.result (RefusesStart (given c.args.fen)) _ _ _ _ _ c.refused.ensures.status (inr (failed, c.refused.ensures.says))
+
+pub returns-clause-works : goal.returns-clause-works
+returns-clause-works g c zero = search rules

@@ -1,18 +1,37 @@
-use Rattle.std.proofs.Common.{◌≡◌, false, refl, rules, subst}
-use Rattle.dgt_frame.specs.Watch.{inner_of, has_failed}
-use Rattle.replay_arguments.specs.declared.arguments.RecordArguments.{RecordArguments}
-use Rattle.replay_arguments.specs.Setups.{MeetsNothing, given, tag_text}
-use Rattle.dgt_replay.specs.Refusals.{RefusesSetup}
-use Rattle.dgt_replay.specs.Messages.{Tells}
+use Rattle.std.proofs.Common.{inl, inr, refl, rules}
+use Rattle.dgt_replay.proofs.TextLemmas.{events_end, pictures_end}
 use Rattle.dgt_replay.proofs.program.obey.Goals as goal
 
-pub returns-in-Record-clause-refusal_tells : goal.returns-in-Record-clause-refusal_tells
-returns-in-Record-clause-refusal_tells g c options is nothing =
-    let chosen = c.in-Record.is in
-    let same : c.in-Record.options ≡ options = cc in
-    let P : RecordArguments → Type 0 = λ w. MeetsNothing w → Tells c.record_game.result (RefusesSetup (given w.fen) (tag_text w))
-    (g.E.Write.contents (inner_of c.args.err.now)) (g.E.Write.contents (inner_of c.record_game.new.err)) false false (has_failed c.record_game.new.err) in
-    subst P same c.record_game.ensures.tells nothing
+pub returns-in-Show-clause-does : goal.returns-in-Show-clause-does
+returns-in-Show-clause-does g c = rw c.in-Show.is (record { ends = events_end _ _ _ _ _ _ _ c.list.ensures.lists.ends; tells = c.list.ensures.lists.tells })
+
+pub returns-in-Pictures-clause-does : goal.returns-in-Pictures-clause-does
+returns-in-Pictures-clause-does g c = rw c.in-Pictures.is (record { ends = pictures_end _ _ _ _ _ _ _ _ c.list-in-Pictures.ensures.lists.ends; tells = c.list-in-Pictures.ensures.lists.tells })
+
+pub returns-in-Record-clause-does : goal.returns-in-Record-clause-does
+returns-in-Record-clause-does g c = rw c.in-Record.is (c.record_game.ensures.records, c.record_game.ensures.refuses)
+
+pub returns-in-Follow-clause-does : goal.returns-in-Follow-clause-does
+returns-in-Follow-clause-does g c = rw c.in-Follow.is (c.follow.ensures.lists, c.follow.ensures.refuses)
+
+pub returns-in-Check-clause-does : goal.returns-in-Check-clause-does
+returns-in-Check-clause-does g c =
+    let ends = c.check.ensures in
+    rw c.in-Check.is (record { done = ends.passes; tells = ends.tells; bounded = ends.bounded; silent = ends.silent })
+
+pub returns-in-Moves-clause-does : goal.returns-in-Moves-clause-does
+returns-in-Moves-clause-does g c =
+    let ends = c.moves.ensures in
+    rw c.in-Moves.is (record {
+      done = ends.prints;
+      refuses = λ none. inl (ends.refuses none).0;
+      refused = λ one start starts. ends.accepts start starts one;
+      silent = λ e. elim e [
+        | inl one ↦ (ends.refuses (λ start starts. ends.accepts start starts one)).1
+        | inr four ↦ ends.silent four
+      ];
+      tells = ends.tells;
+    })
 
 pub returns-in-Moves-clause-moves_unread : goal.returns-in-Moves-clause-moves_unread
 returns-in-Moves-clause-moves_unread g c fen is = refl

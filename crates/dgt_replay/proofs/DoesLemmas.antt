@@ -1,0 +1,159 @@
+-- What the subcommands do, from the arguments that ask for it.
+use Rattle.std.proofs.Common.{◌≡◌, ℕ, List, Option, Bool, false, codes, inr, subst, sym, arith}
+use Rattle.std.specs.Io.KnownBytes.{Keeps}
+use Rattle.clap.specs.Walk.{Row, Text, first_of}
+use Rattle.board_session.specs.Recording.{limit}
+use Rattle.board_session.specs.Settings.{Setting}
+use Rattle.board_session.specs.declared.recording.Setup.{Setup}
+use Rattle.board_listing.specs.EventLines.{rest_line}
+use Rattle.board_listing.specs.OneText.{event_lines, no_line, picture_lines}
+use Rattle.board_listing.specs.declared.listing.Listing.{Listing}
+use Rattle.board_listing.specs.declared.listing.Listing.TheVariants.{Game}
+use Rattle.dgt_frame.specs.Streams.{Timed}
+use Rattle.pgn_book.specs.declared.values.Tag.{Tag}
+use Rattle.replay_arguments.specs.declared.arguments.Subcommand.{Subcommand}
+use Rattle.replay_arguments.specs.Subcommands.{Asks, AsksFor, AsksForPictures, AsksToCheck, AsksToFollow, AsksToRecord, AsksToShow}
+use Rattle.replay_arguments.specs.Setups.{HasNoStart, SetsUpNothing, given, option_of, tag_text}
+use Rattle.dgt_replay.specs.Checked.{RefusesText, text_limit}
+use Rattle.dgt_replay.specs.Does.{Checks, Does, Lists, Prints, Records, Refuses, Untouched, WritesText}
+use Rattle.dgt_replay.specs.Messages.{IsTooLong, Says}
+use Rattle.dgt_replay.specs.Refusals.{RefusesSetup, RefusesStart}
+use Rattle.dgt_replay.specs.Streams.{Streams}
+use Rattle.dgt_replay.proofs.EndLemmas.{ends_for_memory, none_read}
+use Rattle.dgt_replay.proofs.MessageLemmas.{tells_alike, tells_memory}
+use Rattle.dgt_replay.proofs.RefusalLemmas.{refuses_alike, refuses_start_alike}
+use Rattle.dgt_replay.proofs.SetupLemmas.{meets_nothing}
+use Rattle.dgt_replay.proofs.SubcommandLemmas.{chooses_check, chooses_follow, chooses_pictures, chooses_record, chooses_show, follow_chosen, moves_chosen, record_chosen}
+
+-- Memory ran out before anything was read, or written to the output.
+pub record LacksMemory (status : ℕ) (s : Streams) : Type 0 where
+  pub four : status ≡ 4
+  pub untouched : Untouched s
+  pub says : Says s.said s.said' s.err_failed (codes "memory\n")
+
+pub lacks_memory : (status : ℕ) (s : Streams) → Keeps s.input s.input' → (status ≡ 4) × Keeps s.written s.written' × Says s.said s.said' s.err_failed (codes "memory\n") → LacksMemory status s
+lacks_memory status s unread ended = record { four = ended.0; untouched = (unread, ended.1); says = ended.2 }
+
+-- Each subcommand may end so.
+pub text_memory : (lines : List Timed → List ℕ) (last : ℕ → List ℕ) (status : ℕ) (s : Streams) → LacksMemory status s → WritesText lines last status s
+text_memory lines last status s lacks =
+    let four : status ≡ 4 = lacks.four in
+    record {
+      ends = record {
+        done = λ e. absurd (omega arith);
+        long = λ e. absurd (omega arith);
+        fault = λ e. absurd (omega arith);
+        memory = λ e. lacks.untouched;
+        known = (3, omega arith, sym four);
+        bounded = none_read limit s.input s.input' lacks.untouched.0;
+        whole = λ e. absurd (omega arith);
+      };
+      tells = tells_memory status IsTooLong s.said s.said' s.reader_failed s.out_failed s.err_failed four lacks.says;
+    }
+
+pub lists_memory : (listing : Listing) (status : ℕ) (s : Streams) → LacksMemory status s → Lists listing status s
+lists_memory listing status s lacks = record {
+  ends = ends_for_memory listing status s.input s.input' s.written s.written' s.reader_failed s.out_failed lacks.four lacks.untouched.0 lacks.untouched.1;
+  tells = tells_memory status IsTooLong s.said s.said' s.reader_failed s.out_failed s.err_failed lacks.four lacks.says;
+}
+
+pub records_memory : (setup : Setup) (status : ℕ) (s : Streams) → LacksMemory status s → Records setup status s
+records_memory setup status s lacks =
+    let four : status ≡ 4 = lacks.four in
+    record {
+      done = λ e. absurd (omega arith);
+      long = λ e. absurd (omega arith);
+      fails = λ e. absurd (omega arith);
+      memory = λ e. inr (lacks.untouched, lacks.says);
+    }
+
+pub refuses_memory : (May : List ℕ → Type 0) (status : ℕ) (s : Streams) → LacksMemory status s → Refuses May status s
+refuses_memory May status s lacks = record {
+  known = inr lacks.four;
+  untouched = lacks.untouched;
+  tells = tells_memory status May s.said s.said' false false s.err_failed lacks.four lacks.says;
+}
+
+pub checks_memory : (status : ℕ) (s : Streams) → LacksMemory status s → Checks status s
+checks_memory status s lacks =
+    let four : status ≡ 4 = lacks.four in
+    record {
+      done = λ e. absurd (omega arith);
+      tells = tells_memory status (RefusesText s.input) s.said s.said' s.reader_failed s.out_failed s.err_failed four lacks.says;
+      bounded = none_read text_limit s.input s.input' lacks.untouched.0;
+      silent = λ e. lacks.untouched.1;
+    }
+
+pub prints_memory : (fen : Option Text) (status : ℕ) (s : Streams) → LacksMemory status s → Prints fen status s
+prints_memory fen status s lacks =
+    let four : status ≡ 4 = lacks.four in
+    record {
+      done = λ start starts e. absurd (omega arith);
+      refuses = λ none. inr four;
+      refused = λ e. absurd (omega arith);
+      silent = λ e. lacks.untouched.1;
+      tells = tells_memory status (RefusesStart fen) s.said s.said' false s.out_failed s.err_failed four lacks.says;
+    }
+
+-- Another reason for the same refusal.
+refuses_too : (May Might : List ℕ → Type 0) (status : ℕ) (s : Streams) → ((words : List ℕ) → May words → Might words) → Refuses May status s → Refuses Might status s
+refuses_too May Might status s too refuses = record {
+  known = refuses.known;
+  untouched = refuses.untouched;
+  tells = tells_alike status May Might s.said s.said' false false s.err_failed too refuses.tells;
+}
+
+does_as : (subcommand chosen : Subcommand) (status : ℕ) (s : Streams) → subcommand ≡ chosen → Does subcommand status s → Does chosen status s
+does_as subcommand chosen status s is does = let P : Subcommand → Type 0 = λ w. Does w status s in subst P is does
+
+-- What is done where the arguments ask for it.
+pub does_show : (arguments : List Text) (subcommand : Subcommand) (status : ℕ) (s : Streams) → AsksFor arguments subcommand → Does subcommand status s
+    → AsksToShow arguments → WritesText event_lines rest_line status s
+does_show arguments subcommand status s asked does asks = does_as subcommand _ status s (chooses_show arguments subcommand asks asked) does
+
+pub does_pictures : (arguments : List Text) (subcommand : Subcommand) (status : ℕ) (s : Streams) → AsksFor arguments subcommand → Does subcommand status s
+    → (rotated : Bool) → AsksForPictures rotated arguments → WritesText (picture_lines rotated) no_line status s
+does_pictures arguments subcommand status s asked does rotated asks = does_as subcommand _ status s (chooses_pictures rotated arguments subcommand asks asked) does
+
+pub does_check : (arguments : List Text) (subcommand : Subcommand) (status : ℕ) (s : Streams) → AsksFor arguments subcommand → Does subcommand status s
+    → AsksToCheck arguments → Checks status s
+does_check arguments subcommand status s asked does asks = does_as subcommand _ status s (chooses_check arguments subcommand asks asked) does
+
+pub does_record : (arguments : List Text) (subcommand : Subcommand) (status : ℕ) (s : Streams) → AsksFor arguments subcommand → Does subcommand status s
+    → (setup : Setup) → AsksToRecord arguments setup → Records setup status s
+does_record arguments subcommand status s asked does setup asks =
+    let chosen = chooses_record arguments setup subcommand asks asked in
+    (does_as subcommand _ status s chosen.1 does).0 setup chosen.2
+
+pub does_refuse_setup : (arguments : List Text) (subcommand : Subcommand) (status : ℕ) (s : Streams) → AsksFor arguments subcommand → Does subcommand status s
+    → (rows : List Row) → Asks arguments (codes "record") rows → SetsUpNothing rows → Refuses (RefusesSetup (first_of (codes "fen") rows) (λ tag. first_of (option_of tag) rows)) status s
+does_refuse_setup arguments subcommand status s asked does rows asks nothing =
+    let chosen = record_chosen arguments rows subcommand asks asked in
+    let options = chosen.0 in
+    let wants = chosen.2 in
+    let text : Tag → Option Text = λ tag. first_of (option_of tag) rows in
+    refuses_too (RefusesSetup (given options.fen) (tag_text options)) (RefusesSetup (first_of (codes "fen") rows) text) status s
+    (λ words refuses. refuses_alike (given options.fen) (first_of (codes "fen") rows) (tag_text options) text wants.fen wants.tags words refuses)
+    ((does_as subcommand _ status s chosen.1 does).1 (meets_nothing rows options wants nothing))
+
+pub does_follow : (arguments : List Text) (subcommand : Subcommand) (status : ℕ) (s : Streams) → AsksFor arguments subcommand → Does subcommand status s
+    → (setting : Setting) → AsksToFollow arguments setting → Lists (Game setting.start setting.first setting.rotated) status s
+does_follow arguments subcommand status s asked does setting asks =
+    let chosen = chooses_follow arguments setting subcommand asks asked in
+    (does_as subcommand _ status s chosen.1 does).0 setting chosen.2
+
+pub does_refuse_start : (arguments : List Text) (subcommand : Subcommand) (status : ℕ) (s : Streams) → AsksFor arguments subcommand → Does subcommand status s
+    → (rows : List Row) → Asks arguments (codes "follow") rows → HasNoStart (first_of (codes "fen") rows) → Refuses (RefusesStart (first_of (codes "fen") rows)) status s
+does_refuse_start arguments subcommand status s asked does rows asks none =
+    let chosen = follow_chosen arguments rows subcommand asks asked in
+    let fen = given chosen.0.fen in
+    let same = chosen.2.fen in
+    refuses_too (RefusesStart fen) (RefusesStart (first_of (codes "fen") rows)) status s
+    (λ words refuses. refuses_start_alike fen (first_of (codes "fen") rows) words same refuses)
+    ((does_as subcommand _ status s chosen.1 does).1 (subst HasNoStart (sym same) none))
+
+pub does_moves : (arguments : List Text) (subcommand : Subcommand) (status : ℕ) (s : Streams) → AsksFor arguments subcommand → Does subcommand status s
+    → (rows : List Row) → Asks arguments (codes "moves") rows → Prints (first_of (codes "fen") rows) status s
+does_moves arguments subcommand status s asked does rows asks =
+    let chosen = moves_chosen arguments rows subcommand asks asked in
+    let P : Option Text → Type 0 = λ fen. Prints fen status s in subst P chosen.2 (does_as subcommand _ status s chosen.1 does)

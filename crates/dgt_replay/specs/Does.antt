@@ -1,0 +1,85 @@
+-- What each subcommand does with the streams, by its status.
+use Rattle.std.specs.Prelude.{◌≡◌, ◌⊎◌, ℕ, List, Option, codes, false}
+use Rattle.std.specs.Io.KnownBytes.{Keeps}
+use Rattle.clap.specs.Walk.{Text}
+use Rattle.chess_rules.specs.declared.parts.Parts.{Parts}
+use Rattle.dgt_frame.specs.Streams.{Timed}
+use Rattle.board_session.specs.Settings.{Setting}
+use Rattle.board_session.specs.declared.recording.Setup.{Setup}
+use Rattle.board_session.specs.declared.refusal.RecordError.TheVariants.{Memory, TooLong}
+use Rattle.board_listing.specs.EventLines.{rest_line}
+use Rattle.board_listing.specs.Listings.{ListingEnds, ReadsWithin}
+use Rattle.board_listing.specs.OneText.{TextEnds, event_lines, no_line, picture_lines}
+use Rattle.board_listing.specs.declared.listing.Listing.{Listing}
+use Rattle.board_listing.specs.declared.listing.Listing.TheVariants.{Game}
+use Rattle.replay_arguments.specs.declared.arguments.Subcommand.{Subcommand}
+use Rattle.replay_arguments.specs.declared.arguments.Subcommand.TheVariants.{Show, Pictures, Record, Follow, Check, Moves}
+use Rattle.replay_arguments.specs.Setups.{HasNoStart, Meets, MeetsNothing, MeetsToFollow, StartsAt, given, tag_text}
+use Rattle.dgt_replay.specs.Checked.{ChecksGame, RefusesText, text_limit}
+use Rattle.dgt_replay.specs.Messages.{IsTooLong, Says, Tells}
+use Rattle.dgt_replay.specs.Printed.{PrintsMoves}
+use Rattle.dgt_replay.specs.Recorded.{EndsFor, Fails, RecordsAndTells}
+use Rattle.dgt_replay.specs.Refusals.{RefusesSetup, RefusesStart}
+use Rattle.dgt_replay.specs.Streams.{Streams}
+
+-- Nothing was read, and nothing written to the output.
+abbrev pub Untouched : Streams → Type 0
+Untouched s = Keeps s.input s.input' × Keeps s.written s.written'
+
+-- The lines of a stream's events were written, and what ended that was said: that the stream is past its limit, which stream has
+-- failed, or that memory ran out.
+pub record WritesText (lines : List Timed → List ℕ) (last : ℕ → List ℕ) (status : ℕ) (s : Streams) : Type 0 where
+  pub ends : TextEnds lines last status s.input s.input' s.written s.written' s.reader_failed s.out_failed
+  pub tells : Tells status IsTooLong s.said s.said' s.reader_failed s.out_failed s.err_failed
+
+-- The same of what any listing has.
+pub record Lists (listing : Listing) (status : ℕ) (s : Streams) : Type 0 where
+  pub ends : ListingEnds listing status s.input s.input' s.written s.written' s.reader_failed s.out_failed
+  pub tells : Tells status IsTooLong s.said s.said' s.reader_failed s.out_failed s.err_failed
+
+-- A game was recorded that is set up so.
+pub record Records (setup : Setup) (status : ℕ) (s : Streams) : Type 0 where
+  -- the whole of it
+  pub done : status ≡ 0 → RecordsAndTells setup s
+  -- the stream is past its limit, and the game of what is within it stands
+  pub long : status ≡ 1 → EndsFor TooLong setup s
+  -- a stream has failed, and what stands is what a recording leaves then
+  pub fails : status ≡ 3 → Fails setup s
+  -- memory ran out, at a ply, or before anything was read, or written to the output
+  pub memory : status ≡ 4 → EndsFor Memory setup s ⊎ (Untouched s × Says s.said s.said' s.err_failed (codes "memory\n"))
+
+-- The options are refused with such a message, or memory ran out before; nothing was read, and nothing written to the output.
+pub record Refuses (May : List ℕ → Type 0) (status : ℕ) (s : Streams) : Type 0 where
+  pub known : (status ≡ 1) ⊎ (status ≡ 4)
+  pub untouched : Untouched s
+  pub tells : Tells status May s.said s.said' false false s.err_failed
+
+-- The input is the export text of a game, or why not was said.
+pub record Checks (status : ℕ) (s : Streams) : Type 0 where
+  pub done : status ≡ 0 → ChecksGame s.input s.written s.written'
+  pub tells : Tells status (RefusesText s.input) s.said s.said' s.reader_failed s.out_failed s.err_failed
+  -- at most one byte past the limit was read
+  pub bounded : ReadsWithin text_limit s.input s.input'
+  -- nothing was written of a text that is refused, or where memory ran out
+  pub silent : (status ≡ 1) ⊎ (status ≡ 4) → Keeps s.written s.written'
+
+-- The legal moves were written of the position that has the FEN, or of the initial one; or why not was said.
+pub record Prints (fen : Option Text) (status : ℕ) (s : Streams) : Type 0 where
+  pub done : (start : Parts) → StartsAt fen start → status ≡ 0 → PrintsMoves start s.written s.written'
+  -- status 1 comes where no position has the FEN, and never else
+  pub refuses : HasNoStart fen → (status ≡ 1) ⊎ (status ≡ 4)
+  pub refused : status ≡ 1 → HasNoStart fen
+  -- nothing was written of a FEN that is refused, or where memory ran out
+  pub silent : (status ≡ 1) ⊎ (status ≡ 4) → Keeps s.written s.written'
+  pub tells : Tells status (RefusesStart fen) s.said s.said' false s.out_failed s.err_failed
+
+-- What a subcommand does.
+abbrev pub Does : Subcommand → ℕ → Streams → Type 0
+Does Show status s = WritesText event_lines rest_line status s
+Does (Pictures rotated) status s = WritesText (picture_lines rotated) no_line status s
+Does (Record options) status s = ((setup : Setup) → Meets options setup → Records setup status s)
+    × (MeetsNothing options → Refuses (RefusesSetup (given options.fen) (tag_text options)) status s)
+Does (Follow options) status s = ((setting : Setting) → MeetsToFollow options setting → Lists (Game setting.start setting.first setting.rotated) status s)
+    × (HasNoStart (given options.fen) → Refuses (RefusesStart (given options.fen)) status s)
+Does Check status s = Checks status s
+Does (Moves fen) status s = Prints (given fen) status s
