@@ -34,3 +34,6 @@ chunks-preserved g c =
     let text_is : c.extend_from_slice.new.self.items ≡ text ++ chunk =
     c.extend_from_slice.ensures.items ∙ if_ok c.extend_from_slice.result (text ++ chunk) text (sym c.is_err.ensures.value ∙ c.if-is_err.false) in
     record { working = search rules; within = search rules; read = rw text_is next }
+
+pub chunks-smaller : goal.chunks-smaller
+chunks-smaller g c = search rules

@@ -1,8 +1,8 @@
-use Rattle.std.proofs.Common.{◌≡◌, ◌||◌, rules, Err, inr, sym, ◌∙◌, ap}
+use Rattle.std.proofs.Common.{arith, ◌≡◌, ◌||◌, rules, Err, inr, sym, ◌∙◌, ap}
 use Rattle.std.specs.Prelude.{is_err}
 use Rattle.dgt_frame.specs.Watch.{inner_of, has_failed}
 use Rattle.board_listing.specs.declared.stream.ListError.TheVariants.{Read, Write}
-use Rattle.dgt_replay.proofs.EndLemmas.{ends_done, ends_in_fault, ends_refused, front_kept, tells_refused_listing, true_or}
+use Rattle.dgt_replay.proofs.EndLemmas.{ends_done, ends_in_fault, ends_refused, front_kept, refused_not_done, tells_refused_listing, true_or}
 use Rattle.dgt_replay.proofs.program.list.Goals as goal
 use Rattle.dgt_replay.proofs.program.list.Goals.{then-failed-via-then-failed, then-failed-via-else-failed+then-is_err}
 
@@ -45,3 +45,9 @@ returns-in-Ok-clause-lists g c =
     (g.O.Write.contents (inner_of c.args.out.now)) (g.O.Write.contents (inner_of c.list_stream-done.new.out)) (g.O.Write.contents (inner_of c.flush.new.self))
     (has_failed c.list_stream-done.new.reader) (has_failed c.flush.new.self) done.ok c.flush.ensures.bytes done.bounded done.whole.0 (search rules) in
     record { ends = ended; tells = search rules }
+
+pub returns-in-Ok-clause-status : goal.returns-in-Ok-clause-status
+returns-in-Ok-clause-status g c = λ two. absurd (omega arith)
+
+pub returns-in-Err-clause-works : goal.returns-in-Err-clause-works
+returns-in-Err-clause-works g c zero = refused_not_done c.in-Err.error c.refused-in-Err.result (c.refused-in-Err.ensures.status ∙ c.status.ensures) zero

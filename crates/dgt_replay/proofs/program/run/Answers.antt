@@ -139,3 +139,9 @@ returns-in-Err-clause-usage g c two =
       | inl memory ↦ (let four = (c.refused_arguments.ensures.memory memory).0 in absurd (omega (arith, four)))
       | inr refused ↦ refused
     ]
+
+pub returns-in-Err-clause-moves_unread : goal.returns-in-Err-clause-moves_unread
+returns-in-Err-clause-moves_unread g c rows asks = refl
+
+pub returns-in-Err-clause-works : goal.returns-in-Err-clause-works
+returns-in-Err-clause-works g c zero = (c.requires.reading, c.refused_arguments.ensures.works zero)

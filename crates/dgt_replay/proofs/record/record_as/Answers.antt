@@ -36,4 +36,4 @@ pub returns-in-Err-Read-clause-long : goal.returns-in-Err-Read-clause-long
 returns-in-Err-Read-clause-long g c one = let three = c.refused-in-Err-Read.ensures.status in absurd (omega arith)
 
 pub returns-in-Err-TooLong-clause-long : goal.returns-in-Err-TooLong-clause-long
-returns-in-Err-TooLong-clause-long g c one = search rules
+returns-in-Err-TooLong-clause-long g c one = (g.E.Write.contents (inner_of c.record.new.board), search rules, c.refused-in-Err-TooLong.ensures.says)
