@@ -128,6 +128,7 @@ tells_refused_listing TooLong status words said said' reader_failed out_failed e
 tells_refused_listing Memory status words said said' reader_failed out_failed err_failed is are says reading working =
     tells_memory status IsTooLong said said' reader_failed out_failed err_failed is (subst (Says said said' err_failed) are says)
 
+-- No refusal ends with status 0.
 pub refused_not_done : {A : Type 0} (error : ListError) (status : ℕ) → status ≡ status_of error → status ≡ 0 → A
 refused_not_done Read status is zero = absurd (omega arith)
 refused_not_done Write status is zero = absurd (omega arith)

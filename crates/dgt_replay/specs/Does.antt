@@ -66,14 +66,14 @@ pub record Checks (status : ℕ) (s : Streams) : Type 0 where
 -- The legal moves were written of the position that has the FEN, or of the initial one; or why not was said.
 pub record Prints (fen : Option Text) (status : ℕ) (s : Streams) : Type 0 where
   pub done : (start : Parts) → StartsAt fen start → status ≡ 0 → PrintsMoves start s.written s.written'
-  -- status 1 comes where no position has the FEN, and never else
+  -- where no position has the FEN, status 1 comes, or 4; and 1 never else
   pub refuses : HasNoStart fen → (status ≡ 1) ⊎ (status ≡ 4)
   pub refused : status ≡ 1 → HasNoStart fen
   -- nothing was written of a FEN that is refused, or where memory ran out
   pub silent : (status ≡ 1) ⊎ (status ≡ 4) → Keeps s.written s.written'
   pub tells : Tells status (RefusesStart fen) s.said s.said' false s.out_failed s.err_failed
 
--- What a subcommand does.
+-- What a subcommand does, by the setups, settings or starts that its options give.
 abbrev pub Does : Subcommand → ℕ → Streams → Type 0
 Does Show status s = WritesText event_lines rest_line status s
 Does (Pictures rotated) status s = WritesText (picture_lines rotated) no_line status s

@@ -8,8 +8,5 @@ returns-then-use_stderr-clause-refuses g c not_help not_version =
 pub returns-then-use_stderr-clause-help : goal.returns-then-use_stderr-clause-help
 returns-then-use_stderr-clause-help g c = search rules
 
-pub returns-then-use_stderr-clause-version : goal.returns-then-use_stderr-clause-version
-returns-then-use_stderr-clause-version g c = search rules
-
 pub returns-then-use_stderr-clause-works : goal.returns-then-use_stderr-clause-works
 returns-then-use_stderr-clause-works g c zero = let two = c.refused-then-use_stderr.ensures.status in absurd (omega (arith, two))
