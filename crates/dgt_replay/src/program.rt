@@ -123,8 +123,8 @@ fn follow<R: Read, O: Write, E: Write>(
     }
 }
 
-// Does what the arguments ask for.
-fn obey<R: Read, O: Write, E: Write>(
+// Does what the subcommand asks for.
+fn dispatch<R: Read, O: Write, E: Write>(
     alloc: Global,
     subcommand: &Subcommand<'_>,
     reader: &mut Watch<R>,
@@ -153,7 +153,7 @@ fn obey<R: Read, O: Write, E: Write>(
     }
 }
 
-/// Does what the arguments ask for, of which the first is the program's name, and returns the exit status: 0 where all was
+/// Does what the subcommand asks for. of which the first is the program's name, and returns the exit status: 0 where all was
 /// done, or help or the version was asked for, 1 where the input is refused, 2 where the arguments are, 3 where a stream has
 /// failed, 4 where memory ran out. Under `record` the bytes for the board go to `err`. No stream may have failed before.
 pub fn run<R: Read, O: Write, E: Write>(
@@ -219,6 +219,6 @@ pub fn run<R: Read, O: Write, E: Write>(
     without_options();
     match read_arguments(alloc, arguments) {
         Err(error) => refused_arguments(alloc, &error, out, err),
-        Ok(subcommand) => obey(alloc, &subcommand, reader, out, err),
+        Ok(subcommand) => dispatch(alloc, &subcommand, reader, out, err),
     }
 }

@@ -23,7 +23,7 @@ returns-in-Err-clause-show g c is =
 pub returns-in-Ok-clause-show : goal.returns-in-Ok-clause-show
 returns-in-Ok-clause-show g c is =
     let arguments = map string_bytes c.args.arguments.now in
-    does_show arguments c.in-Ok.subcommand c.obey.result _ c.in-Ok.ensures.chooses c.obey.ensures.does (c.without_options.ensures.shows arguments is)
+    does_show arguments c.in-Ok.subcommand c.dispatch.result _ c.in-Ok.ensures.chooses c.dispatch.ensures.does (c.without_options.ensures.shows arguments is)
 
 pub returns-in-Err-clause-pictures : goal.returns-in-Err-clause-pictures
 returns-in-Err-clause-pictures g c rotated is =
@@ -33,7 +33,7 @@ returns-in-Err-clause-pictures g c rotated is =
 pub returns-in-Ok-clause-pictures : goal.returns-in-Ok-clause-pictures
 returns-in-Ok-clause-pictures g c rotated is =
     let arguments = map string_bytes c.args.arguments.now in
-    does_pictures arguments c.in-Ok.subcommand c.obey.result _ c.in-Ok.ensures.chooses c.obey.ensures.does rotated (c.without_options.ensures.pictures rotated arguments is)
+    does_pictures arguments c.in-Ok.subcommand c.dispatch.result _ c.in-Ok.ensures.chooses c.dispatch.ensures.does rotated (c.without_options.ensures.pictures rotated arguments is)
 
 pub returns-in-Err-clause-record_is : goal.returns-in-Err-clause-record_is
 returns-in-Err-clause-record_is g c setup asks =
@@ -43,7 +43,7 @@ returns-in-Err-clause-record_is g c setup asks =
 pub returns-in-Ok-clause-record_is : goal.returns-in-Ok-clause-record_is
 returns-in-Ok-clause-record_is g c setup asks =
     let arguments = map string_bytes c.args.arguments.now in
-    does_record arguments c.in-Ok.subcommand c.obey.result _ c.in-Ok.ensures.chooses c.obey.ensures.does setup asks
+    does_record arguments c.in-Ok.subcommand c.dispatch.result _ c.in-Ok.ensures.chooses c.dispatch.ensures.does setup asks
 
 pub returns-in-Err-clause-record_refuses : goal.returns-in-Err-clause-record_refuses
 returns-in-Err-clause-record_refuses g c rows asks nothing =
@@ -53,7 +53,7 @@ returns-in-Err-clause-record_refuses g c rows asks nothing =
 pub returns-in-Ok-clause-record_refuses : goal.returns-in-Ok-clause-record_refuses
 returns-in-Ok-clause-record_refuses g c rows asks nothing =
     let arguments = map string_bytes c.args.arguments.now in
-    does_refuse_setup arguments c.in-Ok.subcommand c.obey.result _ c.in-Ok.ensures.chooses c.obey.ensures.does rows asks nothing
+    does_refuse_setup arguments c.in-Ok.subcommand c.dispatch.result _ c.in-Ok.ensures.chooses c.dispatch.ensures.does rows asks nothing
 
 pub returns-in-Err-clause-follow : goal.returns-in-Err-clause-follow
 returns-in-Err-clause-follow g c setting asks =
@@ -63,7 +63,7 @@ returns-in-Err-clause-follow g c setting asks =
 pub returns-in-Ok-clause-follow : goal.returns-in-Ok-clause-follow
 returns-in-Ok-clause-follow g c setting asks =
     let arguments = map string_bytes c.args.arguments.now in
-    does_follow arguments c.in-Ok.subcommand c.obey.result _ c.in-Ok.ensures.chooses c.obey.ensures.does setting asks
+    does_follow arguments c.in-Ok.subcommand c.dispatch.result _ c.in-Ok.ensures.chooses c.dispatch.ensures.does setting asks
 
 pub returns-in-Err-clause-follow_refuses : goal.returns-in-Err-clause-follow_refuses
 returns-in-Err-clause-follow_refuses g c rows asks none =
@@ -73,7 +73,7 @@ returns-in-Err-clause-follow_refuses g c rows asks none =
 pub returns-in-Ok-clause-follow_refuses : goal.returns-in-Ok-clause-follow_refuses
 returns-in-Ok-clause-follow_refuses g c rows asks none =
     let arguments = map string_bytes c.args.arguments.now in
-    does_refuse_start arguments c.in-Ok.subcommand c.obey.result _ c.in-Ok.ensures.chooses c.obey.ensures.does rows asks none
+    does_refuse_start arguments c.in-Ok.subcommand c.dispatch.result _ c.in-Ok.ensures.chooses c.dispatch.ensures.does rows asks none
 
 pub returns-in-Err-clause-check : goal.returns-in-Err-clause-check
 returns-in-Err-clause-check g c is =
@@ -83,7 +83,7 @@ returns-in-Err-clause-check g c is =
 pub returns-in-Ok-clause-check : goal.returns-in-Ok-clause-check
 returns-in-Ok-clause-check g c is =
     let arguments = map string_bytes c.args.arguments.now in
-    does_check arguments c.in-Ok.subcommand c.obey.result _ c.in-Ok.ensures.chooses c.obey.ensures.does (c.without_options.ensures.checks arguments is)
+    does_check arguments c.in-Ok.subcommand c.dispatch.result _ c.in-Ok.ensures.chooses c.dispatch.ensures.does (c.without_options.ensures.checks arguments is)
 
 pub returns-in-Err-clause-moves : goal.returns-in-Err-clause-moves
 returns-in-Err-clause-moves g c rows asks =
@@ -93,12 +93,12 @@ returns-in-Err-clause-moves g c rows asks =
 pub returns-in-Ok-clause-moves : goal.returns-in-Ok-clause-moves
 returns-in-Ok-clause-moves g c rows asks =
     let arguments = map string_bytes c.args.arguments.now in
-    does_moves arguments c.in-Ok.subcommand c.obey.result _ c.in-Ok.ensures.chooses c.obey.ensures.does rows asks
+    does_moves arguments c.in-Ok.subcommand c.dispatch.result _ c.in-Ok.ensures.chooses c.dispatch.ensures.does rows asks
 
 pub returns-in-Ok-clause-moves_unread : goal.returns-in-Ok-clause-moves_unread
 returns-in-Ok-clause-moves_unread g c rows asks =
     let chosen = moves_chosen (map string_bytes c.args.arguments.now) rows c.in-Ok.subcommand asks c.in-Ok.ensures.chooses in
-    c.obey.ensures.moves_unread chosen.0 chosen.1
+    c.dispatch.ensures.moves_unread chosen.0 chosen.1
 
 pub returns-in-Err-clause-mistaken : goal.returns-in-Err-clause-mistaken
 returns-in-Err-clause-mistaken g c mistaken =

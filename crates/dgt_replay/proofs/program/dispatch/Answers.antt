@@ -1,6 +1,6 @@
 use Rattle.std.proofs.Common.{inl, inr, refl, rules}
 use Rattle.dgt_replay.proofs.TextLemmas.{events_end, pictures_end}
-use Rattle.dgt_replay.proofs.program.obey.Goals as goal
+use Rattle.dgt_replay.proofs.program.dispatch.Goals as goal
 
 pub returns-in-Show-clause-does : goal.returns-in-Show-clause-does
 returns-in-Show-clause-does g c = rw c.in-Show.is (record { ends = events_end _ _ _ _ _ _ _ c.list.ensures.lists.ends; tells = c.list.ensures.lists.tells })
