@@ -1,4 +1,5 @@
-use Rattle.std.proofs.Common.{sym, ◌∙◌}
+use Prim.{search}
+use Rattle.std.proofs.Common.{sym, ◌∙◌, rules}
 use Rattle.replay_arguments.proofs.SetupLemmas.{fen_first, tag_first, tag_none}
 use Rattle.replay_arguments.proofs.setup.setup_of.Goals as goal
 
@@ -13,3 +14,6 @@ returns-in-Err-tags_of-clause-meets c = tag_none c.args.options.now c.in-Err-tag
 pub returns-in-Err-tags_of-clause-first : goal.returns-in-Err-tags_of-clause-first
 returns-in-Err-tags_of-clause-first c =
     tag_first c.args.options.now c.in-Err-tags_of.refusal c.in-Ok.start ((c.start_of.ensures.start c.in-Ok.start).0 c.in-Ok.is) c.in-Err-tags_of.ensures
+
+pub returns-clause-meets : goal.returns-clause-meets
+returns-clause-meets c = search rules

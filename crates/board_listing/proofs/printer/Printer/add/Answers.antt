@@ -1,5 +1,5 @@
 use Rattle.dgt_frame.specs.Streams.{Timed}
-use Rattle.board_listing.proofs.PrinterLemmas.{game_adds, none_adds}
+use Rattle.board_listing.proofs.PrinterLemmas.{game_adds, none_adds, square_adds}
 use Rattle.board_listing.proofs.printer.Printer.add.Goals as goal
 
 pub returns-in-Game-clause-ok : goal.returns-in-Game-clause-ok
@@ -11,3 +11,10 @@ pub returns-in-Nothing-clause-ok : goal.returns-in-Nothing-clause-ok
 returns-in-Nothing-clause-ok c =
     let x : Timed = record { offset = c.args.offset; event = c.args.event.now } in
     none_adds c.args.self.now c.in-Pictures.view c.see.new.self c.in-Pictures.placement x c.args.lines.now.items c.in-Pictures.is c.in-Nothing.ensures.views c.in-Nothing.ensures.shown
+
+pub returns-in-Square-clause-ok : goal.returns-in-Square-clause-ok
+returns-in-Square-clause-ok c =
+    let x : Timed = record { offset = c.args.offset; event = c.args.event.now } in
+    rw c.add_placement.ensures
+    (square_adds c.args.self.now c.in-Pictures.view c.see.new.self c.in-Pictures.placement c.change.new.self x c.args.lines.now.items c.in-Square.square c.in-Square.code
+    c.in-Pictures.is c.in-Square.ensures.views c.in-Square.ensures.shown c.change.ensures)
