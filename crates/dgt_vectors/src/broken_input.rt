@@ -1,14 +1,14 @@
 //! Captures that are cut or damaged: nothing is refused, and only what the damage hits is lost.
 
-use crate::recording::recorded;
-use crate::recordings::are_recorded;
-use crate::row::{Row, kings_pawn_opening};
+use crate::recording::{Recording, recorded, report_of};
+use crate::row::{OPENING, Row, commands};
 use crate::rows::rows_by_subject;
 use dgt_frame::Watch;
 use pgn_book::{Game, read_pgn, write_pgn};
 use std::alloc::Global;
 use test_streams::bytes::Bytes;
 use test_streams::streams::Sink;
+use test_streams::texts::NO_MOVE;
 
 /// Damage to the 77 bytes of a dump, e2 lifted and e4 put down.
 #[derive(Clone, Copy)]
@@ -34,7 +34,7 @@ impl Damage {
 /// What is damaged, the damage, and what is then reported: messages, faults, moves and rest.
 type Case<'a> = (&'a str, Damage, (u32, u32, u32, u16));
 
-const DAMAGES: &[Case<'static>] = &[
+static DAMAGES: [Case<'static>; 6] = [
     (
         "the dump lacks its last byte",
         Damage::Cut(66),
@@ -67,18 +67,20 @@ const DAMAGES: &[Case<'static>] = &[
     ),
 ];
 
-fn damages<'a>() -> &'a [Case<'a>] {
-    DAMAGES
+/// This is reported, a dump is asked for at each fault, and the text is without a move.
+fn is_cost(got: &Recording, report: (u32, u32, u32, u16)) -> bool {
+    let (_, faults, _, _) = report;
+    got.answer == Ok(report_of(report))
+        && got.board_shown.get() == commands(faults).get()
+        && got.text_shown.get() == NO_MOVE.bytes().get()
 }
 
-/// So damaged, the capture of 1. e4 gives this report, a request for each fault, and the text without a move.
+/// So damaged, the capture of 1. e4 gives this report.
 fn costs(alloc: Global, damage: Damage, report: (u32, u32, u32, u16)) -> bool {
-    let row = Row {
-        movetext: "*",
-        report,
-        ..kings_pawn_opening()
-    };
-    are_recorded(alloc, &row, damage.of(&row.bytes()).get(), 4096)
+    match recorded(alloc, &OPENING, damage.of(&OPENING.bytes()).get(), 4096) {
+        Ok(got) => is_cost(&got, report),
+        Err(_) => false,
+    }
 }
 
 /// The name of the first damage that costs something else.
@@ -93,7 +95,7 @@ fn first_other_cost<'a>(alloc: Global, cases: &[Case<'a>]) -> Option<&'a str> {
 
 #[test]
 fn damage_costs_what_it_hits(rt: HostRuntime) {
-    assert_eq!(rt; first_other_cost(rt.alloc(), damages()), None);
+    assert_eq!(rt; first_other_cost(rt.alloc(), &DAMAGES), None);
 }
 
 /// Whether the game's plies but the last are the first of the other game's plies.

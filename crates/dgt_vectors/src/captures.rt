@@ -23,8 +23,6 @@ pub enum Signal<'a> {
     TurnedPut(&'a str, &'a str),
     /// The seven data bytes of a time message.
     Time([u8; 7]),
-    /// Text, for what isn't a board.
-    Text(&'a str),
     /// Bytes of no whole frame, or of a frame of another kind.
     Raw(&'a [u8]),
 }
@@ -77,7 +75,6 @@ pub fn add_signal(bytes: &mut Bytes, signal: Signal<'_>) {
             bytes.add(&[0x8D, 0x00, 0x0A]);
             bytes.add(&data);
         }
-        Signal::Text(text) => bytes.add(text.as_bytes()),
         Signal::Raw(raw) => bytes.add(raw),
     }
 }

@@ -1,5 +1,5 @@
-//! Captures built in code with the texts expected of them, recordings and runs of the program over streams in memory, and the
-//! conformance tests over the public calls of the other crates. No contract rests on these helpers.
+//! Captures built in code with the texts expected of them, recordings over streams in memory, and the conformance tests over the
+//! public calls of the other crates. No contract rests on these helpers.
 #![tactic(auto)]
 
 #[cfg(test)]
@@ -11,16 +11,6 @@ pub mod message_rows;
 pub mod move_rows;
 #[cfg(test)]
 mod orders;
-#[cfg(test)]
-mod program;
-#[cfg(test)]
-mod program_games;
-#[cfg(test)]
-mod program_limits;
-#[cfg(test)]
-mod program_lists;
-#[cfg(test)]
-mod program_texts;
 pub mod recording;
 #[cfg(test)]
 mod recordings;
@@ -28,7 +18,6 @@ mod recordings;
 mod refusals;
 pub mod row;
 pub mod rows;
-pub mod running;
 #[cfg(test)]
 mod settling;
 #[cfg(test)]

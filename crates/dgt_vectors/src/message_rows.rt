@@ -21,7 +21,7 @@ const NO_CLOCK: Signal<'static> = Time([0x01, 0x30, 0x00, 0x01, 0x29, 0x59, 0x20
 const ALL_BITS: Signal<'static> = Time([0x7F; 7]);
 
 /// Faults, other messages and unfinished frames.
-const FAULTS: &[Row<'static>] = &[
+pub static FAULTS: [Row<'static>; 7] = [
     CUT_AND_DUMP,
     Row {
         name: "two moves at once wait",
@@ -73,7 +73,7 @@ const FAULTS: &[Row<'static>] = &[
 ];
 
 /// Times and acknowledgements.
-const CLOCKS: &[Row<'static>] = &[
+pub static CLOCKS: [Row<'static>; 6] = [
     Row {
         name: "an acknowledgement and a bad time leave the reading",
         capture: &[
@@ -125,6 +125,21 @@ const CLOCKS: &[Row<'static>] = &[
         ..PLAIN
     },
     Row {
+        name: "without a clock there is no comment, after a good time too",
+        capture: &[
+            Dump(INITIAL),
+            TIME,
+            Lift("e2"),
+            Put("e4", "P"),
+            NO_CLOCK,
+            Lift("e7"),
+            Put("e5", "p"),
+        ],
+        movetext: "1. e4 {[%clk 1:30:00]} 1... e5 *",
+        report: (7, 0, 2, 0),
+        ..PLAIN
+    },
+    Row {
         name: "a ply has the time of its own picture, not of the lift",
         capture: &[Dump(INITIAL), TIME, Lift("e2"), LATER, Put("e4", "P")],
         movetext: "1. e4 {[%clk 1:29:50]} *",
@@ -149,7 +164,7 @@ const CLOCKS: &[Row<'static>] = &[
 ];
 
 /// Result signs and checkmate.
-const RESULTS: &[Row<'static>] = &[
+pub static RESULTS: [Row<'static>; 5] = [
     Row {
         name: "kings on light squares: White wins",
         capture: &[
@@ -236,7 +251,7 @@ const RESULTS: &[Row<'static>] = &[
 ];
 
 /// Turned boards and unknown codes.
-const BOARDS: &[Row<'static>] = &[
+pub static BOARDS: [Row<'static>; 3] = [
     Row {
         name: "a turned board",
         rotated: true,
@@ -254,23 +269,3 @@ const BOARDS: &[Row<'static>] = &[
     },
     UNKNOWN_CODE,
 ];
-
-/// Faults, other messages and unfinished frames.
-pub fn faults_rows<'a>() -> &'a [Row<'a>] {
-    FAULTS
-}
-
-/// Times and acknowledgements.
-pub fn clocks_rows<'a>() -> &'a [Row<'a>] {
-    CLOCKS
-}
-
-/// Result signs and checkmate.
-pub fn results_rows<'a>() -> &'a [Row<'a>] {
-    RESULTS
-}
-
-/// Turned boards and unknown codes.
-pub fn boards_rows<'a>() -> &'a [Row<'a>] {
-    BOARDS
-}

@@ -14,7 +14,7 @@ const EN_PASSANT: &str = "4k3/8/8/3pP3/8/8/8/4K3 w - d6 0 2";
 const PROMOTION: &str = "8/4P2k/8/8/8/8/8/4K3 w - - 0 1";
 
 /// How pieces are lifted and put down.
-const SETTLING: &[Row<'static>] = &[
+pub static SETTLING: [Row<'static>; 5] = [
     Row {
         name: "an empty capture is a game without moves",
         capture: &[],
@@ -64,7 +64,7 @@ const SETTLING: &[Row<'static>] = &[
 ];
 
 /// Castling, en passant, captures and promotion.
-const SPECIAL: &[Row<'static>] = &[
+pub static SPECIAL: [Row<'static>; 5] = [
     Row {
         name: "castling, king first",
         start: CASTLING,
@@ -135,7 +135,7 @@ const SPECIAL: &[Row<'static>] = &[
 ];
 
 /// The last move stays open.
-const LAST_MOVE_OPEN: &[Row<'static>] = &[
+pub static LAST_MOVE_OPEN: [Row<'static>; 4] = [
     Row {
         name: "the last move stays open: a shorter step",
         capture: &[
@@ -198,7 +198,7 @@ const LAST_MOVE_OPEN: &[Row<'static>] = &[
 ];
 
 /// What a replaced move changes, and that the move before the last is closed.
-const LAST_MOVE_CLOSED: &[Row<'static>] = &[
+pub static LAST_MOVE_CLOSED: [Row<'static>; 3] = [
     Row {
         name: "the move before the last is closed",
         capture: &[
@@ -251,23 +251,3 @@ const LAST_MOVE_CLOSED: &[Row<'static>] = &[
         ..PLAIN
     },
 ];
-
-/// How pieces are lifted and put down.
-pub fn settling_rows<'a>() -> &'a [Row<'a>] {
-    SETTLING
-}
-
-/// Castling, en passant, captures and promotion.
-pub fn special_rows<'a>() -> &'a [Row<'a>] {
-    SPECIAL
-}
-
-/// The last move stays open.
-pub fn last_move_open_rows<'a>() -> &'a [Row<'a>] {
-    LAST_MOVE_OPEN
-}
-
-/// What a replaced move changes, and that the move before the last is closed.
-pub fn last_move_closed_rows<'a>() -> &'a [Row<'a>] {
-    LAST_MOVE_CLOSED
-}

@@ -2,7 +2,7 @@
 
 use crate::captures::Signal::{self, Dump, Lift, Put};
 use crate::recordings::row_holds;
-use crate::row::{Row, kings_pawn_opening};
+use crate::row::{OPENING, Row};
 use crate::settling::settling_failing;
 use std::alloc::Global;
 
@@ -13,7 +13,7 @@ fn castling<'a>(capture: &'a [Signal<'a>]) -> Row<'a> {
         capture,
         movetext: "1. O-O *",
         report: (5, 0, 1, 0),
-        ..kings_pawn_opening()
+        ..OPENING
     }
 }
 
@@ -24,7 +24,7 @@ fn en_passant<'a>(capture: &'a [Signal<'a>]) -> Row<'a> {
         capture,
         movetext: "2. exd6 *",
         report: (4, 0, 1, 0),
-        ..kings_pawn_opening()
+        ..OPENING
     }
 }
 

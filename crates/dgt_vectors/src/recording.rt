@@ -18,7 +18,7 @@ pub fn start_of(row: &Row<'_>) -> Result<Position, FenError> {
     }
 }
 
-pub fn setup_of(alloc: Global, row: &Row<'_>) -> Result<Setup, FenError> {
+fn setup_of(alloc: Global, row: &Row<'_>) -> Result<Setup, FenError> {
     let start = start_of(row)?;
     Ok(Setup {
         start,
@@ -36,6 +36,8 @@ pub struct Recording {
     pub text_shown: Bytes,
     pub board_held: Bytes,
     pub text_held: Bytes,
+    /// So many of the like bytes at the end weren't read.
+    pub unread: u32,
 }
 
 /// Records over these streams, set up as a row says.
@@ -57,6 +59,7 @@ pub fn recorded_over(
         text_shown: Bytes::of(&[out.inner().shown()]),
         board_held: Bytes::of(&[board.inner().held()]),
         text_held: Bytes::of(&[out.inner().held()]),
+        unread: reader.inner().left(),
     })
 }
 

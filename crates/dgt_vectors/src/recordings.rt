@@ -12,17 +12,12 @@ pub fn is_told(got: &Recording, row: &Row<'_>) -> bool {
         && got.text_shown.get() == row.text().get()
 }
 
-/// What is recorded of these bytes, with so many a read, is what the row says.
-pub fn are_recorded(alloc: Global, row: &Row<'_>, bytes: &[u8], chunk: usize) -> bool {
-    match recorded(alloc, row, bytes, chunk) {
+/// What is recorded of a row's capture is what the row says, with so many bytes a read.
+pub fn row_holds(alloc: Global, row: &Row<'_>, chunk: usize) -> bool {
+    match recorded(alloc, row, row.bytes().get(), chunk) {
         Ok(got) => is_told(&got, row),
         Err(_) => false,
     }
-}
-
-/// What is recorded of a row's capture is what the row says, with so many bytes a read.
-pub fn row_holds(alloc: Global, row: &Row<'_>, chunk: usize) -> bool {
-    are_recorded(alloc, row, row.bytes().get(), chunk)
 }
 
 /// How many bytes come with a read where the row doesn't hold.

@@ -1,13 +1,12 @@
 //! Streams that fail at each call in turn: what was taken before stands, and the result says which stream it was.
 
-use crate::recording::{Recording, recorded_over, setup_of};
+use crate::recording::{Recording, recorded_over};
 use crate::recordings::is_told;
-use crate::row::{Row, commands, cut_and_dump, kings_pawn_opening};
-use board_session::{RecordError, Report, record};
-use dgt_frame::Watch;
+use crate::row::{CUT, OPENING, Row, commands};
+use board_session::{RecordError, Report};
 use std::alloc::Global;
 use test_streams::streams::{ALWAYS, Sink, Source};
-use test_streams::texts::text_of;
+use test_streams::texts::NO_MOVE;
 
 const ROOM: usize = 512;
 
@@ -80,7 +79,7 @@ fn stops_at_read(alloc: Global, row: &Row<'_>, reads: u32) -> bool {
     let text = if read > 137 {
         row.text()
     } else {
-        text_of(b"", b"*", b"*")
+        NO_MOVE.bytes()
     };
     match recording(alloc, row, streams) {
         Some(got) => shows(&got, RecordError::Read, commands(faults).get(), text.get()),
@@ -106,22 +105,25 @@ fn is_recorded(alloc: Global, row: &Row<'_>, streams: Streams) -> bool {
     }
 }
 
-/// With a read that fails the text is that of the bytes before it.
-#[test]
-fn each_read_fails_in_turn(rt: HostRuntime) {
-    let row = cut_and_dump();
-    assert_eq!(rt; row.bytes().len(), 138);
-    assert_eq!(rt; first_read_untold(rt.alloc(), &row), None);
+/// Where no read fails, a row of 138 bytes is recorded as it says.
+fn is_read_whole(alloc: Global, row: &Row<'_>) -> bool {
     let streams = Streams {
         chunk: CHUNK,
         reads: READS,
         ..WORKING
     };
-    assert!(rt; is_recorded(rt.alloc(), &row, streams));
+    row.bytes().len() == 138 && is_recorded(alloc, row, streams)
+}
+
+/// With a read that fails the text is that of the bytes before it.
+#[test]
+fn each_read_fails_in_turn(rt: HostRuntime) {
+    assert_eq!(rt; first_read_untold(rt.alloc(), &CUT), None);
+    assert!(rt; is_read_whole(rt.alloc(), &CUT));
 }
 
 /// How many calls on the board's stream succeed, what it then holds, and what of it shows.
-const BOARD_CALLS: [(u32, &[u8], &[u8]); 4] = [
+static BOARD_CALLS: [(u32, &[u8], &[u8]); 4] = [
     (0, &[], &[]),
     (1, &[0x42, 0x4B], &[]),
     (2, &[0x42, 0x4B], &[0x42, 0x4B]),
@@ -138,25 +140,20 @@ fn stops_at_board(
 ) -> bool {
     match recording(alloc, row, streams) {
         Some(got) => got.board_held.get() == held
-            && shows(
-                &got,
-                RecordError::Board,
-                shown,
-                text_of(b"", b"*", b"*").get(),
-            ),
+            && shows(&got, RecordError::Board, shown, NO_MOVE.bytes().get()),
         None => false,
     }
 }
 
 /// The number of calls after which one on the board's stream fails and it isn't told so.
 fn first_board_call_untold(alloc: Global, row: &Row<'_>) -> Option<u32> {
-    for (board_calls, held, shown) in BOARD_CALLS {
+    for (board_calls, held, shown) in &BOARD_CALLS {
         let streams = Streams {
-            board_calls,
+            board_calls: *board_calls,
             ..WORKING
         };
         if !stops_at_board(alloc, row, streams, held, shown) {
-            return Some(board_calls);
+            return Some(*board_calls);
         }
     }
     None
@@ -166,13 +163,12 @@ fn first_board_call_untold(alloc: Global, row: &Row<'_>) -> Option<u32> {
 /// up to the one that asked.
 #[test]
 fn each_call_on_the_board_fails_in_turn(rt: HostRuntime) {
-    let row = cut_and_dump();
-    assert_eq!(rt; first_board_call_untold(rt.alloc(), &row), None);
+    assert_eq!(rt; first_board_call_untold(rt.alloc(), &CUT), None);
     let streams = Streams {
         board_calls: 4,
         ..WORKING
     };
-    assert!(rt; is_recorded(rt.alloc(), &row, streams));
+    assert!(rt; is_recorded(rt.alloc(), &CUT, streams));
 }
 
 /// What an output leaves on which so many calls succeed.
@@ -226,15 +222,17 @@ fn held_before_last_call(alloc: Global, row: &Row<'_>) -> Result<usize, u32> {
     Err(1000)
 }
 
+/// Whether the whole text is held there.
+fn all_is_held_before_last_call(alloc: Global, row: &Row<'_>) -> Result<bool, u32> {
+    let held = held_before_last_call(alloc, row)?;
+    Ok(held == row.text().len())
+}
+
 /// The output fails at each write and at the flush: a part of the text stands, and only a flush shows it. The last call is the
 /// flush: all was written before it, and nothing showed.
 #[test]
 fn each_call_on_the_output_fails_in_turn(rt: HostRuntime) {
-    let row = cut_and_dump();
-    assert_eq!(rt;
-        held_before_last_call(rt.alloc(), &row),
-        Ok(row.text().len())
-    );
+    assert_eq!(rt; all_is_held_before_last_call(rt.alloc(), &CUT), Ok(true));
 }
 
 /// An output that takes so many bytes has these.
@@ -261,34 +259,45 @@ fn first_room_untold(alloc: Global, row: &Row<'_>, reads: u32) -> Option<usize> 
     None
 }
 
+/// The number of the row, and the room, where the second read fails or none does.
+fn first_front_untold(alloc: Global, rows: &[&Row<'_>]) -> Option<(usize, usize)> {
+    for (number, row) in rows.iter().enumerate() {
+        for reads in [1, ALWAYS] {
+            if let Some(room) = first_room_untold(alloc, row, reads) {
+                return Some((number, room));
+            }
+        }
+    }
+    None
+}
+
+/// The first ten bytes of 1. e4, as they stand in a file.
+fn ten_bytes_are_known() -> bool {
+    OPENING.text().front(10) == b"[Event \"?\"".as_slice()
+}
+
 /// An output that takes so many bytes has these, whether or not the reading ended well.
 #[test]
 fn an_output_that_fills_has_the_front_of_the_text(rt: HostRuntime) {
-    let row = cut_and_dump();
-    // The second read fails, or none does.
-    assert_eq!(rt; first_room_untold(rt.alloc(), &row, 1), None);
-    assert_eq!(rt; first_room_untold(rt.alloc(), &row, ALWAYS), None);
-    let ten = kings_pawn_opening();
-    assert!(rt; ten.text().front(10) == b"[Event \"?\"".as_slice());
-    assert!(rt; fills(rt.alloc(), &ten, ALWAYS, 10));
+    assert_eq!(rt; first_front_untold(rt.alloc(), &[&CUT, &OPENING]), None);
+    assert!(rt; ten_bytes_are_known());
 }
 
 #[test]
 fn a_failed_output_outweighs_a_failed_reading(rt: HostRuntime) {
-    assert!(rt; fills(rt.alloc(), &cut_and_dump(), 0, 0));
+    assert!(rt; fills(rt.alloc(), &CUT, 0, 0));
 }
 
 #[test]
 fn what_was_taken_before_a_failed_read_is_written(rt: HostRuntime) {
-    let row = kings_pawn_opening();
     let streams = Streams {
         reads: 1,
         ..WORKING
     };
-    assert!(rt; stops_with_text(rt.alloc(), &row, streams));
+    assert!(rt; stops_with_text(rt.alloc(), &OPENING, streams));
 }
 
-/// A recording whose reading fails has the whole text of the row.
+/// A recording whose reading fails has the whole text of the OPENING.
 fn stops_with_text(alloc: Global, row: &Row<'_>, streams: Streams) -> bool {
     match recording(alloc, row, streams) {
         Some(got) => got.answer == Err(RecordError::Read)
@@ -297,20 +306,24 @@ fn stops_with_text(alloc: Global, row: &Row<'_>, streams: Streams) -> bool {
     }
 }
 
-/// A board that takes the two commands at the start, and not the request for a dump.
-#[test]
-fn a_board_that_fills_ends_the_reading(rt: HostRuntime) {
-    let row = cut_and_dump();
+/// With so much room in the board's stream, these bytes stand in it, and none is asked for afterwards.
+fn fills_board(alloc: Global, row: &Row<'_>, board_room: usize, sent: &[u8]) -> bool {
     let streams = Streams {
-        board_room: 2,
+        board_room,
         ..WORKING
     };
-    let commands = [0x42, 0x4B];
-    assert!(rt; stops_at_board(rt.alloc(), &row, streams, &commands, &commands));
+    stops_at_board(alloc, row, streams, sent, sent)
+}
+
+/// A board that takes nothing; and one that takes the two commands at the start, and not the request for a dump.
+#[test]
+fn a_board_that_fills_ends_the_reading(rt: HostRuntime) {
+    assert!(rt; fills_board(rt.alloc(), &OPENING, 0, &[]));
+    assert!(rt; fills_board(rt.alloc(), &CUT, 2, &[0x42, 0x4B]));
 }
 
 /// What is returned for so many zeros, and how many of them aren't read.
-const LONG_STREAMS: [(u32, Result<Report, RecordError>, u32); 3] = [
+static LONG_STREAMS: [(u32, Result<Report, RecordError>, u32); 3] = [
     (
         67_108_864,
         Ok(Report {
@@ -332,17 +345,15 @@ fn zeros_are_recorded(
     answer: &Result<Report, RecordError>,
     unread: u32,
 ) -> bool {
-    let Ok(setup) = setup_of(alloc, &kings_pawn_opening()) else {
-        return false;
-    };
-    let mut reader = Watch::new(Source::new(&[]).and_then(zeros, 0));
-    let mut board = Watch::new(Sink::new(ROOM));
-    let mut out = Watch::new(Sink::new(ROOM));
-    let got = record(alloc, setup, &mut reader, &mut board, &mut out);
-    got == *answer
-        && reader.inner().left() == unread
-        && board.inner().shown() == commands(1).get()
-        && out.inner().shown() == text_of(b"", b"*", b"*").get()
+    let source = Source::new(&[]).and_then(zeros, 0);
+    let (board, out) = (Sink::new(ROOM), Sink::new(ROOM));
+    match recorded_over(alloc, &OPENING, source, board, out) {
+        Ok(got) => got.answer == *answer
+            && got.unread == unread
+            && got.board_shown.get() == commands(1).get()
+            && got.text_shown.get() == NO_MOVE.bytes().get(),
+        Err(_) => false,
+    }
 }
 
 /// The number of zeros of which something else is recorded.

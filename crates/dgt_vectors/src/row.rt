@@ -4,7 +4,7 @@ use crate::captures::Signal::{self, Dump, Lift, Put, Raw, Time};
 use crate::captures::{INITIAL, bytes_of};
 use dgt_frame::First;
 use test_streams::bytes::Bytes;
-use test_streams::texts::text_of;
+use test_streams::texts::{GameText, NO_MOVE};
 
 /// A capture, how it is recorded, and what is expected.
 #[derive(Clone, Copy)]
@@ -39,11 +39,13 @@ impl<'a> Row<'a> {
 
     /// The whole text that is expected.
     pub fn text(&self) -> Bytes {
-        text_of(
-            self.start.as_bytes(),
-            self.result.as_bytes(),
-            self.movetext.as_bytes(),
-        )
+        let game = GameText {
+            result: self.result,
+            fen: self.start,
+            movetext: self.movetext,
+            ..NO_MOVE
+        };
+        game.bytes()
     }
 
     /// What the board is sent.
@@ -104,17 +106,7 @@ pub const UNKNOWN_CODE: Row<'static> = Row {
     ..PLAIN
 };
 
-/// 1. e4, the pawn lifted before it is put down.
-pub fn kings_pawn_opening<'a>() -> Row<'a> {
-    KINGS_PAWN_OPENING
-}
+/// These two where a test has one alone.
+pub static OPENING: Row<'static> = KINGS_PAWN_OPENING;
 
-/// An update is cut off, and a dump after 1. e4 makes up for it.
-pub fn cut_and_dump<'a>() -> Row<'a> {
-    CUT_AND_DUMP
-}
-
-/// A code that no piece has, on e2.
-pub fn unknown_code<'a>() -> Row<'a> {
-    UNKNOWN_CODE
-}
+pub static CUT: Row<'static> = CUT_AND_DUMP;

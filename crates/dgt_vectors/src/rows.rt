@@ -1,19 +1,19 @@
 //! All rows.
 
-use crate::message_rows::{boards_rows, clocks_rows, faults_rows, results_rows};
-use crate::move_rows::{last_move_closed_rows, last_move_open_rows, settling_rows, special_rows};
+use crate::message_rows::{BOARDS, CLOCKS, FAULTS, RESULTS};
+use crate::move_rows::{LAST_MOVE_CLOSED, LAST_MOVE_OPEN, SETTLING, SPECIAL};
 use crate::row::Row;
 
 /// All rows, by subject.
 pub fn rows_by_subject<'a>() -> [&'a [Row<'a>]; 8] {
     [
-        settling_rows(),
-        special_rows(),
-        faults_rows(),
-        clocks_rows(),
-        results_rows(),
-        boards_rows(),
-        last_move_open_rows(),
-        last_move_closed_rows(),
+        &SETTLING,
+        &SPECIAL,
+        &FAULTS,
+        &CLOCKS,
+        &RESULTS,
+        &BOARDS,
+        &LAST_MOVE_OPEN,
+        &LAST_MOVE_CLOSED,
     ]
 }

@@ -7,12 +7,13 @@ use crate::row::Row;
 use crate::rows::rows_by_subject;
 use crate::slow::last_event;
 use board_session::{Session, Taken};
-use chess_rules::{Kind, Move, Position, Side, Square, Status};
+use chess_rules::{Move, Position, Side, Status};
 use chess_text::FenError;
 use dgt_frame::{Event, First, Hms, Message, Reading, read_time};
 use pgn_book::read_pgn;
 use settle_core::{Outcome, Ply, Seen};
 use std::alloc::{AllocError, Global};
+use test_settle_core::trying::{after, only_move, sign};
 
 /// What the messages tell of the board.
 #[derive(Drop)]
@@ -96,94 +97,13 @@ fn time_of(position: &Position, times: &Option<Times>) -> Option<u32> {
     })
 }
 
-const PROMOTIONS: [Option<Kind>; 5] = [
-    None,
-    Some(Kind::Queen),
-    Some(Kind::Rook),
-    Some(Kind::Bishop),
-    Some(Kind::Knight),
-];
-
-/// The move as a step, where it is legal and gives the picture.
-fn step_giving(
-    position: &Position,
-    mv: Move,
-    picture: &[u8; 64],
-    clock: Option<u32>,
-) -> Option<Step> {
-    let (asked, played) = (mv, mv);
-    if !position.is_legal(asked) {
-        return None;
-    }
-    let after = position.play(played);
-    if after.picture() == *picture {
-        Some(Step { mv, clock, after })
-    } else {
-        None
-    }
-}
-
 /// The only legal move that gives the picture.
 fn only_step(position: &Position, picture: &[u8; 64], times: &Option<Times>) -> Option<Step> {
-    let clock = time_of(position, times);
-    let mut only = None;
-    for from in 0..64u8 {
-        for to in 0..64u8 {
-            for promotion in PROMOTIONS {
-                let (from, to) = (Square::new(from)?, Square::new(to)?);
-                let mv = Move {
-                    from,
-                    to,
-                    promotion,
-                };
-                if let Some(step) = step_giving(position, mv, picture, clock) {
-                    if only.is_some() {
-                        return None;
-                    }
-                    only = Some(step);
-                }
-            }
-        }
-    }
-    only
-}
-
-const WHITE_KING: u8 = 5;
-
-const BLACK_KING: u8 = 11;
-
-/// d5, e5, d4 and e4, and whether each is light.
-const CENTRE: [(usize, bool); 4] = [(27, true), (28, false), (35, false), (36, true)];
-
-/// Whether this king stands on a light square of the centre, where just one square of the centre shows it.
-fn stands_light(picture: &[u8; 64], king: u8) -> Option<bool> {
-    let mut only = None;
-    for (square, light) in CENTRE {
-        if picture.get(square) == Some(&king) {
-            if only.is_some() {
-                return None;
-            }
-            only = Some(light);
-        }
-    }
-    only
-}
-
-/// The result that the kings in the centre show, all other squares being as in the position without its kings.
-fn sign_of(position: &Position, picture: &[u8; 64]) -> Option<Outcome> {
-    for (square, (own, shown)) in position.picture().iter().zip(picture).enumerate() {
-        let is_king = *own == WHITE_KING || *own == BLACK_KING;
-        let left = if is_king { 0 } else { *own };
-        if !CENTRE.iter().any(|place| place.0 == square) && *shown != left {
-            return None;
-        }
-    }
-    let white = stands_light(picture, WHITE_KING)?;
-    let black = stands_light(picture, BLACK_KING)?;
-    Some(match (white, black) {
-        (true, true) => Outcome::WhiteWins,
-        (false, false) => Outcome::BlackWins,
-        _ => Outcome::Drawn,
+    let mv = only_move(position, picture)?;
+    Some(Step {
+        mv,
+        clock: time_of(position, times),
+        after: after(position, &mv),
     })
 }
 
@@ -247,7 +167,7 @@ impl Told {
             self.steps.push(step)?;
             self.sign = None;
             case = Case::Moved;
-        } else if let Some(outcome) = sign_of(&position, picture) {
+        } else if let Some(outcome) = sign(&position, picture) {
             self.sign = Some(outcome);
             case = Case::Sign;
         } else if let Some(step) = self.other_step(picture, times) {

@@ -4,10 +4,10 @@
 #[cfg(test)]
 mod hands;
 #[cfg(test)]
+mod sessions;
+#[cfg(test)]
 mod stops;
 #[cfg(test)]
 mod streams;
-#[cfg(test)]
-mod tests;
 #[cfg(test)]
 mod words;

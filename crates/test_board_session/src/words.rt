@@ -11,14 +11,13 @@
 //! | `01:30:00-01:29:59` | a time message, White's time first |
 //! | `,` | nothing: it divides the words for a reader |
 
-use crate::streams::{OPENING, WORKING, answer_leaving, setup};
+use crate::streams::leaves;
 use chess_rules::Position;
 use chess_text::read_fen;
-use dgt_frame::First;
 use std::alloc::Global;
 use test_streams::boards::{code_of, codes_of};
 use test_streams::bytes::Bytes;
-use test_streams::texts::text_of;
+use test_streams::texts::{GameText, NO_MOVE};
 
 /// Adds the bytes of two times: each two digits are one byte.
 fn add_times(bytes: &mut Bytes, times: &[u8]) {
@@ -55,16 +54,16 @@ fn add_word(bytes: &mut Bytes, word: &[u8]) {
     }
 }
 
-fn start_of(fen: &[u8]) -> Option<Position> {
+fn start_of(fen: &str) -> Option<Position> {
     if fen.is_empty() {
         Some(Position::initial())
     } else {
-        read_fen(fen).ok()
+        read_fen(fen.as_bytes()).ok()
     }
 }
 
 /// The dump of the start's position.
-fn first_dump(fen: &[u8]) -> Bytes {
+fn first_dump(fen: &str) -> Bytes {
     match start_of(fen) {
         Some(start) => Bytes::of(&[&[0x86, 0x00, 0x43], &start.picture()]),
         None => Bytes::of(&[]),
@@ -72,30 +71,31 @@ fn first_dump(fen: &[u8]) -> Bytes {
 }
 
 /// The text with this movetext, whose last word is the value of the result tag too.
-fn text_with(fen: &[u8], movetext: &str) -> Bytes {
-    let mut marker: &[u8] = b"";
+fn text_with<'a>(fen: &'a str, movetext: &'a str) -> Bytes {
+    let mut result = "";
     for word in movetext.split_whitespace() {
-        marker = word.as_bytes();
+        result = word;
     }
-    text_of(fen, marker, movetext.as_bytes())
+    let game = GameText {
+        result,
+        fen,
+        movetext,
+        ..NO_MOVE
+    };
+    game.bytes()
 }
 
 /// The game that is recorded of these bytes has this movetext, and no dump was asked for.
-fn is_recorded(alloc: Global, fen: &[u8], bytes: &Bytes, movetext: &str) -> bool {
-    let Some(start) = start_of(fen) else {
-        return false;
-    };
-    let setup = setup(alloc, start, First::White, false);
-    let text = text_with(fen, movetext);
-    match answer_leaving(alloc, setup, bytes, WORKING, OPENING, &text) {
-        Some(answer) => answer.is_ok(),
+fn is_recorded<'a>(alloc: Global, fen: &'a str, bytes: &Bytes, movetext: &'a str) -> bool {
+    match start_of(fen) {
+        Some(start) => leaves(alloc, start, bytes, &text_with(fen, movetext)),
         None => false,
     }
 }
 
 /// The first line after which something else is recorded.
 pub fn first_failing<'a>(alloc: Global, games: &'a str) -> Option<&'a str> {
-    let mut fen: &[u8] = b"";
+    let mut fen = "";
     let mut bytes = Bytes::of(&[]);
     for line in games.lines() {
         if let Some((words, movetext)) = line.split_once('=') {
@@ -106,7 +106,7 @@ pub fn first_failing<'a>(alloc: Global, games: &'a str) -> Option<&'a str> {
                 return Some(line);
             }
         } else if let Some((_, start)) = line.split_once(':') {
-            fen = start.trim().as_bytes();
+            fen = start.trim();
             bytes = first_dump(fen);
         }
     }

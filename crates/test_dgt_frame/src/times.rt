@@ -55,7 +55,7 @@ const TURNED: Clocks = Some([1, 29, 59, 1, 30, 0]);
 const LATEST: Clocks = Some([9, 59, 59, 0, 0, 0]);
 
 /// The data of time messages, whose the first group is, and the clocks before and after.
-const TIMES: [([u8; 7], First, Clocks, Clocks); 16] = [
+static TIMES: [([u8; 7], First, Clocks, Clocks); 16] = [
     (
         [0x01, 0x30, 0x00, 0x01, 0x29, 0x59, 0x00],
         First::White,

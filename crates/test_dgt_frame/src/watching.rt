@@ -58,10 +58,10 @@ fn is_after(stream: &Watch<Scripted<'_>>, calls: usize, failed: bool) -> bool {
     stream.inner().calls == calls && stream.failed() == failed
 }
 
-const READS: [Result<usize, ErrorKind>; 4] = [Ok(3), Ok(0), Err(ErrorKind::Interrupted), Ok(2)];
+static READS: [Result<usize, ErrorKind>; 4] = [Ok(3), Ok(0), Err(ErrorKind::Interrupted), Ok(2)];
 
 /// What each read says, and whether one has failed after it.
-const READ_ANSWERS: [(Result<usize, ErrorKind>, bool); 4] = [
+static READ_ANSWERS: [(Result<usize, ErrorKind>, bool); 4] = [
     (Ok(3), false),
     (Ok(0), false),
     (Err(ErrorKind::Interrupted), true),
@@ -90,7 +90,7 @@ fn reads_are_watched(rt: HostRuntime) {
     assert_eq!(rt; first_unlike_read(&mut reader), None);
 }
 
-const WRITES: [Result<usize, ErrorKind>; 6] = [
+static WRITES: [Result<usize, ErrorKind>; 6] = [
     Ok(3),
     Ok(0),
     Ok(2),
@@ -100,7 +100,7 @@ const WRITES: [Result<usize, ErrorKind>; 6] = [
 ];
 
 /// What is written, what the write says, and whether one has failed after it. A write of no byte may take none.
-const WRITE_ANSWERS: [(&[u8], Result<usize, ErrorKind>, bool); 5] = [
+static WRITE_ANSWERS: [(&[u8], Result<usize, ErrorKind>, bool); 5] = [
     (b"abcd", Ok(3), false),
     (b"", Ok(0), false),
     (b"abcd", Ok(2), false),
@@ -108,7 +108,7 @@ const WRITE_ANSWERS: [(&[u8], Result<usize, ErrorKind>, bool); 5] = [
     (b"abcd", Ok(4), true),
 ];
 
-const FLUSHES: [Result<usize, ErrorKind>; 3] = [Ok(0), Err(ErrorKind::BrokenPipe), Ok(0)];
+static FLUSHES: [Result<usize, ErrorKind>; 3] = [Ok(0), Err(ErrorKind::BrokenPipe), Ok(0)];
 
 /// The number of the first write that returns something else, or after which the stream says otherwise.
 fn first_unlike_write(stream: &mut Watch<Scripted<'_>>) -> Option<usize> {
@@ -147,9 +147,9 @@ fn writes_are_watched(rt: HostRuntime) {
     assert_eq!(rt; first_unlike_flush(&mut flushed), None);
 }
 
-const TAKEN: [Result<usize, ErrorKind>; 4] = [Ok(3), Ok(3), Ok(3), Ok(3)];
+static TAKEN: [Result<usize, ErrorKind>; 4] = [Ok(3), Ok(3), Ok(3), Ok(3)];
 
-const CUT_OFF: [Result<usize, ErrorKind>; 2] = [Ok(3), Err(ErrorKind::BrokenPipe)];
+static CUT_OFF: [Result<usize, ErrorKind>; 2] = [Ok(3), Err(ErrorKind::BrokenPipe)];
 
 /// Ten bytes are put on this stream by so many calls, with this result.
 fn puts_ten(
@@ -168,7 +168,7 @@ fn texts_are_put_whole(rt: HostRuntime) {
     assert!(rt; puts_ten(&[], 1, Err(WriteFault { written: 0 })));
 }
 
-const OFFERED: [Result<usize, ErrorKind>; 6] = [
+static OFFERED: [Result<usize, ErrorKind>; 6] = [
     Ok(3),
     Ok(7),
     Ok(8),
@@ -179,7 +179,7 @@ const OFFERED: [Result<usize, ErrorKind>; 6] = [
 
 /// How many bytes are left up to the limit, and what a read then gives: how many bytes within the limit, and whether one past
 /// it.
-const CHUNKS: [(usize, Result<Option<(usize, bool)>, ErrorKind>); 6] = [
+static CHUNKS: [(usize, Result<Option<(usize, bool)>, ErrorKind>); 6] = [
     (10, Ok(Some((3, false)))),
     (7, Ok(Some((7, false)))),
     (7, Ok(Some((7, true)))),

@@ -1,10 +1,11 @@
 //! The program over streams in memory: what it is given, and what it leaves. The expected texts and statuses are worked by hand
 //! from the formats.
 
-use dgt_vectors::running::{Left, run_over};
+use crate::running::{Left, run_over};
 use std::alloc::Global;
 use test_streams::bytes::Bytes;
 use test_streams::streams::{Sink, Source};
+use test_streams::texts::{GameText, with_game};
 
 /// What the program is given, and what it leaves.
 #[derive(Clone, Copy)]
@@ -13,8 +14,13 @@ pub struct Case<'a> {
     pub arguments: &'a [&'a str],
     /// The parts of the input.
     pub input: &'a [&'a [u8]],
-    /// So many zeros come after these.
-    pub zeros: u32,
+    /// A text after these.
+    pub text: Option<GameText<'a>>,
+    /// So many like bytes after it, zeros where nothing else is said.
+    pub more: u32,
+    pub like: u8,
+    /// So many of them aren't read.
+    pub unread: u32,
     /// After all of it the input fails, in place of ending.
     pub fails: bool,
     /// So many bytes find room in the output.
@@ -26,6 +32,8 @@ pub struct Case<'a> {
     pub status: u8,
     /// The parts of the output.
     pub out: &'a [&'a [u8]],
+    /// A text after these.
+    pub game: Option<GameText<'a>>,
     /// What stands on standard error.
     pub err: &'a [u8],
 }
@@ -34,21 +42,25 @@ pub struct Case<'a> {
 pub const PLAIN: Case<'static> = Case {
     arguments: &[],
     input: &[],
-    zeros: 0,
+    text: None,
+    more: 0,
+    like: 0,
+    unread: 0,
     fails: false,
     room: 2048,
     flushes: true,
     error_room: 2048,
     status: 0,
     out: &[],
+    game: None,
     err: b"",
 };
 
 /// Runs a case, where there is memory for its arguments.
 pub fn run_of(alloc: Global, case: &Case<'_>) -> Option<Left> {
-    let input = Bytes::of(case.input);
+    let input = with_game(case.input, &case.text);
     let source = Source::new(input.get())
-        .and_then(case.zeros, 0)
+        .and_then(case.more, case.like)
         .failing(case.fails);
     let out = Sink::new(case.room).flushing(case.flushes);
     run_over(
@@ -60,24 +72,33 @@ pub fn run_of(alloc: Global, case: &Case<'_>) -> Option<Left> {
     )
 }
 
-/// The status is that of the case, and so is what stands on standard error.
+/// The status is that of the case, and so is what stands on standard error, and what isn't read.
 pub fn says(left: &Left, case: &Case<'_>) -> bool {
-    left.status == case.status && left.err.get() == case.err
+    left.status == case.status && left.err.get() == case.err && left.unread == case.unread
+}
+
+/// The output of the case.
+pub fn output_of(case: &Case<'_>) -> Bytes {
+    with_game(case.out, &case.game)
 }
 
 /// The run leaves the status, the output, flushed, and the text on standard error that the case tells.
 pub fn leaves(alloc: Global, case: &Case<'_>) -> bool {
     match run_of(alloc, case) {
-        Some(left) => says(&left, case) && left.shown.get() == Bytes::of(case.out).get(),
+        Some(left) => says(&left, case) && left.shown.get() == output_of(case).get(),
         None => false,
     }
 }
 
-/// The number of the first case that leaves something else, from 0.
-pub fn first_unlike(alloc: Global, cases: &[Case<'_>]) -> Option<usize> {
-    for (number, case) in cases.iter().enumerate() {
-        if !leaves(alloc, case) {
-            return Some(number);
+/// The number of the first case that leaves something else, from 0, counted over all tables.
+pub fn first_unlike(alloc: Global, tables: &[&[Case<'_>]]) -> Option<usize> {
+    let mut number: usize = 0;
+    for cases in tables {
+        for case in *cases {
+            if !leaves(alloc, case) {
+                return Some(number);
+            }
+            number = number.saturating_add(1);
         }
     }
     None

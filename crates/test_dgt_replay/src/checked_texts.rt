@@ -1,9 +1,9 @@
 //! What `check` says of texts.
 
 use crate::cases::{Case, PLAIN, first_unlike, leaves};
-use crate::inputs::{BREAK, CASTLED, NO_MOVE, ONE_MOVE, ROSTER};
+use crate::inputs::CASTLED;
 use std::alloc::Global;
-use test_streams::bytes::Bytes;
+use test_streams::texts::{GameText, NO_MOVE, ONE_MOVE, with_returns};
 
 const CHECK: Case<'static> = Case {
     arguments: &["check"],
@@ -16,96 +16,156 @@ const NOT_EXPORT: Case<'static> = Case {
     ..CHECK
 };
 
-const EXPORT_TEXTS: &[Case<'static>] = &[
+static EXPORT_TEXTS: [Case<'static>; 5] = [
     Case {
-        input: &NO_MOVE,
+        text: Some(NO_MOVE),
         out: &[b"moves 0, result *\n"],
         ..CHECK
     },
     Case {
-        input: &ONE_MOVE,
+        text: Some(ONE_MOVE),
         out: &[b"moves 1, result *\n"],
         ..CHECK
     },
     Case {
-        input: &CASTLED,
+        text: Some(CASTLED),
         out: &[b"moves 1, result *\n"],
         ..CHECK
     },
     Case {
-        input: &[ROSTER, b"1-0", BREAK, b"1-0\n\n"],
+        text: Some(GameText {
+            movetext: "1. e4 {[%clk 1:29:59]} *",
+            ..NO_MOVE
+        }),
+        out: &[b"moves 1, result *\n"],
+        ..CHECK
+    },
+    Case {
+        text: Some(GameText {
+            white: "Anna",
+            ..NO_MOVE
+        }),
+        out: &[b"moves 0, result *\n"],
+        ..CHECK
+    },
+];
+
+static RESULTS: [Case<'static>; 4] = [
+    Case {
+        text: Some(GameText {
+            result: "1-0",
+            movetext: "1-0",
+            ..NO_MOVE
+        }),
         out: &[b"moves 0, result 1-0\n"],
         ..CHECK
     },
     Case {
-        input: &[ROSTER, b"1/2-1/2", BREAK, b"1/2-1/2\n\n"],
+        text: Some(GameText {
+            result: "0-1",
+            movetext: "0-1",
+            ..NO_MOVE
+        }),
+        out: &[b"moves 0, result 0-1\n"],
+        ..CHECK
+    },
+    Case {
+        text: Some(GameText {
+            result: "1/2-1/2",
+            movetext: "1/2-1/2",
+            ..NO_MOVE
+        }),
         out: &[b"moves 0, result 1/2-1/2\n"],
         ..CHECK
     },
     Case {
-        input: &[ROSTER, b"0-1", BREAK, b"1. f3 e5 2. g4 Qh4# 0-1\n\n"],
+        text: Some(GameText {
+            result: "0-1",
+            movetext: "1. f3 e5 2. g4 Qh4# 0-1",
+            ..NO_MOVE
+        }),
         out: &[b"moves 4, result 0-1\n"],
         ..CHECK
     },
 ];
 
-const OTHER_TEXTS: &[Case<'static>] = &[
-    Case {
-        input: &[ROSTER, b"1-0", BREAK, b"1. f3 e5 2. g4 Qh4# 1-0\n\n"],
-        ..NOT_EXPORT
-    },
-    Case {
-        input: &[ROSTER, b"1-0", BREAK, b"*\n\n"],
-        ..NOT_EXPORT
-    },
-    Case {
-        input: &[ROSTER, b"*", BREAK, b"*\n\n\n"],
-        ..NOT_EXPORT
-    },
-    Case {
-        input: &[ROSTER, b"*", BREAK, b"1. e2e4 *\n\n"],
-        ..NOT_EXPORT
-    },
-    Case {
-        input: &[
-            b"[Event \"?\"]\r\n[Site \"?\"]\r\n[Date \"????.??.??\"]\r\n[Round \"?\"]\r\n[White \"?\"]\r\n[Black \"?\"]\r\n[Result \"*\"]\r\n\r\n1. e4 *\r\n\r\n",
-        ],
-        ..NOT_EXPORT
-    },
-    Case {
-        input: &[
-            ROSTER,
-            b"*\"]\n[FEN \"rnbqkbnr/pppppppp/8/8/8/8/PPPPPPPP/RNBQKBNR w KQkq - 0 1\"]\n[SetUp \"1\"]\n\n1. e4 *\n\n",
-        ],
-        ..NOT_EXPORT
-    },
-    Case {
-        input: &[
-            ROSTER,
-            b"*\"]\n[FEN \"4k3/8/8/8/8/8/8/4K2R w K -\"]\n[SetUp \"1\"]\n\n1. O-O *\n\n",
-        ],
-        ..NOT_EXPORT
-    },
+static OTHER_TEXTS: [Case<'static>; 7] = [
     NOT_EXPORT,
+    // a mate that White should have won
     Case {
-        input: &[ROSTER],
+        text: Some(GameText {
+            result: "1-0",
+            movetext: "1. f3 e5 2. g4 Qh4# 1-0",
+            ..NO_MOVE
+        }),
+        ..NOT_EXPORT
+    },
+    // two results
+    Case {
+        text: Some(GameText {
+            result: "1-0",
+            ..NO_MOVE
+        }),
+        ..NOT_EXPORT
+    },
+    // a line too many
+    Case {
+        text: Some(GameText {
+            movetext: "*\n",
+            ..NO_MOVE
+        }),
+        ..NOT_EXPORT
+    },
+    // a move by its squares
+    Case {
+        text: Some(GameText {
+            movetext: "1. e2e4 *",
+            ..NO_MOVE
+        }),
+        ..NOT_EXPORT
+    },
+    // the initial position set up
+    Case {
+        text: Some(GameText {
+            fen: "rnbqkbnr/pppppppp/8/8/8/8/PPPPPPPP/RNBQKBNR w KQkq - 0 1",
+            ..ONE_MOVE
+        }),
+        ..NOT_EXPORT
+    },
+    // a set-up of four fields
+    Case {
+        text: Some(GameText {
+            fen: "4k3/8/8/8/8/8/8/4K2R w K -",
+            ..CASTLED
+        }),
         ..NOT_EXPORT
     },
 ];
 
-/// A text that `check` refuses.
-fn not_export<'a>(input: &'a [&'a [u8]]) -> Case<'a> {
-    Case {
-        input,
-        ..NOT_EXPORT
-    }
+static OTHER_TEXT: Case<'static> = NOT_EXPORT;
+
+/// These bytes are refused.
+fn is_not_export(alloc: Global, text: &[u8]) -> bool {
+    let parts = [text];
+    leaves(
+        alloc,
+        &Case {
+            input: &parts,
+            ..OTHER_TEXT
+        },
+    )
 }
 
-/// The least length at which a cut of this text isn't refused.
-fn first_cut_not_refused(alloc: Global, text: &Bytes) -> Option<usize> {
+/// A carriage return before each line feed.
+fn returns_are_refused(alloc: Global) -> bool {
+    is_not_export(alloc, with_returns(ONE_MOVE.bytes().get()).get())
+}
+
+/// The least length at which a cut of the text of 1. e4 isn't refused.
+fn first_cut_not_refused(alloc: Global) -> Option<usize> {
+    let text = ONE_MOVE.bytes();
     for len in 0..text.len() {
-        let parts = [text.front(len)];
-        if !leaves(alloc, &not_export(&parts)) {
+        if !is_not_export(alloc, text.front(len)) {
             return Some(len);
         }
     }
@@ -114,8 +174,10 @@ fn first_cut_not_refused(alloc: Global, text: &Bytes) -> Option<usize> {
 
 #[test]
 fn texts_are_checked(rt: HostRuntime) {
-    assert_eq!(rt; first_unlike(rt.alloc(), EXPORT_TEXTS), None);
-    assert_eq!(rt; first_unlike(rt.alloc(), OTHER_TEXTS), None);
-    let text = Bytes::of(&ONE_MOVE);
-    assert_eq!(rt; first_cut_not_refused(rt.alloc(), &text), None);
+    assert_eq!(rt;
+        first_unlike(rt.alloc(), &[&EXPORT_TEXTS, &RESULTS, &OTHER_TEXTS]),
+        None
+    );
+    assert!(rt; returns_are_refused(rt.alloc()));
+    assert_eq!(rt; first_cut_not_refused(rt.alloc()), None);
 }

@@ -1,12 +1,13 @@
 //! Streams that fail.
 
-use crate::cases::{Case, PLAIN, ends, first_unlike, run_of, says};
+use crate::cases::{Case, PLAIN, ends, first_unlike, output_of, run_of, says};
 use crate::inputs::{
     E2_EMPTY, E4_PAWN, INITIAL, INITIAL_LINE, INITIAL_PLACEMENT, KINGS_PAWN_PLACEMENT,
-    LIFTED_PLACEMENT, NO_MOVE, ONE_MOVE,
+    LIFTED_PLACEMENT,
 };
 use std::alloc::Global;
 use test_streams::bytes::Bytes;
+use test_streams::texts::{NO_MOVE, ONE_MOVE};
 
 /// The input fails after 1. e4.
 pub const FAILED_READ: Case<'static> = Case {
@@ -17,7 +18,7 @@ pub const FAILED_READ: Case<'static> = Case {
     ..PLAIN
 };
 
-const FAILED_READS: &[Case<'static>] = &[
+static FAILED_READS: [Case<'static>; 5] = [
     Case {
         arguments: &["show"],
         out: &[INITIAL_LINE, b"71 update 52 0\n76 update 36 1\n"],
@@ -35,7 +36,7 @@ const FAILED_READS: &[Case<'static>] = &[
     },
     Case {
         arguments: &["record"],
-        out: &ONE_MOVE,
+        game: Some(ONE_MOVE),
         err: b"BK\nread fault\n",
         ..FAILED_READ
     },
@@ -47,7 +48,7 @@ const FAILED_READS: &[Case<'static>] = &[
 
 #[test]
 fn reads_fail(rt: HostRuntime) {
-    assert_eq!(rt; first_unlike(rt.alloc(), FAILED_READS), None);
+    assert_eq!(rt; first_unlike(rt.alloc(), &[&FAILED_READS]), None);
 }
 
 /// The output fails over the capture of 1. e4.
@@ -59,7 +60,7 @@ pub const FAILED_WRITE: Case<'static> = Case {
 };
 
 /// What stands in the output after ten bytes.
-const FAILED_WRITES: &[Case<'static>] = &[
+static FAILED_WRITES: [Case<'static>; 6] = [
     Case {
         arguments: &["show"],
         out: &[b"66 dump 89"],
@@ -83,7 +84,8 @@ const FAILED_WRITES: &[Case<'static>] = &[
     },
     Case {
         arguments: &["check"],
-        input: &ONE_MOVE,
+        input: &[],
+        text: Some(ONE_MOVE),
         out: &[b"moves 1, r"],
         ..FAILED_WRITE
     },
@@ -97,7 +99,7 @@ const FAILED_WRITES: &[Case<'static>] = &[
 /// With room for ten bytes, the output of the case is all that stands.
 fn fills(alloc: Global, case: &Case<'_>) -> bool {
     match run_of(alloc, &Case { room: 10, ..*case }) {
-        Some(left) => says(&left, case) && left.out.get() == Bytes::of(case.out).get(),
+        Some(left) => says(&left, case) && left.out.get() == output_of(case).get(),
         None => false,
     }
 }
@@ -109,7 +111,7 @@ fn fails_at_flush(alloc: Global, case: &Case<'_>) -> bool {
         ..*case
     };
     match run_of(alloc, &unflushed) {
-        Some(left) => says(&left, case) && left.out.front(10) == Bytes::of(case.out).get(),
+        Some(left) => says(&left, case) && left.out.front(10) == output_of(case).get(),
         None => false,
     }
 }
@@ -125,7 +127,7 @@ fn first_written(alloc: Global, cases: &[Case<'_>]) -> Option<usize> {
 }
 
 /// Of these only the status and standard error are told.
-const FAILED_TWICE: &[Case<'static>] = &[
+static FAILED_TWICE: [Case<'static>; 11] = [
     // a read that fails too
     Case {
         arguments: &["show"],
@@ -208,21 +210,20 @@ fn first_other_end(alloc: Global, cases: &[Case<'_>]) -> Option<usize> {
 }
 
 /// `follow` over an input that fails.
-const UNREAD: Case<'static> = Case {
+static UNREAD: Case<'static> = Case {
     arguments: &["follow"],
     ..FAILED_READ
 };
 
-/// The same over these bytes.
-fn unread_after<'a>(input: &'a [&'a [u8]]) -> Case<'a> {
-    Case { input, ..UNREAD }
-}
-
 /// Where a read fails after these bytes, these lines stand.
 fn follows_front(alloc: Global, front: &[u8], lines: &[u8]) -> bool {
     let parts = [front];
-    match run_of(alloc, &unread_after(&parts)) {
-        Some(left) => says(&left, &UNREAD) && left.shown.get() == lines,
+    let case = Case {
+        input: &parts,
+        ..UNREAD
+    };
+    match run_of(alloc, &case) {
+        Some(left) => says(&left, &case) && left.shown.get() == lines,
         None => false,
     }
 }
@@ -252,7 +253,7 @@ fn first_read_untold(alloc: Global) -> Option<usize> {
 }
 
 /// `follow` over an output that fails.
-const UNWRITTEN: Case<'static> = Case {
+static UNWRITTEN: Case<'static> = Case {
     arguments: &["follow"],
     ..FAILED_WRITE
 };
@@ -284,8 +285,8 @@ fn follow_fails_anywhere(rt: HostRuntime) {
 
 #[test]
 fn outputs_fail(rt: HostRuntime) {
-    assert_eq!(rt; first_written(rt.alloc(), FAILED_WRITES), None);
-    assert_eq!(rt; first_other_end(rt.alloc(), FAILED_TWICE), None);
+    assert_eq!(rt; first_written(rt.alloc(), &FAILED_WRITES), None);
+    assert_eq!(rt; first_other_end(rt.alloc(), &FAILED_TWICE), None);
 }
 
 /// Standard error fails over the capture of 1. e4.
@@ -295,19 +296,19 @@ const FAILED_ERROR: Case<'static> = Case {
 };
 
 /// Nothing is written after a failure, and only a status of 0 changes.
-const FAILED_ERRORS: &[Case<'static>] = &[
+static FAILED_ERRORS: [Case<'static>; 9] = [
     Case {
         arguments: &["record"],
         error_room: 0,
         status: 3,
-        out: &NO_MOVE,
+        game: Some(NO_MOVE),
         ..FAILED_ERROR
     },
     Case {
         arguments: &["record"],
         error_room: 1,
         status: 3,
-        out: &NO_MOVE,
+        game: Some(NO_MOVE),
         err: b"B",
         ..FAILED_ERROR
     },
@@ -315,7 +316,7 @@ const FAILED_ERRORS: &[Case<'static>] = &[
         arguments: &["record"],
         error_room: 2,
         status: 3,
-        out: &ONE_MOVE,
+        game: Some(ONE_MOVE),
         err: b"BK",
         ..FAILED_ERROR
     },
@@ -323,7 +324,7 @@ const FAILED_ERRORS: &[Case<'static>] = &[
         arguments: &["record"],
         error_room: 5,
         status: 3,
-        out: &ONE_MOVE,
+        game: Some(ONE_MOVE),
         err: b"BK\nme",
         ..FAILED_ERROR
     },
@@ -363,7 +364,7 @@ const FAILED_ERRORS: &[Case<'static>] = &[
 ];
 
 /// A read fails, and standard error too.
-const READ_UNTOLD: Case<'static> = Case {
+static READ_UNTOLD: Case<'static> = Case {
     arguments: &["show"],
     fails: true,
     error_room: 0,
@@ -373,6 +374,6 @@ const READ_UNTOLD: Case<'static> = Case {
 
 #[test]
 fn standard_error_fails(rt: HostRuntime) {
-    assert_eq!(rt; first_unlike(rt.alloc(), FAILED_ERRORS), None);
+    assert_eq!(rt; first_unlike(rt.alloc(), &[&FAILED_ERRORS]), None);
     assert!(rt; ends(rt.alloc(), &READ_UNTOLD));
 }

@@ -30,7 +30,7 @@ const MATE: &[u8] =
 const TWO_PAWNS: &[u8] =
     b"\x86\x00\x43\x08\x09\x0a\x0c\x0b\x0a\x09\x08\x07\x07\x07\x07\0\x07\x07\x07\0\0\0\0\0\0\0\0\0\0\0\0\x07\0\0\0\0\0\0\0\x01\0\0\0\0\0\0\0\0\0\0\0\x01\x01\x01\x01\0\x01\x01\x01\x02\x03\x04\x06\x05\x04\x03\x02";
 
-const FOLLOWED_CAPTURES: &[Case<'static>] = &[
+static FOLLOWED_CAPTURES: [Case<'static>; 7] = [
     Case {
         out: &[b"rest 0\n"],
         ..FOLLOW
@@ -77,7 +77,7 @@ const FOLLOWED_CAPTURES: &[Case<'static>] = &[
     },
 ];
 
-const FOLLOWED_BOARDS: &[Case<'static>] = &[
+static FOLLOWED_BOARDS: [Case<'static>; 4] = [
     Case {
         arguments: &["follow", "--rotated"],
         input: &[TURNED, b"\x8E\x00\x05\x0B\x00", b"\x8E\x00\x05\x1B\x01"],
@@ -108,7 +108,7 @@ const FOLLOWED_BOARDS: &[Case<'static>] = &[
     },
 ];
 
-const FOLLOWED_MOVES: &[Case<'static>] = &[
+static FOLLOWED_MOVES: [Case<'static>; 3] = [
     // a promotion to a queen, and then to a knight
     Case {
         arguments: &["follow", "--fen", "8/P3k3/8/8/8/8/8/4K3 w - - 0 1"],
@@ -152,7 +152,7 @@ const FOLLOWED_MOVES: &[Case<'static>] = &[
     },
 ];
 
-const FOLLOWED_RESULTS: &[Case<'static>] = &[
+static FOLLOWED_RESULTS: [Case<'static>; 3] = [
     // the kings give a sign, and a move clears it
     Case {
         arguments: &["follow", "--fen", "4k3/8/8/8/8/8/8/4K3 w - - 0 1"],
@@ -200,8 +200,16 @@ const FOLLOWED_RESULTS: &[Case<'static>] = &[
 
 #[test]
 fn games_are_followed(rt: HostRuntime) {
-    assert_eq!(rt; first_unlike(rt.alloc(), FOLLOWED_CAPTURES), None);
-    assert_eq!(rt; first_unlike(rt.alloc(), FOLLOWED_BOARDS), None);
-    assert_eq!(rt; first_unlike(rt.alloc(), FOLLOWED_MOVES), None);
-    assert_eq!(rt; first_unlike(rt.alloc(), FOLLOWED_RESULTS), None);
+    assert_eq!(rt;
+        first_unlike(
+            rt.alloc(),
+            &[
+                &FOLLOWED_CAPTURES,
+                &FOLLOWED_BOARDS,
+                &FOLLOWED_MOVES,
+                &FOLLOWED_RESULTS,
+            ]
+        ),
+        None
+    );
 }

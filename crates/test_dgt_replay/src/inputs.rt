@@ -1,4 +1,6 @@
-//! Messages of boards, texts of games, and what is said of them.
+//! Messages of boards, a game, and what is said of them.
+
+use test_streams::texts::{GameText, NO_MOVE};
 
 /// The dump of the initial position.
 pub const INITIAL: &[u8] =
@@ -40,24 +42,12 @@ pub const BROKEN: &[u8] = b"\x05\x34\x00\x8E\x00\x06\x8E\x00\x05\x40";
 /// 1:30:00 and 1:29:59.
 pub const TIME: &[u8] = b"\x8D\x00\x0A\x01\x30\x00\x01\x29\x59\x00";
 
-/// Up to the result.
-pub const ROSTER: &[u8] =
-    b"[Event \"?\"]\n[Site \"?\"]\n[Date \"????.??.??\"]\n[Round \"?\"]\n[White \"?\"]\n[Black \"?\"]\n[Result \"";
-
-/// Between the result and the movetext.
-pub const BREAK: &[u8] = b"\"]\n\n";
-
-/// The text of a game without a move.
-pub const NO_MOVE: [&[u8]; 4] = [ROSTER, b"*", BREAK, b"*\n\n"];
-
-/// The text of 1. e4.
-pub const ONE_MOVE: [&[u8]; 4] = [ROSTER, b"*", BREAK, b"1. e4 *\n\n"];
-
 /// The text of a game in which White castles short.
-pub const CASTLED: [&[u8]; 2] = [
-    ROSTER,
-    b"*\"]\n[FEN \"4k3/8/8/8/8/8/8/4K2R w K - 0 1\"]\n[SetUp \"1\"]\n\n1. O-O *\n\n",
-];
+pub const CASTLED: GameText<'static> = GameText {
+    fen: CASTLING_FEN,
+    movetext: "1. O-O *",
+    ..NO_MOVE
+};
 
 /// What `pictures` says of the initial position.
 pub const INITIAL_PLACEMENT: &[u8] = b"rnbqkbnr/pppppppp/8/8/8/8/PPPPPPPP/RNBQKBNR\n";

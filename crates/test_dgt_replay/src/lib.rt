@@ -1,4 +1,4 @@
-//! Tests of the public calls of `dgt_replay`.
+//! Tests of the public calls of `dgt_replay`, and the one runner of the program.
 #![tactic(auto)]
 
 #[cfg(test)]
@@ -14,10 +14,13 @@ mod inputs;
 #[cfg(test)]
 mod listed_moves;
 #[cfg(test)]
+mod long_streams;
+#[cfg(test)]
 mod picture_lines;
 #[cfg(test)]
 mod recorded_games;
 #[cfg(test)]
 mod refused_arguments;
+pub mod running;
 #[cfg(test)]
 mod show_lines;

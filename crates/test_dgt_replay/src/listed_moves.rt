@@ -1,8 +1,9 @@
 //! What `moves` lists, and the positions that are refused.
 
-use crate::cases::{Case, PLAIN, first_unlike};
+use crate::cases::{Case, PLAIN, first_unlike, run_of};
+use std::alloc::Global;
 
-const LISTED_MOVES: &[Case<'static>] = &[
+static LISTED_MOVES: [Case<'static>; 3] = [
     Case {
         arguments: &["moves"],
         out: &[
@@ -28,7 +29,7 @@ const LISTED_MOVES: &[Case<'static>] = &[
 const REFUSED: Case<'static> = Case { status: 1, ..PLAIN };
 
 /// Positions whose text or counters are wrong.
-const REFUSED_TEXTS: &[Case<'static>] = &[
+static REFUSED_TEXTS: [Case<'static>; 6] = [
     Case {
         arguments: &["moves", "--fen", "4k3/8/8/8/8/8/8/4K3 w - - "],
         err: b"fen: form\n",
@@ -62,7 +63,7 @@ const REFUSED_TEXTS: &[Case<'static>] = &[
 ];
 
 /// Positions that are not valid.
-const REFUSED_POSITIONS: &[Case<'static>] = &[
+static REFUSED_POSITIONS: [Case<'static>; 6] = [
     Case {
         arguments: &["moves", "--fen", "8/8/8/8/8/8/8/4K3 w - - 0 1"],
         err: b"fen: kings\n",
@@ -97,7 +98,54 @@ const REFUSED_POSITIONS: &[Case<'static>] = &[
 
 #[test]
 fn moves_are_listed(rt: HostRuntime) {
-    assert_eq!(rt; first_unlike(rt.alloc(), LISTED_MOVES), None);
-    assert_eq!(rt; first_unlike(rt.alloc(), REFUSED_TEXTS), None);
-    assert_eq!(rt; first_unlike(rt.alloc(), REFUSED_POSITIONS), None);
+    assert_eq!(rt;
+        first_unlike(
+            rt.alloc(),
+            &[&LISTED_MOVES, &REFUSED_TEXTS, &REFUSED_POSITIONS,]
+        ),
+        None
+    );
+}
+
+fn lines_in(text: &[u8]) -> u32 {
+    let mut lines: u32 = 0;
+    for byte in text {
+        if *byte == b'\n' {
+            lines = lines.saturating_add(1);
+        }
+    }
+    lines
+}
+
+/// How many moves are listed, with status 0.
+fn moves_listed(alloc: Global, case: &Case<'_>) -> Option<u32> {
+    match run_of(alloc, case) {
+        Some(left) if left.status == 0 => Some(lines_in(left.out.get())),
+        _ => None,
+    }
+}
+
+/// Both sides may castle on both wings.
+static CASTLING: Case<'static> = Case {
+    arguments: &[
+        "moves",
+        "--fen",
+        "r3k2r/p1ppqpb1/bn2pnp1/3PN3/1p2P3/2N2Q1p/PPPBBPPP/R3K2R w KQkq - 0 1",
+    ],
+    ..PLAIN
+};
+
+static PAWNS: Case<'static> = Case {
+    arguments: &[
+        "moves",
+        "--fen",
+        "8/2p5/3p4/KP5r/1R3p1k/8/4P1P1/8 w - - 0 1",
+    ],
+    ..PLAIN
+};
+
+#[test]
+fn as_many_moves_are_listed_as_there_are(rt: HostRuntime) {
+    assert_eq!(rt; moves_listed(rt.alloc(), &CASTLING), Some(48));
+    assert_eq!(rt; moves_listed(rt.alloc(), &PAWNS), Some(14));
 }

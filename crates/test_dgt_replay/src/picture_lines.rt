@@ -11,7 +11,7 @@ const PICTURES: Case<'static> = Case {
     ..PLAIN
 };
 
-const PRINTED_PICTURES: &[Case<'static>] = &[
+static PRINTED_PICTURES: [Case<'static>; 6] = [
     PICTURES,
     Case {
         input: &[INITIAL, E2_EMPTY, E4_PAWN],
@@ -64,7 +64,7 @@ const PRINTED_PICTURES: &[Case<'static>] = &[
     },
 ];
 
-const TRUSTED_PICTURES: &[Case<'static>] = &[
+static TRUSTED_PICTURES: [Case<'static>; 6] = [
     Case {
         input: &[INITIAL, CUT, KINGS_PAWN],
         out: &[INITIAL_PLACEMENT, KINGS_PAWN_PLACEMENT],
@@ -102,7 +102,7 @@ const TRUSTED_PICTURES: &[Case<'static>] = &[
     },
 ];
 
-const TURNED_PICTURES: &[Case<'static>] = &[
+static TURNED_PICTURES: [Case<'static>; 2] = [
     Case {
         input: &[TURNED, b"\x8E\x00\x05\x0B\x00\x8E\x00\x05\x1B\x01"],
         out: &[
@@ -122,7 +122,11 @@ const TURNED_PICTURES: &[Case<'static>] = &[
 
 #[test]
 fn pictures_are_printed(rt: HostRuntime) {
-    assert_eq!(rt; first_unlike(rt.alloc(), PRINTED_PICTURES), None);
-    assert_eq!(rt; first_unlike(rt.alloc(), TRUSTED_PICTURES), None);
-    assert_eq!(rt; first_unlike(rt.alloc(), TURNED_PICTURES), None);
+    assert_eq!(rt;
+        first_unlike(
+            rt.alloc(),
+            &[&PRINTED_PICTURES, &TRUSTED_PICTURES, &TURNED_PICTURES,]
+        ),
+        None
+    );
 }

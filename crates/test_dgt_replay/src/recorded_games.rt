@@ -2,42 +2,43 @@
 
 use crate::cases::{Case, PLAIN, first_unlike};
 use crate::inputs::{
-    BREAK, BROKEN, CASTLED, CASTLING, CASTLING_FEN, CUT, E2_EMPTY, E4_PAWN, INITIAL, KINGS_PAWN,
-    NO_MOVE, ONE_MOVE, ROSTER, TIME, TURNED,
+    BROKEN, CASTLED, CASTLING, CASTLING_FEN, CUT, E2_EMPTY, E4_PAWN, INITIAL, KINGS_PAWN, TIME,
+    TURNED,
 };
+use test_streams::texts::{GameText, NO_MOVE, ONE_MOVE};
 
 const RECORD: Case<'static> = Case {
     arguments: &["record"],
     ..PLAIN
 };
 
-const RECORDED_GAMES: &[Case<'static>] = &[
+static RECORDED_GAMES: [Case<'static>; 5] = [
     Case {
-        out: &NO_MOVE,
+        game: Some(NO_MOVE),
         err: b"BK\nmessages 0, faults 0, moves 0, rest 0\n",
         ..RECORD
     },
     Case {
         input: &[INITIAL, E2_EMPTY, E4_PAWN],
-        out: &ONE_MOVE,
+        game: Some(ONE_MOVE),
         err: b"BK\nmessages 3, faults 0, moves 1, rest 0\n",
         ..RECORD
     },
     Case {
         input: &[INITIAL, CUT, KINGS_PAWN],
-        out: &ONE_MOVE,
+        game: Some(ONE_MOVE),
         err: b"BKB\nmessages 2, faults 1, moves 1, rest 0\n",
         ..RECORD
     },
     Case {
         input: &[BROKEN],
-        out: &NO_MOVE,
+        game: Some(NO_MOVE),
         err: b"BKBBB\nmessages 0, faults 3, moves 0, rest 0\n",
         ..RECORD
     },
     Case {
         input: &[INITIAL, b"\x8E\x00\x05\x34"],
-        out: &NO_MOVE,
+        game: Some(NO_MOVE),
         err: b"BK\nmessages 1, faults 0, moves 0, rest 4\n",
         ..RECORD
     },
@@ -49,7 +50,7 @@ const CASTLING_CAPTURE: Case<'static> = Case {
         CASTLING,
         b"\x8E\x00\x05\x3C\x00\x8E\x00\x05\x3E\x05\x8E\x00\x05\x3F\x00\x8E\x00\x05\x3D\x02",
     ],
-    out: &CASTLED,
+    game: Some(CASTLED),
     err: b"BK\nmessages 5, faults 0, moves 1, rest 0\n",
     ..PLAIN
 };
@@ -60,7 +61,7 @@ const TURNED_CAPTURE: Case<'static> = Case {
     ..PLAIN
 };
 
-const SET_UP_GAMES: &[Case<'static>] = &[
+static SET_UP_GAMES: [Case<'static>; 6] = [
     Case {
         arguments: &["record", "--fen", CASTLING_FEN],
         ..CASTLING_CAPTURE
@@ -71,13 +72,13 @@ const SET_UP_GAMES: &[Case<'static>] = &[
     },
     Case {
         arguments: &["record", "--rotated"],
-        out: &ONE_MOVE,
+        game: Some(ONE_MOVE),
         err: b"BK\nmessages 3, faults 0, moves 1, rest 0\n",
         ..TURNED_CAPTURE
     },
     Case {
         arguments: &["record"],
-        out: &NO_MOVE,
+        game: Some(NO_MOVE),
         err: b"BK\nmessages 3, faults 0, moves 0, rest 0\n",
         ..TURNED_CAPTURE
     },
@@ -98,11 +99,25 @@ const SET_UP_GAMES: &[Case<'static>] = &[
             "",
         ],
         input: &[INITIAL, E2_EMPTY, E4_PAWN],
-        out: &[
-            b"[Event \"Open\"]\n[Site \"Oslo\"]\n[Date \"2024.??.??\"]\n[Round \"1\"]\n",
-            b"[White \"Anna \\\"A\\\"\"]\n[Black \"\"]\n[Result \"*\"]\n\n1. e4 *\n\n",
-        ],
+        game: Some(GameText {
+            event: "Open",
+            site: "Oslo",
+            date: "2024.??.??",
+            round: "1",
+            white: "Anna \\\"A\\\"",
+            black: "",
+            ..ONE_MOVE
+        }),
         err: b"BK\nmessages 3, faults 0, moves 1, rest 0\n",
+        ..PLAIN
+    },
+    Case {
+        arguments: &["record", "--white", "Anna"],
+        game: Some(GameText {
+            white: "Anna",
+            ..NO_MOVE
+        }),
+        err: b"BK\nmessages 0, faults 0, moves 0, rest 0\n",
         ..PLAIN
     },
 ];
@@ -116,17 +131,15 @@ const TIMED_CAPTURE: Case<'static> = Case {
         E4_PAWN,
         b"\x8E\x00\x05\x0C\x00\x8E\x00\x05\x1C\x07",
     ],
-    out: &[
-        ROSTER,
-        b"*",
-        BREAK,
-        b"1. e4 {[%clk 1:30:00]} 1... e5 {[%clk 1:29:59]} *\n\n",
-    ],
+    game: Some(GameText {
+        movetext: "1. e4 {[%clk 1:30:00]} 1... e5 {[%clk 1:29:59]} *",
+        ..NO_MOVE
+    }),
     err: b"BK\nmessages 6, faults 0, moves 2, rest 0\n",
     ..PLAIN
 };
 
-const TIMED_GAMES: &[Case<'static>] = &[
+static TIMED_GAMES: [Case<'static>; 4] = [
     Case {
         arguments: &["record"],
         ..TIMED_CAPTURE
@@ -137,21 +150,68 @@ const TIMED_GAMES: &[Case<'static>] = &[
     },
     Case {
         arguments: &["record", "--first", "black"],
-        out: &[
-            ROSTER,
-            b"*",
-            BREAK,
-            b"1. e4 {[%clk 1:29:59]} 1... e5 {[%clk 1:30:00]} *\n\n",
-        ],
+        game: Some(GameText {
+            movetext: "1. e4 {[%clk 1:29:59]} 1... e5 {[%clk 1:30:00]} *",
+            ..NO_MOVE
+        }),
         ..TIMED_CAPTURE
+    },
+    Case {
+        arguments: &["record", "--first", "black"],
+        input: &[INITIAL, TIME, E2_EMPTY, E4_PAWN],
+        game: Some(GameText {
+            movetext: "1. e4 {[%clk 1:29:59]} *",
+            ..NO_MOVE
+        }),
+        err: b"BK\nmessages 4, faults 0, moves 1, rest 0\n",
+        ..PLAIN
+    },
+];
+
+/// The kings are lifted, and then stand in the centre.
+const KINGS_CAPTURE: Case<'static> = Case {
+    err: b"BK\nmessages 5, faults 0, moves 0, rest 0\n",
+    ..RECORD
+};
+
+static RESULTS: [Case<'static>; 2] = [
+    // on dark squares
+    Case {
+        input: &[
+            INITIAL,
+            b"\x8E\x00\x05\x3C\x00\x8E\x00\x05\x04\x00\x8E\x00\x05\x23\x05\x8E\x00\x05\x1C\x0B",
+        ],
+        game: Some(GameText {
+            result: "0-1",
+            movetext: "0-1",
+            ..NO_MOVE
+        }),
+        ..KINGS_CAPTURE
+    },
+    // on squares of both colours
+    Case {
+        input: &[
+            INITIAL,
+            b"\x8E\x00\x05\x3C\x00\x8E\x00\x05\x04\x00\x8E\x00\x05\x24\x05\x8E\x00\x05\x1C\x0B",
+        ],
+        game: Some(GameText {
+            result: "1/2-1/2",
+            movetext: "1/2-1/2",
+            ..NO_MOVE
+        }),
+        ..KINGS_CAPTURE
     },
 ];
 
 #[test]
 fn games_are_recorded(rt: HostRuntime) {
-    assert_eq!(rt; first_unlike(rt.alloc(), RECORDED_GAMES), None);
-    assert_eq!(rt; first_unlike(rt.alloc(), SET_UP_GAMES), None);
-    assert_eq!(rt; first_unlike(rt.alloc(), TIMED_GAMES), None);
+    assert_eq!(rt;
+        first_unlike(
+            rt.alloc(),
+            &[&RECORDED_GAMES, &SET_UP_GAMES, &TIMED_GAMES, &RESULTS,]
+        ),
+        None
+    );
 }
 
 /// A hundred and one bytes.
@@ -167,7 +227,7 @@ const REFUSED_RECORD: Case<'static> = Case {
     ..PLAIN
 };
 
-const REFUSED_VALUES: &[Case<'static>] = &[
+static REFUSED_VALUES: [Case<'static>; 8] = [
     Case {
         arguments: &["record", "--fen", ONE_KING],
         err: b"fen: kings\n",
@@ -214,5 +274,5 @@ const REFUSED_VALUES: &[Case<'static>] = &[
 #[test]
 fn values_are_refused(rt: HostRuntime) {
     assert_eq!(rt; LONG_NAME.len(), 101);
-    assert_eq!(rt; first_unlike(rt.alloc(), REFUSED_VALUES), None);
+    assert_eq!(rt; first_unlike(rt.alloc(), &[&REFUSED_VALUES]), None);
 }

@@ -1,11 +1,12 @@
 //! Arguments that are refused, help, and the version.
 
 use crate::cases::{Case, PLAIN, first_unlike, run_of};
-use dgt_vectors::running::run_with;
+use crate::inputs::{E2_EMPTY, E4_PAWN, INITIAL};
+use crate::running::run_with;
 use std::alloc::Global;
 use test_streams::streams::{Sink, Source};
 
-const REFUSED_ARGUMENTS: &[&[&str]] = &[
+static REFUSED_ARGUMENTS: [&[&str]; 10] = [
     &[],
     &["fly"],
     &["record", "--first", "green"],
@@ -18,14 +19,18 @@ const REFUSED_ARGUMENTS: &[&[&str]] = &[
     &["pictures", "--rotated", "--rotated"],
 ];
 
-/// These arguments over no input.
-fn without_input<'a>(arguments: &'a [&'a str]) -> Case<'a> {
-    Case { arguments, ..PLAIN }
-}
+/// Over no input.
+static NOTHING: Case<'static> = PLAIN;
 
-/// These arguments have status 2 and something on standard error, and no output.
-fn are_refused(alloc: Global, arguments: &[&str]) -> bool {
-    match run_of(alloc, &without_input(arguments)) {
+/// Over the capture of 1. e4.
+static ONE_MOVE: Case<'static> = Case {
+    input: &[INITIAL, E2_EMPTY, E4_PAWN],
+    ..PLAIN
+};
+
+/// With these arguments the case has status 2 and something on standard error, and no output.
+fn are_refused(alloc: Global, arguments: &[&str], case: &Case<'_>) -> bool {
+    match run_of(alloc, &Case { arguments, ..*case }) {
         Some(left) => left.status == 2 && left.out.len() == 0 && left.err.len() > 0,
         None => false,
     }
@@ -34,23 +39,33 @@ fn are_refused(alloc: Global, arguments: &[&str]) -> bool {
 /// The number of the first of these arguments that aren't refused, from 0.
 fn first_not_refused(alloc: Global, lines: &[&[&str]]) -> Option<usize> {
     for (number, arguments) in lines.iter().enumerate() {
-        if !are_refused(alloc, arguments) {
+        if !are_refused(alloc, arguments, &NOTHING) || !are_refused(alloc, arguments, &ONE_MOVE) {
             return Some(number);
         }
     }
     None
 }
 
-/// These arguments have status 0 and an output, and nothing on standard error.
+/// These arguments over no input have status 0 and an output, and nothing on standard error.
 fn are_answered(alloc: Global, arguments: &[&str]) -> bool {
-    match run_of(alloc, &without_input(arguments)) {
+    match run_of(
+        alloc,
+        &Case {
+            arguments,
+            ..NOTHING
+        },
+    ) {
         Some(left) => left.status == 0 && left.shown.len() > 0 && left.err.len() == 0,
         None => false,
     }
 }
 
+fn help_is_printed(alloc: Global) -> bool {
+    are_answered(alloc, &["--help"]) && are_answered(alloc, &["record", "--help"])
+}
+
 /// Both arguments for the version print it.
-const VERSIONS: &[Case<'static>] = &[
+static VERSIONS: [Case<'static>; 2] = [
     Case {
         arguments: &["--version"],
         out: &[b"dgt_replay 0.1.0\n"],
@@ -65,7 +80,7 @@ const VERSIONS: &[Case<'static>] = &[
 
 #[test]
 fn versions_are_printed(rt: HostRuntime) {
-    assert_eq!(rt; first_unlike(rt.alloc(), VERSIONS), None);
+    assert_eq!(rt; first_unlike(rt.alloc(), &[&VERSIONS]), None);
 }
 
 /// The status without an argument, not even the name of the program.
@@ -83,8 +98,7 @@ fn status_without_arguments(alloc: Global) -> u8 {
 
 #[test]
 fn arguments_are_refused(rt: HostRuntime) {
-    assert_eq!(rt; first_not_refused(rt.alloc(), REFUSED_ARGUMENTS), None);
+    assert_eq!(rt; first_not_refused(rt.alloc(), &REFUSED_ARGUMENTS), None);
     assert_eq!(rt; status_without_arguments(rt.alloc()), 2);
-    assert!(rt; are_answered(rt.alloc(), &["--help"]));
-    assert!(rt; are_answered(rt.alloc(), &["record", "--help"]));
+    assert!(rt; help_is_printed(rt.alloc()));
 }

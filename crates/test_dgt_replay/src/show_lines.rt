@@ -1,16 +1,16 @@
-//! The lines of `show`, and what is said of long captures.
+//! The lines of `show`.
 
-use crate::cases::{Case, FOLLOW, PLAIN, first_unlike};
+use crate::cases::{Case, PLAIN, first_unlike};
 use crate::inputs::{
     BROKEN, CUT, E2_EMPTY, E4_PAWN, INITIAL, INITIAL_LINE, KINGS_PAWN, OTHER, TIME,
 };
 
-const SHOW: Case<'static> = Case {
+pub const SHOW: Case<'static> = Case {
     arguments: &["show"],
     ..PLAIN
 };
 
-const SHOWN_CAPTURES: &[Case<'static>] = &[
+static SHOWN_CAPTURES: [Case<'static>; 6] = [
     Case {
         out: &[b"rest 0\n"],
         ..SHOW
@@ -49,7 +49,12 @@ const SHOWN_CAPTURES: &[Case<'static>] = &[
     },
 ];
 
-const SHOWN_FRAMES: &[Case<'static>] = &[
+static SHOWN_FRAMES: [Case<'static>; 5] = [
+    Case {
+        input: &[E2_EMPTY, OTHER],
+        out: &[b"4 update 52 0\n9 other 93 5\nrest 0\n"],
+        ..SHOW
+    },
     Case {
         input: &[OTHER],
         out: &[b"4 other 93 5\nrest 0\n"],
@@ -72,7 +77,7 @@ const SHOWN_FRAMES: &[Case<'static>] = &[
     },
 ];
 
-const SHOWN_FAULTS: &[Case<'static>] = &[
+static SHOWN_FAULTS: [Case<'static>; 7] = [
     Case {
         input: &[BROKEN],
         out: &[b"0 fault stray\n5 fault size\n9 fault data\nrest 0\n"],
@@ -112,47 +117,11 @@ const SHOWN_FAULTS: &[Case<'static>] = &[
 
 #[test]
 fn captures_are_shown(rt: HostRuntime) {
-    assert_eq!(rt; first_unlike(rt.alloc(), SHOWN_CAPTURES), None);
-    assert_eq!(rt; first_unlike(rt.alloc(), SHOWN_FRAMES), None);
-    assert_eq!(rt; first_unlike(rt.alloc(), SHOWN_FAULTS), None);
-}
-
-const LONG_CAPTURES: &[Case<'static>] = &[
-    Case {
-        input: &[b"\x93\x7F\x7F"],
-        zeros: 16_380,
-        out: &[b"16382 other 93 16383\nrest 0\n"],
-        ..SHOW
-    },
-    Case {
-        input: &[b"\x93\x7F\x7F"],
-        zeros: 16_379,
-        out: &[b"rest 16382\n"],
-        ..SHOW
-    },
-    Case {
-        zeros: 67_108_864,
-        out: &[b"0 fault stray\nrest 0\n"],
-        ..SHOW
-    },
-    Case {
-        zeros: 67_108_865,
-        status: 1,
-        out: &[b"0 fault stray\n"],
-        err: b"input: too long\n",
-        ..SHOW
-    },
-    Case {
-        input: &[INITIAL, E2_EMPTY, E4_PAWN],
-        zeros: 67_108_864,
-        status: 1,
-        out: &[b"66 agrees\n71 differs e2\n76 move 1. e4\n77 fault stray\n"],
-        err: b"input: too long\n",
-        ..FOLLOW
-    },
-];
-
-#[test]
-fn long_captures_are_listed(rt: HostRuntime) {
-    assert_eq!(rt; first_unlike(rt.alloc(), LONG_CAPTURES), None);
+    assert_eq!(rt;
+        first_unlike(
+            rt.alloc(),
+            &[&SHOWN_CAPTURES, &SHOWN_FRAMES, &SHOWN_FAULTS,]
+        ),
+        None
+    );
 }

@@ -4,7 +4,8 @@ use crate::Outcome;
 use crate::settling::is_opening;
 use chess_rules::{Move, Position};
 use pgn_book::{Game, PgnError, Tag, TagError, Tags, read_pgn};
-use std::alloc::Global;
+use std::alloc::{AllocError, Global};
+use test_streams::texts::{GameText, NO_MOVE};
 
 /// The origin and the target of each move of the initial position: two for each pawn, from a2 to h2, two for each knight.
 const FIRST_MOVES: [(u8, u8); 20] = [
@@ -30,73 +31,97 @@ const FIRST_MOVES: [(u8, u8); 20] = [
     (62, 47),
 ];
 
+fn goes(mv: Move, from: u8, to: u8) -> bool {
+    mv.from.number() == from && mv.to.number() == to && mv.promotion.is_none()
+}
+
 fn are_first_moves(moves: &[Move]) -> bool {
     for (mv, (from, to)) in moves.iter().zip(&FIRST_MOVES) {
-        if mv.from.number() != *from || mv.to.number() != *to || mv.promotion.is_some() {
+        if !goes(*mv, *from, *to) {
             return false;
         }
     }
     moves.len() == 20
 }
 
+/// Whether the initial position has its 20 moves.
+fn lists(alloc: Global) -> Result<bool, AllocError> {
+    let moves = Position::initial().legal_moves(alloc)?;
+    Ok(are_first_moves(moves.as_slice()))
+}
+
 /// The initial position has 20 moves.
 pub fn legal_moves(alloc: Global) -> Outcome {
-    let position = Position::initial();
-    if let Ok(moves) = position.legal_moves(alloc) {
-        return Outcome::granted(are_first_moves(moves.as_slice()));
+    match lists(alloc) {
+        Ok(holds) => Outcome::granted(holds),
+        Err(_) => Outcome::refused(matches!(lists(alloc), Ok(true))),
     }
-    match position.legal_moves(alloc) {
-        Ok(moves) => Outcome::refused(are_first_moves(moves.as_slice())),
-        Err(_) => Outcome::Broken,
-    }
+}
+
+fn has_value(tags: &Tags, tag: Tag, value: &str) -> bool {
+    tags.get(tag) == value
 }
 
 /// The values of White and Black; the other tags are unknown.
 fn has_values(tags: &Tags, white: &str, black: &str) -> bool {
-    tags.get(Tag::White) == white
-        && tags.get(Tag::Black) == black
-        && tags.get(Tag::Event) == "?"
-        && tags.get(Tag::Site) == "?"
-        && tags.get(Tag::Date) == "????.??.??"
-        && tags.get(Tag::Round) == "?"
+    has_value(tags, Tag::White, white)
+        && has_value(tags, Tag::Black, black)
+        && has_value(tags, Tag::Event, "?")
+        && has_value(tags, Tag::Site, "?")
+        && has_value(tags, Tag::Date, "????.??.??")
+        && has_value(tags, Tag::Round, "?")
 }
 
 /// A tag and its new value, and the values of White and Black before it and after it.
 type Setting<'a> = (Tag, &'a str, (&'a str, &'a str), (&'a str, &'a str));
 
-const SETTINGS: &[Setting<'static>] = &[
+static SETTINGS: [Setting<'static>; 3] = [
     (Tag::White, "Berta", ("?", "?"), ("Berta", "?")),
     (Tag::Black, "Clara", ("Berta", "?"), ("Berta", "Clara")),
     (Tag::White, "Anna", ("Berta", "Clara"), ("Anna", "Clara")),
 ];
 
-/// A refused value leaves all as it was.
-fn sets(tags: &mut Tags, setting: &Setting<'_>) -> Outcome {
-    let (tag, value, before, after) = *setting;
-    match tags.set(tag, value) {
-        Ok(()) => return Outcome::granted(has_values(tags, after.0, after.1)),
-        Err(TagError::Memory) => {}
-        Err(_) => return Outcome::Broken,
-    }
-    if !has_values(tags, before.0, before.1) {
-        return Outcome::Broken;
-    }
-    let again = tags.set(tag, value).is_ok();
-    Outcome::refused(again && has_values(tags, after.0, after.1))
+/// The value is set: whether the tags are then those after it.
+fn sets(tags: &mut Tags, setting: &Setting<'_>) -> Result<bool, TagError> {
+    let (tag, value, _, (white, black)) = *setting;
+    tags.set(tag, value)?;
+    Ok(has_values(tags, white, black))
 }
 
-/// Values are set one after another.
-pub fn set(alloc: Global) -> Outcome {
-    let mut tags = Tags::new(alloc);
+/// A refused value leaves all as it was.
+fn sets_again(tags: &mut Tags, setting: &Setting<'_>) -> bool {
+    let (_, _, (white, black), _) = *setting;
+    has_values(tags, white, black) && matches!(sets(tags, setting), Ok(true))
+}
+
+fn set_one(tags: &mut Tags, setting: &Setting<'_>) -> Outcome {
+    match sets(tags, setting) {
+        Ok(holds) => Outcome::granted(holds),
+        Err(TagError::Memory) => Outcome::refused(sets_again(tags, setting)),
+        Err(_) => Outcome::Broken,
+    }
+}
+
+fn set_all(tags: &mut Tags) -> Outcome {
     let mut outcome = Outcome::Granted;
-    for setting in SETTINGS {
-        outcome = outcome.and(sets(&mut tags, setting));
+    for setting in &SETTINGS {
+        outcome = outcome.and(set_one(tags, setting));
     }
     outcome
 }
 
-const GAME: &[u8] =
-    b"[Event \"?\"]\n[Site \"?\"]\n[Date \"????.??.??\"]\n[Round \"?\"]\n[White \"Anna\"]\n[Black \"Clara\"]\n[Result \"1-0\"]\n\n1. e4 {[%clk 1:30:00]} 1-0\n\n";
+/// Values are set one after another.
+pub fn set(alloc: Global) -> Outcome {
+    set_all(&mut Tags::new(alloc))
+}
+
+const GAME: GameText<'static> = GameText {
+    white: "Anna",
+    black: "Clara",
+    result: "1-0",
+    movetext: "1. e4 {[%clk 1:30:00]} 1-0",
+    ..NO_MOVE
+};
 
 fn is_game(game: &Game) -> bool {
     *game.start() == Position::initial()
@@ -105,15 +130,17 @@ fn is_game(game: &Game) -> bool {
         && has_values(game.tags(), "Anna", "Clara")
 }
 
+/// Whether the text is read as that game. An error is the one of reading.
+fn reads(alloc: Global) -> Result<bool, PgnError> {
+    let game = read_pgn(alloc, GAME.bytes().get())?;
+    Ok(is_game(&game))
+}
+
 /// To run out of memory is no fault of the text.
 pub fn reads_game(alloc: Global) -> Outcome {
-    match read_pgn(alloc, GAME) {
-        Ok(game) => return Outcome::granted(is_game(&game)),
-        Err(PgnError::Memory) => {}
-        Err(_) => return Outcome::Broken,
-    }
-    match read_pgn(alloc, GAME) {
-        Ok(game) => Outcome::refused(is_game(&game)),
+    match reads(alloc) {
+        Ok(holds) => Outcome::granted(holds),
+        Err(PgnError::Memory) => Outcome::refused(matches!(reads(alloc), Ok(true))),
         Err(_) => Outcome::Broken,
     }
 }

@@ -65,24 +65,39 @@ fn spend(alloc: Global, count: u32) {
     }
 }
 
+/// Says how the call of this kind and name went.
+fn say(rt: &HostRuntime, kind: &str, name: &str, outcome: Outcome) -> io::Result<()> {
+    println!(rt; "{kind}{name} {}", outcome.word())
+}
+
 fn make_calls(rt: &HostRuntime) -> io::Result<()> {
     let alloc = rt.alloc();
-    println!(rt; "legal_moves {}", calls::legal_moves(alloc).word())?;
-    println!(rt; "see {}", settling::see(alloc).word())?;
-    println!(rt; "see_field {}", settling::see_field(alloc).word())?;
-    println!(rt; "set {}", calls::set(alloc).word())?;
-    println!(rt; "read_pgn {}", calls::reads_game(alloc).word())?;
-    println!(rt; "take {}", settling::take(alloc).word())?;
-    for (row, fronts) in &recordings::captures() {
-        let outcome = recordings::records(alloc, row, fronts);
-        println!(rt; "record, {} {}", row.name, outcome.word())?;
+    let outcomes = [
+        ("legal_moves", calls::legal_moves(alloc)),
+        ("see", settling::see(alloc)),
+        ("see_field", settling::see_field(alloc)),
+        ("set", calls::set(alloc)),
+        ("read_pgn", calls::reads_game(alloc)),
+        ("take", settling::take(alloc)),
+    ];
+    for (name, outcome) in outcomes {
+        say(rt, "", name, outcome)?;
     }
-    println!(rt;
-        "record without a move {}",
-        recordings::takes_no_memory(alloc).word()
-    )?;
-    for case in runs::cases() {
-        println!(rt; "run {} {}", case.name, runs::runs(alloc, case).word())?;
+    Ok(())
+}
+
+fn make_recordings(rt: &HostRuntime) -> io::Result<()> {
+    for (row, fronts) in &recordings::CAPTURES {
+        let outcome = recordings::records(rt.alloc(), row, fronts);
+        say(rt, "record, ", row.name, outcome)?;
+    }
+    let outcome = recordings::takes_no_memory(rt.alloc());
+    say(rt, "record without a move", "", outcome)
+}
+
+fn make_runs(rt: &HostRuntime) -> io::Result<()> {
+    for case in &runs::CASES {
+        say(rt, "run ", case.name, runs::runs(rt.alloc(), case))?;
     }
     Ok(())
 }
@@ -106,5 +121,7 @@ fn main(rt: HostRuntime) -> io::Result<()> {
     let mut buffer = [0u8; 16];
     let count = rt.stdin().read(&mut buffer)?;
     spend(rt.alloc(), number_in(buffer.get(..count).unwrap_or(&[])));
-    make_calls(&rt)
+    make_calls(&rt)?;
+    make_recordings(&rt)?;
+    make_runs(&rt)
 }

@@ -3,64 +3,57 @@
 use crate::Outcome;
 use board_session::RecordError;
 use dgt_vectors::captures::INITIAL;
-use dgt_vectors::captures::Signal::{self, Dump, Lift, Put};
+use dgt_vectors::captures::Signal::{Dump, Lift, Put};
 use dgt_vectors::recording::{Recording, recorded, report_of};
-use dgt_vectors::row::{Row, commands, kings_pawn_opening};
+use dgt_vectors::row::{KINGS_PAWN_OPENING, PLAIN, Row, commands};
 use dgt_vectors::rows::rows_by_subject;
 use std::alloc::Global;
-use test_streams::texts::text_of;
-
-const ROOK_FIRST: &[Signal<'static>] = &[
-    Dump("4k3/8/8/8/8/8/8/4K2R"),
-    Lift("h1"),
-    Put("f1", "R"),
-    Lift("e1"),
-    Put("g1", "K"),
-];
+use test_streams::bytes::Bytes;
+use test_streams::texts::{GameText, NO_MOVE};
 
 /// The rook's move is a ply; castling takes its place, and no memory.
-fn rook_first<'a>() -> Row<'a> {
-    Row {
-        name: "castling, rook first",
-        start: "4k3/8/8/8/8/8/8/4K2R w K - 0 1",
-        capture: ROOK_FIRST,
-        movetext: "1. O-O *",
-        report: (5, 0, 1, 0),
-        ..kings_pawn_opening()
-    }
-}
+const ROOK_FIRST: Row<'static> = Row {
+    name: "castling, rook first",
+    start: "4k3/8/8/8/8/8/8/4K2R w K - 0 1",
+    capture: &[
+        Dump("4k3/8/8/8/8/8/8/4K2R"),
+        Lift("h1"),
+        Put("f1", "R"),
+        Lift("e1"),
+        Put("g1", "K"),
+    ],
+    movetext: "1. O-O *",
+    report: (5, 0, 1, 0),
+    ..PLAIN
+};
 
-const NINE_PLIES: &[Signal<'static>] = &[
-    Dump(INITIAL),
-    Lift("e2"),
-    Put("e4", "P"),
-    Lift("e7"),
-    Put("e5", "p"),
-    Lift("g1"),
-    Put("f3", "N"),
-    Lift("b8"),
-    Put("c6", "n"),
-    Lift("f1"),
-    Put("b5", "B"),
-    Lift("a7"),
-    Put("a6", "p"),
-    Lift("b5"),
-    Put("a4", "B"),
-    Lift("g8"),
-    Put("f6", "n"),
-    Lift("d2"),
-    Put("d3", "P"),
-];
-
-fn nine_plies<'a>() -> Row<'a> {
-    Row {
-        name: "nine plies",
-        capture: NINE_PLIES,
-        movetext: "1. e4 e5 2. Nf3 Nc6 3. Bb5 a6 4. Ba4 Nf6 5. d3 *",
-        report: (19, 0, 9, 0),
-        ..kings_pawn_opening()
-    }
-}
+const NINE_PLIES: Row<'static> = Row {
+    name: "nine plies",
+    capture: &[
+        Dump(INITIAL),
+        Lift("e2"),
+        Put("e4", "P"),
+        Lift("e7"),
+        Put("e5", "p"),
+        Lift("g1"),
+        Put("f3", "N"),
+        Lift("b8"),
+        Put("c6", "n"),
+        Lift("f1"),
+        Put("b5", "B"),
+        Lift("a7"),
+        Put("a6", "p"),
+        Lift("b5"),
+        Put("a4", "B"),
+        Lift("g8"),
+        Put("f6", "n"),
+        Lift("d2"),
+        Put("d3", "P"),
+    ],
+    movetext: "1. e4 e5 2. Nf3 Nc6 3. Bb5 a6 4. Ba4 Nf6 5. d3 *",
+    report: (19, 0, 9, 0),
+    ..PLAIN
+};
 
 /// The first ply was refused.
 const NO_PLY: &[&str] = &["*"];
@@ -79,13 +72,11 @@ const FRONTS: &[&str] = &[
 ];
 
 /// Captures with a ply, each with the movetexts that may stand where a ply was refused.
-pub fn captures<'a>() -> [(Row<'a>, &'a [&'a str]); 3] {
-    [
-        (kings_pawn_opening(), NO_PLY),
-        (rook_first(), NO_PLY),
-        (nine_plies(), FRONTS),
-    ]
-}
+pub static CAPTURES: [(Row<'static>, &[&str]); 3] = [
+    (KINGS_PAWN_OPENING, NO_PLY),
+    (ROOK_FIRST, NO_PLY),
+    (NINE_PLIES, FRONTS),
+];
 
 fn is_whole(got: &Recording, row: &Row<'_>) -> bool {
     got.answer == Ok(report_of(row.report))
@@ -93,13 +84,23 @@ fn is_whole(got: &Recording, row: &Row<'_>) -> bool {
         && got.text_shown.get() == row.text().get()
 }
 
+/// The text of the row's game with this movetext.
+fn front_text<'a>(row: &Row<'a>, movetext: &'a str) -> Bytes {
+    let game = GameText {
+        fen: row.start,
+        movetext,
+        ..NO_MOVE
+    };
+    game.bytes()
+}
+
 /// Out of memory is returned at a ply, and the text is that of the plies before it.
-fn is_front(got: &Recording, row: &Row<'_>, fronts: &[&str]) -> bool {
+fn is_front<'a>(got: &Recording, row: &Row<'a>, fronts: &[&'a str]) -> bool {
     if got.answer != Err(RecordError::Memory) || got.board_shown.get() != commands(0).get() {
         return false;
     }
     for front in fronts {
-        if got.text_shown.get() == text_of(row.start.as_bytes(), b"*", front.as_bytes()).get() {
+        if got.text_shown.get() == front_text(row, front).get() {
             return true;
         }
     }
@@ -120,7 +121,7 @@ fn records_whole(alloc: Global, row: &Row<'_>) -> bool {
 }
 
 /// A refused ply ends the recording; made again it records all.
-pub fn records(alloc: Global, row: &Row<'_>, fronts: &[&str]) -> Outcome {
+pub fn records<'a>(alloc: Global, row: &Row<'a>, fronts: &[&'a str]) -> Outcome {
     let Some(got) = recording(alloc, row) else {
         return Outcome::Broken;
     };

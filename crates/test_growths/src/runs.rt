@@ -1,11 +1,13 @@
 //! The program. It is run again where it was refused.
 
 use crate::Outcome;
-use dgt_vectors::captures::Signal::{self, Dump, Lift, Put, Text};
+use dgt_vectors::captures::Signal::{self, Dump, Lift, Put};
 use dgt_vectors::captures::{INITIAL, bytes_of};
-use dgt_vectors::running::{Left, run_over};
 use std::alloc::Global;
+use test_dgt_replay::running::{Left, run_over};
+use test_streams::bytes::Bytes;
 use test_streams::streams::{Sink, Source};
+use test_streams::texts::{GameText, NO_MOVE, ONE_MOVE, with_game};
 
 /// Arguments after the program's name, an input, and what is left of them.
 #[derive(Clone, Copy)]
@@ -13,32 +15,49 @@ pub struct Case<'a> {
     pub name: &'a str,
     arguments: &'a [&'a str],
     input: &'a [Signal<'a>],
+    /// A text behind the capture.
+    text: Option<GameText<'a>>,
+    /// The lines of the output.
     out: &'a str,
+    /// The text behind the lines.
+    game: Option<GameText<'a>>,
     err: &'a str,
-    /// The output where the first ply was refused; empty where none is made.
+    /// The lines where the first ply was refused; the text has no move then.
     without_ply: &'a str,
     /// Standard error then.
     ply_refused: &'a str,
 }
 
-const CASES: &[Case<'static>] = &[
+const PLAIN: Case<'static> = Case {
+    name: "",
+    arguments: &[],
+    input: &[],
+    text: None,
+    out: "",
+    game: None,
+    err: "",
+    without_ply: "",
+    ply_refused: "",
+};
+
+pub static CASES: [Case<'static>; 5] = [
     Case {
         name: "record",
         arguments: &["record"],
         input: &[Dump(INITIAL), Lift("e2"), Put("e4", "P")],
-        out: "[Event \"?\"]\n[Site \"?\"]\n[Date \"????.??.??\"]\n[Round \"?\"]\n[White \"?\"]\n[Black \"?\"]\n[Result \"*\"]\n\n1. e4 *\n\n",
+        game: Some(ONE_MOVE),
         err: "BK\nmessages 3, faults 0, moves 1, rest 0\n",
-        without_ply: "[Event \"?\"]\n[Site \"?\"]\n[Date \"????.??.??\"]\n[Round \"?\"]\n[White \"?\"]\n[Black \"?\"]\n[Result \"*\"]\n\n*\n\n",
         ply_refused: "BK\nmemory\n",
+        ..PLAIN
     },
     Case {
         name: "follow",
         arguments: &["follow"],
         input: &[Dump(INITIAL), Lift("e2"), Put("e4", "P")],
         out: "66 agrees\n71 differs e2\n76 move 1. e4\nrest 0\n",
-        err: "",
         without_ply: "66 agrees\n71 differs e2\n",
         ply_refused: "memory\n",
+        ..PLAIN
     },
     Case {
         name: "record with options",
@@ -50,45 +69,38 @@ const CASES: &[Case<'static>] = &[
             "Anna",
         ],
         input: &[Dump("4k3/8/8/8/8/8/8/4K2R"), Lift("e1"), Put("e2", "K")],
-        out: "[Event \"?\"]\n[Site \"?\"]\n[Date \"????.??.??\"]\n[Round \"?\"]\n[White \"Anna\"]\n[Black \"?\"]\n[Result \"*\"]\n[FEN \"4k3/8/8/8/8/8/8/4K2R w K - 0 1\"]\n[SetUp \"1\"]\n\n1. Ke2 *\n\n",
+        game: Some(GameText {
+            white: "Anna",
+            fen: "4k3/8/8/8/8/8/8/4K2R w K - 0 1",
+            movetext: "1. Ke2 *",
+            ..NO_MOVE
+        }),
         err: "BK\nmessages 3, faults 0, moves 1, rest 0\n",
-        without_ply: "[Event \"?\"]\n[Site \"?\"]\n[Date \"????.??.??\"]\n[Round \"?\"]\n[White \"Anna\"]\n[Black \"?\"]\n[Result \"*\"]\n[FEN \"4k3/8/8/8/8/8/8/4K2R w K - 0 1\"]\n[SetUp \"1\"]\n\n*\n\n",
         ply_refused: "BK\nmemory\n",
+        ..PLAIN
     },
     Case {
         name: "check",
         arguments: &["check"],
-        input: &[Text(
-            "[Event \"?\"]\n[Site \"?\"]\n[Date \"????.??.??\"]\n[Round \"?\"]\n[White \"?\"]\n[Black \"?\"]\n[Result \"*\"]\n\n1. e4 *\n\n",
-        )],
+        text: Some(ONE_MOVE),
         out: "moves 1, result *\n",
-        err: "",
-        without_ply: "",
-        ply_refused: "",
+        ..PLAIN
     },
     Case {
         name: "moves",
         arguments: &["moves"],
-        input: &[],
         out: "a4\na3\nb4\nb3\nc4\nc3\nd4\nd3\ne4\ne3\nf4\nf3\ng4\ng3\nh4\nh3\nNa3\nNc3\nNf3\nNh3\n",
-        err: "",
-        without_ply: "",
-        ply_refused: "",
+        ..PLAIN
     },
 ];
 
-pub fn cases<'a>() -> &'a [Case<'a>] {
-    CASES
-}
-
 /// Runs a case, where there is memory for its arguments.
 fn run_of(alloc: Global, case: &Case<'_>) -> Option<Left> {
-    let bytes = bytes_of(case.input);
-    let source = Source::new(bytes.get());
+    let bytes = with_game(&[bytes_of(case.input).get()], &case.text);
     run_over(
         alloc,
         case.arguments,
-        source,
+        Source::new(bytes.get()),
         Sink::new(512),
         Sink::new(512),
     )
@@ -96,8 +108,20 @@ fn run_of(alloc: Global, case: &Case<'_>) -> Option<Left> {
 
 fn is_done(case: &Case<'_>, left: &Left) -> bool {
     left.status == 0
-        && left.out.get() == case.out.as_bytes()
+        && left.out.get() == with_game(&[case.out.as_bytes()], &case.game).get()
         && left.err.get() == case.err.as_bytes()
+}
+
+/// The output where the first ply was refused.
+fn front_of(case: &Case<'_>) -> Bytes {
+    let game = match case.game {
+        Some(game) => Some(GameText {
+            movetext: NO_MOVE.movetext,
+            ..game
+        }),
+        None => None,
+    };
+    with_game(&[case.without_ply.as_bytes()], &game)
 }
 
 /// Nothing was written, or the game without a ply: the allocation came before the recording or the listing, or in it.
@@ -108,7 +132,7 @@ fn is_refused(case: &Case<'_>, left: &Left) -> bool {
     if left.out.get().is_empty() {
         return left.err.get() == b"memory\n".as_slice();
     }
-    left.out.get() == case.without_ply.as_bytes() && left.err.get() == case.ply_refused.as_bytes()
+    left.out.get() == front_of(case).get() && left.err.get() == case.ply_refused.as_bytes()
 }
 
 /// Whether the program does all.

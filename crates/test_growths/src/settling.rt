@@ -120,15 +120,18 @@ fn see_opening(settler: &mut Settler) -> Option<bool> {
 }
 
 /// A refused ply leaves the settler before the picture, so that it is seen again.
-pub fn see(alloc: Global) -> Outcome {
-    let Some(mut settler) = signed(alloc) else {
-        return Outcome::Broken;
-    };
-    if let Some(holds) = see_opening(&mut settler) {
-        return Outcome::granted(holds);
+fn sees(settler: &mut Settler) -> Outcome {
+    match see_opening(settler) {
+        Some(holds) => Outcome::granted(holds),
+        None => Outcome::refused(is_signed(settler) && see_opening(settler) == Some(true)),
     }
-    let kept = is_signed(&settler);
-    Outcome::refused(kept && see_opening(&mut settler) == Some(true))
+}
+
+pub fn see(alloc: Global) -> Outcome {
+    match signed(alloc) {
+        Some(mut settler) => sees(&mut settler),
+        None => Outcome::Broken,
+    }
 }
 
 /// The pawn on e4: whether what is returned is due, unless memory ran out.
@@ -144,18 +147,23 @@ fn see_pawn(settler: &mut Settler) -> Option<bool>
 }
 
 /// A refused ply leaves the settler before the field's update.
+fn sees_field(settler: &mut Settler) -> Outcome
+    requires { has_seen settler.old ≡ true }
+{
+    if !show(settler, 52, 0) {
+        return Outcome::Broken;
+    }
+    match see_pawn(settler) {
+        Some(holds) => Outcome::granted(holds),
+        None => Outcome::refused(is_signed(settler) && see_pawn(settler) == Some(true)),
+    }
+}
+
 pub fn see_field(alloc: Global) -> Outcome {
-    let Some(mut settler) = signed(alloc) else {
-        return Outcome::Broken;
-    };
-    if !show(&mut settler, 52, 0) {
-        return Outcome::Broken;
+    match signed(alloc) {
+        Some(mut settler) => sees_field(&mut settler),
+        None => Outcome::Broken,
     }
-    if let Some(holds) = see_pawn(&mut settler) {
-        return Outcome::granted(holds);
-    }
-    let kept = is_signed(&settler);
-    Outcome::refused(kept && see_pawn(&mut settler) == Some(true))
 }
 
 /// Takes an update that gives no move, which takes no memory.
@@ -203,15 +211,21 @@ fn take_pawn(session: &mut Session) -> Option<bool> {
     }
 }
 
+fn is_kept(session: &Session) -> bool {
+    stays(session) && is_signed(session.settler())
+}
+
 /// A refused ply leaves the session before the event.
-pub fn take(alloc: Global) -> Outcome {
-    let mut session = Session::new(alloc, Position::initial(), First::White, false);
-    if !take_start(&mut session) || !take_sign(&mut session) {
+fn takes(session: &mut Session) -> Outcome {
+    if !take_start(session) || !take_sign(session) {
         return Outcome::Broken;
     }
-    if let Some(holds) = take_pawn(&mut session) {
-        return Outcome::granted(holds);
+    match take_pawn(session) {
+        Some(holds) => Outcome::granted(holds),
+        None => Outcome::refused(is_kept(session) && take_pawn(session) == Some(true)),
     }
-    let kept = stays(&session) && is_signed(session.settler());
-    Outcome::refused(kept && take_pawn(&mut session) == Some(true))
+}
+
+pub fn take(alloc: Global) -> Outcome {
+    takes(&mut Session::new(alloc, Position::initial(), First::White, false))
 }

@@ -5,10 +5,9 @@ use chess_text::{read_fen, read_san};
 use dgt_frame::{Hms, Watch};
 use pgn_book::{Game, Tags, write_pgn};
 use settle_core::{Outcome, Ply};
-use std::alloc::{AllocError, Global};
-
-const ROSTER: &str =
-    "[Event \"?\"]\n[Site \"?\"]\n[Date \"????.??.??\"]\n[Round \"?\"]\n[White \"?\"]\n[Black \"?\"]\n";
+use std::alloc::Global;
+use test_streams::bytes::Bytes;
+use test_streams::texts::{GameText, NO_MOVE};
 
 /// White may castle short.
 pub const CASTLING: &str = "4k3/8/8/8/8/8/8/4K2R w K - 0 1";
@@ -37,43 +36,22 @@ pub const EMPTY: Row<'static> = Row {
     movetext: "*",
 };
 
-/// The parts as one text.
-pub fn joined(alloc: Global, parts: &[&str]) -> Result<String, AllocError> {
-    let mut text = String::new(alloc);
-    for part in parts {
-        text.push_str(part)?;
+impl Row<'_> {
+    /// The export text.
+    pub fn text(&self) -> Bytes {
+        export(self.outcome, self.start, self.movetext)
     }
-    Ok(text)
 }
 
 /// An export text whose tags are unknown. The FEN is empty for the initial position.
-pub fn export(
-    alloc: Global,
-    outcome: &str,
-    fen: &str,
-    movetext: &str,
-) -> Result<String, AllocError> {
-    if fen.is_empty() {
-        joined(
-            alloc,
-            &[ROSTER, "[Result \"", outcome, "\"]\n\n", movetext, "\n\n"],
-        )
-    } else {
-        let set_up = "\"]\n[SetUp \"1\"]\n\n";
-        joined(
-            alloc,
-            &[
-                ROSTER,
-                "[Result \"",
-                outcome,
-                "\"]\n[FEN \"",
-                fen,
-                set_up,
-                movetext,
-                "\n\n",
-            ],
-        )
-    }
+pub fn export<'a>(outcome: &'a str, fen: &'a str, movetext: &'a str) -> Bytes {
+    let game = GameText {
+        result: outcome,
+        fen,
+        movetext,
+        ..NO_MOVE
+    };
+    game.bytes()
 }
 
 /// The position of a FEN, or the initial position where it is empty.

@@ -1,18 +1,20 @@
 //! Texts that are no export texts.
 
-use crate::games::{CASTLING, export, joined};
+use crate::games::{CASTLING, export};
 use pgn_book::{PgnError, read_pgn};
-use std::alloc::{AllocError, Global};
-use std::test::Fail;
+use std::alloc::Global;
+use test_streams::bytes::Bytes;
+use test_streams::texts::{ONE_MOVE, with_returns};
 
 fn refuses(alloc: Global, text: &[u8]) -> bool {
     matches!(read_pgn(alloc, text), Err(PgnError::NotExport))
 }
 
-/// The least length at which a part of this text isn't refused.
-fn first_part_not_refused(alloc: Global, text: &[u8]) -> Option<usize> {
+/// The least length at which a part of the text of 1. e4 isn't refused.
+fn first_part_not_refused(alloc: Global) -> Option<usize> {
+    let text = ONE_MOVE.bytes();
     for len in 0..text.len() {
-        if !refuses(alloc, &text[..len]) {
+        if !refuses(alloc, text.front(len)) {
             return Some(len);
         }
     }
@@ -20,46 +22,23 @@ fn first_part_not_refused(alloc: Global, text: &[u8]) -> Option<usize> {
 }
 
 #[test]
-fn a_part_is_refused(rt: HostRuntime) -> Result<(), Fail> {
-    let text = export(rt.alloc(), "*", "", "1. e4 *")?;
-    assert_eq!(rt; first_part_not_refused(rt.alloc(), text.as_bytes()), None);
-    Ok(())
+fn a_part_is_refused(rt: HostRuntime) {
+    assert_eq!(rt; first_part_not_refused(rt.alloc()), None);
 }
 
-/// The text with a carriage return before each line feed.
-fn with_returns(alloc: Global, text: &[u8]) -> Result<Vec<u8>, AllocError> {
-    let mut bytes = Vec::new(alloc);
-    for byte in text {
-        if *byte == b'\n' {
-            bytes.push(b'\r')?;
-        }
-        bytes.push(*byte)?;
-    }
-    Ok(bytes)
-}
-
-fn refuses_returns(alloc: Global, text: &[u8]) -> bool {
-    match with_returns(alloc, text) {
-        Ok(bytes) => refuses(alloc, bytes.as_slice()),
-        Err(_) => false,
-    }
+fn refuses_returns(alloc: Global) -> bool {
+    refuses(alloc, with_returns(ONE_MOVE.bytes().get()).get())
 }
 
 /// The text with a line feed more is refused.
-fn refuses_line_more(alloc: Global, text: &str) -> bool {
-    match joined(alloc, &[text, "\n"]) {
-        Ok(longer) => refuses(alloc, longer.as_bytes()),
-        Err(_) => false,
-    }
+fn refuses_line_more(alloc: Global) -> bool {
+    refuses(alloc, Bytes::of(&[ONE_MOVE.bytes().get(), b"\n"]).get())
 }
 
 #[test]
-fn other_ends_of_lines_are_refused(rt: HostRuntime) -> Result<(), Fail> {
-    let text = export(rt.alloc(), "*", "", "1. e4 *")?;
-    let returns = refuses_returns(rt.alloc(), text.as_bytes());
-    let line_more = refuses_line_more(rt.alloc(), text.as_str());
-    assert!(rt; returns && line_more, "{returns} {line_more}");
-    Ok(())
+fn other_ends_of_lines_are_refused(rt: HostRuntime) {
+    assert!(rt; refuses_returns(rt.alloc()));
+    assert!(rt; refuses_line_more(rt.alloc()));
 }
 
 const FOUR_FIELDS: &str = "4k3/8/8/8/8/8/8/4K2R w K -";
@@ -67,7 +46,7 @@ const FOUR_FIELDS: &str = "4k3/8/8/8/8/8/8/4K2R w K -";
 const INITIAL: &str = "rnbqkbnr/pppppppp/8/8/8/8/PPPPPPPP/RNBQKBNR w KQkq - 0 1";
 
 /// Results, starts and movetexts of texts that are no export texts.
-const OTHERS: [[&str; 3]; 18] = [
+static OTHERS: [[&str; 3]; 18] = [
     ["*", "", "1. e2e4 *"],
     ["*", "", "1. e4  *"],
     ["*", "", "1.e4 *"],
@@ -90,10 +69,7 @@ const OTHERS: [[&str; 3]; 18] = [
 
 fn is_refused(alloc: Global, parts: &[&str; 3]) -> bool {
     let [outcome, fen, movetext] = parts;
-    match export(alloc, outcome, fen, movetext) {
-        Ok(text) => refuses(alloc, text.as_bytes()),
-        Err(_) => false,
-    }
+    refuses(alloc, export(outcome, fen, movetext).get())
 }
 
 /// The number of the first of these texts that isn't refused, from 0.

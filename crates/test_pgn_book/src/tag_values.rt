@@ -4,19 +4,19 @@ use crate::games::is_written_as;
 use chess_rules::Position;
 use pgn_book::{Game, Tag, TagError, Tags, read_pgn};
 use std::alloc::{AllocError, Global};
-use std::test::Fail;
+use test_streams::texts::{GameText, NO_MOVE};
 
-/// So many of this character.
-fn repeated(alloc: Global, character: char, count: usize) -> Result<String, AllocError> {
+/// So many of this part.
+fn repeated(alloc: Global, part: &str, count: usize) -> Result<String, AllocError> {
     let mut text = String::new(alloc);
     for _ in 0..count {
-        text.push(character)?;
+        text.push_str(part)?;
     }
     Ok(text)
 }
 
 /// What each value gets.
-const VALUES: [(Tag, &str, Result<(), TagError>); 8] = [
+static VALUES: [(Tag, &str, Result<(), TagError>); 8] = [
     (Tag::Site, "caf\u{e9}", Err(TagError::Text)),
     (Tag::Site, "a\nb", Err(TagError::Text)),
     (Tag::Date, "2024.5.1", Err(TagError::Date)),
@@ -38,7 +38,7 @@ fn first_other_answer(tags: &mut Tags) -> Option<usize> {
 }
 
 /// The tags after these calls.
-const SET: [(Tag, &str); 3] = [
+static SET: [(Tag, &str); 3] = [
     (Tag::Site, "?"),
     (Tag::Date, "2024.??.??"),
     (Tag::Event, ""),
@@ -61,23 +61,23 @@ fn values_are_checked(rt: HostRuntime) {
     assert_eq!(rt; first_other_value(&tags), None);
 }
 
-/// As White's name, so many of this character get this result.
+/// As White's name, so many of this part get this result.
 fn gets(
     alloc: Global,
     tags: &mut Tags,
-    character: char,
+    part: &str,
     count: usize,
     answer: Result<(), TagError>,
 ) -> bool {
-    match repeated(alloc, character, count) {
+    match repeated(alloc, part, count) {
         Ok(name) => tags.set(Tag::White, name.as_str()) == answer,
         Err(_) => false,
     }
 }
 
-/// White's name is so many of this character.
-fn has_name(alloc: Global, tags: &Tags, character: char, count: usize) -> bool {
-    match repeated(alloc, character, count) {
+/// White's name is so many of this part.
+fn has_name(alloc: Global, tags: &Tags, part: &str, count: usize) -> bool {
+    match repeated(alloc, part, count) {
         Ok(name) => tags.get(Tag::White) == name.as_str(),
         Err(_) => false,
     }
@@ -86,11 +86,10 @@ fn has_name(alloc: Global, tags: &Tags, character: char, count: usize) -> bool {
 #[test]
 fn a_long_value_is_refused(rt: HostRuntime) {
     let mut tags = Tags::new(rt.alloc());
-    let fits = gets(rt.alloc(), &mut tags, '"', 100, Ok(()));
-    let long = gets(rt.alloc(), &mut tags, '"', 101, Err(TagError::Long));
-    let feeds = gets(rt.alloc(), &mut tags, '\n', 200, Err(TagError::Text));
-    assert!(rt; fits && long && feeds, "{fits} {long} {feeds}");
-    assert!(rt; has_name(rt.alloc(), &tags, '"', 100));
+    assert!(rt; gets(rt.alloc(), &mut tags, "\"", 100, Ok(())));
+    assert!(rt; gets(rt.alloc(), &mut tags, "\"", 101, Err(TagError::Long)));
+    assert!(rt; gets(rt.alloc(), &mut tags, "\n", 200, Err(TagError::Text)));
+    assert!(rt; has_name(rt.alloc(), &tags, "\"", 100));
 }
 
 const ESCAPED: &str =
@@ -127,30 +126,31 @@ fn values_are_escaped(rt: HostRuntime) {
     assert!(rt; names_have_text(rt.alloc(), white, black, ESCAPED.as_bytes()));
 }
 
-/// The export text without a move, White's name being so many quotation marks.
-fn export_of_marks(alloc: Global, count: usize) -> Result<String, AllocError> {
-    let mut text = String::from_str(
-        alloc,
-        "[Event \"?\"]\n[Site \"?\"]\n[Date \"????.??.??\"]\n[Round \"?\"]\n[White \"",
-    )?;
-    for _ in 0..count {
-        text.push_str("\\\"")?;
-    }
-    text.push_str("\"]\n[Black \"?\"]\n[Result \"*\"]\n\n*\n\n")?;
-    Ok(text)
+/// White's name has the text of the game without a move in which it is written so.
+fn name_has_text(alloc: Global, white: &str, written: &str) -> bool {
+    let game = GameText {
+        white: written,
+        ..NO_MOVE
+    };
+    names_have_text(alloc, white, "?", game.bytes().get())
 }
 
-/// A hundred marks as White's name have the text in which each is escaped.
-fn marks_have_text(alloc: Global, marks: &str) -> bool {
-    match export_of_marks(alloc, 100) {
-        Ok(text) => names_have_text(alloc, marks, "?", text.as_bytes()),
+/// A hundred marks as White's name are each escaped.
+fn marks_are_escaped(alloc: Global, marks: &str) -> bool {
+    match repeated(alloc, "\\\"", 100) {
+        Ok(written) => name_has_text(alloc, marks, written.as_str()),
+        Err(_) => false,
+    }
+}
+
+fn marks_come_back(alloc: Global) -> bool {
+    match repeated(alloc, "\"", 100) {
+        Ok(marks) => marks_are_escaped(alloc, marks.as_str()),
         Err(_) => false,
     }
 }
 
 #[test]
-fn a_hundred_quotation_marks_come_back(rt: HostRuntime) -> Result<(), Fail> {
-    let marks = repeated(rt.alloc(), '"', 100)?;
-    assert!(rt; marks_have_text(rt.alloc(), marks.as_str()));
-    Ok(())
+fn a_hundred_quotation_marks_come_back(rt: HostRuntime) {
+    assert!(rt; marks_come_back(rt.alloc()));
 }

@@ -1,6 +1,6 @@
 //! Games that are written and read back.
 
-use crate::games::{CASTLING, EMPTY, Row, export, game, is_written_as};
+use crate::games::{CASTLING, EMPTY, Row, game, is_written_as};
 use pgn_book::{Game, read_pgn};
 use settle_core::Outcome;
 use std::alloc::Global;
@@ -25,10 +25,7 @@ fn has_text(alloc: Global, row: &Row<'_>, text: &[u8]) -> bool {
 
 /// The row's game has its text, which reads back.
 fn holds(alloc: Global, row: &Row<'_>) -> bool {
-    match export(alloc, row.outcome, row.start, row.movetext) {
-        Ok(text) => has_text(alloc, row, text.as_bytes()),
-        Err(_) => false,
-    }
+    has_text(alloc, row, row.text().get())
 }
 
 /// The number of the first row that doesn't hold, from 0.
@@ -47,7 +44,7 @@ const ONE_MOVE: Row<'static> = Row {
     ..EMPTY
 };
 
-const GAMES: [Row<'static>; 4] = [
+static GAMES: [Row<'static>; 4] = [
     EMPTY,
     ONE_MOVE,
     Row {
@@ -77,7 +74,7 @@ const MATED: Row<'static> = Row {
     ..EMPTY
 };
 
-const MATES: [Row<'static>; 3] = [
+static MATES: [Row<'static>; 3] = [
     MATED,
     Row {
         sign: Some(Outcome::WhiteWins),
@@ -94,7 +91,7 @@ fn mate_decides_whatever_the_sign(rt: HostRuntime) {
     assert_eq!(rt; first_failing(rt.alloc(), &MATES), None);
 }
 
-const TIMED: [Row<'static>; 3] = [
+static TIMED: [Row<'static>; 3] = [
     Row {
         moves: "e4 e5",
         clocks: &[Some([1, 30, 0]), Some([1, 29, 59])],
@@ -120,7 +117,7 @@ fn a_clock_comment_asks_for_the_number(rt: HostRuntime) {
     assert_eq!(rt; first_failing(rt.alloc(), &TIMED), None);
 }
 
-const SET_UP: [Row<'static>; 4] = [
+static SET_UP: [Row<'static>; 4] = [
     Row {
         start: CASTLING,
         moves: "O-O",
@@ -158,7 +155,7 @@ const FULL: &str =
 const BROKEN: &str =
     "1. a3 a6 2. b3 b6 3. c3 c6 4. d3 d6 5. e3 Nf6 6. Nf3 Ng8 7. Ng1 Nf6 8. Nf3 Ng8\n*";
 
-const FILLED: [Row<'static>; 2] = [
+static FILLED: [Row<'static>; 2] = [
     Row {
         moves: "a3 a6 b3 b6 c3 c6 d3 d6 e3 e6 Nf3 Nf6 Ng1 Ng8 Nf3 Nf6",
         movetext: FULL,

@@ -2,8 +2,8 @@
 ghost use Rattle.std.specs.Prelude.{All, ◌<◌, ◌≡◌, OnOk, true};
 ghost use Rattle.settle_core.specs.Settler.{has_seen};
 
+use crate::plain::Plain;
 use crate::told::{Told, WAITS, Way, told_of, way_of};
-use crate::trying::Plain;
 use chess_rules::{Position, Square, Status};
 use settle_core::{Outcome, Settler};
 use std::alloc::{AllocError, Global};

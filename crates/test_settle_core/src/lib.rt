@@ -1,4 +1,4 @@
-//! Tests of the public calls of `settle_core`.
+//! Tests of the public calls of `settle_core`, and how `dgt_vectors` too settles a picture slowly.
 #![tactic(auto)]
 
 #[cfg(test)]
@@ -16,11 +16,12 @@ mod last;
 #[cfg(test)]
 mod moves;
 #[cfg(test)]
+mod plain;
+#[cfg(test)]
 mod starts;
 #[cfg(test)]
 mod told;
-#[cfg(test)]
-mod trying;
+pub mod trying;
 #[cfg(test)]
 mod waits;
 #[cfg(test)]

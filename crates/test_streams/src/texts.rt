@@ -2,19 +2,85 @@
 
 use crate::bytes::Bytes;
 
-const ROSTER: &[u8] =
-    b"[Event \"?\"]\n[Site \"?\"]\n[Date \"????.??.??\"]\n[Round \"?\"]\n[White \"?\"]\n[Black \"?\"]\n[Result \"";
+/// The export text of a game. A test says what is its own; the rest is that of `NO_MOVE`.
+#[derive(Clone, Copy)]
+pub struct GameText<'a> {
+    /// The values of the tags, as they are written.
+    pub event: &'a str,
+    pub site: &'a str,
+    pub date: &'a str,
+    pub round: &'a str,
+    pub white: &'a str,
+    pub black: &'a str,
+    pub result: &'a str,
+    /// The FEN of the start; empty for the initial position.
+    pub fen: &'a str,
+    pub movetext: &'a str,
+}
 
-/// The text of a game whose other tags have the unknown value. The FEN is empty for the initial position.
-pub fn text_of(fen: &[u8], marker: &[u8], movetext: &[u8]) -> Bytes {
-    let mut text = Bytes::of(&[ROSTER, marker, b"\"]\n"]);
-    if !fen.is_empty() {
-        text.add(b"[FEN \"");
-        text.add(fen);
-        text.add(b"\"]\n[SetUp \"1\"]\n");
+/// Nothing is known, and no move is made.
+pub const NO_MOVE: GameText<'static> = GameText {
+    event: "?",
+    site: "?",
+    date: "????.??.??",
+    round: "?",
+    white: "?",
+    black: "?",
+    result: "*",
+    fen: "",
+    movetext: "*",
+};
+
+pub const ONE_MOVE: GameText<'static> = GameText {
+    movetext: "1. e4 *",
+    ..NO_MOVE
+};
+
+fn add_tag(text: &mut Bytes, name: &str, value: &str) {
+    for part in ["[", name, " \"", value, "\"]\n"] {
+        text.add(part.as_bytes());
     }
-    text.add(b"\n");
-    text.add(movetext);
-    text.add(b"\n\n");
-    text
+}
+
+impl GameText<'_> {
+    /// The whole text.
+    pub fn bytes(&self) -> Bytes {
+        let mut text = Bytes::new();
+        add_tag(&mut text, "Event", self.event);
+        add_tag(&mut text, "Site", self.site);
+        add_tag(&mut text, "Date", self.date);
+        add_tag(&mut text, "Round", self.round);
+        add_tag(&mut text, "White", self.white);
+        add_tag(&mut text, "Black", self.black);
+        add_tag(&mut text, "Result", self.result);
+        if !self.fen.is_empty() {
+            add_tag(&mut text, "FEN", self.fen);
+            add_tag(&mut text, "SetUp", "1");
+        }
+        for part in ["\n", self.movetext, "\n\n"] {
+            text.add(part.as_bytes());
+        }
+        text
+    }
+}
+
+/// These parts, and behind them the text of the game, if there is one.
+pub fn with_game(parts: &[&[u8]], game: &Option<GameText<'_>>) -> Bytes {
+    let mut bytes = Bytes::of(parts);
+    if let Some(game) = game {
+        bytes.add(game.bytes().get());
+    }
+    bytes
+}
+
+/// The text with a carriage return before each line feed.
+pub fn with_returns(text: &[u8]) -> Bytes {
+    let mut bytes = Bytes::new();
+    for byte in text {
+        if *byte == b'\n' {
+            bytes.add(b"\r");
+        }
+        bytes.add(&[*byte]);
+    }
+    bytes
 }

@@ -1,0 +1,109 @@
+//! What a session trusts, what a view tells, and that what is recorded reads back.
+ghost use Rattle.board_session.specs.History.{IsInRange};
+
+use board_session::laws::read_recorded;
+use board_session::{Change, Session, Taken, View};
+use chess_rules::Position;
+use dgt_frame::{Event, FaultKind, First, Message};
+use settle_core::Seen;
+use std::alloc::Global;
+use test_streams::texts::{GameText, NO_MOVE, ONE_MOVE};
+
+/// The dump of the initial position.
+fn dump() -> Event
+    ensures { IsInRange result }
+{
+    Event::Message(Message::Dump(Position::initial().picture()))
+}
+
+/// e2 is empty now.
+fn lift() -> Event
+    ensures { IsInRange result }
+{
+    Event::Message(Message::Update { field: 52, code: 0 })
+}
+
+/// Of the event the session says this.
+fn says(session: &mut Session, event: Event, asks_dump: bool, seen: Option<Seen>) -> bool
+    requires { IsInRange event }
+{
+    session.take(event) == Ok(Taken { asks_dump, seen })
+}
+
+/// A new session sees nothing in an update.
+fn trusts_nothing_yet(session: &mut Session) -> bool {
+    !session.trusted() && session.reading().is_none() && says(session, lift(), false, None)
+}
+
+fn trusts_a_dump(session: &mut Session) -> bool {
+    says(session, dump(), false, Some(Seen::Waits))
+        && says(session, lift(), false, Some(Seen::Waits))
+        && session.trusted()
+}
+
+fn trusts_nothing_after_a_fault(session: &mut Session) -> bool {
+    says(session, Event::Fault(FaultKind::Stray), true, None)
+        && says(session, lift(), false, None)
+        && !session.trusted()
+        && session.settler().moves().is_empty()
+}
+
+#[test]
+fn a_session_trusts_from_a_dump_to_a_fault(rt: HostRuntime) {
+    let mut session = Session::new(rt.alloc(), Position::initial(), First::White, false);
+    assert!(rt; trusts_nothing_yet(&mut session));
+    assert!(rt; trusts_a_dump(&mut session));
+    assert!(rt; trusts_nothing_after_a_fault(&mut session));
+}
+
+/// Of the event the view says this.
+fn changes(view: &mut View, event: Event, change: Change) -> bool
+    requires { IsInRange event }
+{
+    view.see(&event) == change
+}
+
+fn sees_a_lifted_pawn(view: &mut View, square: u8) -> bool {
+    changes(view, lift(), Change::Nothing)
+        && changes(view, dump(), Change::Picture)
+        && changes(view, dump(), Change::Nothing)
+        && changes(view, lift(), Change::Square { square, code: 0 })
+        && changes(view, lift(), Change::Nothing)
+}
+
+fn sees_the_next_dump_after_a_fault(view: &mut View) -> bool {
+    changes(view, Event::Fault(FaultKind::Stray), Change::Nothing)
+        && changes(view, lift(), Change::Nothing)
+        && changes(view, dump(), Change::Picture)
+        && changes(view, dump(), Change::Nothing)
+}
+
+#[test]
+fn a_view_tells_what_changes(rt: HostRuntime) {
+    let mut view = View::new(false);
+    assert!(rt; sees_a_lifted_pawn(&mut view, 52));
+    assert!(rt; sees_the_next_dump_after_a_fault(&mut view));
+    assert_eq!(rt; view.picture()[52], 1);
+    let mut turned = View::new(true);
+    assert!(rt; sees_a_lifted_pawn(&mut turned, 11));
+    assert_eq!(rt; turned.picture()[12], 1);
+}
+
+/// The text reads back as a game with so many moves.
+fn reads_back(alloc: Global, text: &GameText<'_>, moves: usize) -> bool {
+    match read_recorded(alloc, text.bytes().get()) {
+        Ok(game) => game.plies().len() == moves,
+        Err(_) => false,
+    }
+}
+
+const TIMED: GameText<'static> = GameText {
+    movetext: "1. e4 {[%clk 1:30:00]} 1... e5 {[%clk 1:29:59]} *",
+    ..NO_MOVE
+};
+
+#[test]
+fn a_recorded_text_reads_back(rt: HostRuntime) {
+    assert!(rt; reads_back(rt.alloc(), &ONE_MOVE, 1));
+    assert!(rt; reads_back(rt.alloc(), &TIMED, 2));
+}
