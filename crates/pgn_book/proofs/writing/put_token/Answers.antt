@@ -1,4 +1,5 @@
-use Rattle.std.proofs.Common.{[], ◌∷◌, arith, sym, ◌∙◌}
+use Prim.{search}
+use Rattle.std.proofs.Common.{[], ◌∷◌, arith, sym, ◌∙◌, rules}
 use Rattle.std.proofs.lemmas.List.{append-nil}
 use Rattle.pgn_book.specs.Flow.{piece}
 use Rattle.pgn_book.proofs.Flowing.{piece-fits, piece-over}
@@ -26,3 +27,6 @@ returns-else-column-token-le-LINE g c =
           (Adds-then _ _ _ _ _ _ at c.add-else-column-token-le-LINE.new.at c.add-else-column-token-le-LINE-2.new.at (10 ∷ []) token c.add-else-column-token-le-LINE.ensures.adds c.add-else-column-token-le-LINE-2.ensures.adds);
       column = sym p.1;
     }
+
+pub invariant_of-at-then-column-token-le-LINE : goal.invariant_of-at-then-column-token-le-LINE
+invariant_of-at-then-column-token-le-LINE c = search rules

@@ -8,5 +8,5 @@ returns-then-not-is_legal c =
     let l = c.loop-ply in (
       λ t. absurd cc,
       λ line. absurd (iff_false c.is_legal.ensures c.if-not-is_legal.true
-      (line_at l.position c.args.plies.now l.ply-index c.ply-item.result (omega arith) c.ply-item.is (l.invariant.0 line)).0),
+          (line_at l.position c.args.plies.now l.ply-index c.ply-item.result (omega arith) c.ply-item.is (l.invariant.0 line)).0),
     )
