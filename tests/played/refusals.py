@@ -268,7 +268,7 @@ def archive(folder):
 def plain(folder):
     """shellcheck warns of nothing."""
     scripts = [LIVE, PROGRAM, TOP / "bin" / "package"]
-    scripts += [TOP / "tests" / name for name in ["run", "samples", "growths.sh"]]
+    scripts += [TOP / "tests" / name for name in ["run", "samples", "allocations.sh"]]
     if shutil.which("shellcheck"):
         answer = subprocess.run(["shellcheck", "--severity=warning", *scripts], capture_output=True)
         same((answer.returncode, answer.stdout), (0, b""))

@@ -1,5 +1,5 @@
 #!/bin/sh
-# Fails each allocation of the calls in crates/test_growths in turn. The program is built once, so that its 1,000th allocation
+# Fails each allocation of the calls in crates/test_allocations in turn. The program is built once, so that its 1,000th allocation
 # fails, and run once for each number: run n spends 1,000 less n of them first, so that the calls' nth is the one. Each run
 # must say that one call was refused, left all as it was and was granted when made again, up to a run that meets no refusal;
 # and none after it may meet one.
@@ -8,7 +8,7 @@
 # 'N passed, M failed'. The status is 0 where none is broken.
 set -eu
 
-cd "$(dirname "$0")/../crates/test_growths"
+cd "$(dirname "$0")/../crates/test_allocations"
 calls=15
 runs=600
 folder=$(mktemp -d)
