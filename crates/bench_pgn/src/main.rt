@@ -198,13 +198,14 @@ fn main(rt: HostRuntime) -> ExitCode {
     let Ok(args) = env::args(&rt) else {
         return ExitCode::from(2);
     };
-    let Ok(words) = args.collect::<Vec<String>>(rt.alloc()) else {
+    let Ok(arguments) = args.collect::<Vec<String>>(rt.alloc()) else {
         return ExitCode::from(4);
     };
-    let what = words.get(1).map_or("", |word| word.as_str());
-    let count = words
-        .get(2)
-        .map_or(0, |word| word.as_str().parse::<u64>().unwrap_or(0));
+    let what = arguments.get(1).map_or("", |argument| argument.as_str());
+    let count = arguments.get(2).map_or(
+        0,
+        |argument| argument.as_str().parse::<u64>().unwrap_or(0),
+    );
     match what {
         "copy" => show_copy(&rt),
         "games" => show_games(&rt, count, false),

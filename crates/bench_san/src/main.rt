@@ -77,10 +77,10 @@ fn main(rt: HostRuntime) -> ExitCode {
     let Ok(args) = env::args(&rt) else {
         return ExitCode::from(1);
     };
-    let Ok(words) = args.collect::<Vec<String>>(rt.alloc()) else {
+    let Ok(arguments) = args.collect::<Vec<String>>(rt.alloc()) else {
         return ExitCode::from(1);
     };
-    let [_name, what, rounds] = words.as_slice() else {
+    let [_name, what, rounds] = arguments.as_slice() else {
         return ExitCode::from(2);
     };
     let Ok(rounds) = rounds.parse::<u32>() else {

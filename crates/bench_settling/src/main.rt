@@ -8,8 +8,8 @@ use std::{env, io};
 
 fn main(rt: HostRuntime) -> io::Result<()> {
     let alloc = rt.alloc();
-    let words = env::args(&rt)?.collect::<Vec<String>>(alloc)?;
-    let (Some(task), Some(count)) = (words.get(1), words.get(2)) else {
+    let arguments = env::args(&rt)?.collect::<Vec<String>>(alloc)?;
+    let (Some(task), Some(count)) = (arguments.get(1), arguments.get(2)) else {
         println!(rt; "pictures {}", work::waiting_pictures(alloc, 1000)?)?;
         println!(rt; "updates {}", work::waiting_updates(alloc, 1000)?)?;
         println!(rt; "plies {}", work::plies(alloc, 1000)?)?;

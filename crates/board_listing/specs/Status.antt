@@ -11,8 +11,8 @@ status_of TooLong = 1
 status_of Memory = 4
 
 -- the message about it
-abbrev pub words_of : ListError → List ℕ
-words_of Read = codes "read fault\n"
-words_of Write = codes "write fault\n"
-words_of TooLong = codes "input: too long\n"
-words_of Memory = codes "memory\n"
+abbrev pub message_of : ListError → List ℕ
+message_of Read = codes "read fault\n"
+message_of Write = codes "write fault\n"
+message_of TooLong = codes "input: too long\n"
+message_of Memory = codes "memory\n"

@@ -6,7 +6,7 @@ ghost use Rattle.board_listing.specs.Listings.{ListsAll, ListsFirst, ListsFront,
 ghost use Rattle.arrayvec.specs.ArrayVec.{array_vec_len};
 ghost use Rattle.board_listing.specs.Printers.{HasBegun};
 ghost use Rattle.board_listing.specs.Progress.{BreaksLines, BreaksOff, FinishBreaksOff, Finishes, GathersEvent, HasTaken, ListsChunk};
-ghost use Rattle.board_listing.specs.Status.{status_of, words_of};
+ghost use Rattle.board_listing.specs.Status.{status_of, message_of};
 
 use crate::listing::Listing;
 use crate::printer::Printer;
@@ -31,7 +31,7 @@ pub enum ListError {
 impl ListError {
     /// What the program says of it.
     pub fn line(self) -> &'static [u8]
-        ensures { result.now ≡ words_of self }
+        ensures { result.now ≡ message_of self }
     {
         match self {
             ListError::Read => b"read fault\n",

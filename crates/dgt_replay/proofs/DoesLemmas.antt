@@ -96,7 +96,7 @@ prints_memory fen status s lacks =
     }
 
 -- Another reason for the same refusal.
-refuses_too : (May Might : List ℕ → Type 0) (status : ℕ) (s : Streams) → ((words : List ℕ) → May words → Might words) → Refuses May status s → Refuses Might status s
+refuses_too : (May Might : List ℕ → Type 0) (status : ℕ) (s : Streams) → ((message : List ℕ) → May message → Might message) → Refuses May status s → Refuses Might status s
 refuses_too May Might status s too refuses = record {
   known = refuses.known;
   untouched = refuses.untouched;
@@ -133,7 +133,7 @@ does_refuse_setup arguments subcommand status s asked does rows asks nothing =
     let wants = chosen.2 in
     let text : Tag → Option Text = λ tag. first_of (option_of tag) rows in
     refuses_too (RefusesSetup (given options.fen) (tag_text options)) (RefusesSetup (first_of (codes "fen") rows) text) status s
-    (λ words refuses. refuses_alike (given options.fen) (first_of (codes "fen") rows) (tag_text options) text wants.fen wants.tags words refuses)
+    (λ message refuses. refuses_alike (given options.fen) (first_of (codes "fen") rows) (tag_text options) text wants.fen wants.tags message refuses)
     ((does_as subcommand _ status s chosen.1 does).1 (meets_nothing rows options wants nothing))
 
 pub does_follow : (arguments : List Text) (subcommand : Subcommand) (status : ℕ) (s : Streams) → AsksFor arguments subcommand → Does subcommand status s
@@ -149,7 +149,7 @@ does_refuse_start arguments subcommand status s asked does rows asks none =
     let fen = given chosen.0.fen in
     let same = chosen.2.fen in
     refuses_too (RefusesStart fen) (RefusesStart (first_of (codes "fen") rows)) status s
-    (λ words refuses. refuses_start_alike fen (first_of (codes "fen") rows) words same refuses)
+    (λ message refuses. refuses_start_alike fen (first_of (codes "fen") rows) message same refuses)
     ((does_as subcommand _ status s chosen.1 does).1 (subst HasNoStart (sym same) none))
 
 pub does_moves : (arguments : List Text) (subcommand : Subcommand) (status : ℕ) (s : Streams) → AsksFor arguments subcommand → Does subcommand status s

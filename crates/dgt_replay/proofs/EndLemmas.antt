@@ -3,7 +3,7 @@ use Rattle.std.proofs.Common.{◌≡◌, ℕ, List, [], Option, Some, None, Bool
 use Rattle.std.specs.Io.KnownBytes.{Keeps}
 use Rattle.board_session.specs.Recording.{limit}
 use Rattle.board_listing.specs.Listings.{EndsForMemory, ListingEnds, ListsAll, ListsFirst, ListsFront, ListsRead, ListsRefused, ReadsWithin}
-use Rattle.board_listing.specs.Status.{status_of, words_of}
+use Rattle.board_listing.specs.Status.{status_of, message_of}
 use Rattle.board_listing.specs.declared.stream.ListError.{ListError}
 use Rattle.board_listing.specs.declared.stream.ListError.TheVariants.{Memory, Read, Write, TooLong}
 use Rattle.std.proofs.KnownBytes.{Appends-kept}
@@ -117,15 +117,15 @@ true_or true b h = refl
 true_or false b h = h
 
 -- What is said of each refusal.
-pub tells_refused_listing : (error : ListError) (status : ℕ) (words : List ℕ) (said said' : Option (List ℕ)) (reader_failed out_failed err_failed : Bool) → status ≡ status_of error → words ≡ words_of error
-    → Says said said' err_failed words → (error ≡ Read → reader_failed ≡ true) → (error ≡ Write → out_failed ≡ true) → Tells status IsTooLong said said' reader_failed out_failed err_failed
-tells_refused_listing Read status words said said' reader_failed out_failed err_failed is are says reading working =
+pub tells_refused_listing : (error : ListError) (status : ℕ) (message : List ℕ) (said said' : Option (List ℕ)) (reader_failed out_failed err_failed : Bool) → status ≡ status_of error → message ≡ message_of error
+    → Says said said' err_failed message → (error ≡ Read → reader_failed ≡ true) → (error ≡ Write → out_failed ≡ true) → Tells status IsTooLong said said' reader_failed out_failed err_failed
+tells_refused_listing Read status message said said' reader_failed out_failed err_failed is are says reading working =
     tells_fault status IsTooLong said said' reader_failed out_failed err_failed is (inl (reading refl, subst (Says said said' err_failed) are says))
-tells_refused_listing Write status words said said' reader_failed out_failed err_failed is are says reading working =
+tells_refused_listing Write status message said said' reader_failed out_failed err_failed is are says reading working =
     tells_fault status IsTooLong said said' reader_failed out_failed err_failed is (inr (working refl, subst (Says said said' err_failed) are says))
-tells_refused_listing TooLong status words said said' reader_failed out_failed err_failed is are says reading working =
-    tells_refused status IsTooLong said said' reader_failed out_failed err_failed words is are says
-tells_refused_listing Memory status words said said' reader_failed out_failed err_failed is are says reading working =
+tells_refused_listing TooLong status message said said' reader_failed out_failed err_failed is are says reading working =
+    tells_refused status IsTooLong said said' reader_failed out_failed err_failed message is are says
+tells_refused_listing Memory status message said said' reader_failed out_failed err_failed is are says reading working =
     tells_memory status IsTooLong said said' reader_failed out_failed err_failed is (subst (Says said said' err_failed) are says)
 
 -- No refusal ends with status 0.

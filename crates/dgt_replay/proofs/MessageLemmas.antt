@@ -8,24 +8,24 @@ use Rattle.board_session.specs.Recording.{AppendsPart}
 use Rattle.dgt_replay.specs.Messages.{GivesText, Says, Tells}
 
 -- What a write says: all, or the first bytes where the stream has failed.
-pub part_put : {T : Type 0} (r : Result T WriteFault) (said said' : Option (List ℕ)) (words : List ℕ) → OnOk r (Appends said said' words)
-    → IfErr r (λ fault. (fault.written < length words) × Appends said said' (take fault.written words)) → AppendsPart said said' words
-part_put (Ok done) said said' words all part = (words, [], sym (append-nil words), all)
-part_put (Err fault) said said' words all part = (take fault.written words, drop fault.written words, sym (take-append-drop fault.written words), part.1)
+pub part_put : {T : Type 0} (r : Result T WriteFault) (said said' : Option (List ℕ)) (message : List ℕ) → OnOk r (Appends said said' message)
+    → IfErr r (λ fault. (fault.written < length message) × Appends said said' (take fault.written message)) → AppendsPart said said' message
+part_put (Ok done) said said' message all part = (message, [], sym (append-nil message), all)
+part_put (Err fault) said said' message all part = (take fault.written message, drop fault.written message, sym (take-append-drop fault.written message), part.1)
 
-pub says_put : {T : Type 0} (r : Result T WriteFault) (said said' : Option (List ℕ)) (failed : Bool) (words : List ℕ) → OnOk r (Appends said said' words)
-    → IfErr r (λ fault. (fault.written < length words) × Appends said said' (take fault.written words)) → OnErr r (failed ≡ true) → Says said said' failed words
-says_put {T} (Ok done) said said' failed words all part broken = (part_put {T = T} (Ok done) said said' words all part, λ e. all)
-says_put {T} (Err fault) said said' failed words all part broken =
-    (part_put {T = T} (Err fault) said said' words all part, λ e. let bad : true ≡ false = sym broken ∙ e in cc)
+pub says_put : {T : Type 0} (r : Result T WriteFault) (said said' : Option (List ℕ)) (failed : Bool) (message : List ℕ) → OnOk r (Appends said said' message)
+    → IfErr r (λ fault. (fault.written < length message) × Appends said said' (take fault.written message)) → OnErr r (failed ≡ true) → Says said said' failed message
+says_put {T} (Ok done) said said' failed message all part broken = (part_put {T = T} (Ok done) said said' message all part, λ e. all)
+says_put {T} (Err fault) said said' failed message all part broken =
+    (part_put {T = T} (Err fault) said said' message all part, λ e. let bad : true ≡ false = sym broken ∙ e in cc)
 
 same_bytes : (said : Option (List ℕ)) → Appends said said []
 same_bytes None = tt
 same_bytes (Some bytes) = sym (append-nil bytes)
 
 -- Where the stream has failed before, nothing more is said.
-pub says_nothing : (said : Option (List ℕ)) (failed : Bool) (words : List ℕ) → failed ≡ true → Says said said failed words
-says_nothing said failed words broken = (([], words, refl, same_bytes said), λ e. let bad : true ≡ false = sym broken ∙ e in cc)
+pub says_nothing : (said : Option (List ℕ)) (failed : Bool) (message : List ℕ) → failed ≡ true → Says said said failed message
+says_nothing said failed message broken = (([], message, refl, same_bytes said), λ e. let bad : true ≡ false = sym broken ∙ e in cc)
 
 -- What is said at each status.
 pub tells_done : (status : ℕ) (May : List ℕ → Type 0) (said : Option (List ℕ)) (reader_failed out_failed err_failed : Bool) → status ≡ 0
@@ -37,11 +37,11 @@ tells_done status May said reader_failed out_failed err_failed zero = record {
   memory = λ e. absurd (omega arith);
 }
 
-pub tells_refused : (status : ℕ) (May : List ℕ → Type 0) (said said' : Option (List ℕ)) (reader_failed out_failed err_failed : Bool) (words : List ℕ) → status ≡ 1
-    → May words → Says said said' err_failed words → Tells status May said said' reader_failed out_failed err_failed
-tells_refused status May said said' reader_failed out_failed err_failed words one may says = record {
+pub tells_refused : (status : ℕ) (May : List ℕ → Type 0) (said said' : Option (List ℕ)) (reader_failed out_failed err_failed : Bool) (message : List ℕ) → status ≡ 1
+    → May message → Says said said' err_failed message → Tells status May said said' reader_failed out_failed err_failed
+tells_refused status May said said' reader_failed out_failed err_failed message one may says = record {
   done = λ e. absurd (omega arith);
-  refused = λ e. (words, may, says);
+  refused = λ e. (message, may, says);
   fault = λ e. absurd (omega arith);
   memory = λ e. absurd (omega arith);
 }
@@ -75,16 +75,16 @@ text_out_of_memory status written written' said said' out_failed err_failed four
 }
 
 -- What is said where the output is flushed first.
-pub tells_or_fault : (status wanted : ℕ) (May : List ℕ → Type 0) (said said' : Option (List ℕ)) (reader_failed out_failed err_failed : Bool) (words : List ℕ)
-    → ((status ≡ wanted) × Says said said' err_failed words) ⊎ ((status ≡ 3) × (out_failed ≡ true) × Says said said' err_failed (codes "write fault\n"))
-    → (status ≡ wanted → Says said said' err_failed words → Tells status May said said' reader_failed out_failed err_failed)
+pub tells_or_fault : (status wanted : ℕ) (May : List ℕ → Type 0) (said said' : Option (List ℕ)) (reader_failed out_failed err_failed : Bool) (message : List ℕ)
+    → ((status ≡ wanted) × Says said said' err_failed message) ⊎ ((status ≡ 3) × (out_failed ≡ true) × Says said said' err_failed (codes "write fault\n"))
+    → (status ≡ wanted → Says said said' err_failed message → Tells status May said said' reader_failed out_failed err_failed)
     → Tells status May said said' reader_failed out_failed err_failed
-tells_or_fault status wanted May said said' reader_failed out_failed err_failed words (inl (is, says)) tells = tells is says
-tells_or_fault status wanted May said said' reader_failed out_failed err_failed words (inr (three, failed, says)) tells =
+tells_or_fault status wanted May said said' reader_failed out_failed err_failed message (inl (is, says)) tells = tells is says
+tells_or_fault status wanted May said said' reader_failed out_failed err_failed message (inr (three, failed, says)) tells =
     tells_fault status May said said' reader_failed out_failed err_failed three (inr (failed, says))
 
 -- The same with another message that may be written.
-pub tells_alike : (status : ℕ) (May Might : List ℕ → Type 0) (said said' : Option (List ℕ)) (reader_failed out_failed err_failed : Bool) → ((words : List ℕ) → May words → Might words)
+pub tells_alike : (status : ℕ) (May Might : List ℕ → Type 0) (said said' : Option (List ℕ)) (reader_failed out_failed err_failed : Bool) → ((message : List ℕ) → May message → Might message)
     → Tells status May said said' reader_failed out_failed err_failed → Tells status Might said said' reader_failed out_failed err_failed
 tells_alike status May Might said said' reader_failed out_failed err_failed alike tells = record {
   done = tells.done;
@@ -93,7 +93,7 @@ tells_alike status May Might said said' reader_failed out_failed err_failed alik
   memory = tells.memory;
 }
 
-pub never_done : {A : Type 0} (status wanted : ℕ) (said said' : Option (List ℕ)) (out_failed err_failed : Bool) (words : List ℕ) → 0 < wanted
-    → ((status ≡ wanted) × Says said said' err_failed words) ⊎ ((status ≡ 3) × (out_failed ≡ true) × Says said said' err_failed (codes "write fault\n")) → status ≡ 0 → A
-never_done status wanted said said' out_failed err_failed words some (inl (is, says)) zero = absurd (omega arith)
-never_done status wanted said said' out_failed err_failed words some (inr (three, failed, says)) zero = absurd (omega arith)
+pub never_done : {A : Type 0} (status wanted : ℕ) (said said' : Option (List ℕ)) (out_failed err_failed : Bool) (message : List ℕ) → 0 < wanted
+    → ((status ≡ wanted) × Says said said' err_failed message) ⊎ ((status ≡ 3) × (out_failed ≡ true) × Says said said' err_failed (codes "write fault\n")) → status ≡ 0 → A
+never_done status wanted said said' out_failed err_failed message some (inl (is, says)) zero = absurd (omega arith)
+never_done status wanted said said' out_failed err_failed message some (inr (three, failed, says)) zero = absurd (omega arith)

@@ -14,24 +14,24 @@ use Rattle.replay_arguments.specs.declared.setup.Refusal.{Refusal}
 use Rattle.replay_arguments.specs.declared.setup.Refusal.TheVariants.{Fen, Tag as OfTag}
 use Rattle.replay_arguments.specs.declared.arguments.RecordArguments.{RecordArguments}
 use Rattle.replay_arguments.specs.Setups.{ForMemory, IsFirst, MayHave, StartsAt, given, tag_text}
-use Rattle.dgt_replay.specs.Refusals.{RefusesSetup, RefusesStart, RefusesValue, refusal_words}
-use Rattle.dgt_replay.specs.Messages.{Says, Tells, fen_words, tag_words}
+use Rattle.dgt_replay.specs.Refusals.{RefusesSetup, RefusesStart, RefusesValue, refusal_message}
+use Rattle.dgt_replay.specs.Messages.{Says, Tells, fen_message, tag_message}
 use Rattle.dgt_replay.proofs.MessageLemmas.{tells_memory, tells_refused}
 
 match_map : {A : Type 0} (o : Option A) (P Q : A → Type 0) → ((a : A) → P a → Q a) → MatchOption o ⊥ P → MatchOption o ⊥ Q
 match_map None P Q f none = none
 match_map (Some a) P Q f p = f a p
 
-pub start_refused : (fen : Option Text) (error : FenError) → IfSome fen (λ text. RefusedFirst text error) → ((start : Parts) → StartsAt fen start → ⊥) → RefusesStart fen (fen_words error)
+pub start_refused : (fen : Option Text) (error : FenError) → IfSome fen (λ text. RefusedFirst text error) → ((start : Parts) → StartsAt fen start → ⊥) → RefusesStart fen (fen_message error)
 start_refused None error refused none = none initial refl
 start_refused (Some text) error refused none = (error, refused, refl)
 
 -- What is said of the first refusal.
 tells_value : (options : RecordArguments) (tag : Tag) (error : TagError) (status : ℕ) (said said' : Option (List ℕ)) (err_failed : Bool) → (error ≢ Memory) → IsFirst options (OfTag tag error)
-    → status ≡ 1 → Says said said' err_failed (tag_words tag error) → Tells status (RefusesSetup (given options.fen) (tag_text options)) said said' false false err_failed
+    → status ≡ 1 → Says said said' err_failed (tag_message tag error) → Tells status (RefusesSetup (given options.fen) (tag_text options)) said said' false false err_failed
 tells_value options tag error status said said' err_failed value first one says =
     let tagged = first.1 in
-    tells_refused status (RefusesSetup (given options.fen) (tag_text options)) said said' false false err_failed (tag_words tag error) one
+    tells_refused status (RefusesSetup (given options.fen) (tag_text options)) said said' false false err_failed (tag_message tag error) one
     (inr (
       first.0,
       (
@@ -40,16 +40,16 @@ tells_value options tag error status said said' err_failed value first one says 
         tag,
         tagged.2,
         tagged.3,
-        match_map (tag_text options tag) (λ text. Refuses tag text error) (λ text. (e : TagError) × (e ≢ Memory) × Refuses tag text e × (tag_words tag error ≡ tag_words tag e))
+        match_map (tag_text options tag) (λ text. Refuses tag text error) (λ text. (e : TagError) × (e ≢ Memory) × Refuses tag text e × (tag_message tag error ≡ tag_message tag e))
             (λ text refused. (error, value, refused, refl)) tagged.4,
       ),
     )) says
 
 pub tells_refusal : (options : RecordArguments) (refusal : Refusal) (status : ℕ) (said said' : Option (List ℕ)) (err_failed : Bool) → IsFirst options refusal → (ForMemory refusal → status ≡ 4)
-    → (¬ ForMemory refusal → status ≡ 1) → Says said said' err_failed (refusal_words refusal) → Tells status (RefusesSetup (given options.fen) (tag_text options)) said said' false false err_failed
+    → (¬ ForMemory refusal → status ≡ 1) → Says said said' err_failed (refusal_message refusal) → Tells status (RefusesSetup (given options.fen) (tag_text options)) said said' false false err_failed
 tells_refusal options (Fen error) status said said' err_failed first memory refused says =
-    tells_refused status (RefusesSetup (given options.fen) (tag_text options)) said said' false false err_failed (fen_words error) (refused (λ m. m))
-    (inl (match_map (given options.fen) (λ text. RefusedFirst text error) (λ text. (e : FenError) × RefusedFirst text e × (fen_words error ≡ fen_words e)) (λ text first. (error, first, refl)) first)) says
+    tells_refused status (RefusesSetup (given options.fen) (tag_text options)) said said' false false err_failed (fen_message error) (refused (λ m. m))
+    (inl (match_map (given options.fen) (λ text. RefusedFirst text error) (λ text. (e : FenError) × RefusedFirst text e × (fen_message error ≡ fen_message e)) (λ text first. (error, first, refl)) first)) says
 tells_refusal options (OfTag tag NoText) status said said' err_failed first memory refused says =
     let value : NoText ≢ Memory = λ e. cc in tells_value options tag NoText status said said' err_failed value first (refused value) says
 tells_refusal options (OfTag tag Long) status said said' err_failed first memory refused says =
@@ -66,10 +66,10 @@ refusal_status (OfTag tag Long) status memory refused = let value : Long ≢ Mem
 refusal_status (OfTag tag NoDate) status memory refused = let value : NoDate ≢ Memory = λ e. cc in inl (refused value)
 refusal_status (OfTag tag Memory) status memory refused = inr (memory refl)
 
-pub says_memory : (refusal : Refusal) (said said' : Option (List ℕ)) (err_failed : Bool) → ForMemory refusal → Says said said' err_failed (refusal_words refusal)
+pub says_memory : (refusal : Refusal) (said said' : Option (List ℕ)) (err_failed : Bool) → ForMemory refusal → Says said said' err_failed (refusal_message refusal)
     → Says said said' err_failed (codes "memory\n")
 says_memory (Fen error) said said' err_failed memory says = absurd memory
-says_memory (OfTag tag error) said said' err_failed memory says = let P : TagError → Type 0 = λ e. Says said said' err_failed (tag_words tag e) in subst P memory says
+says_memory (OfTag tag error) said said' err_failed memory says = let P : TagError → Type 0 = λ e. Says said said' err_failed (tag_message tag e) in subst P memory says
 
 -- The same reasons where the texts are the same.
 pub refuses_start_alike : (fen fen' : Option Text) (arguments : List ℕ) → fen ≡ fen' → RefusesStart fen arguments → RefusesStart fen' arguments

@@ -22,5 +22,5 @@ ChecksGame input written written' = IfSome input (λ bytes. (game : Content) × 
 
 -- The message about a refused text: it is longer than a text may be; or it is not, and is the export text of no game.
 abbrev pub RefusesText : Option (List ℕ) → List ℕ → Type 0
-RefusesText input words = (IfSome input (λ bytes. text_limit < length bytes) × IsTooLong words)
-    ⊎ (IfSome input (λ bytes. (length bytes ≤ text_limit) × ((game : Content) → Pgn game bytes → ⊥)) × (words ≡ codes "pgn: not export\n"))
+RefusesText input message = (IfSome input (λ bytes. text_limit < length bytes) × IsTooLong message)
+    ⊎ (IfSome input (λ bytes. (length bytes ≤ text_limit) × ((game : Content) → Pgn game bytes → ⊥)) × (message ≡ codes "pgn: not export\n"))

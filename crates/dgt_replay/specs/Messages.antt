@@ -13,18 +13,18 @@ use Rattle.board_session.specs.Recording.{AppendsPart}
 
 -- This message and no other was written, or a front of it where the stream has failed.
 abbrev pub Says : Option (List ℕ) → Option (List ℕ) → Bool → List ℕ → Type 0
-Says said said' failed words = AppendsPart said said' words × (failed ≡ false → Appends said said' words)
+Says said said' failed message = AppendsPart said said' message × (failed ≡ false → Appends said said' message)
 
 -- why a FEN is refused
-abbrev pub fen_words : FenError → List ℕ
-fen_words Form = codes "fen: form\n"
-fen_words Counters = codes "fen: counters\n"
-fen_words Placement = codes "fen: placement\n"
-fen_words Kings = codes "fen: kings\n"
-fen_words Pawns = codes "fen: pawns\n"
-fen_words Rights = codes "fen: rights\n"
-fen_words EnPassant = codes "fen: en passant\n"
-fen_words Check = codes "fen: check\n"
+abbrev pub fen_message : FenError → List ℕ
+fen_message Form = codes "fen: form\n"
+fen_message Counters = codes "fen: counters\n"
+fen_message Placement = codes "fen: placement\n"
+fen_message Kings = codes "fen: kings\n"
+fen_message Pawns = codes "fen: pawns\n"
+fen_message Rights = codes "fen: rights\n"
+fen_message EnPassant = codes "fen: en passant\n"
+fen_message Check = codes "fen: check\n"
 
 abbrev pub tag_name : Tag → List ℕ
 tag_name Event = codes "Event"
@@ -35,11 +35,11 @@ tag_name White = codes "White"
 tag_name Black = codes "Black"
 
 -- why the value of a tag is refused
-abbrev pub tag_words : Tag → TagError → List ℕ
-tag_words tag Text = codes "tag " ++ tag_name tag ++ codes ": text\n"
-tag_words tag Long = codes "tag " ++ tag_name tag ++ codes ": long\n"
-tag_words tag NoDate = codes "tag " ++ tag_name tag ++ codes ": date\n"
-tag_words tag Memory = codes "memory\n"
+abbrev pub tag_message : Tag → TagError → List ℕ
+tag_message tag Text = codes "tag " ++ tag_name tag ++ codes ": text\n"
+tag_message tag Long = codes "tag " ++ tag_name tag ++ codes ": long\n"
+tag_message tag NoDate = codes "tag " ++ tag_name tag ++ codes ": date\n"
+tag_message tag Memory = codes "memory\n"
 
 -- why a recording has ended, on a line after the bytes for the board; nothing where their stream has failed
 abbrev pub end_words : RecordError → List ℕ
@@ -51,12 +51,12 @@ end_words record_error.TooLong = codes "\ninput: too long\n"
 
 -- the message about a stream past its limit
 abbrev pub IsTooLong : List ℕ → Type 0
-IsTooLong words = words ≡ codes "input: too long\n"
+IsTooLong message = message ≡ codes "input: too long\n"
 
 -- What a subcommand says, by its status; it may refuse its input with this message.
 pub record Tells (status : ℕ) (May : List ℕ → Type 0) (said said' : Option (List ℕ)) (reader_failed out_failed err_failed : Bool) : Type 0 where
   pub done : status ≡ 0 → Keeps said said'
-  pub refused : status ≡ 1 → (words : List ℕ) × May words × Says said said' err_failed words
+  pub refused : status ≡ 1 → (message : List ℕ) × May message × Says said said' err_failed message
   pub fault : status ≡ 3 → ((reader_failed ≡ true) × Says said said' err_failed (codes "read fault\n"))
       ⊎ ((out_failed ≡ true) × Says said said' err_failed (codes "write fault\n"))
   pub memory : status ≡ 4 → Says said said' err_failed (codes "memory\n")

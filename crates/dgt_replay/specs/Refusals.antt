@@ -11,15 +11,15 @@ use Rattle.pgn_book.specs.Values.{Refuses}
 use Rattle.replay_arguments.specs.declared.setup.Refusal.{Refusal}
 use Rattle.replay_arguments.specs.declared.setup.Refusal.TheVariants.{Fen, Tag as OfTag}
 use Rattle.replay_arguments.specs.Setups.{MayHave, StartsAt, tags}
-use Rattle.dgt_replay.specs.Messages.{fen_words, tag_words}
+use Rattle.dgt_replay.specs.Messages.{fen_message, tag_message}
 
 -- The message about a refused FEN.
 abbrev pub RefusesStart : Option Text → List ℕ → Type 0
-RefusesStart fen message = MatchOption fen ⊥ (λ text. (error : FenError) × RefusedFirst text error × (message ≡ fen_words error))
+RefusesStart fen message = MatchOption fen ⊥ (λ text. (error : FenError) × RefusedFirst text error × (message ≡ fen_message error))
 
 -- The message about a refused value of a tag.
 abbrev pub RefusesValue : Tag → Option Text → List ℕ → Type 0
-RefusesValue tag text message = MatchOption text ⊥ (λ value. (error : TagError) × (error ≢ Memory) × Refuses tag value error × (message ≡ tag_words tag error))
+RefusesValue tag text message = MatchOption text ⊥ (λ value. (error : TagError) × (error ≢ Memory) × Refuses tag value error × (message ≡ tag_message tag error))
 
 -- The message about refused values of tags: it names the first that a tag may not have, in the order of the tags.
 abbrev pub RefusesTags : (Tag → Option Text) → List ℕ → Type 0
@@ -31,6 +31,6 @@ abbrev pub RefusesSetup : Option Text → (Tag → Option Text) → List ℕ →
 RefusesSetup fen text message = RefusesStart fen message ⊎ (((start : Parts) × StartsAt fen start) × RefusesTags text message)
 
 -- the message of a refusal
-abbrev pub refusal_words : Refusal → List ℕ
-refusal_words (Fen error) = fen_words error
-refusal_words (OfTag tag error) = tag_words tag error
+abbrev pub refusal_message : Refusal → List ℕ
+refusal_message (Fen error) = fen_message error
+refusal_message (OfTag tag error) = tag_message tag error

@@ -2,7 +2,7 @@
 ghost use Rattle.std.specs.Prelude.{◌≡◌, ◌≢◌, ◌≤◌, ◌++◌, ◌⊎◌, codes, length, false, true};
 ghost use Rattle.std.specs.Io.KnownBytes.{Keeps};
 ghost use Rattle.dgt_frame.specs.Watch.{inner_of, has_failed};
-ghost use Rattle.dgt_replay.specs.Messages.{Says, fen_words, tag_name, tag_words};
+ghost use Rattle.dgt_replay.specs.Messages.{Says, fen_message, tag_name, tag_message};
 
 use board_listing::{Lines, add};
 use chess_text::FenError;
@@ -11,12 +11,12 @@ use pgn_book::{Tag, TagError};
 use std::io::Write;
 
 /// Writes the message about a refusal, unless standard error has failed before, and returns its status.
-pub fn refused<E: Write>(err: &mut Watch<E>, words: &[u8], status: u8) -> u8
+pub fn refused<E: Write>(err: &mut Watch<E>, message: &[u8], status: u8) -> u8
     ensures status { result ≡ status }
-    ensures says { Says (E.contents (inner_of err.old)) (E.contents (inner_of err.new)) (has_failed err.new) words.now }
+    ensures says { Says (E.contents (inner_of err.old)) (E.contents (inner_of err.new)) (has_failed err.new) message.now }
 {
     if !err.failed() {
-        let _ = put(err, words);
+        let _ = put(err, message);
     }
     status
 }
@@ -25,22 +25,22 @@ pub fn refused<E: Write>(err: &mut Watch<E>, words: &[u8], status: u8) -> u8
 pub fn refused_run<O: Write, E: Write>(
     out: &mut Watch<O>,
     err: &mut Watch<E>,
-    words: &[u8],
+    message: &[u8],
     status: u8,
 ) -> u8
     requires { has_failed out.old ≡ false }
-    ensures ended { ((result ≡ status) × Says (E.contents (inner_of err.old)) (E.contents (inner_of err.new)) (has_failed err.new) words.now)
+    ensures ended { ((result ≡ status) × Says (E.contents (inner_of err.old)) (E.contents (inner_of err.new)) (has_failed err.new) message.now)
         ⊎ ((result ≡ 3) × (has_failed out.new ≡ true) × Says (E.contents (inner_of err.old)) (E.contents (inner_of err.new)) (has_failed err.new) (codes "write fault\n")) }
     ensures kept { Keeps (O.contents (inner_of out.old)) (O.contents (inner_of out.new)) }
 {
     if out.flush().is_err() {
         return refused(err, b"write fault\n", 3);
     }
-    refused(err, words, status)
+    refused(err, message, status)
 }
 
-fn words_of(error: FenError) -> &'static [u8]
-    ensures { result.now ≡ fen_words error }
+fn message_of(error: FenError) -> &'static [u8]
+    ensures { result.now ≡ fen_message error }
 {
     match error {
         FenError::Form => b"fen: form\n",
@@ -57,9 +57,9 @@ fn words_of(error: FenError) -> &'static [u8]
 /// Says why a FEN is refused, and returns the status.
 pub fn refused_fen<E: Write>(err: &mut Watch<E>, error: FenError) -> u8
     ensures status { result ≡ 1 }
-    ensures says { Says (E.contents (inner_of err.old)) (E.contents (inner_of err.new)) (has_failed err.new) (fen_words error) }
+    ensures says { Says (E.contents (inner_of err.old)) (E.contents (inner_of err.new)) (has_failed err.new) (fen_message error) }
 {
-    refused(err, words_of(error), 1)
+    refused(err, message_of(error), 1)
 }
 
 fn name_of(tag: Tag) -> &'static [u8]
@@ -93,7 +93,7 @@ fn refused_value<E: Write>(err: &mut Watch<E>, tag: Tag, reason: &[u8]) -> u8
 pub fn refused_tag<E: Write>(err: &mut Watch<E>, tag: Tag, error: TagError) -> u8
     ensures memory { error ≡ TagError.Memory → result ≡ 4 }
     ensures value { error ≢ TagError.Memory → result ≡ 1 }
-    ensures says { Says (E.contents (inner_of err.old)) (E.contents (inner_of err.new)) (has_failed err.new) (tag_words tag error) }
+    ensures says { Says (E.contents (inner_of err.old)) (E.contents (inner_of err.new)) (has_failed err.new) (tag_message tag error) }
 {
     match error {
         TagError::Text => refused_value(err, tag, b": text\n"),

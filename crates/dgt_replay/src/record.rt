@@ -7,7 +7,7 @@ ghost use Rattle.dgt_replay.specs.Does.{Records, Refuses};
 ghost use Rattle.dgt_replay.specs.Messages.{Says};
 ghost use Rattle.dgt_replay.specs.Recorded.{EndsFor, Fails, RecordsAndTells, report_line};
 ghost use Rattle.replay_arguments.specs.Setups.{ForMemory, Meets, MeetsNothing, given, tag_text};
-ghost use Rattle.dgt_replay.specs.Refusals.{RefusesSetup, refusal_words};
+ghost use Rattle.dgt_replay.specs.Refusals.{RefusesSetup, refusal_message};
 ghost use Rattle.dgt_replay.specs.Streams.{streams};
 
 use crate::messages::{refused, refused_fen, refused_tag};
@@ -23,7 +23,7 @@ use std::io::{Read, Write};
 fn refused_setup<E: Write>(err: &mut Watch<E>, refusal: Refusal) -> u8
     ensures memory { ForMemory refusal → result ≡ 4 }
     ensures refused { ¬ ForMemory refusal → result ≡ 1 }
-    ensures says { Says (E.contents (inner_of err.old)) (E.contents (inner_of err.new)) (has_failed err.new) (refusal_words refusal) }
+    ensures says { Says (E.contents (inner_of err.old)) (E.contents (inner_of err.new)) (has_failed err.new) (refusal_message refusal) }
 {
     match refusal {
         Refusal::Fen(error) => refused_fen(err, error),

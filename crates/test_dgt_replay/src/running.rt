@@ -21,7 +21,7 @@ pub struct Left {
 }
 
 /// The texts as arguments of the command line, after the name of the program.
-fn words_of(alloc: Global, texts: &[&str]) -> Result<Vec<String>, AllocError> {
+fn arguments_of(alloc: Global, texts: &[&str]) -> Result<Vec<String>, AllocError> {
     let mut arguments = Vec::new(alloc);
     arguments.push(String::from_str(alloc, "dgt_replay")?)?;
     for text in texts {
@@ -59,7 +59,7 @@ pub fn run_over(
     out: Sink,
     err: Sink,
 ) -> Option<Left> {
-    match words_of(alloc, texts) {
+    match arguments_of(alloc, texts) {
         Ok(arguments) => Some(run_with(alloc, arguments.as_slice(), source, out, err)),
         Err(_) => None,
     }

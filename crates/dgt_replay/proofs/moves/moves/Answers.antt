@@ -4,7 +4,7 @@ use Rattle.std.proofs.lemmas.List.Elements.{Contains-get_or}
 use Rattle.chess_rules.specs.declared.chess_move.Move.{Move}
 use Rattle.replay_arguments.specs.Setups.{given}
 use Rattle.dgt_replay.specs.Refusals.{RefusesStart}
-use Rattle.dgt_replay.specs.Messages.{fen_words}
+use Rattle.dgt_replay.specs.Messages.{fen_message}
 use Rattle.dgt_replay.proofs.MessageLemmas.{tells_fault, tells_refused}
 use Rattle.dgt_frame.specs.Watch.{has_failed}
 use Rattle.dgt_replay.proofs.EndLemmas.{true_or}
@@ -30,7 +30,7 @@ returns-clause-refuses g c none = absurd (none c.in-Ok.position ((c.start_of.ens
 
 pub returns-in-Err-clause-tells : goal.returns-in-Err-clause-tells
 returns-in-Err-clause-tells g c =
-    tells_refused c.refused_fen.result (RefusesStart (given c.args.fen)) _ _ _ _ _ (fen_words c.in-Err.error) c.refused_fen.ensures.status
+    tells_refused c.refused_fen.result (RefusesStart (given c.args.fen)) _ _ _ _ _ (fen_message c.in-Err.error) c.refused_fen.ensures.status
     (start_refused (given c.args.fen) c.in-Err.error c.in-Err.ensures.refusal (λ start starts. let bad = sym c.in-Err.is ∙ (c.start_of.ensures.start start).1 starts in cc)) c.refused_fen.ensures.says
 
 pub returns-then-is_err-clause-tells : goal.returns-then-is_err-clause-tells

@@ -3,7 +3,7 @@ use Rattle.std.proofs.KnownBytes.{Keeps-refl}
 use Rattle.dgt_frame.specs.Watch.{inner_of}
 use Rattle.replay_arguments.specs.Setups.{given}
 use Rattle.dgt_replay.specs.Refusals.{RefusesStart}
-use Rattle.dgt_replay.specs.Messages.{fen_words}
+use Rattle.dgt_replay.specs.Messages.{fen_message}
 use Rattle.dgt_replay.proofs.MessageLemmas.{tells_refused}
 use Rattle.dgt_replay.proofs.RefusalLemmas.{start_refused}
 use Rattle.dgt_replay.proofs.SetupLemmas.{ok_same, same_game}
@@ -24,6 +24,6 @@ pub returns-in-Err-clause-refuses : goal.returns-in-Err-clause-refuses
 returns-in-Err-clause-refuses g c none = record {
   known = inl c.refused_fen.ensures.status;
   untouched = (Keeps-refl (g.R.Read.remaining (inner_of c.args.reader.now)), Keeps-refl (g.O.Write.contents (inner_of c.args.out.now)));
-  tells = tells_refused c.refused_fen.result (RefusesStart (given c.args.options.now.fen)) _ _ _ _ _ (fen_words c.in-Err.error) c.refused_fen.ensures.status
+  tells = tells_refused c.refused_fen.result (RefusesStart (given c.args.options.now.fen)) _ _ _ _ _ (fen_message c.in-Err.error) c.refused_fen.ensures.status
       (start_refused (given c.args.options.now.fen) c.in-Err.error c.in-Err.ensures.refusal (λ start starts. let bad = sym c.in-Err.is ∙ (c.start_of.ensures.start start).1 starts in cc)) c.refused_fen.ensures.says;
 }

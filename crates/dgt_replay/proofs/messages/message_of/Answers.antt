@@ -1,6 +1,6 @@
 use Prim.{search}
 use Rattle.std.proofs.Common.{rules}
-use Rattle.dgt_replay.proofs.messages.words_of.Goals as goal
+use Rattle.dgt_replay.proofs.messages.message_of.Goals as goal
 
 pub returns-in-Kings : goal.returns-in-Kings
 returns-in-Kings c = search rules
