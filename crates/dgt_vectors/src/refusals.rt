@@ -297,11 +297,10 @@ fn what_was_taken_before_a_failed_read_is_written(rt: HostRuntime) {
     assert!(rt; stops_with_text(rt.alloc(), &OPENING, streams));
 }
 
-/// A recording whose reading fails has the whole text of the OPENING.
+/// A recording whose reading fails has the whole text of the row, and the board no more than its commands.
 fn stops_with_text(alloc: Global, row: &Row<'_>, streams: Streams) -> bool {
     match recording(alloc, row, streams) {
-        Some(got) => got.answer == Err(RecordError::Read)
-            && got.text_shown.get() == row.text().get(),
+        Some(got) => shows(&got, RecordError::Read, row.sent().get(), row.text().get()),
         None => false,
     }
 }

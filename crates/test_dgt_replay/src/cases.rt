@@ -82,10 +82,12 @@ pub fn output_of(case: &Case<'_>) -> Bytes {
     with_game(case.out, &case.game)
 }
 
-/// The run leaves the status, the output, flushed, and the text on standard error that the case tells.
+/// The run leaves the status, the output, all of it flushed, and the text on standard error that the case tells.
 pub fn leaves(alloc: Global, case: &Case<'_>) -> bool {
     match run_of(alloc, case) {
-        Some(left) => says(&left, case) && left.shown.get() == output_of(case).get(),
+        Some(left) => says(&left, case)
+            && left.shown.get() == output_of(case).get()
+            && left.out.len() == left.shown.len(),
         None => false,
     }
 }

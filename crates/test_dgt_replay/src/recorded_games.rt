@@ -223,6 +223,8 @@ const ONE_KING: &str = "8/8/8/8/8/8/8/4K3 w - - 0 1";
 
 const REFUSED_RECORD: Case<'static> = Case {
     input: &[INITIAL, E2_EMPTY, E4_PAWN],
+    more: 1,
+    unread: 1,
     status: 1,
     ..PLAIN
 };

@@ -22,16 +22,21 @@ static REFUSED_ARGUMENTS: [&[&str]; 10] = [
 /// Over no input.
 static NOTHING: Case<'static> = PLAIN;
 
-/// Over the capture of 1. e4.
+/// Over the capture of 1. e4 and one byte more, none of which is read.
 static ONE_MOVE: Case<'static> = Case {
     input: &[INITIAL, E2_EMPTY, E4_PAWN],
+    more: 1,
+    unread: 1,
     ..PLAIN
 };
 
-/// With these arguments the case has status 2 and something on standard error, and no output.
+/// With these arguments the case has status 2 and something on standard error, and no output, and nothing is read.
 fn are_refused(alloc: Global, arguments: &[&str], case: &Case<'_>) -> bool {
     match run_of(alloc, &Case { arguments, ..*case }) {
-        Some(left) => left.status == 2 && left.out.len() == 0 && left.err.len() > 0,
+        Some(left) => left.status == 2
+            && left.unread == case.unread
+            && left.out.len() == 0
+            && left.err.len() > 0,
         None => false,
     }
 }
@@ -61,7 +66,9 @@ fn are_answered(alloc: Global, arguments: &[&str]) -> bool {
 }
 
 fn help_is_printed(alloc: Global) -> bool {
-    are_answered(alloc, &["--help"]) && are_answered(alloc, &["record", "--help"])
+    are_answered(alloc, &["--help"])
+        && are_answered(alloc, &["help"])
+        && are_answered(alloc, &["record", "--help"])
 }
 
 /// Both arguments for the version print it.

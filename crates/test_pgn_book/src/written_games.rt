@@ -117,13 +117,18 @@ fn a_clock_comment_asks_for_the_number(rt: HostRuntime) {
     assert_eq!(rt; first_failing(rt.alloc(), &TIMED), None);
 }
 
-static SET_UP: [Row<'static>; 4] = [
-    Row {
-        start: CASTLING,
-        moves: "O-O",
-        movetext: "1. O-O *",
-        ..EMPTY
-    },
+/// White castles short, and the text of it as it stands in a file.
+static CASTLES: Row<'static> = Row {
+    start: CASTLING,
+    moves: "O-O",
+    movetext: "1. O-O *",
+    ..EMPTY
+};
+
+const CASTLED: &[u8] =
+    b"[Event \"?\"]\n[Site \"?\"]\n[Date \"????.??.??\"]\n[Round \"?\"]\n[White \"?\"]\n[Black \"?\"]\n[Result \"*\"]\n[FEN \"4k3/8/8/8/8/8/8/4K2R w K - 0 1\"]\n[SetUp \"1\"]\n\n1. O-O *\n\n";
+
+static SET_UP: [Row<'static>; 3] = [
     Row {
         start: CASTLING,
         moves: "Rf1",
@@ -146,6 +151,7 @@ static SET_UP: [Row<'static>; 4] = [
 
 #[test]
 fn another_start_is_set_up(rt: HostRuntime) {
+    assert!(rt; has_text(rt.alloc(), &CASTLES, CASTLED));
     assert_eq!(rt; first_failing(rt.alloc(), &SET_UP), None);
 }
 
