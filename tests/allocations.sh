@@ -21,7 +21,7 @@ while [ "$run" -le "$runs" ]; do
     run=$((run + 1))
 done
 
-# One step of the interpreter, which is slow here: the program as it is compiled with checks answers alone.
+# One step of the interpreter, which is slow here: only the program as it is compiled with checks is judged.
 rt try --steps 1 --fail-alloc 1000 --cases "$folder/runs" > "$folder/log" 2>&1 || true
 
 awk -v calls="$calls" -v runs="$runs" '
