@@ -4,7 +4,7 @@ use crate::captures::Signal::{self, Dump, Lift, Put, Raw, Time};
 use crate::captures::{INITIAL, bytes_of};
 use dgt_frame::First;
 use test_streams::bytes::Bytes;
-use test_streams::texts::{GameText, NO_MOVE};
+use test_streams::texts::text_of;
 
 /// A capture, how it is recorded, and what is expected.
 #[derive(Clone, Copy)]
@@ -39,13 +39,7 @@ impl<'a> Row<'a> {
 
     /// The whole text that is expected.
     pub fn text(&self) -> Bytes {
-        let game = GameText {
-            result: self.result,
-            fen: self.start,
-            movetext: self.movetext,
-            ..NO_MOVE
-        };
-        game.bytes()
+        text_of(self.result, self.start, self.movetext)
     }
 
     /// What the board is sent.

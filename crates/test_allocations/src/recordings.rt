@@ -8,8 +8,7 @@ use dgt_vectors::recording::{Recording, recorded, report_of};
 use dgt_vectors::row::{KINGS_PAWN_OPENING, PLAIN, Row, commands};
 use dgt_vectors::rows::rows_by_subject;
 use std::alloc::Global;
-use test_streams::bytes::Bytes;
-use test_streams::texts::{GameText, NO_MOVE};
+use test_streams::texts::text_of;
 
 /// The rook's move is a ply; castling takes its place, and no memory.
 const ROOK_FIRST: Row<'static> = Row {
@@ -84,23 +83,13 @@ fn is_whole(got: &Recording, row: &Row<'_>) -> bool {
         && got.text_shown.get() == row.text().get()
 }
 
-/// The text of the row's game with this movetext.
-fn front_text<'a>(row: &Row<'a>, movetext: &'a str) -> Bytes {
-    let game = GameText {
-        fen: row.start,
-        movetext,
-        ..NO_MOVE
-    };
-    game.bytes()
-}
-
 /// Out of memory is returned at a ply, and the text is that of the plies before it.
 fn is_front<'a>(got: &Recording, row: &Row<'a>, fronts: &[&'a str]) -> bool {
     if got.answer != Err(RecordError::Memory) || got.board_shown.get() != commands(0).get() {
         return false;
     }
     for front in fronts {
-        if got.text_shown.get() == front_text(row, front).get() {
+        if got.text_shown.get() == text_of("*", row.start, front).get() {
             return true;
         }
     }

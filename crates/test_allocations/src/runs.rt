@@ -115,10 +115,7 @@ fn is_done(case: &Case<'_>, left: &Left) -> bool {
 /// The output where the first ply was refused.
 fn front_of(case: &Case<'_>) -> Bytes {
     let game = match case.game {
-        Some(game) => Some(GameText {
-            movetext: NO_MOVE.movetext,
-            ..game
-        }),
+        Some(game) => Some(game.without_move()),
         None => None,
     };
     with_game(&[case.without_ply.as_bytes()], &game)

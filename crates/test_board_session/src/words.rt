@@ -17,7 +17,7 @@ use chess_text::read_fen;
 use std::alloc::Global;
 use test_streams::boards::{code_of, codes_of};
 use test_streams::bytes::Bytes;
-use test_streams::texts::{GameText, NO_MOVE};
+use test_streams::texts::text_of;
 
 /// Adds the bytes of two times: each two digits are one byte.
 fn add_times(bytes: &mut Bytes, times: &[u8]) {
@@ -76,13 +76,7 @@ fn text_with<'a>(fen: &'a str, movetext: &'a str) -> Bytes {
     for word in movetext.split_whitespace() {
         result = word;
     }
-    let game = GameText {
-        result,
-        fen,
-        movetext,
-        ..NO_MOVE
-    };
-    game.bytes()
+    text_of(result, fen, movetext)
 }
 
 /// The game that is recorded of these bytes has this movetext, and no dump was asked for.

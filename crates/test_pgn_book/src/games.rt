@@ -7,7 +7,7 @@ use pgn_book::{Game, Tags, write_pgn};
 use settle_core::{Outcome, Ply};
 use std::alloc::Global;
 use test_streams::bytes::Bytes;
-use test_streams::texts::{GameText, NO_MOVE};
+use test_streams::texts::text_of;
 
 /// White may castle short.
 pub const CASTLING: &str = "4k3/8/8/8/8/8/8/4K2R w K - 0 1";
@@ -39,19 +39,8 @@ pub const EMPTY: Row<'static> = Row {
 impl Row<'_> {
     /// The export text.
     pub fn text(&self) -> Bytes {
-        export(self.outcome, self.start, self.movetext)
+        text_of(self.outcome, self.start, self.movetext)
     }
-}
-
-/// An export text whose tags are unknown. The FEN is empty for the initial position.
-pub fn export<'a>(outcome: &'a str, fen: &'a str, movetext: &'a str) -> Bytes {
-    let game = GameText {
-        result: outcome,
-        fen,
-        movetext,
-        ..NO_MOVE
-    };
-    game.bytes()
 }
 
 /// The position of a FEN, or the initial position where it is empty.

@@ -1,10 +1,10 @@
 //! Texts that are no export texts.
 
-use crate::games::{CASTLING, export};
+use crate::games::CASTLING;
 use pgn_book::{PgnError, read_pgn};
 use std::alloc::Global;
 use test_streams::bytes::Bytes;
-use test_streams::texts::{ONE_MOVE, with_returns};
+use test_streams::texts::{ONE_MOVE, text_of, with_returns};
 
 fn refuses(alloc: Global, text: &[u8]) -> bool {
     matches!(read_pgn(alloc, text), Err(PgnError::NotExport))
@@ -69,7 +69,7 @@ static OTHERS: [[&str; 3]; 18] = [
 
 fn is_refused(alloc: Global, parts: &[&str; 3]) -> bool {
     let [outcome, fen, movetext] = parts;
-    refuses(alloc, export(outcome, fen, movetext).get())
+    refuses(alloc, text_of(outcome, fen, movetext).get())
 }
 
 /// The number of the first of these texts that isn't refused, from 0.

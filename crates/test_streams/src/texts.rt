@@ -42,7 +42,15 @@ fn add_tag(text: &mut Bytes, name: &str, value: &str) {
     }
 }
 
-impl GameText<'_> {
+impl<'a> GameText<'a> {
+    /// The same without a move.
+    pub fn without_move(&self) -> GameText<'a> {
+        GameText {
+            movetext: "*",
+            ..*self
+        }
+    }
+
     /// The whole text.
     pub fn bytes(&self) -> Bytes {
         let mut text = Bytes::new();
@@ -62,6 +70,17 @@ impl GameText<'_> {
         }
         text
     }
+}
+
+/// The text with these values, the other tags being unknown. The FEN is empty for the initial position.
+pub fn text_of<'a>(outcome: &'a str, fen: &'a str, movetext: &'a str) -> Bytes {
+    let game = GameText {
+        result: outcome,
+        fen,
+        movetext,
+        ..NO_MOVE
+    };
+    game.bytes()
 }
 
 /// These parts, and behind them the text of the game, if there is one.
