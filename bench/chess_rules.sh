@@ -1,5 +1,5 @@
 #!/usr/bin/env bash
-# Times legal_moves and play of the crate chess_rules by the program bench_rules, from outside, beside the plain Rust program
+# Times legal_moves and play of the crate chess_rules by `bench_calls rules`, from outside, beside the plain Rust program
 # bench/perft.rs, which counts the same: medians of eleven runs by turns. It is to take no more processor time. Beside both, where
 # it is installed, stockfish: an engine with bitboards, with the perft of its own, to depth 6 of the initial position.
 set -euo pipefail
@@ -7,15 +7,16 @@ cd "$(dirname "$0")/.."
 runs=${1:-11}
 . bench/timing.sh
 
-(cd crates/bench_rules && rt run > "$work/build.log")
+(cd crates/bench_calls && rt run -- rules > "$work/build.log")
+program=crates/bench_calls/out/bench_calls
 rustc -O -o "$work/plain" bench/perft.rs
 "$work/plain" > "$work/counts"
-cmp "$work/counts" crates/bench_rules/stdout
-echo "$(awk '{ sum += $3 } END { print sum }' crates/bench_rules/stdout) lines of legal moves"
+"$program" rules | cmp - "$work/counts"
+echo "$(awk '{ sum += $3 } END { print sum }' "$work/counts") lines of legal moves"
 
 processor
-heading bench_rules 'plain Rust'
-beside bench_rules 1.0 /dev/null crates/bench_rules/out/bench_rules "$work/plain"
+heading bench_calls 'plain Rust'
+beside rules 1.0 /dev/null "$program rules" "$work/plain"
 
 engine=$(command -v stockfish || command -v /usr/games/stockfish || true)
 if [ -n "$engine" ]; then

@@ -13,11 +13,11 @@ if [ -z "$extract" ]; then
     apt-get install -y pgn-extract > "$work/apt.log"
     extract=$(command -v pgn-extract || command -v /usr/games/pgn-extract)
 fi
-(cd crates/bench_pgn && rt run -- copy < stdin > "$work/build.log")
-program=crates/bench_pgn/out/bench_pgn
+(cd crates/bench_calls && rt run -- games texts 1 > "$work/build.log")
+program=crates/bench_calls/out/bench_calls
 
-"$program" games "$count" > "$work/games.pgn"
-"$program" squares "$count" > "$work/squares"
+"$program" games texts "$count" > "$work/games.pgn"
+"$program" games squares "$count" > "$work/squares"
 
 # silent but for complaints
 "$extract" -s "$work/games.pgn" -w1000000 -o "$work/san.pgn" 2> "$work/complaints"

@@ -1,19 +1,15 @@
-//! PGN texts to measure and to compare. `bench_pgn copy` reads a text from standard input and writes its game again.
-//! `bench_pgn games 100` writes a hundred games of random legal moves, one after another, and `bench_pgn squares 100`
-//! the same games' moves by their squares, a game a line.
-#![tactic(auto)]
+// Games of random legal moves, to compare: their texts, one after another, or their moves by their squares, a game a line.
 
 ghost use Rattle.std.specs.Prelude.{◌≡◌};
 
 use chess_rules::{Kind, Move, Position, Square};
 use chess_text::read_fen;
 use dgt_frame::{Hms, Watch};
-use pgn_book::{Game, Tag, Tags, read_pgn, write_pgn};
+use pgn_book::{Game, Tag, Tags, write_pgn};
 use settle_core::{Outcome, Ply};
 use std::alloc::{AllocError, Global};
+use std::io;
 use std::io::{BufWriter, Write};
-use std::process::ExitCode;
-use std::{env, io};
 
 /// Where games begin: the initial position, and positions with castling, en passant, promotion and Black to move.
 const STARTS: [&str; 5] = [
@@ -157,59 +153,38 @@ fn show_squares(rt: &HostRuntime, game: &Game) -> io::Result<()> {
     println!(rt; "")
 }
 
-fn show(rt: &HostRuntime, game: &Game) -> ExitCode {
-    let Ok(out) = BufWriter::new(rt.alloc(), io::writer(rt)) else {
-        return ExitCode::from(4);
-    };
-    let mut out = Watch::new(out);
-    if write_pgn(game, &mut out).is_err() || out.flush().is_err() {
-        return ExitCode::from(3);
-    }
-    ExitCode::SUCCESS
+fn show(rt: &HostRuntime, game: &Game) -> io::Result<()> {
+    let mut out = Watch::new(BufWriter::new(rt.alloc(), io::writer(rt))?);
+    let _ = write_pgn(game, &mut out);
+    out.flush()
 }
 
-fn show_games(rt: &HostRuntime, count: u64, squares: bool) -> ExitCode {
+fn show_game(rt: &HostRuntime, number: u32, squares: bool) -> io::Result<bool> {
+    let Some(game) = game(rt.alloc(), u64::from(number))? else {
+        return Ok(false);
+    };
+    if squares {
+        show_squares(rt, &game)?;
+    } else {
+        show(rt, &game)?;
+    }
+    Ok(true)
+}
+
+fn show_games(rt: &HostRuntime, count: u32, squares: bool) -> io::Result<bool> {
     for number in 0..count {
-        let Ok(Some(game)) = game(rt.alloc(), number) else {
-            return ExitCode::from(1);
-        };
-        if squares {
-            if show_squares(rt, &game).is_err() {
-                return ExitCode::from(3);
-            }
-        } else {
-            show(rt, &game);
+        if !show_game(rt, number, squares)? {
+            return Ok(false);
         }
     }
-    ExitCode::SUCCESS
+    Ok(true)
 }
 
-fn show_copy(rt: &HostRuntime) -> ExitCode {
-    let Ok(text) = io::read_to_string(rt.alloc(), rt.stdin()) else {
-        return ExitCode::from(3);
-    };
-    match read_pgn(rt.alloc(), text.as_bytes()) {
-        Ok(game) => show(rt, &game),
-        Err(_) => ExitCode::from(1),
-    }
-}
-
-fn main(rt: HostRuntime) -> ExitCode {
-    let Ok(args) = env::args(&rt) else {
-        return ExitCode::from(2);
-    };
-    let Ok(arguments) = args.collect::<Vec<String>>(rt.alloc()) else {
-        return ExitCode::from(4);
-    };
-    let what = arguments.get(1).map_or("", |argument| argument.as_str());
-    let count = arguments.get(2).map_or(
-        0,
-        |argument| argument.as_str().parse::<u64>().unwrap_or(0),
-    );
-    match what {
-        "copy" => show_copy(&rt),
-        "games" => show_games(&rt, count, false),
-        "squares" => show_games(&rt, count, true),
-        _ => ExitCode::from(2),
+/// Prints so many games. False where no such task is known.
+pub fn run(rt: &HostRuntime, task: &str, count: u32) -> io::Result<bool> {
+    match task {
+        "texts" => show_games(rt, count, false),
+        "squares" => show_games(rt, count, true),
+        _ => Ok(false),
     }
 }

@@ -1,6 +1,6 @@
 use Rattle.std.proofs.Common.{◌<◌}
 use Rattle.chess_rules.specs.Moves.{ListsLegal}
-use Rattle.bench_rules.proofs.count.+lines.Given as goal
+use Rattle.bench_calls.proofs.rules.+lines.Given as goal
 
 abbrev pub decreases-lines : goal.decreases-lines
 decreases-lines l = l.depth

@@ -2,6 +2,7 @@
 use chess_rules::{Move, Position, Square};
 use settle_core::{Seen, Settler};
 use std::alloc::{AllocError, Global};
+use std::io;
 
 /// The position after the move, or the position itself if it is not legal.
 fn after(position: &Position, from: u8, to: u8) -> Position {
@@ -30,7 +31,7 @@ fn is_waiting(seen: &Seen) -> bool {
 }
 
 /// Shows by turns the pictures after two moves and after two other moves; how many waited.
-pub fn waiting_pictures(alloc: Global, count: u32) -> Result<u32, AllocError> {
+fn waiting_pictures(alloc: Global, count: u32) -> Result<u32, AllocError> {
     let start = Position::initial();
     let one = after(&after(&start, 52, 36), 12, 28).picture();
     let other = after(&after(&start, 51, 35), 11, 27).picture();
@@ -50,7 +51,7 @@ pub fn waiting_pictures(alloc: Global, count: u32) -> Result<u32, AllocError> {
 }
 
 /// Lifts a pawn and puts it back, by turns; how many updates waited.
-pub fn waiting_updates(alloc: Global, count: u32) -> Result<u32, AllocError> {
+fn waiting_updates(alloc: Global, count: u32) -> Result<u32, AllocError> {
     let start = Position::initial();
     let mut settler = Settler::new(alloc, start);
     let _first = settler.see(&start.picture(), None)?;
@@ -69,7 +70,7 @@ pub fn waiting_updates(alloc: Global, count: u32) -> Result<u32, AllocError> {
 }
 
 /// Both sides move a knight out and back; how many plies were settled.
-pub fn plies(alloc: Global, count: u32) -> Result<u32, AllocError> {
+fn plies(alloc: Global, count: u32) -> Result<u32, AllocError> {
     let start = Position::initial();
     let white_out = after(&start, 62, 45);
     let both_out = after(&white_out, 6, 21);
@@ -91,7 +92,7 @@ pub fn plies(alloc: Global, count: u32) -> Result<u32, AllocError> {
 }
 
 /// Copies as many bytes as so many pictures have; how many pictures that were.
-pub fn copied(alloc: Global, count: u32) -> Result<u32, AllocError> {
+fn copied(alloc: Global, count: u32) -> Result<u32, AllocError> {
     let bytes = count as usize * 64;
     let source = vec![in alloc; 7u8; bytes]?;
     let mut target = vec![in alloc; 0u8; bytes]?;
@@ -100,4 +101,17 @@ pub fn copied(alloc: Global, count: u32) -> Result<u32, AllocError> {
         Some(7) => Ok(count),
         _ => Ok(0),
     }
+}
+
+/// Prints how many were done of so many.
+pub fn run(rt: &HostRuntime, task: &str, count: u32) -> io::Result<bool> {
+    let done = match task {
+        "pictures" => waiting_pictures(rt.alloc(), count)?,
+        "updates" => waiting_updates(rt.alloc(), count)?,
+        "plies" => plies(rt.alloc(), count)?,
+        "copy" => copied(rt.alloc(), count)?,
+        _ => return Ok(false),
+    };
+    println!(rt; "{task} {done}")?;
+    Ok(true)
 }

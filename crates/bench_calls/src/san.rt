@@ -1,12 +1,10 @@
-//! Writes or reads the SAN of a game's moves, so many rounds: `bench_san write 100` and `bench_san read 100`. The game is
-//! read from standard input, its moves in SAN, divided by spaces.
-#![tactic(auto)]
+// The SAN of a game's moves, written or read so many rounds. The game stands on standard input, its moves in SAN, divided by
+// spaces.
 
 use arrayvec::ArrayString;
 use chess_rules::{Move, Position};
 use chess_text::{read_san, write_san};
-use std::process::ExitCode;
-use std::{env, io};
+use std::io;
 
 /// A move, the position before it and its text.
 #[derive(Drop)]
@@ -44,14 +42,15 @@ fn read(ply: &Ply) -> usize {
     }
 }
 
-fn run(rt: &HostRuntime, what: &str, rounds: u32) -> io::Result<()> {
+/// Prints how many bytes were written, or texts read. False where a text is no legal move.
+pub fn run(rt: &HostRuntime, what: &str, rounds: u32) -> io::Result<bool> {
     let game = io::read_to_string(rt.alloc(), rt.stdin())?;
     let mut plies = Vec::new(rt.alloc());
     let mut position = Position::initial();
     for text in game.split_whitespace() {
         let Ok(mv) = read_san(&position, text.as_bytes()) else {
             println!(rt; "no legal move: {text}")?;
-            return Ok(());
+            return Ok(false);
         };
         if let Some(ply) = ply_of(&position, &mv, text) {
             plies.push(ply)?;
@@ -70,24 +69,5 @@ fn run(rt: &HostRuntime, what: &str, rounds: u32) -> io::Result<()> {
         }
     }
     println!(rt; "{} plies, {rounds} rounds, {what} {count}", plies.len())?;
-    Ok(())
-}
-
-fn main(rt: HostRuntime) -> ExitCode {
-    let Ok(args) = env::args(&rt) else {
-        return ExitCode::from(1);
-    };
-    let Ok(arguments) = args.collect::<Vec<String>>(rt.alloc()) else {
-        return ExitCode::from(1);
-    };
-    let [_name, what, rounds] = arguments.as_slice() else {
-        return ExitCode::from(2);
-    };
-    let Ok(rounds) = rounds.parse::<u32>() else {
-        return ExitCode::from(2);
-    };
-    match run(&rt, what.as_str(), rounds) {
-        Ok(()) => ExitCode::from(0),
-        Err(_) => ExitCode::from(1),
-    }
+    Ok(true)
 }

@@ -1,7 +1,7 @@
 use Rattle.std.proofs.Common.{sym, subst, Contains, arith}
 use Rattle.std.proofs.lemmas.List.Elements.{Contains-get_or}
 use Rattle.chess_rules.specs.declared.chess_move.Move.{Move}
-use Rattle.bench_rules.proofs.count.+lines.Goals as goal
+use Rattle.bench_calls.proofs.rules.+lines.Goals as goal
 
 -- a listed move is legal
 pub play-requires : goal.play-requires
