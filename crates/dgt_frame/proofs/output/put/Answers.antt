@@ -1,4 +1,5 @@
-use Rattle.std.proofs.Common.{arith, length, take, drop, ◌-◌}
+use Prim.{search}
+use Rattle.std.proofs.Common.{arith, length, take, drop, ◌-◌, rules}
 use Rattle.dgt_frame.specs.Watch.{inner_of, has_failed}
 use Rattle.dgt_frame.proofs.PutLemmas.{appends_on, within_on, works_on}
 use Rattle.dgt_frame.proofs.output.put.Goals as goal
@@ -11,3 +12,9 @@ loop-at-preserved g c = record {
   written = appends_on (g.W.Write.contents (inner_of c.args.out.now)) (g.W.Write.contents (inner_of c.loop-at.out)) (g.W.Write.contents (inner_of c.write.new.self))
       c.args.bytes.now c.loop-at.at c.in-Ok.n c.in-Ok.ensures.bound c.loop-at.invariant.written c.in-Ok.ensures.bytes;
 }
+
+pub returns-in_default-clause-fault : goal.returns-in_default-clause-fault
+returns-in_default-clause-fault g c = search rules
+
+pub returns-in_default-2-clause-fault : goal.returns-in_default-2-clause-fault
+returns-in_default-2-clause-fault g c = search rules
