@@ -1,6 +1,6 @@
 use Prim.{search}
 use Rattle.std.proofs.Common.{rules}
-use Rattle.std.proofs.Common.{ap, sym, ◌∙◌}
+use Rattle.std.proofs.Common.{ap, sym, refl, ◌∙◌}
 use Rattle.std.proofs.lemmas.Bool.{false≢true}
 use Rattle.settle_core.specs.Settler.{Sheet}
 use Rattle.settle_core.proofs.Steps.{fresh, judged, taken_stands, taken_answers}
@@ -30,4 +30,4 @@ pub returns-then-is_last-clause-stands : goal.returns-then-is_last-clause-stands
 returns-then-is_last-clause-stands c = search rules
 
 pub returns-then-is_last-clause-same : goal.returns-then-is_last-clause-same
-returns-then-is_last-clause-same c = search rules
+returns-then-is_last-clause-same c = λ _. (refl, refl)
