@@ -1,5 +1,5 @@
 -- How what was heard grows by a byte and by a chunk.
-use Rattle.std.proofs.Common.{arith, zero-add, Bool, true, false, not, cond, count_by, if◌then◌else◌, ◌≡◌, ℕ, ◌+◌, List, [], ◌∷◌, ◌++◌, map, reverse, take, drop, take-add, Option, Result, Ok, Err, MatchResult, refl, sym, ◌∙◌, ap, append_assoc}
+use Rattle.std.proofs.Common.{arith, zero-add, Bool, true, false, not, cond, count_by, if◌then◌else◌, ◌≡◌, ℕ, ◌+◌, List, [], ◌∷◌, ◌++◌, map, reverse, take, drop, take-add, Option, Result, Ok, Err, IfErr, OnOk, OnErr, MatchResult, refl, sym, ◌∙◌, ap, append_assoc}
 use Rattle.std.proofs.lemmas.List.{append-nil, map-append, reverse-append, take-append-drop}
 use Rattle.std.proofs.lemmas.List.Sums.{sum_by-append}
 use Rattle.std.specs.Prelude.{⊤}
@@ -58,6 +58,14 @@ kept_more old new setting taken offset event kept stands messages faults = recor
   faults = faults ∙ ap (λ (n : ℕ). if is_fault event then n + 1 else n) kept.faults ∙ sym (counted_fault (is_fault event) (faults_in taken))
       ∙ sym (counted_more is_fault taken offset event);
 }
+
+-- At a fault a dump is asked for.
+pub fault_taken : (recorder : Recorder) (setting : Setting) (taken : List Timed) (offset : ℕ) (event : Event) (sent sent' : Option (List ℕ))
+    (result : Result ⊤ RecordError) → Kept recorder setting (taken ++ at offset event ∷ []) → is_fault event ≡ true → IfErr result (λ error. error ≡ Board)
+    → OnOk result (Appends sent sent' (0x42 ∷ [])) → OnErr result (AppendsPart sent sent' (0x42 ∷ []))
+    → TakesEvent recorder setting taken offset event result sent sent'
+fault_taken recorder setting taken offset event sent sent' (Ok done) kept fault cause sends part = (kept, rw fault sends)
+fault_taken recorder setting taken offset event sent sent' (Err error) kept fault cause sends part = rw cause (kept, rw fault part, fault)
 
 pub event_heard : (recorder : Recorder) (setting : Setting) (before sent sent' : Option (List ℕ)) (read : List ℕ) (offset : ℕ) (taken : List Timed) (event : Event)
     (result : Result ⊤ RecordError) → Decoded recorder.decoder read (taken ++ at offset event ∷ []) → Appends before sent (commands taken)

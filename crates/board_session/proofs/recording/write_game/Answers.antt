@@ -1,4 +1,5 @@
-use Rattle.std.proofs.Common.{sym, ◌∙◌}
+use Prim.{search}
+use Rattle.std.proofs.Common.{rules, sym, ◌∙◌}
 use Rattle.board_session.proofs.StreamLemmas.{text_flushed, text_put}
 use Rattle.board_session.proofs.recording.write_game.Goals as goal
 use Rattle.board_session.proofs.recording.write_game.Goals.{then-is_err-via-then-is_err, then-is_err-via-else-is_err+then-is_err-2}
@@ -11,3 +12,9 @@ returns-then-is_err-clause-text g c =
       | then-is_err-via-else-is_err+then-is_err-2 w ↦
           rw w.out-is (text_flushed c.args.game.now _ _ _ c.write_pgn.result (sym c.is_err.ensures.value ∙ w.if-is_err.false) c.write_pgn.ensures.ok w.flush.ensures.bytes)
     ]
+
+pub returns-clause-text : goal.returns-clause-text
+returns-clause-text g c = search rules
+
+pub returns-clause-working : goal.returns-clause-working
+returns-clause-working g c = search rules
