@@ -12,14 +12,15 @@ use Rattle.board_session.specs.View.{Views}
 use Rattle.board_session.proofs.HearLemmas.{past_more}
 use Rattle.chess_text.specs.declared.placement_text.PlacementText.{PlacementText}
 use Rattle.chess_text.specs.KeptRanks.{picture_in}
+use Rattle.board_listing.specs.EventLines.{line_of}
 use Rattle.board_listing.specs.PictureLines.{placement_line}
 use Rattle.board_listing.specs.declared.follower.Follower.{Follower}
 use Rattle.board_listing.specs.declared.printer.Printer.{Printer}
-use Rattle.board_listing.specs.declared.printer.Printer.TheVariants.{Pictures as EachPicture, Game as EachMove}
+use Rattle.board_listing.specs.declared.printer.Printer.TheVariants.{Events as EachEvent, Pictures as EachPicture, Game as EachMove}
 use Rattle.board_listing.specs.declared.listing.Listing.TheVariants.{Events, Pictures, Game}
 use Rattle.board_listing.specs.Followers.{AddsEvent, HasFollowed}
 use Rattle.board_listing.specs.Printers.{AddsLines}
-use Rattle.board_listing.proofs.LineLemmas.{game_more, pictures_added, placed}
+use Rattle.board_listing.proofs.LineLemmas.{each_more, game_more, pictures_added, placed}
 
 -- What a view knows and a kept placement has, whatever events there were.
 abbrev pub Draws : View → PlacementText → Bool → List Event → Type 0
@@ -96,6 +97,11 @@ picture_adds old view new kept kept' x lines picture is views shown last same =
     ) in
     subst P (sym is) (pictures_by view new kept kept' x lines (Some (picture_in kept')) draws)
 
+event_by : (x : Timed) (lines lines' : List ℕ) → lines' ≡ lines ++ line_of x → AddsLines EachEvent lines x EachEvent lines'
+event_by x lines lines' added Events events follows = (tt, (line_of x, added, λ text has. each_more events x text has))
+event_by x lines lines' added (Pictures rotated) events follows = absurd follows
+event_by x lines lines' added (Game start first rotated) events follows = absurd follows
+
 game_by : (follower new : Follower) (x : Timed) (lines lines' : List ℕ) → AddsEvent follower lines x new lines' → AddsLines (EachMove follower) lines x (EachMove new) lines'
 game_by follower new x lines lines' adds Events events follows = absurd follows
 game_by follower new x lines lines' adds (Pictures rotated) events follows = absurd follows
@@ -106,6 +112,12 @@ game_by follower new x lines lines' adds (Game start first rotated) events follo
       subst P (sym (past_more events x.offset x.event)) added.0,
       (added.1.0, added.1.1, λ text is. game_more setting events x text added.1.0 is added.1.2),
     )
+
+-- The line of the event was added.
+pub event_adds : (old : Printer) (x : Timed) (lines lines' : List ℕ) → old ≡ EachEvent → lines' ≡ lines ++ line_of x → AddsLines old lines x old lines'
+event_adds old x lines lines' is added =
+    let P : Printer → Type 0 = λ l. AddsLines l lines x l lines' in
+    subst P (sym is) (event_by x lines lines' added)
 
 -- The follower has followed the event.
 pub game_adds : {E : Type 0} (r : Result ⊤ E) (old : Printer) (follower new : Follower) (x : Timed) (lines lines' : List ℕ) → old ≡ EachMove follower

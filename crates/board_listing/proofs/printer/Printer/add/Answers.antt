@@ -1,5 +1,5 @@
 use Rattle.dgt_frame.specs.Streams.{Timed}
-use Rattle.board_listing.proofs.PrinterLemmas.{game_adds, none_adds, square_adds}
+use Rattle.board_listing.proofs.PrinterLemmas.{event_adds, game_adds, none_adds, square_adds}
 use Rattle.board_listing.proofs.printer.Printer.add.Goals as goal
 
 pub returns-in-Game-clause-ok : goal.returns-in-Game-clause-ok
@@ -18,3 +18,8 @@ returns-in-Square-clause-ok c =
     rw c.add_placement.ensures
     (square_adds c.args.self.now c.in-Pictures.view c.see.new.self c.in-Pictures.placement c.change.new.self x c.args.lines.now.items c.in-Square.square c.in-Square.code
     c.in-Pictures.is c.in-Square.ensures.views c.in-Square.ensures.shown c.change.ensures)
+
+pub returns-in-Events-clause-ok : goal.returns-in-Events-clause-ok
+returns-in-Events-clause-ok c =
+    let x : Timed = record { offset = c.args.offset; event = c.args.event.now } in
+    event_adds c.args.self.now x c.args.lines.now.items c.add_line.new.lines.items c.in-Events.is c.add_line.ensures
