@@ -1,6 +1,5 @@
-use Prim.{search}
-use Rattle.std.proofs.Common.{rules}
+use Rattle.std.proofs.Common.{refl}
 use Rattle.replay_arguments.proofs.arguments.side_of.Goals as goal
 
 pub returns-in-None : goal.returns-in-None
-returns-in-None c = search rules
+returns-in-None c = rw c.in-None.is refl
