@@ -1,6 +1,5 @@
-use Prim.{search}
-use Rattle.std.proofs.Common.{rules}
+use Rattle.std.proofs.Common.{refl}
 use Rattle.dgt_replay.proofs.messages.message_of.Goals as goal
 
 pub returns-in-Kings : goal.returns-in-Kings
-returns-in-Kings c = search rules
+returns-in-Kings c = rw c.in-Kings.is refl
