@@ -1,5 +1,4 @@
-use Prim.{search}
-use Rattle.std.proofs.Common.{[], rules, arith, refl}
+use Rattle.std.proofs.Common.{[], rules, arith}
 use Rattle.std.proofs.lemmas.List.{length-take-le}
 use Rattle.std.proofs.lemmas.Result.{err_from_is_err_and}
 use Rattle.std.specs.Io.KnownBytes.{Consumes, IsAtEnd}
@@ -52,12 +51,3 @@ chunks-preserved g c =
           let hears = c.in_ok-take_chunk.ensures.hears setting before reads.0 reads.1 reads.4 in
           goes_on c.take_chunk.new.self setting _ _ _ before _ reads.0 c.read_chunk.new.buffer _ c.in-Some.chunk c.chunks.total _ reads.3 gives c.if-chunk.false reads.2 hears.1;
     }
-
-pub returns-in_default-clause-board_blamed : goal.returns-in_default-clause-board_blamed
-returns-in_default-clause-board_blamed g c = search rules
-
-pub returns-in_default-clause-ok : goal.returns-in_default-clause-ok
-returns-in_default-clause-ok g c = tt
-
-pub returns-in_default-clause-reader_blamed : goal.returns-in_default-clause-reader_blamed
-returns-in_default-clause-reader_blamed g c = λ failed. refl
