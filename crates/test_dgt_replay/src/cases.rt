@@ -56,13 +56,11 @@ pub const PLAIN: Case<'static> = Case {
     err: b"",
 };
 
-/// Runs a case, where there is memory for its arguments.
-pub fn run_of(alloc: Global, case: &Case<'_>) -> Option<Left> {
-    let input = with_game(case.input, &case.text);
-    let source = Source::new(input.get())
+/// Runs a case with this input and output in the place of its own, where there is memory for its arguments.
+pub fn run_between(alloc: Global, case: &Case<'_>, input: &[u8], out: Sink) -> Option<Left> {
+    let source = Source::new(input)
         .and_then(case.more, case.like)
         .failing(case.fails);
-    let out = Sink::new(case.room).flushing(case.flushes);
     run_over(
         alloc,
         case.arguments,
@@ -70,6 +68,16 @@ pub fn run_of(alloc: Global, case: &Case<'_>) -> Option<Left> {
         out,
         Sink::new(case.error_room),
     )
+}
+
+/// Runs a case with this output in the place of its own.
+pub fn run_into(alloc: Global, case: &Case<'_>, out: Sink) -> Option<Left> {
+    run_between(alloc, case, with_game(case.input, &case.text).get(), out)
+}
+
+/// Runs a case, where there is memory for its arguments.
+pub fn run_of(alloc: Global, case: &Case<'_>) -> Option<Left> {
+    run_into(alloc, case, Sink::new(case.room).flushing(case.flushes))
 }
 
 /// The status is that of the case, and so is what stands on standard error, and what isn't read.

@@ -1,8 +1,9 @@
 //! What `check` says of texts.
 
-use crate::cases::{Case, PLAIN, first_unlike, leaves};
+use crate::cases::{Case, PLAIN, first_unlike, run_between, says};
 use crate::inputs::CASTLED;
 use std::alloc::Global;
+use test_streams::streams::Sink;
 use test_streams::texts::{GameText, NO_MOVE, ONE_MOVE, with_returns};
 
 const CHECK: Case<'static> = Case {
@@ -144,16 +145,12 @@ static OTHER_TEXTS: [Case<'static>; 7] = [
 
 static OTHER_TEXT: Case<'static> = NOT_EXPORT;
 
-/// These bytes are refused.
+/// These bytes are refused, with nothing on the output.
 fn is_not_export(alloc: Global, text: &[u8]) -> bool {
-    let parts = [text];
-    leaves(
-        alloc,
-        &Case {
-            input: &parts,
-            ..OTHER_TEXT
-        },
-    )
+    match run_between(alloc, &OTHER_TEXT, text, Sink::new(2048)) {
+        Some(left) => says(&left, &OTHER_TEXT) && left.out.len() == 0,
+        None => false,
+    }
 }
 
 /// A carriage return before each line feed.

@@ -1,12 +1,13 @@
 //! Streams that fail.
 
-use crate::cases::{Case, PLAIN, ends, first_unlike, output_of, run_of, says};
+use crate::cases::{Case, PLAIN, ends, first_unlike, output_of, run_between, run_into, says};
 use crate::inputs::{
     E2_EMPTY, E4_PAWN, INITIAL, INITIAL_LINE, INITIAL_PLACEMENT, KINGS_PAWN_PLACEMENT,
     LIFTED_PLACEMENT,
 };
 use std::alloc::Global;
 use test_streams::bytes::Bytes;
+use test_streams::streams::Sink;
 use test_streams::texts::{NO_MOVE, ONE_MOVE};
 
 /// The input fails after 1. e4.
@@ -98,7 +99,7 @@ static FAILED_WRITES: [Case<'static>; 6] = [
 
 /// With room for ten bytes, the output of the case is all that stands.
 fn fills(alloc: Global, case: &Case<'_>) -> bool {
-    match run_of(alloc, &Case { room: 10, ..*case }) {
+    match run_into(alloc, case, Sink::new(10)) {
         Some(left) => says(&left, case) && left.out.get() == output_of(case).get(),
         None => false,
     }
@@ -106,11 +107,7 @@ fn fills(alloc: Global, case: &Case<'_>) -> bool {
 
 /// Where the flush fails, the output of the case is the first ten bytes that stand.
 fn fails_at_flush(alloc: Global, case: &Case<'_>) -> bool {
-    let unflushed = Case {
-        flushes: false,
-        ..*case
-    };
-    match run_of(alloc, &unflushed) {
+    match run_into(alloc, case, Sink::new(2048).flushing(false)) {
         Some(left) => says(&left, case) && left.out.front(10) == output_of(case).get(),
         None => false,
     }
@@ -217,13 +214,8 @@ static UNREAD: Case<'static> = Case {
 
 /// Where a read fails after these bytes, these lines stand.
 fn follows_front(alloc: Global, front: &[u8], lines: &[u8]) -> bool {
-    let parts = [front];
-    let case = Case {
-        input: &parts,
-        ..UNREAD
-    };
-    match run_of(alloc, &case) {
-        Some(left) => says(&left, &case) && left.shown.get() == lines,
+    match run_between(alloc, &UNREAD, front, Sink::new(2048)) {
+        Some(left) => says(&left, &UNREAD) && left.shown.get() == lines,
         None => false,
     }
 }
@@ -260,7 +252,7 @@ static UNWRITTEN: Case<'static> = Case {
 
 /// With room for so many bytes, this front of the lines is all that stands.
 fn fills_front(alloc: Global, room: usize, front: &[u8]) -> bool {
-    match run_of(alloc, &Case { room, ..UNWRITTEN }) {
+    match run_into(alloc, &UNWRITTEN, Sink::new(room)) {
         Some(left) => says(&left, &UNWRITTEN) && left.out.get() == front,
         None => false,
     }
@@ -296,7 +288,7 @@ const FAILED_ERROR: Case<'static> = Case {
 };
 
 /// Nothing is written after a failure, and only a status of 0 changes.
-static FAILED_ERRORS: [Case<'static>; 9] = [
+static FAILED_ERRORS: [Case<'static>; 10] = [
     Case {
         arguments: &["record"],
         error_room: 0,
@@ -361,19 +353,18 @@ static FAILED_ERRORS: [Case<'static>; 9] = [
         status: 2,
         ..FAILED_ERROR
     },
+    // a read fails too
+    Case {
+        arguments: &["show"],
+        fails: true,
+        error_room: 0,
+        status: 3,
+        out: &[INITIAL_LINE, b"71 update 52 0\n76 update 36 1\n"],
+        ..FAILED_ERROR
+    },
 ];
-
-/// A read fails, and standard error too.
-static READ_UNTOLD: Case<'static> = Case {
-    arguments: &["show"],
-    fails: true,
-    error_room: 0,
-    status: 3,
-    ..FAILED_ERROR
-};
 
 #[test]
 fn standard_error_fails(rt: HostRuntime) {
     assert_eq!(rt; first_unlike(rt.alloc(), &[&FAILED_ERRORS]), None);
-    assert!(rt; ends(rt.alloc(), &READ_UNTOLD));
 }

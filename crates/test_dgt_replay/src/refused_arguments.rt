@@ -1,9 +1,10 @@
 //! Arguments that are refused, help, and the version.
 
-use crate::cases::{Case, PLAIN, first_unlike, run_of};
+use crate::cases::{Case, PLAIN, first_unlike};
 use crate::inputs::{E2_EMPTY, E4_PAWN, INITIAL};
-use crate::running::run_with;
+use crate::running::{Left, run_over, run_with};
 use std::alloc::Global;
+use test_streams::bytes::Bytes;
 use test_streams::streams::{Sink, Source};
 
 static REFUSED_ARGUMENTS: [&[&str]; 10] = [
@@ -19,32 +20,38 @@ static REFUSED_ARGUMENTS: [&[&str]; 10] = [
     &["pictures", "--rotated", "--rotated"],
 ];
 
-/// Over no input.
-static NOTHING: Case<'static> = PLAIN;
+/// Runs the program over this input, and then so many zeros.
+fn run_on(alloc: Global, arguments: &[&str], input: &[u8], zeros: u32) -> Option<Left> {
+    run_over(
+        alloc,
+        arguments,
+        Source::new(input).and_then(zeros, 0),
+        Sink::new(2048),
+        Sink::new(2048),
+    )
+}
 
-/// Over the capture of 1. e4 and one byte more, none of which is read.
-static ONE_MOVE: Case<'static> = Case {
-    input: &[INITIAL, E2_EMPTY, E4_PAWN],
-    more: 1,
-    unread: 1,
-    ..PLAIN
-};
-
-/// With these arguments the case has status 2 and something on standard error, and no output, and nothing is read.
-fn are_refused(alloc: Global, arguments: &[&str], case: &Case<'_>) -> bool {
-    match run_of(alloc, &Case { arguments, ..*case }) {
+/// With these arguments the program has status 2 and something on standard error, and no output, and none of the zeros is read.
+fn are_refused(alloc: Global, arguments: &[&str], input: &[u8], zeros: u32) -> bool {
+    match run_on(alloc, arguments, input, zeros) {
         Some(left) => left.status == 2
-            && left.unread == case.unread
+            && left.unread == zeros
             && left.out.len() == 0
             && left.err.len() > 0,
         None => false,
     }
 }
 
+/// They are refused over no input, and over the capture of 1. e4 and one byte more.
+fn are_always_refused(alloc: Global, arguments: &[&str]) -> bool {
+    let capture = Bytes::of(&[INITIAL, E2_EMPTY, E4_PAWN]);
+    are_refused(alloc, arguments, &[], 0) && are_refused(alloc, arguments, capture.get(), 1)
+}
+
 /// The number of the first of these arguments that aren't refused, from 0.
 fn first_not_refused(alloc: Global, lines: &[&[&str]]) -> Option<usize> {
     for (number, arguments) in lines.iter().enumerate() {
-        if !are_refused(alloc, arguments, &NOTHING) || !are_refused(alloc, arguments, &ONE_MOVE) {
+        if !are_always_refused(alloc, arguments) {
             return Some(number);
         }
     }
@@ -53,13 +60,7 @@ fn first_not_refused(alloc: Global, lines: &[&[&str]]) -> Option<usize> {
 
 /// These arguments over no input have status 0 and an output, and nothing on standard error.
 fn are_answered(alloc: Global, arguments: &[&str]) -> bool {
-    match run_of(
-        alloc,
-        &Case {
-            arguments,
-            ..NOTHING
-        },
-    ) {
+    match run_on(alloc, arguments, &[], 0) {
         Some(left) => left.status == 0 && left.shown.len() > 0 && left.err.len() == 0,
         None => false,
     }
