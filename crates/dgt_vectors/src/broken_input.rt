@@ -1,6 +1,7 @@
 //! Captures that are cut or damaged: nothing is refused, and only what the damage hits is lost.
 
 use crate::recording::{Recording, recorded, report_of};
+use crate::recordings::text_without_move;
 use crate::row::{OPENING, Row, commands};
 use crate::rows::rows_by_subject;
 use dgt_frame::Watch;
@@ -8,7 +9,6 @@ use pgn_book::{Game, read_pgn, write_pgn};
 use std::alloc::Global;
 use test_streams::bytes::Bytes;
 use test_streams::streams::Sink;
-use test_streams::texts::NO_MOVE;
 
 /// Damage to the 77 bytes of a dump, e2 lifted and e4 put down.
 #[derive(Clone, Copy)]
@@ -72,7 +72,7 @@ fn is_cost(got: &Recording, report: (u32, u32, u32, u16)) -> bool {
     let (_, faults, _, _) = report;
     got.answer == Ok(report_of(report))
         && got.board_shown.get() == commands(faults).get()
-        && got.text_shown.get() == NO_MOVE.bytes().get()
+        && got.text_shown.get() == text_without_move().get()
 }
 
 /// So damaged, the capture of 1. e4 gives this report.

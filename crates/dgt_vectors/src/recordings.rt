@@ -4,6 +4,13 @@ use crate::recording::{Recording, recorded, report_of};
 use crate::row::Row;
 use crate::rows::rows_by_subject;
 use std::alloc::Global;
+use test_streams::bytes::Bytes;
+use test_streams::texts::NO_MOVE;
+
+/// The text of a game from the initial position without a move.
+pub fn text_without_move() -> Bytes {
+    NO_MOVE.bytes()
+}
 
 /// The result, and what the board's stream and the output show, are what the row says.
 pub fn is_told(got: &Recording, row: &Row<'_>) -> bool {

@@ -1,12 +1,12 @@
 //! Streams that fail at each call in turn: what was taken before stands, and the result says which stream it was.
 
 use crate::recording::{Recording, recorded_over};
-use crate::recordings::is_told;
+use crate::recordings::{is_told, text_without_move};
 use crate::row::{CUT, OPENING, Row, commands};
 use board_session::{RecordError, Report};
+use chess_text::FenError;
 use std::alloc::Global;
 use test_streams::streams::{ALWAYS, Sink, Source};
-use test_streams::texts::NO_MOVE;
 
 const ROOM: usize = 512;
 
@@ -79,22 +79,12 @@ fn stops_at_read(alloc: Global, row: &Row<'_>, reads: u32) -> bool {
     let text = if read > 137 {
         row.text()
     } else {
-        NO_MOVE.bytes()
+        text_without_move()
     };
     match recording(alloc, row, streams) {
         Some(got) => shows(&got, RecordError::Read, commands(faults).get(), text.get()),
         None => false,
     }
-}
-
-/// The number of reads after which one fails and it isn't told so.
-fn first_read_untold(alloc: Global, row: &Row<'_>) -> Option<u32> {
-    for reads in 0..READS {
-        if !stops_at_read(alloc, row, reads) {
-            return Some(reads);
-        }
-    }
-    None
 }
 
 /// A row is recorded over these streams as it says.
@@ -115,11 +105,24 @@ fn is_read_whole(alloc: Global, row: &Row<'_>) -> bool {
     row.bytes().len() == 138 && is_recorded(alloc, row, streams)
 }
 
+/// The number of reads after which one fails and it isn't told so; `READS` where none fails and the row isn't recorded whole.
+fn first_read_untold(alloc: Global, row: &Row<'_>) -> Option<u32> {
+    for reads in 0..READS {
+        if !stops_at_read(alloc, row, reads) {
+            return Some(reads);
+        }
+    }
+    if is_read_whole(alloc, row) {
+        None
+    } else {
+        Some(READS)
+    }
+}
+
 /// With a read that fails the text is that of the bytes before it.
 #[test]
 fn each_read_fails_in_turn(rt: HostRuntime) {
     assert_eq!(rt; first_read_untold(rt.alloc(), &CUT), None);
-    assert!(rt; is_read_whole(rt.alloc(), &CUT));
 }
 
 /// How many calls on the board's stream succeed, what it then holds, and what of it shows.
@@ -140,7 +143,7 @@ fn stops_at_board(
 ) -> bool {
     match recording(alloc, row, streams) {
         Some(got) => got.board_held.get() == held
-            && shows(&got, RecordError::Board, shown, NO_MOVE.bytes().get()),
+            && shows(&got, RecordError::Board, shown, text_without_move().get()),
         None => false,
     }
 }
@@ -315,10 +318,13 @@ fn fills_board(alloc: Global, row: &Row<'_>, board_room: usize, sent: &[u8]) -> 
 }
 
 /// A board that takes nothing; and one that takes the two commands at the start, and not the request for a dump.
+fn boards_fill(alloc: Global) -> bool {
+    fills_board(alloc, &OPENING, 0, &[]) && fills_board(alloc, &CUT, 2, &[0x42, 0x4B])
+}
+
 #[test]
 fn a_board_that_fills_ends_the_reading(rt: HostRuntime) {
-    assert!(rt; fills_board(rt.alloc(), &OPENING, 0, &[]));
-    assert!(rt; fills_board(rt.alloc(), &CUT, 2, &[0x42, 0x4B]));
+    assert!(rt; boards_fill(rt.alloc()));
 }
 
 /// What is returned for so many zeros, and how many of them aren't read.
@@ -337,6 +343,17 @@ static LONG_STREAMS: [(u32, Result<Report, RecordError>, u32); 3] = [
     (67_108_870, Err(RecordError::TooLong), 5),
 ];
 
+/// Records so many zeros.
+fn zeros_recording(alloc: Global, zeros: u32) -> Result<Recording, FenError> {
+    let source = Source::new(&[]).and_then(zeros, 0);
+    recorded_over(alloc, &OPENING, source, Sink::new(ROOM), Sink::new(ROOM))
+}
+
+/// A dump was asked for at one fault, and the text is without a move.
+fn shows_a_fault(got: &Recording) -> bool {
+    got.board_shown.get() == commands(1).get() && got.text_shown.get() == text_without_move().get()
+}
+
 /// For so many zeros this is returned and so many aren't read; one fault is told, and the text without a move.
 fn zeros_are_recorded(
     alloc: Global,
@@ -344,13 +361,8 @@ fn zeros_are_recorded(
     answer: &Result<Report, RecordError>,
     unread: u32,
 ) -> bool {
-    let source = Source::new(&[]).and_then(zeros, 0);
-    let (board, out) = (Sink::new(ROOM), Sink::new(ROOM));
-    match recorded_over(alloc, &OPENING, source, board, out) {
-        Ok(got) => got.answer == *answer
-            && got.unread == unread
-            && got.board_shown.get() == commands(1).get()
-            && got.text_shown.get() == NO_MOVE.bytes().get(),
+    match zeros_recording(alloc, zeros) {
+        Ok(got) => got.answer == *answer && got.unread == unread && shows_a_fault(&got),
         Err(_) => false,
     }
 }
