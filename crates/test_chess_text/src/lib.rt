@@ -2,4 +2,6 @@
 #![tactic(auto)]
 
 #[cfg(test)]
+mod placements;
+#[cfg(test)]
 mod tests;

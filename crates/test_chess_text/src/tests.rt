@@ -1,22 +1,22 @@
 // Worked positions. The positions and texts are those of the PGN standard, of known games, or worked out by hand.
-ghost use Rattle.std.specs.Prelude.{All, ◌≤◌};
-
-use arrayvec::ArrayVec;
 use chess_rules::{Kind, Move, Position, Square};
-use chess_text::{
-    FenError, PlacementText, SanError, read_fen, read_san, write_fen, write_placement, write_san,
-};
+use chess_text::{FenError, SanError, read_fen, read_san, write_fen, write_san};
 use std::alloc::{AllocError, Global};
-use std::test::Fail;
+use std::process::Abort;
+
+/// Fails with the number of the first row that isn't as it says, if there is one.
+pub fn expect_none(rt: &impl Abort, first: Option<usize>) {
+    assert_eq!(rt; first, None);
+}
 
 /// Whether the position is written so.
 fn is_fen(p: &Position, fen: &str) -> bool {
     write_fen(p).as_str() == fen
 }
 
-/// Whether the move is legal, and its SAN is this.
+/// Whether the move is legal, and its SAN is this, which is read.
 fn is_san(p: &Position, m: &Move, san: &str) -> bool {
-    p.is_legal(*m) && write_san(p, *m).as_str() == san
+    p.is_legal(*m) && write_san(p, *m).as_str() == san && read_san(p, san.as_bytes()).is_ok()
 }
 
 /// A move that is no promotion, by its squares' numbers.
@@ -56,6 +56,29 @@ fn first_move_among(p: &Position, texts: &[&str]) -> Option<usize> {
     for (i, text) in texts.iter().enumerate() {
         if !is_no_move(p, text) {
             return Some(i);
+        }
+    }
+    None
+}
+
+/// Whether each of these moves, by its squares' numbers, is legal with this SAN, and no text is that of a legal move.
+fn has_moves(p: &Position, moves: &[(u8, u8, &str)], texts: &[&str]) -> bool {
+    first_unlike_san(p, moves).is_none() && first_move_among(p, texts).is_none()
+}
+
+/// The FEN of a position, legal moves by their squares' numbers with their SANs, and texts of no legal move.
+type Moves<'a> = (&'a str, &'a [(u8, u8, &'a str)], &'a [&'a str]);
+
+/// The number of the first position that isn't read, or has other moves.
+fn first_with_other_moves(rows: &[Moves<'_>]) -> Option<usize> {
+    for (i, (fen, moves, texts)) in rows.iter().enumerate() {
+        match read_fen(fen.as_bytes()) {
+            Ok(p) => {
+                if !has_moves(&p, moves, texts) {
+                    return Some(i);
+                }
+            }
+            Err(_) => return Some(i),
         }
     }
     None
@@ -131,15 +154,23 @@ fn first_unlike_fen(start: &Position, rows: &[(&str, &str)]) -> Option<usize> {
 fn fen_is_written_after_moves(rt: HostRuntime) {
     let start = Position::initial();
     assert!(rt; is_fen(&start, START));
-    assert_eq!(rt; first_unlike_fen(&start, &FENS_AFTER_MOVES), None);
+    expect_none(&rt, first_unlike_fen(&start, &FENS_AFTER_MOVES));
 }
 
+/// From the position of a FEN.
+fn first_unlike_fen_from(start: &str, rows: &[(&str, &str)]) -> Option<usize> {
+    match read_fen(start.as_bytes()) {
+        Ok(p) => first_unlike_fen(&p, rows),
+        Err(_) => Some(0),
+    }
+}
+
+static LAST_COUNTERS: [(&str, &str); 1] = [("Kd8", "3k4/8/8/8/8/8/8/4K3 w - - 9999 9999")];
+
 #[test]
-fn counters_stand_still_at_9999(rt: HostRuntime) -> Result<(), Fail> {
-    let p = read_fen(b"4k3/8/8/8/8/8/8/4K3 b - - 9999 9999")?;
-    let rows = [("Kd8", "3k4/8/8/8/8/8/8/4K3 w - - 9999 9999")];
-    assert_eq!(rt; first_unlike_fen(&p, &rows), None);
-    Ok(())
+fn counters_stand_still_at_9999(rt: HostRuntime) {
+    let start = "4k3/8/8/8/8/8/8/4K3 b - - 9999 9999";
+    expect_none(&rt, first_unlike_fen_from(start, &LAST_COUNTERS));
 }
 
 static FENS: [&str; 6] = [
@@ -151,16 +182,19 @@ static FENS: [&str; 6] = [
     "4k3/8/8/8/8/8/8/R3K3 w Q - 99 120",
 ];
 
+/// Whether the text is read, and its position is written so.
+fn is_written(text: &str, fen: &str) -> bool {
+    match read_fen(text.as_bytes()) {
+        Ok(p) => is_fen(&p, fen),
+        Err(_) => false,
+    }
+}
+
 /// The number of the first text that is refused, or written otherwise than it was read.
 fn first_rewritten(fens: &[&str]) -> Option<usize> {
     for (i, fen) in fens.iter().enumerate() {
-        match read_fen(fen.as_bytes()) {
-            Ok(p) => {
-                if !is_fen(&p, fen) {
-                    return Some(i);
-                }
-            }
-            Err(_) => return Some(i),
+        if !is_written(fen, fen) {
+            return Some(i);
         }
     }
     None
@@ -168,7 +202,7 @@ fn first_rewritten(fens: &[&str]) -> Option<usize> {
 
 #[test]
 fn fen_is_read_and_written_again(rt: HostRuntime) {
-    assert_eq!(rt; first_rewritten(&FENS), None);
+    expect_none(&rt, first_rewritten(&FENS));
 }
 
 static FIRST_REFUSALS: [(&[u8], FenError); 10] = [
@@ -186,7 +220,7 @@ static FIRST_REFUSALS: [(&[u8], FenError); 10] = [
 
 #[test]
 fn first_refusal_is_answered(rt: HostRuntime) {
-    assert_eq!(rt; first_other_refusal(&FIRST_REFUSALS), None);
+    expect_none(&rt, first_other_refusal(&FIRST_REFUSALS));
 }
 
 static FORM_REFUSALS: [(&[u8], FenError); 11] = [
@@ -205,7 +239,7 @@ static FORM_REFUSALS: [(&[u8], FenError); 11] = [
 
 #[test]
 fn form_is_refused(rt: HostRuntime) {
-    assert_eq!(rt; first_other_refusal(&FORM_REFUSALS), None);
+    expect_none(&rt, first_other_refusal(&FORM_REFUSALS));
 }
 
 static FOUR_FIELD_REFUSALS: [(&[u8], FenError); 4] = [
@@ -216,134 +250,74 @@ static FOUR_FIELD_REFUSALS: [(&[u8], FenError); 4] = [
 ];
 
 #[test]
-fn four_fields_have_counters_0_and_1(rt: HostRuntime) -> Result<(), Fail> {
-    let p = read_fen(b"4k3/8/8/8/8/8/8/4K3 w - -")?;
-    assert!(rt; is_fen(&p, "4k3/8/8/8/8/8/8/4K3 w - - 0 1"));
-    assert_eq!(rt; first_other_refusal(&FOUR_FIELD_REFUSALS), None);
-    Ok(())
+fn four_fields_have_counters_0_and_1(rt: HostRuntime) {
+    let fen = "4k3/8/8/8/8/8/8/4K3 w - - 0 1";
+    assert!(rt; is_written("4k3/8/8/8/8/8/8/4K3 w - -", fen));
+    expect_none(&rt, first_other_refusal(&FOUR_FIELD_REFUSALS));
 }
 
-/// Whether the picture's placement is this.
-fn is_placement(picture: &[u8; 64], placement: &str) -> bool
-    requires { All (λ c. c ≤ 15) picture.now }
-{
-    write_placement(picture).as_str() == placement
-}
-
-/// The picture with this code on one square.
-fn changed(picture: &[u8; 64], at: Square, code: u8) -> [u8; 64]
-    requires codes { All (λ c. c ≤ 15) picture.now }
-    requires code { code ≤ 15 }
-    ensures { All (λ c. c ≤ 15) result }
-{
-    let mut picture = *picture;
-    picture[at.number() as usize] = code;
-    picture
-}
+static PINNED_KNIGHT: [Moves<'static>; 1] = [(
+    "4r2k/8/8/8/8/8/4N3/1N2K3 w - - 0 1",
+    &[(57, 42, "Nc3")],
+    &["Nbc3"],
+)];
 
 #[test]
-fn placement_shows_unknown_codes(rt: HostRuntime) -> Result<(), Fail> {
-    let e2 = Square::new(52).ok_or("e2")?;
-    let picture = changed(&Position::initial().picture(), e2, 13);
-    assert!(rt; is_placement(&picture, "rnbqkbnr/pppppppp/8/8/8/8/PPPP*PPP/RNBQKBNR"));
-    Ok(())
+fn pinned_piece_is_no_rival(rt: HostRuntime) {
+    expect_none(&rt, first_with_other_moves(&PINNED_KNIGHT));
 }
 
-/// Whether the placement that is kept has this text.
-fn has_text(placement: &PlacementText, text: &str) -> bool {
-    let mut out: ArrayVec<u8, 71> = ArrayVec::new();
-    placement.add_to(&mut out);
-    out.as_slice() == text.as_bytes()
-}
-
-/// The number of the first change, a square's number and its code, after which the placement has another text.
-fn first_unlike_change(placement: &mut PlacementText, rows: &[(u8, u8, &str)]) -> Option<usize> {
-    for (i, (square, code, text)) in rows.iter().enumerate() {
-        if *square > 63 {
-            return Some(i);
-        }
-        placement.change(*square, *code);
-        if !has_text(placement, text) {
-            return Some(i);
-        }
-    }
-    None
-}
-
-static RANK_FILLS_AND_EMPTIES: [(u8, u8, &str); 8] = [
-    (36, 1, "8/8/8/8/4P3/8/8/8"),
-    (32, 7, "8/8/8/8/p3P3/8/8/8"),
-    (39, 12, "8/8/8/8/p3P2q/8/8/8"),
-    (36, 0, "8/8/8/8/p6q/8/8/8"),
-    (32, 0, "8/8/8/8/7q/8/8/8"),
-    (39, 0, "8/8/8/8/8/8/8/8"),
-    (0, 13, "*7/8/8/8/8/8/8/8"),
-    (63, 5, "*7/8/8/8/8/8/8/7K"),
-];
-
-static FULL_RANKS_CHANGE: [(u8, u8, &str); 5] = [
-    (52, 0, "rnbqkbnr/pppppppp/8/8/8/8/PPPP1PPP/RNBQKBNR"),
-    (12, 0, "rnbqkbnr/pppp1ppp/8/8/8/8/PPPP1PPP/RNBQKBNR"),
-    (52, 1, "rnbqkbnr/pppp1ppp/8/8/8/8/PPPPPPPP/RNBQKBNR"),
-    (55, 0, "rnbqkbnr/pppp1ppp/8/8/8/8/PPPPPPP1/RNBQKBNR"),
-    (12, 7, "rnbqkbnr/pppppppp/8/8/8/8/PPPPPPP1/RNBQKBNR"),
+static RIVALS: [Moves<'static>; 2] = [
+    (
+        "7k/8/8/1N6/8/8/8/1N2K3 w - - 0 1",
+        &[(57, 42, "N1c3"), (25, 42, "N5c3")],
+        &[],
+    ),
+    (
+        "8/7k/8/Q7/8/8/8/Q3Q2K w - - 0 1",
+        &[(56, 28, "Qa1e5"), (24, 28, "Q5e5"), (60, 28, "Qee5")],
+        &[],
+    ),
 ];
 
 #[test]
-fn placement_follows_its_squares(rt: HostRuntime) {
-    let mut placement = PlacementText::new();
-    assert!(rt; has_text(&placement, "8/8/8/8/8/8/8/8"));
-    assert_eq!(rt;
-        first_unlike_change(&mut placement, &RANK_FILLS_AND_EMPTIES),
-        None
-    );
-    placement.show(&Position::initial().picture());
-    assert_eq!(rt;
-        first_unlike_change(&mut placement, &FULL_RANKS_CHANGE),
-        None
-    );
+fn origin_is_named_as_far_as_needed(rt: HostRuntime) {
+    expect_none(&rt, first_with_other_moves(&RIVALS));
 }
 
-#[test]
-fn pinned_piece_is_no_rival(rt: HostRuntime) -> Result<(), Fail> {
-    let p = read_fen(b"4r2k/8/8/8/8/8/4N3/1N2K3 w - - 0 1")?;
-    assert_eq!(rt; first_unlike_san(&p, &[(57, 42, "Nc3")]), None);
-    assert!(rt; is_no_move(&p, "Nbc3"));
-    Ok(())
-}
-
-static KNIGHTS: [(u8, u8, &str); 2] = [(57, 42, "N1c3"), (25, 42, "N5c3")];
-
-static QUEENS: [(u8, u8, &str); 3] = [(56, 28, "Qa1e5"), (24, 28, "Q5e5"), (60, 28, "Qee5")];
-
-#[test]
-fn origin_is_named_as_far_as_needed(rt: HostRuntime) -> Result<(), Fail> {
-    let p = read_fen(b"7k/8/8/1N6/8/8/8/1N2K3 w - - 0 1")?;
-    assert_eq!(rt; first_unlike_san(&p, &KNIGHTS), None);
-    let p = read_fen(b"8/7k/8/Q7/8/8/8/Q3Q2K w - - 0 1")?;
-    assert_eq!(rt; first_unlike_san(&p, &QUEENS), None);
-    Ok(())
-}
-
-#[test]
-fn castling_is_read(rt: HostRuntime) -> Result<(), Fail> {
-    let p = read_fen(b"4k3/8/8/8/8/8/1r6/R3K3 w Q - 0 1")?;
-    assert_eq!(rt; first_unlike_san(&p, &[(60, 58, "O-O-O")]), None);
-    assert!(rt; read_san(&p, b"O-O-O").is_ok());
-    let texts = ["0-0-0", "O-O-O+", "O-O", "", "O", "Kc1"];
-    assert_eq!(rt; first_move_among(&p, &texts), None);
-    let p = read_fen(b"4k3/8/8/8/8/8/3r4/R3K3 w Q - 0 1")?;
-    assert!(rt; is_no_move(&p, "O-O-O"));
-    Ok(())
-}
-
-static FIRST_MOVES: [&str; 20] = [
-    "a4", "a3", "b4", "b3", "c4", "c3", "d4", "d3", "e4", "e3", "f4", "f3", "g4", "g3", "h4", "h3",
-    "Na3", "Nc3", "Nf3", "Nh3",
+static CASTLING: [Moves<'static>; 2] = [
+    (
+        "4k3/8/8/8/8/8/1r6/R3K3 w Q - 0 1",
+        &[(60, 58, "O-O-O")],
+        &["0-0-0", "O-O-O+", "O-O", "", "O", "Kc1"],
+    ),
+    ("4k3/8/8/8/8/8/3r4/R3K3 w Q - 0 1", &[], &["O-O-O"]),
 ];
 
-static PROMOTIONS_FIRST: [&str; 9] = [
-    "e8=Q", "e8=R", "e8=B", "e8=N", "Kd2", "Ke2", "Kf2", "Kd1", "Kf1",
+#[test]
+fn castling_is_read(rt: HostRuntime) {
+    expect_none(&rt, first_with_other_moves(&CASTLING));
+}
+
+/// FENs of positions, and the SANs of all their legal moves.
+static LISTS: [(&str, &[&str]); 3] = [
+    (
+        START,
+        &[
+            "a4", "a3", "b4", "b3", "c4", "c3", "d4", "d3", "e4", "e3", "f4", "f3", "g4", "g3",
+            "h4", "h3", "Na3", "Nc3", "Nf3", "Nh3",
+        ],
+    ),
+    (
+        "8/4P2k/8/8/8/8/8/4K3 w - - 0 1",
+        &[
+            "e8=Q", "e8=R", "e8=B", "e8=N", "Kd2", "Ke2", "Kf2", "Kd1", "Kf1",
+        ],
+    ),
+    (
+        "rnb1kbnr/pppp1ppp/8/4p3/6Pq/5P2/PPPPP2P/RNBQKBNR w KQkq - 1 3",
+        &[],
+    ),
 ];
 
 /// The number of the first move that is illegal or has another SAN than the text with its number, or the first number that
@@ -364,45 +338,56 @@ fn first_unlike_text(p: &Position, moves: &[Move], texts: &[&str]) -> Option<usi
     }
 }
 
-/// The same of the position's legal moves, in the order of `legal_moves`.
-fn first_unlike_move(
-    alloc: Global,
-    p: &Position,
-    texts: &[&str],
-) -> Result<Option<usize>, AllocError> {
+/// Whether these are the SANs of the position's legal moves, in the order of `legal_moves`.
+fn has_list(alloc: Global, p: &Position, texts: &[&str]) -> Result<bool, AllocError> {
     let moves = p.legal_moves(alloc)?;
-    Ok(first_unlike_text(p, &moves, texts))
+    Ok(first_unlike_text(p, &moves, texts).is_none())
+}
+
+/// The number of the first position that isn't read, or has another list of moves.
+fn first_with_other_list(
+    alloc: Global,
+    rows: &[(&str, &[&str])],
+) -> Result<Option<usize>, AllocError> {
+    for (i, (fen, texts)) in rows.iter().enumerate() {
+        match read_fen(fen.as_bytes()) {
+            Ok(p) => {
+                if !has_list(alloc, &p, texts)? {
+                    return Ok(Some(i));
+                }
+            }
+            Err(_) => return Ok(Some(i)),
+        }
+    }
+    Ok(None)
 }
 
 #[test]
-fn legal_moves_are_written_in_order(rt: HostRuntime) -> Result<(), Fail> {
-    let start = Position::initial();
-    assert_eq!(rt; first_unlike_move(rt.alloc(), &start, &FIRST_MOVES)?, None);
-    let promoting = read_fen(b"8/4P2k/8/8/8/8/8/4K3 w - - 0 1")?;
-    assert_eq!(rt;
-        first_unlike_move(rt.alloc(), &promoting, &PROMOTIONS_FIRST)?,
-        None
-    );
-    let mated = read_fen(b"rnb1kbnr/pppp1ppp/8/4p3/6Pq/5P2/PPPPP2P/RNBQKBNR w KQkq - 1 3")?;
-    assert_eq!(rt; first_unlike_move(rt.alloc(), &mated, &[])?, None);
-    Ok(())
+fn legal_moves_are_written_in_order(rt: HostRuntime) {
+    assert_eq!(rt; first_with_other_list(rt.alloc(), &LISTS), Ok(None));
+}
+
+fn mate_is_marked() -> bool {
+    match after_all(&Position::initial(), &["f3", "e5", "g4"]) {
+        Ok(p) => has_moves(&p, &[(3, 39, "Qh4#")], &["Qh4+", "Qh4"]),
+        Err(_) => false,
+    }
 }
 
 #[test]
-fn mate_and_check_are_marked(rt: HostRuntime) -> Result<(), Fail> {
-    let p = after_all(&Position::initial(), &["f3", "e5", "g4"])?;
-    assert_eq!(rt; first_unlike_san(&p, &[(3, 39, "Qh4#")]), None);
-    assert_eq!(rt; first_move_among(&p, &["Qh4+", "Qh4"]), None);
-    Ok(())
+fn mate_and_check_are_marked(rt: HostRuntime) {
+    assert!(rt; mate_is_marked());
 }
 
+static EN_PASSANT: [Moves<'static>; 1] = [(
+    "4k3/8/8/3pP3/8/8/8/4K3 w - d6 0 2",
+    &[(28, 19, "exd6")],
+    &["d6", "exd6e.p.", "e5d6", "e5xd6", "exd6 "],
+)];
+
 #[test]
-fn en_passant_has_the_pawns_file(rt: HostRuntime) -> Result<(), Fail> {
-    let p = read_fen(b"4k3/8/8/3pP3/8/8/8/4K3 w - d6 0 2")?;
-    assert_eq!(rt; first_unlike_san(&p, &[(28, 19, "exd6")]), None);
-    let texts = ["d6", "exd6e.p.", "e5d6", "e5xd6", "exd6 "];
-    assert_eq!(rt; first_move_among(&p, &texts), None);
-    Ok(())
+fn en_passant_has_the_pawns_file(rt: HostRuntime) {
+    expect_none(&rt, first_with_other_moves(&EN_PASSANT));
 }
 
 /// Whether the text is that of a legal move that promotes to this kind.
@@ -413,13 +398,17 @@ fn promotes_to(p: &Position, text: &str, kind: Kind) -> bool {
     }
 }
 
+fn promotion_is_read() -> bool {
+    match read_fen(b"8/4P2k/8/8/8/8/8/4K3 w - - 0 1") {
+        Ok(p) => promotes_to(&p, "e8=N", Kind::Knight)
+            && has_moves(&p, &[], &["e8", "e8N", "e8=K", "e8=P", "e8=n", "e8=Q+"]),
+        Err(_) => false,
+    }
+}
+
 #[test]
-fn promotion_names_the_kind(rt: HostRuntime) -> Result<(), Fail> {
-    let p = read_fen(b"8/4P2k/8/8/8/8/8/4K3 w - - 0 1")?;
-    assert!(rt; promotes_to(&p, "e8=N", Kind::Knight));
-    let texts = ["e8", "e8N", "e8=K", "e8=P", "e8=n", "e8=Q+"];
-    assert_eq!(rt; first_move_among(&p, &texts), None);
-    Ok(())
+fn promotion_names_the_kind(rt: HostRuntime) {
+    assert!(rt; promotion_is_read());
 }
 
 /// Fischer and Spassky, Belgrade 1992, the example of the PGN standard, section 2.3.
