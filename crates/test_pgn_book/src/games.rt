@@ -6,8 +6,14 @@ use dgt_frame::{Hms, Watch};
 use pgn_book::{Game, Tags, write_pgn};
 use settle_core::{Outcome, Ply};
 use std::alloc::Global;
+use std::process::Abort;
 use test_streams::bytes::Bytes;
 use test_streams::texts::text_of;
+
+/// Fails with the number of the first row that isn't as it says, if there is one.
+pub fn expect_none(rt: &impl Abort, first: Option<usize>) {
+    assert_eq!(rt; first, None);
+}
 
 /// White may castle short.
 pub const CASTLING: &str = "4k3/8/8/8/8/8/8/4K2R w K - 0 1";

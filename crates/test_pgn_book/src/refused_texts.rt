@@ -1,6 +1,6 @@
 //! Texts that are no export texts.
 
-use crate::games::CASTLING;
+use crate::games::{CASTLING, expect_none};
 use pgn_book::{PgnError, read_pgn};
 use std::alloc::Global;
 use test_streams::bytes::Bytes;
@@ -23,7 +23,7 @@ fn first_part_not_refused(alloc: Global) -> Option<usize> {
 
 #[test]
 fn a_part_is_refused(rt: HostRuntime) {
-    assert_eq!(rt; first_part_not_refused(rt.alloc()), None);
+    expect_none(&rt, first_part_not_refused(rt.alloc()));
 }
 
 fn refuses_returns(alloc: Global) -> bool {
@@ -84,6 +84,6 @@ fn first_not_refused(alloc: Global) -> Option<usize> {
 
 #[test]
 fn other_texts_are_refused(rt: HostRuntime) {
-    assert_eq!(rt; first_not_refused(rt.alloc()), None);
+    expect_none(&rt, first_not_refused(rt.alloc()));
     assert!(rt; refuses(rt.alloc(), b""));
 }

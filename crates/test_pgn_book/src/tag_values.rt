@@ -1,6 +1,6 @@
 //! Values of tags, and how they are escaped.
 
-use crate::games::is_written_as;
+use crate::games::{expect_none, is_written_as};
 use chess_rules::Position;
 use pgn_book::{Game, Tag, TagError, Tags, read_pgn};
 use std::alloc::{AllocError, Global};
@@ -57,8 +57,8 @@ fn first_other_value(tags: &Tags) -> Option<usize> {
 #[test]
 fn values_are_checked(rt: HostRuntime) {
     let mut tags = Tags::new(rt.alloc());
-    assert_eq!(rt; first_other_answer(&mut tags), None);
-    assert_eq!(rt; first_other_value(&tags), None);
+    expect_none(&rt, first_other_answer(&mut tags));
+    expect_none(&rt, first_other_value(&tags));
 }
 
 /// As White's name, so many of this part get this result.
@@ -83,13 +83,31 @@ fn has_name(alloc: Global, tags: &Tags, part: &str, count: usize) -> bool {
     }
 }
 
+/// Parts of names, how many of each, and what they get.
+static NAMES: [(&str, usize, Result<(), TagError>); 3] = [
+    ("\"", 100, Ok(())),
+    ("\"", 101, Err(TagError::Long)),
+    ("\n", 200, Err(TagError::Text)),
+];
+
+/// The number of the first name that gets another result, from 0; or how many there are, if the first doesn't stay.
+fn first_other_name(alloc: Global) -> Option<usize> {
+    let mut tags = Tags::new(alloc);
+    for (number, (part, count, answer)) in NAMES.iter().enumerate() {
+        if !gets(alloc, &mut tags, part, *count, *answer) {
+            return Some(number);
+        }
+    }
+    if has_name(alloc, &tags, "\"", 100) {
+        None
+    } else {
+        Some(NAMES.len())
+    }
+}
+
 #[test]
 fn a_long_value_is_refused(rt: HostRuntime) {
-    let mut tags = Tags::new(rt.alloc());
-    assert!(rt; gets(rt.alloc(), &mut tags, "\"", 100, Ok(())));
-    assert!(rt; gets(rt.alloc(), &mut tags, "\"", 101, Err(TagError::Long)));
-    assert!(rt; gets(rt.alloc(), &mut tags, "\n", 200, Err(TagError::Text)));
-    assert!(rt; has_name(rt.alloc(), &tags, "\"", 100));
+    expect_none(&rt, first_other_name(rt.alloc()));
 }
 
 const ESCAPED: &str =

@@ -1,6 +1,6 @@
 //! Games that are written and read back.
 
-use crate::games::{CASTLING, EMPTY, Row, game, is_written_as};
+use crate::games::{CASTLING, EMPTY, Row, expect_none, game, is_written_as};
 use pgn_book::{Game, read_pgn};
 use settle_core::Outcome;
 use std::alloc::Global;
@@ -64,7 +64,7 @@ static GAMES: [Row<'static>; 4] = [
 
 #[test]
 fn games_are_written_and_read(rt: HostRuntime) {
-    assert_eq!(rt; first_failing(rt.alloc(), &GAMES), None);
+    expect_none(&rt, first_failing(rt.alloc(), &GAMES));
 }
 
 const MATED: Row<'static> = Row {
@@ -88,7 +88,7 @@ static MATES: [Row<'static>; 3] = [
 
 #[test]
 fn mate_decides_whatever_the_sign(rt: HostRuntime) {
-    assert_eq!(rt; first_failing(rt.alloc(), &MATES), None);
+    expect_none(&rt, first_failing(rt.alloc(), &MATES));
 }
 
 static TIMED: [Row<'static>; 3] = [
@@ -114,7 +114,7 @@ static TIMED: [Row<'static>; 3] = [
 
 #[test]
 fn a_clock_comment_asks_for_the_number(rt: HostRuntime) {
-    assert_eq!(rt; first_failing(rt.alloc(), &TIMED), None);
+    expect_none(&rt, first_failing(rt.alloc(), &TIMED));
 }
 
 /// White castles short, and the text of it as it stands in a file.
@@ -152,7 +152,7 @@ static SET_UP: [Row<'static>; 3] = [
 #[test]
 fn another_start_is_set_up(rt: HostRuntime) {
     assert!(rt; has_text(rt.alloc(), &CASTLES, CASTLED));
-    assert_eq!(rt; first_failing(rt.alloc(), &SET_UP), None);
+    expect_none(&rt, first_failing(rt.alloc(), &SET_UP));
 }
 
 const FULL: &str =
@@ -176,7 +176,6 @@ static FILLED: [Row<'static>; 2] = [
 
 #[test]
 fn lines_are_filled_to_79(rt: HostRuntime) {
-    assert_eq!(rt; FULL.len(), 79);
-    assert_eq!(rt; BROKEN.len(), 80);
-    assert_eq!(rt; first_failing(rt.alloc(), &FILLED), None);
+    assert!(rt; FULL.len() == 79 && BROKEN.len() == 80);
+    expect_none(&rt, first_failing(rt.alloc(), &FILLED));
 }
