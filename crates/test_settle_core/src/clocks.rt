@@ -1,14 +1,12 @@
 //! The clock that a ply keeps.
-ghost use Rattle.std.specs.Prelude.{All, ◌<◌};
 
-use crate::games::with;
+use crate::games::with_pawn_on;
 use crate::told::{Told, WAITS, told_of};
 use crate::ways::{E2_E3, E2_E4};
-use chess_rules::Position;
-use dgt_frame::{First, Hms, Reading, read_time};
+use chess_rules::{Position, Square};
+use dgt_frame::{First, Hms, read_time};
 use settle_core::Settler;
-use std::alloc::AllocError;
-use std::test::Fail;
+use std::alloc::{AllocError, Global};
 
 /// The hours, minutes and seconds of a clock.
 type Clock = Option<(u8, u8, u8)>;
@@ -31,57 +29,50 @@ fn is_clock(shown: Option<Hms>, clock: Clock) -> bool {
     }
 }
 
-/// Whether the settler returns this for the picture, and the last ply's clock then shows this.
-fn answers(
-    settler: &mut Settler,
-    picture: &[u8; 64],
-    reading: Option<Reading>,
-    answer: Told,
-    clock: Clock,
-) -> Result<bool, AllocError>
-    requires { All (λ code. code < 16) picture.now }
-{
-    let given = told_of(&settler.see(picture, reading)?);
-    Ok(given == answer && is_last_clock(settler, clock))
-}
-
 /// Whether the settler started from the initial position, and holds one ply and no sign.
 fn holds_one_ply(settler: Settler) -> bool {
     let (start, plies, sign) = settler.into_parts();
     start.picture() == Position::initial().picture() && plies.len() == 1 && sign.is_none()
 }
 
-/// The three pictures of 1. e4 and of its correction to 1. e3, in that order: whether each gets its answer and its clock.
-fn repeats_and_replaces(
-    settler: &mut Settler,
-    lifted: &[u8; 64],
-    on_e4: &[u8; 64],
-    on_e3: &[u8; 64],
-) -> Result<bool, AllocError>
-    requires lifted { All (λ code. code < 16) lifted.now }
-    requires on_e4 { All (λ code. code < 16) on_e4.now }
-    requires on_e3 { All (λ code. code < 16) on_e3.now }
-{
-    let first = read_time(&[1, 0x30, 0, 1, 0x29, 0x59, 0], First::White, None);
-    let later = read_time(&[1, 0x29, 0x50, 1, 0x29, 0x59, 0], First::White, first);
-    let earlier_clock = Some((1, 30, 0));
-    let later_clock = Some((1, 29, 50));
-    let waits = answers(settler, lifted, first, WAITS, None)?;
-    let moves = answers(settler, on_e4, first, Told::Moved(E2_E4), earlier_clock)?;
+/// The data of two time messages, the first of which is the earlier.
+const EARLIER: [u8; 7] = [1, 0x30, 0, 1, 0x29, 0x59, 0];
+
+const LATER: [u8; 7] = [1, 0x29, 0x50, 1, 0x29, 0x59, 0];
+
+/// Where the pawn of e2 is shown, in hand where there is no number, the time message before it, what is returned, and the last
+/// ply's clock.
+static CORRECTED: [(Option<u8>, [u8; 7], Told, Clock); 5] = [
+    (None, EARLIER, WAITS, None),
+    (Some(36), EARLIER, Told::Moved(E2_E4), Some((1, 30, 0))),
     // The same picture again leaves the ply its clock.
-    let repeats = answers(settler, on_e4, later, Told::Same, earlier_clock)?;
-    let waits_again = answers(settler, lifted, later, WAITS, earlier_clock)?;
-    let replaces = answers(settler, on_e3, later, Told::Replaced(E2_E3), later_clock)?;
-    Ok(waits && moves && repeats && waits_again && replaces)
+    (Some(36), LATER, Told::Same, Some((1, 30, 0))),
+    (None, LATER, WAITS, Some((1, 30, 0))),
+    (Some(44), LATER, Told::Replaced(E2_E3), Some((1, 29, 50))),
+];
+
+/// Shows the pictures in turn: the number of the first that gets another answer or clock.
+fn first_with_another_clock(settler: &mut Settler) -> Result<Option<usize>, AllocError> {
+    let mut reading = None;
+    for (i, (number, data, answer, clock)) in CORRECTED.iter().enumerate() {
+        let square = number.and_then(Square::new);
+        reading = read_time(data, First::White, reading);
+        let given = told_of(&settler.see(&with_pawn_on(square), reading)?);
+        if given != *answer || !is_last_clock(settler, *clock) {
+            return Ok(Some(i));
+        }
+    }
+    Ok(None)
+}
+
+/// Whether a new settler gives each its answer and its clock, and then holds one ply.
+fn clocks_are_kept(alloc: Global) -> Result<bool, AllocError> {
+    let mut settler = Settler::new(alloc, Position::initial());
+    let first = first_with_another_clock(&mut settler)?;
+    Ok(first.is_none() && holds_one_ply(settler))
 }
 
 #[test]
-fn a_repeat_leaves_the_clock_and_a_replacement_takes_its_own(rt: HostRuntime) -> Result<(), Fail> {
-    let lifted = with(&rt, &Position::initial().picture(), 52, 0);
-    let on_e4 = with(&rt, &lifted, 36, 1);
-    let on_e3 = with(&rt, &lifted, 44, 1);
-    let mut settler = Settler::new(rt.alloc(), Position::initial());
-    assert!(rt; repeats_and_replaces(&mut settler, &lifted, &on_e4, &on_e3)?);
-    assert!(rt; holds_one_ply(settler));
-    Ok(())
+fn a_repeat_leaves_the_clock_and_a_replacement_takes_its_own(rt: HostRuntime) {
+    assert!(rt; clocks_are_kept(rt.alloc()) == Ok(true));
 }

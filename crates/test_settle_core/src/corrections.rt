@@ -1,12 +1,11 @@
 //! Moves that are corrected.
 
-use crate::games::{Game, first_unlike};
+use crate::games::{Game, play_all};
 use crate::starts::with_rooks;
 use crate::told::{Told, WAITS};
 use crate::ways::{A1_A4, A1_A8, D2_D3, D2_D4, E2_E3, E2_E4, E7_E5};
 use chess_rules::{Position, Status};
 use settle_core::Outcome;
-use std::test::Fail;
 
 /// From the initial position.
 static OPEN_GAMES: [Game<'static>; 3] = [
@@ -78,11 +77,7 @@ static TRIED_GAMES: [Game<'static>; 1] = [Game {
 }];
 
 #[test]
-fn the_last_move_stays_open(rt: HostRuntime) -> Result<(), Fail> {
-    assert_eq!(rt;
-        first_unlike(rt.alloc(), Some(Position::initial()), &OPEN_GAMES)?,
-        None
-    );
-    assert_eq!(rt; first_unlike(rt.alloc(), with_rooks(), &TRIED_GAMES)?, None);
-    Ok(())
+fn the_last_move_stays_open(rt: HostRuntime) {
+    play_all(&rt, rt.alloc(), Some(Position::initial()), &OPEN_GAMES);
+    play_all(&rt, rt.alloc(), with_rooks(), &TRIED_GAMES);
 }

@@ -1,11 +1,10 @@
 //! Signs of a result, and mates.
 
-use crate::games::{Game, first_unlike};
+use crate::games::{Game, play_all};
 use crate::told::{Told, WAITS};
 use crate::ways::{D8_G5, D8_H4, E2_E4, E7_E5, F2_F3, G2_G4};
 use chess_rules::{Position, Status};
 use settle_core::Outcome;
-use std::test::Fail;
 
 static SIGN_GAMES: [Game<'static>; 4] = [
     Game {
@@ -80,12 +79,8 @@ static SIGN_GAMES: [Game<'static>; 4] = [
 ];
 
 #[test]
-fn signs(rt: HostRuntime) -> Result<(), Fail> {
-    assert_eq!(rt;
-        first_unlike(rt.alloc(), Some(Position::initial()), &SIGN_GAMES)?,
-        None
-    );
-    Ok(())
+fn signs(rt: HostRuntime) {
+    play_all(&rt, rt.alloc(), Some(Position::initial()), &SIGN_GAMES);
 }
 
 static MATE_GAMES: [Game<'static>; 3] = [
@@ -159,10 +154,6 @@ static MATE_GAMES: [Game<'static>; 3] = [
 ];
 
 #[test]
-fn a_mate_takes_a_sign_and_can_be_replaced(rt: HostRuntime) -> Result<(), Fail> {
-    assert_eq!(rt;
-        first_unlike(rt.alloc(), Some(Position::initial()), &MATE_GAMES)?,
-        None
-    );
-    Ok(())
+fn a_mate_takes_a_sign_and_can_be_replaced(rt: HostRuntime) {
+    play_all(&rt, rt.alloc(), Some(Position::initial()), &MATE_GAMES);
 }

@@ -9,10 +9,6 @@ use settle_core::{Outcome, Settler};
 use std::alloc::{AllocError, Global};
 use std::process::Abort;
 
-fn square(rt: &impl Abort, number: u8) -> Square {
-    Square::new(number).expect(rt, "a square")
-}
-
 /// The picture with this code on one square.
 fn changed(picture: &[u8; 64], at: Square, code: u8) -> [u8; 64]
     requires codes { All (λ code. code < 16) picture.now }
@@ -24,13 +20,16 @@ fn changed(picture: &[u8; 64], at: Square, code: u8) -> [u8; 64]
     picture
 }
 
-/// The same, where the square goes by its number.
-pub fn with(rt: &impl Abort, picture: &[u8; 64], at: u8, code: u8) -> [u8; 64]
-    requires { All (λ code. code < 16) picture.now }
+/// The initial position's picture with the pawn of e2 on this square, or in hand.
+pub fn with_pawn_on(square: Option<Square>) -> [u8; 64]
     ensures { All (λ code. code < 16) result }
 {
-    assert!(rt; code < 16);
-    changed(picture, square(rt, at), code)
+    let mut picture = Position::initial().picture();
+    picture[52] = 0;
+    match square {
+        Some(square) => changed(&picture, square, 1),
+        None => picture,
+    }
 }
 
 /// Updates of one square each, and what comes of them.
@@ -129,6 +128,30 @@ fn tells_each(game: &Game<'_>) -> bool {
     }
 }
 
+/// Shows the update with these numbers to each settler, and changes the picture by it; nothing is returned where the numbers are
+/// those of no square or no code.
+fn update(
+    by_pictures: &mut Settler,
+    by_updates: &mut Settler,
+    plain: &mut Plain,
+    picture: &mut [u8; 64],
+    field: u8,
+    code: u8,
+) -> Result<Option<Told>, AllocError>
+    requires codes { All (λ code. code < 16) picture.old }
+    requires seen { has_seen by_updates.old ≡ true }
+    ensures codes { All (λ code. code < 16) picture.new }
+    ensures seen { has_seen by_updates.new ≡ true }
+{
+    match Square::new(field) {
+        Some(at) if code < 16 => {
+            *picture = changed(picture, at, code);
+            show(by_pictures, by_updates, plain, picture, at, code)
+        }
+        _ => Ok(None),
+    }
+}
+
 /// Plays the game: whole pictures to one settler, updates to another, and pictures to the plain one.
 fn play(
     by_pictures: &mut Settler,
@@ -142,14 +165,14 @@ fn play(
         return Ok(Some(Unlike::Start));
     }
     for (i, (field, code)) in game.updates.iter().enumerate() {
-        let Some(at) = Square::new(*field) else {
-            return Ok(Some(Unlike::Update(i)));
-        };
-        if *code >= 16 {
-            return Ok(Some(Unlike::Update(i)));
-        }
-        picture = changed(&picture, at, *code);
-        let given = show(by_pictures, by_updates, &mut plain, &picture, at, *code)?;
+        let given = update(
+            by_pictures,
+            by_updates,
+            &mut plain,
+            &mut picture,
+            *field,
+            *code,
+        )?;
         if !is_told(game.answers, i, given) {
             return Ok(Some(Unlike::Update(i)));
         }
@@ -177,8 +200,8 @@ fn has_moves(settler: &Settler, ways: &[Way]) -> bool {
     if plies.len() != ways.len() {
         return false;
     }
-    for (ply, way) in plies.iter().zip(ways) {
-        if way_of(&ply.mv) != *way {
+    for (i, ply) in plies.iter().enumerate() {
+        if ways.get(i) != Some(&way_of(&ply.mv)) {
             return false;
         }
     }
@@ -197,7 +220,7 @@ pub fn part_unlike(
 }
 
 /// Plays the games, each with new settlers: the number of the first that goes otherwise than it tells, and where.
-pub fn first_unlike(
+fn first_unlike(
     alloc: Global,
     start: Option<Position>,
     games: &[Game<'_>],
@@ -211,4 +234,9 @@ pub fn first_unlike(
         }
     }
     Ok(None)
+}
+
+/// Plays the games, and fails where one goes otherwise than it tells.
+pub fn play_all(rt: &impl Abort, alloc: Global, start: Option<Position>, games: &[Game<'_>]) {
+    assert_eq!(rt; first_unlike(alloc, start, games), Ok(None));
 }

@@ -1,6 +1,6 @@
 //! Steps, captures, promotions, castling and en passant, in each order of their updates.
 
-use crate::games::{Game, Unlike, first_unlike, part_unlike};
+use crate::games::{Game, Unlike, part_unlike, play_all};
 use crate::starts::{
     KING_FIRST, before_capture, before_castling, before_en_passant, before_promotion,
 };
@@ -8,7 +8,6 @@ use crate::told::{Told, WAITS};
 use crate::ways::{E1_G1, E2_E4, E4_D5, E5_D6, E7_E8_KNIGHT, E7_E8_QUEEN, H1_F1};
 use chess_rules::{Position, Status};
 use std::alloc::{AllocError, Global};
-use std::test::Fail;
 
 /// From the initial position.
 static STEP_GAMES: [Game<'static>; 4] = [
@@ -54,16 +53,9 @@ static CAPTURE_GAMES: [Game<'static>; 1] = [Game {
 }];
 
 #[test]
-fn steps_and_repeats(rt: HostRuntime) -> Result<(), Fail> {
-    assert_eq!(rt;
-        first_unlike(rt.alloc(), Some(Position::initial()), &STEP_GAMES)?,
-        None
-    );
-    assert_eq!(rt;
-        first_unlike(rt.alloc(), before_capture(), &CAPTURE_GAMES)?,
-        None
-    );
-    Ok(())
+fn steps_and_repeats(rt: HostRuntime) {
+    play_all(&rt, rt.alloc(), Some(Position::initial()), &STEP_GAMES);
+    play_all(&rt, rt.alloc(), before_capture(), &CAPTURE_GAMES);
 }
 
 static PROMOTION_GAMES: [Game<'static>; 2] = [
@@ -89,12 +81,8 @@ static PROMOTION_GAMES: [Game<'static>; 2] = [
 ];
 
 #[test]
-fn promotions(rt: HostRuntime) -> Result<(), Fail> {
-    assert_eq!(rt;
-        first_unlike(rt.alloc(), before_promotion(), &PROMOTION_GAMES)?,
-        None
-    );
-    Ok(())
+fn promotions(rt: HostRuntime) {
+    play_all(&rt, rt.alloc(), before_promotion(), &PROMOTION_GAMES);
 }
 
 /// Brings the updates into one of their orders: each number below the factorial of their count names another one.
@@ -125,11 +113,8 @@ static CASTLING_GAMES: [Game<'static>; 2] = [
 ];
 
 /// Plays king and rook in each order: the number of the first order that doesn't end with castling, and where.
-fn first_order_without_castling(
-    alloc: Global,
-    start: Option<Position>,
-) -> Result<Option<(usize, Unlike)>, AllocError> {
-    let Some(start) = start else {
+fn first_order_without_castling(alloc: Global) -> Result<Option<(usize, Unlike)>, AllocError> {
+    let Some(start) = before_castling() else {
         return Ok(Some((0, Unlike::Start)));
     };
     for order in 0..24usize {
@@ -150,19 +135,14 @@ fn first_order_without_castling(
 }
 
 #[test]
-fn castling_in_each_order(rt: HostRuntime) -> Result<(), Fail> {
-    let start = before_castling();
-    assert_eq!(rt; first_unlike(rt.alloc(), start, &CASTLING_GAMES)?, None);
-    assert_eq!(rt; first_order_without_castling(rt.alloc(), start)?, None);
-    Ok(())
+fn castling_in_each_order(rt: HostRuntime) {
+    play_all(&rt, rt.alloc(), before_castling(), &CASTLING_GAMES);
+    assert_eq!(rt; first_order_without_castling(rt.alloc()), Ok(None));
 }
 
 /// Plays an en passant capture in each order: the number of the first order that goes otherwise, and where.
-fn first_order_without_capture(
-    alloc: Global,
-    start: Option<Position>,
-) -> Result<Option<(usize, Unlike)>, AllocError> {
-    let Some(start) = start else {
+fn first_order_without_capture(alloc: Global) -> Result<Option<(usize, Unlike)>, AllocError> {
+    let Some(start) = before_en_passant() else {
         return Ok(Some((0, Unlike::Start)));
     };
     for order in 0..6usize {
@@ -183,8 +163,6 @@ fn first_order_without_capture(
 }
 
 #[test]
-fn en_passant_in_each_order(rt: HostRuntime) -> Result<(), Fail> {
-    let start = before_en_passant();
-    assert_eq!(rt; first_order_without_capture(rt.alloc(), start)?, None);
-    Ok(())
+fn en_passant_in_each_order(rt: HostRuntime) {
+    assert_eq!(rt; first_order_without_capture(rt.alloc()), Ok(None));
 }
