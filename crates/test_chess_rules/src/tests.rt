@@ -2,7 +2,13 @@
 ghost use Rattle.std.specs.Prelude.{◌≡◌};
 
 use chess_rules::{Invalid, Kind, Move, Parts, Piece, Position, Rights, Side, Square, Status};
-use std::test::Fail;
+use std::alloc::{AllocError, Global};
+use std::process::Abort;
+
+/// Fails with the number of the first row that isn't as it says, if there is one.
+fn expect_none(rt: &impl Abort, first: Option<usize>) {
+    assert_eq!(rt; first, None);
+}
 
 const NO_RIGHTS: Rights = Rights {
     white_king: false,
@@ -11,18 +17,11 @@ const NO_RIGHTS: Rights = Rights {
     black_queen: false,
 };
 
-fn at(file: u8, rank: u8) -> Option<Square> {
-    if file >= b'a' && file <= b'h' && rank >= 1 && rank <= 8 {
-        Square::new(8 * (8 - rank) + (file - b'a'))
-    } else {
-        None
-    }
-}
-
-fn step(from: Option<Square>, to: Option<Square>) -> Result<Move, Fail> {
-    Ok(Move {
-        from: from.ok_or("no square")?,
-        to: to.ok_or("no square")?,
+/// A move that is no promotion, by its squares' numbers.
+fn step(from: u8, to: u8) -> Option<Move> {
+    Some(Move {
+        from: Square::new(from)?,
+        to: Square::new(to)?,
         promotion: None,
     })
 }
@@ -87,150 +86,261 @@ fn played(position: &Position, m: &Move) -> Option<Position> {
     }
 }
 
+/// The position after the move between the squares with these numbers, if it is legal.
+fn stepped(position: &Position, from: u8, to: u8) -> Option<Position> {
+    played(position, &step(from, to)?)
+}
+
 const KINGS: &[u8; 64] = b"....k.......................................................K...";
 
 const ONE_KING: &[u8; 64] = b"............................................................K...";
 
-#[test]
-fn squares_are_0_to_63(rt: HostRuntime) -> Result<(), Fail> {
-    let last = Square::new(63).ok_or("h1")?;
-    assert_eq!(rt; (last.number(), last.file(), last.rank()), (63, 7, 1));
-    let first = Square::new(0).ok_or("a8")?;
-    assert_eq!(rt; (first.number(), first.file(), first.rank()), (0, 0, 8));
-    assert!(rt; Square::new(64).is_none());
-    Ok(())
+/// The number, the file and the rank of the square with this number.
+fn square(number: u8) -> Option<(u8, u8, u8)> {
+    let square = Square::new(number)?;
+    Some((square.number(), square.file(), square.rank()))
 }
+
+#[test]
+fn squares_are_0_to_63(rt: HostRuntime) {
+    assert!(rt; square(63) == Some((63, 7, 1)));
+    assert!(rt; square(0) == Some((0, 0, 8)));
+    assert!(rt; Square::new(64).is_none());
+}
+
+/// Pieces from a8 to h1 with White to move, the halfmove clock, the fullmove number, whether White may castle short, the
+/// number of the en passant target, and why these parts are refused, if they are.
+type Refused<'a> = (&'a [u8; 64], u16, u16, bool, Option<u8>, Option<Invalid>);
+
+/// Whether the parts are refused for this reason, or not at all.
+fn is_refused(row: &Refused<'_>) -> bool {
+    let (pieces, halfmove, fullmove, castles, target, reason) = row;
+    let mut parts = with_counters(pieces, Side::White, *halfmove, *fullmove);
+    parts.rights.white_king = *castles;
+    parts.target = target.and_then(Square::new);
+    Position::new(parts).err() == *reason
+}
+
+/// The number of the first row whose parts are answered otherwise.
+fn first_other_refusal(rows: &[Refused<'_>]) -> Option<usize> {
+    for (i, row) in rows.iter().enumerate() {
+        if !is_refused(row) {
+            return Some(i);
+        }
+    }
+    None
+}
+
+static COUNTERS: [Refused<'static>; 4] = [
+    (KINGS, 10000, 1, false, None, Some(Invalid::Counters)),
+    (KINGS, 0, 0, false, None, Some(Invalid::Counters)),
+    (KINGS, 0, 10000, false, None, Some(Invalid::Counters)),
+    (ONE_KING, 10000, 1, false, None, Some(Invalid::Counters)),
+];
 
 #[test]
 fn counters_have_a_range(rt: HostRuntime) {
-    for (halfmove, fullmove) in [(10000, 1), (0, 0), (0, 10000)] {
-        let parts = with_counters(KINGS, Side::White, halfmove, fullmove);
-        assert_eq!(rt; Position::new(parts).err(), Some(Invalid::Counters));
-    }
-    let parts = with_counters(ONE_KING, Side::White, 10000, 1);
-    assert_eq!(rt; Position::new(parts).err(), Some(Invalid::Counters));
+    expect_none(&rt, first_other_refusal(&COUNTERS));
 }
+
+const PAWN_ON_LAST: &[u8; 64] = b"....k..P....................................................K...";
+
+const ROOK_GIVES_CHECK: &[u8; 64] =
+    b"....k.......................................................RK..";
+
+static CONDITIONS: [Refused<'static>; 6] = [
+    (KINGS, 0, 1, false, None, None),
+    (ONE_KING, 0, 1, false, None, Some(Invalid::Kings)),
+    (PAWN_ON_LAST, 0, 1, false, None, Some(Invalid::Pawns)),
+    (KINGS, 0, 1, true, None, Some(Invalid::Rights)),
+    // d6
+    (KINGS, 0, 1, false, Some(19), Some(Invalid::EnPassant)),
+    (ROOK_GIVES_CHECK, 0, 1, false, None, Some(Invalid::Check)),
+];
 
 #[test]
 fn the_first_broken_condition_is_answered(rt: HostRuntime) {
-    assert!(rt; Position::new(parts_of(KINGS, Side::White)).is_ok());
-    let kings = Position::new(parts_of(ONE_KING, Side::White));
-    assert_eq!(rt; kings.err(), Some(Invalid::Kings));
-
-    let pawn_on_last = b"....k..P....................................................K...";
-    let pawns = Position::new(parts_of(pawn_on_last, Side::White));
-    assert_eq!(rt; pawns.err(), Some(Invalid::Pawns));
-
-    let mut parts = parts_of(KINGS, Side::White);
-    parts.rights.white_king = true;
-    assert_eq!(rt; Position::new(parts).err(), Some(Invalid::Rights));
-
-    let mut parts = parts_of(KINGS, Side::White);
-    parts.target = at(b'd', 6);
-    assert_eq!(rt; Position::new(parts).err(), Some(Invalid::EnPassant));
-
-    let rook_gives_check = b"....k.......................................................RK..";
-    let check = Position::new(parts_of(rook_gives_check, Side::White));
-    assert_eq!(rt; check.err(), Some(Invalid::Check));
+    expect_none(&rt, first_other_refusal(&CONDITIONS));
 }
 
 /// Whether White, with the right to it, may castle on the queen side.
-fn castles_long(pieces: &[u8; 64]) -> Result<bool, Fail> {
+fn castles_long(pieces: &[u8; 64]) -> Option<bool> {
     let mut parts = parts_of(pieces, Side::White);
     parts.rights.white_queen = true;
-    let castles = step(at(b'e', 1), at(b'c', 1))?;
-    Ok(Position::new(parts)?.is_legal(castles))
+    let castles = step(60, 58)?;
+    let position = Position::new(parts).ok()?;
+    Some(position.is_legal(castles))
 }
 
 #[test]
-fn an_attacked_b1_is_no_bar_to_castling(rt: HostRuntime) -> Result<(), Fail> {
+fn an_attacked_b1_is_no_bar_to_castling(rt: HostRuntime) {
     let b1_attacked = b"....k............................................r......R...K...";
-    assert!(rt; castles_long(b1_attacked)?);
+    assert!(rt; castles_long(b1_attacked) == Some(true));
     let d1_attacked = b"....k..............................................r....R...K...";
-    assert!(rt; !castles_long(d1_attacked)?);
-    Ok(())
+    assert!(rt; castles_long(d1_attacked) == Some(false));
 }
 
-#[test]
-fn a_double_step_sets_the_target(rt: HostRuntime) -> Result<(), Fail> {
-    let initial = Position::initial();
-    let opening = step(at(b'e', 2), at(b'e', 4))?;
-    let next = played(&initial, &opening).ok_or("e4")?;
+/// Whether the position has these parts, and this board.
+fn has_parts(position: &Position, wanted: &Parts) -> bool {
+    *position.parts() == *wanted && *position.board() == wanted.board
+}
+
+/// Whether 1. e4 sets the target e3.
+fn opening_sets_the_target(initial: &Position) -> bool {
     let pieces = b"rnbqkbnrpppppppp....................P...........PPPP.PPPRNBQKBNR";
     let mut wanted = parts_of(pieces, Side::Black);
     wanted.rights = initial.parts().rights;
-    wanted.target = at(b'e', 3);
-    assert_eq!(rt; *next.parts(), wanted);
-    assert_eq!(rt; *next.board(), wanted.board);
-    Ok(())
+    wanted.target = Square::new(44);
+    match stepped(initial, 52, 36) {
+        Some(next) => has_parts(&next, &wanted),
+        None => false,
+    }
 }
 
 #[test]
-fn counters_stand_still(rt: HostRuntime) -> Result<(), Fail> {
-    let position = Position::new(with_counters(KINGS, Side::Black, 9999, 9999))?;
-    let walk = step(at(b'e', 8), at(b'd', 8))?;
-    let next = played(&position, &walk).ok_or("Kd8")?;
+fn a_double_step_sets_the_target(rt: HostRuntime) {
+    assert!(rt; opening_sets_the_target(&Position::initial()));
+}
+
+/// The position after Kd8 at the last counters.
+fn after_the_last_counters() -> Option<Position> {
+    let position = Position::new(with_counters(KINGS, Side::Black, 9999, 9999)).ok()?;
+    stepped(&position, 4, 3)
+}
+
+fn last_counters_stand_still() -> bool {
     let pieces = b"...k........................................................K...";
-    assert_eq!(rt;
-        *next.parts(),
-        with_counters(pieces, Side::White, 9999, 9999)
-    );
-    Ok(())
+    match after_the_last_counters() {
+        Some(next) => has_parts(&next, &with_counters(pieces, Side::White, 9999, 9999)),
+        None => false,
+    }
+}
+
+#[test]
+fn counters_stand_still(rt: HostRuntime) {
+    assert!(rt; last_counters_stand_still());
+}
+
+/// The codes of the first eight squares and of the last eight.
+static ENDS: [u8; 16] = [8, 9, 10, 12, 11, 10, 9, 8, 2, 3, 4, 6, 5, 4, 3, 2];
+
+/// The code on the square with this number in the initial position.
+fn first_code(square: usize) -> u8 {
+    match square {
+        0..8 => ENDS[square],
+        8..16 => 7,
+        48..56 => 1,
+        56..64 => ENDS[square - 48],
+        _ => 0,
+    }
+}
+
+/// The number of the first square that shows another code than in the initial position.
+fn first_other_code(picture: &[u8; 64]) -> Option<usize> {
+    for square in 0..64usize {
+        if picture[square] != first_code(square) {
+            return Some(square);
+        }
+    }
+    None
 }
 
 #[test]
 fn pictures(rt: HostRuntime) {
-    let initial = Position::initial().picture();
-    let ends = [8, 9, 10, 12, 11, 10, 9, 8, 2, 3, 4, 6, 5, 4, 3, 2];
-    for file in 0..8usize {
-        assert_eq!(rt;
-            (initial[file], initial[56 + file]),
-            (ends[file], ends[8 + file])
-        );
-        assert_eq!(rt; (initial[8 + file], initial[48 + file]), (7, 1));
-    }
-    for square in 16..48usize {
-        assert_eq!(rt; initial[square], 0);
-    }
+    expect_none(&rt, first_other_code(&Position::initial().picture()));
 }
 
-#[test]
-fn lists_moves(rt: HostRuntime) -> Result<(), Fail> {
-    let from = [
-        48, 48, 49, 49, 50, 50, 51, 51, 52, 52, 53, 53, 54, 54, 55, 55, 57, 57, 62, 62,
-    ];
-    let to = [
-        32, 40, 33, 41, 34, 42, 35, 43, 36, 44, 37, 45, 38, 46, 39, 47, 40, 42, 45, 47,
-    ];
-    let initial = Position::initial();
-    let moves = initial.legal_moves(rt.alloc())?;
-    assert_eq!(rt; moves.len(), 20);
-    let mut replies = 0usize;
+/// The squares' numbers of the first moves, in the order of `legal_moves`.
+static FIRST_MOVES: [(u8, u8); 20] = [
+    (48, 32),
+    (48, 40),
+    (49, 33),
+    (49, 41),
+    (50, 34),
+    (50, 42),
+    (51, 35),
+    (51, 43),
+    (52, 36),
+    (52, 44),
+    (53, 37),
+    (53, 45),
+    (54, 38),
+    (54, 46),
+    (55, 39),
+    (55, 47),
+    (57, 40),
+    (57, 42),
+    (62, 45),
+    (62, 47),
+];
+
+/// The number of the first move that is another one than the first move with its number.
+fn first_other_move(moves: &[Move]) -> Option<usize> {
     for (i, m) in moves.iter().enumerate() {
-        let wanted = (from[i], to[i], None);
-        assert_eq!(rt; (m.from.number(), m.to.number(), m.promotion), wanted);
-        let next = played(&initial, m).ok_or("legal")?;
-        replies = replies.saturating_add(next.legal_moves(rt.alloc())?.len());
+        let Some((from, to)) = FIRST_MOVES.get(i) else {
+            return Some(i);
+        };
+        if m.from.number() != *from || m.to.number() != *to || m.promotion.is_some() {
+            return Some(i);
+        }
     }
-    assert_eq!(rt; replies, 400);
-    Ok(())
+    None
+}
+
+fn count_moves(alloc: Global, position: &Position) -> Result<usize, AllocError> {
+    Ok(position.legal_moves(alloc)?.len())
+}
+
+/// How many replies there are to these moves; none where one of them is illegal.
+fn count_replies(
+    alloc: Global,
+    position: &Position,
+    moves: &[Move],
+) -> Result<Option<usize>, AllocError> {
+    let mut replies = 0usize;
+    for m in moves {
+        match played(position, m) {
+            Some(next) => replies = replies.saturating_add(count_moves(alloc, &next)?),
+            None => return Ok(None),
+        }
+    }
+    Ok(Some(replies))
+}
+
+/// Of the initial position: whether it has the first moves in their order, how many they are, and how many replies they have.
+fn listed(alloc: Global, initial: &Position) -> Result<(bool, usize, Option<usize>), AllocError> {
+    let moves = initial.legal_moves(alloc)?;
+    let replies = count_replies(alloc, initial, &moves)?;
+    Ok((first_other_move(&moves).is_none(), moves.len(), replies))
 }
 
 #[test]
-fn checkmate_and_stalemate_end_a_game(rt: HostRuntime) -> Result<(), Fail> {
-    let mate = b"rnb.kbnrpppp.ppp............p.........Pq.....P..PPPPP..PRNBQKBNR";
-    let initial = Position::initial();
-    let mut parts = with_counters(mate, Side::White, 1, 3);
-    parts.rights = initial.parts().rights;
-    let mated = Position::new(parts)?;
-    assert_eq!(rt; mated.status(), Status::Checkmate);
-    assert!(rt; mated.in_check());
-    assert_eq!(rt; mated.legal_moves(rt.alloc())?.len(), 0);
+fn lists_moves(rt: HostRuntime) {
+    let listed = listed(rt.alloc(), &Position::initial());
+    assert_eq!(rt; listed, Ok((true, 20, Some(400))));
+}
 
+/// Whether the position of these parts has this status, the side to move is in check or isn't, and no move is legal.
+fn ends(alloc: Global, parts: &Parts, status: Status, in_check: bool) -> Result<bool, AllocError> {
+    let Ok(position) = Position::new(*parts) else {
+        return Ok(false);
+    };
+    let moves = count_moves(alloc, &position)?;
+    Ok(position.status() == status && position.in_check() == in_check && moves == 0)
+}
+
+fn mated() -> Parts {
+    let mate = b"rnb.kbnrpppp.ppp............p.........Pq.....P..PPPPP..PRNBQKBNR";
+    let mut parts = with_counters(mate, Side::White, 1, 3);
+    parts.rights = Position::initial().parts().rights;
+    parts
+}
+
+#[test]
+fn checkmate_and_stalemate_end_a_game(rt: HostRuntime) {
     let stale = b".......k.....Q........K.........................................";
-    let stuck = Position::new(parts_of(stale, Side::Black))?;
-    assert_eq!(rt; stuck.status(), Status::Stalemate);
-    assert!(rt; !stuck.in_check());
-    assert_eq!(rt; initial.status(), Status::Running);
-    Ok(())
+    let stuck = parts_of(stale, Side::Black);
+    assert!(rt; ends(rt.alloc(), &mated(), Status::Checkmate, true) == Ok(true));
+    assert!(rt; ends(rt.alloc(), &stuck, Status::Stalemate, false) == Ok(true));
+    assert!(rt; Position::initial().status() == Status::Running);
 }
