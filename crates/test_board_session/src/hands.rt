@@ -1,7 +1,7 @@
 //! Hands as they really move: pieces that are slid, tried, straightened and handled in any order. Each movetext is worked by hand
 //! from the rules.
 
-use crate::words::first_failing;
+use crate::words::record_all;
 
 const SLIDES_AND_OTHER_MEN: &str = "
     A knight is slid over four squares that it can't go to, and shows on two of them at once:
@@ -30,7 +30,7 @@ const SLIDES_AND_OTHER_MEN: &str = "
 
 #[test]
 fn slides_and_other_pieces_do_no_harm(rt: HostRuntime) {
-    assert_eq!(rt; first_failing(rt.alloc(), SLIDES_AND_OTHER_MEN), None);
+    record_all(&rt, rt.alloc(), SLIDES_AND_OTHER_MEN);
 }
 
 const PROMOTION_AND_CASTLING: &str = "
@@ -78,7 +78,7 @@ const PROMOTION_AND_CASTLING: &str = "
 
 #[test]
 fn promotion_and_castling_go_in_any_order(rt: HostRuntime) {
-    assert_eq!(rt; first_failing(rt.alloc(), PROMOTION_AND_CASTLING), None);
+    record_all(&rt, rt.alloc(), PROMOTION_AND_CASTLING);
 }
 
 const CLOCKS: &str = "
@@ -100,7 +100,7 @@ const CLOCKS: &str = "
 
 #[test]
 fn a_ply_has_its_movers_time_as_it_ends(rt: HostRuntime) {
-    assert_eq!(rt; first_failing(rt.alloc(), CLOCKS), None);
+    record_all(&rt, rt.alloc(), CLOCKS);
 }
 
 /// No honest play: another capture shows in passing, and then its reply.
@@ -118,5 +118,5 @@ const CAPTURE_IN_PASSING: &str = "
 
 #[test]
 fn a_capture_in_passing_can_lose_the_game(rt: HostRuntime) {
-    assert_eq!(rt; first_failing(rt.alloc(), CAPTURE_IN_PASSING), None);
+    record_all(&rt, rt.alloc(), CAPTURE_IN_PASSING);
 }

@@ -1,7 +1,7 @@
 //! How games begin and end, and what is left of them where a cable is pulled or plies were not seen. Each movetext is worked
 //! by hand from the rules.
 
-use crate::words::first_failing;
+use crate::words::record_all;
 
 const SET_UP_AND_KINGS: &str = "
     Pieces are set up, the kings last, and first king and queen in each other's place:
@@ -48,7 +48,7 @@ const SET_UP_AND_KINGS: &str = "
 
 #[test]
 fn pieces_are_set_up_and_kings_end_games(rt: HostRuntime) {
-    assert_eq!(rt; first_failing(rt.alloc(), SET_UP_AND_KINGS), None);
+    record_all(&rt, rt.alloc(), SET_UP_AND_KINGS);
 }
 
 const FRONTS: &str = "
@@ -84,7 +84,7 @@ const FRONTS: &str = "
 
 #[test]
 fn a_pulled_cable_leaves_whole_moves_and_one_try(rt: HostRuntime) {
-    assert_eq!(rt; first_failing(rt.alloc(), FRONTS), None);
+    record_all(&rt, rt.alloc(), FRONTS);
 }
 
 /// Dumps after plies that were not seen.
@@ -111,5 +111,5 @@ const UNSEEN: &str = "
 
 #[test]
 fn unseen_plies_wait(rt: HostRuntime) {
-    assert_eq!(rt; first_failing(rt.alloc(), UNSEEN), None);
+    record_all(&rt, rt.alloc(), UNSEEN);
 }

@@ -15,6 +15,7 @@ use crate::streams::leaves;
 use chess_rules::Position;
 use chess_text::read_fen;
 use std::alloc::Global;
+use std::process::Abort;
 use test_streams::boards::{code_of, codes_of};
 use test_streams::bytes::Bytes;
 use test_streams::texts::text_of;
@@ -88,7 +89,7 @@ fn is_recorded<'a>(alloc: Global, fen: &'a str, bytes: &Bytes, movetext: &'a str
 }
 
 /// The first line after which something else is recorded.
-pub fn first_failing<'a>(alloc: Global, games: &'a str) -> Option<&'a str> {
+fn first_failing<'a>(alloc: Global, games: &'a str) -> Option<&'a str> {
     let mut fen = "";
     let mut bytes = Bytes::of(&[]);
     for line in games.lines() {
@@ -105,4 +106,9 @@ pub fn first_failing<'a>(alloc: Global, games: &'a str) -> Option<&'a str> {
         }
     }
     None
+}
+
+/// Records the games, and fails with the first line after which something else is recorded.
+pub fn record_all<'a>(rt: &impl Abort, alloc: Global, games: &'a str) {
+    assert_eq!(rt; first_failing(alloc, games), None);
 }
