@@ -3,16 +3,22 @@ ghost use Rattle.dgt_frame.specs.Encoding.{IsEncodable};
 
 use arrayvec::ArrayVec;
 use dgt_frame::{Arrival, Decoder, Event, FaultKind, Message, encode};
+use std::process::Abort;
+
+/// Fails with the number of the first row that isn't as it says, if there is one.
+pub fn expect_none(rt: &impl Abort, first: Option<usize>) {
+    assert_eq!(rt; first, None);
+}
 
 /// The dump of the position that a game starts from.
-const INITIAL: [u8; 67] = [
+static INITIAL: [u8; 67] = [
     0x86, 0x00, 0x43, 8, 9, 10, 12, 11, 10, 9, 8, 7, 7, 7, 7, 7, 7, 7, 7, 0, 0, 0, 0, 0, 0, 0, 0,
     0, 0, 0, 0, 0, 0, 0, 0, 0, 0, 0, 0, 0, 0, 0, 0, 0, 0, 0, 0, 0, 0, 0, 0, 1, 1, 1, 1, 1, 1, 1, 1,
     2, 3, 4, 6, 5, 4, 3, 2,
 ];
 
 /// Its codes.
-const CODES: [u8; 64] = [
+static CODES: [u8; 64] = [
     8, 9, 10, 12, 11, 10, 9, 8, 7, 7, 7, 7, 7, 7, 7, 7, 0, 0, 0, 0, 0, 0, 0, 0, 0, 0, 0, 0, 0, 0,
     0, 0, 0, 0, 0, 0, 0, 0, 0, 0, 0, 0, 0, 0, 0, 0, 0, 0, 1, 1, 1, 1, 1, 1, 1, 1, 2, 3, 4, 6, 5, 4,
     3, 2,
@@ -144,18 +150,25 @@ fn first_not_pushed_until(streams: &[Stream<'_>]) -> Option<usize> {
 
 #[test]
 fn streams_show_their_events(rt: HostRuntime) {
-    assert_eq!(rt; first_not_pushed(&STREAMS), None);
-    assert_eq!(rt; first_not_pushed_until(&STREAMS), None);
+    expect_none(&rt, first_not_pushed(&STREAMS));
+    expect_none(&rt, first_not_pushed_until(&STREAMS));
+}
+
+/// Whether `push` and `push_until` show this message with the byte at this offset, which is the last, and nothing before it.
+fn is_message(bytes: &[u8], message: Message, last: u16) -> bool {
+    let events = [(last as usize, Event::Message(message))];
+    match bytes.get(..last as usize) {
+        Some(short) => push_shows(bytes, &events, 0)
+            && push_until_shows(bytes, &events, 0)
+            && push_shows(short, &[], last)
+            && push_until_shows(short, &[], last),
+        None => false,
+    }
 }
 
 #[test]
 fn dumps_show_their_codes(rt: HostRuntime) {
-    let events = [(66, Event::Message(Message::Dump(CODES)))];
-    let (short, _last) = INITIAL.split_at(66);
-    assert!(rt; push_shows(&INITIAL, &events, 0));
-    assert!(rt; push_until_shows(&INITIAL, &events, 0));
-    assert!(rt; push_shows(short, &[], 66));
-    assert!(rt; push_until_shows(short, &[], 66));
+    assert!(rt; is_message(&INITIAL, Message::Dump(CODES), 66));
 }
 
 #[test]
@@ -168,12 +181,7 @@ fn the_longest_frame_is_of_another_message(rt: HostRuntime) {
         id: 0x93,
         size: 16383,
     };
-    let events = [(16382, Event::Message(longest))];
-    let (short, _last) = bytes.split_at(16382);
-    assert!(rt; push_shows(&bytes, &events, 0));
-    assert!(rt; push_until_shows(&bytes, &events, 0));
-    assert!(rt; push_shows(short, &[], 16382));
-    assert!(rt; push_until_shows(short, &[], 16382));
+    assert!(rt; is_message(&bytes, longest, 16382));
 }
 
 /// Whether `encode` replaces what `out` holds by this frame.

@@ -1,5 +1,6 @@
 //! Readings of time messages, worked by hand from the rules.
 
+use crate::frames::expect_none;
 use dgt_frame::{First, Hms, Reading, read_time};
 
 /// Hours, minutes and seconds of White's clock, and then of Black's.
@@ -157,9 +158,17 @@ static TIMES: [([u8; 7], First, Clocks, Clocks); 16] = [
     ),
 ];
 
+/// The number of the first row whose message leaves other clocks.
+fn first_other_clocks() -> Option<usize> {
+    for (i, (bytes, first, before, after)) in TIMES.iter().enumerate() {
+        if !leaves(bytes, *first, *before, *after) {
+            return Some(i);
+        }
+    }
+    None
+}
+
 #[test]
 fn times_are_read(rt: HostRuntime) {
-    for (i, (bytes, first, before, after)) in TIMES.iter().enumerate() {
-        assert!(rt; leaves(bytes, *first, *before, *after), "in row {i}");
-    }
+    expect_none(&rt, first_other_clocks());
 }

@@ -1,6 +1,7 @@
 //! Streams that fail as a script says: what a `Watch` tells of them, what is read of them and what is written.
 ghost use Rattle.std.specs.Prelude.{◌≤◌, IfOk};
 
+use crate::frames::expect_none;
 use dgt_frame::{CHUNK, ReadChunk, Watch, WriteFault, put, read_chunk};
 use std::io::{self, ErrorKind, Read, Write};
 
@@ -80,14 +81,16 @@ fn first_unlike_read(stream: &mut Watch<Scripted<'_>>) -> Option<usize> {
     None
 }
 
+/// A stream that does what this script says.
+fn watched<'a>(answers: &'a [Result<usize, ErrorKind>]) -> Watch<Scripted<'a>> {
+    Watch::new(Scripted { answers, calls: 0 })
+}
+
 #[test]
 fn reads_are_watched(rt: HostRuntime) {
-    let mut reader = Watch::new(Scripted {
-        answers: &READS,
-        calls: 0,
-    });
+    let mut reader = watched(&READS);
     assert!(rt; !reader.failed());
-    assert_eq!(rt; first_unlike_read(&mut reader), None);
+    expect_none(&rt, first_unlike_read(&mut reader));
 }
 
 static WRITES: [Result<usize, ErrorKind>; 6] = [
@@ -134,17 +137,11 @@ fn first_unlike_flush(stream: &mut Watch<Scripted<'_>>) -> Option<usize> {
 
 #[test]
 fn writes_are_watched(rt: HostRuntime) {
-    let mut writer = Watch::new(Scripted {
-        answers: &WRITES,
-        calls: 0,
-    });
+    let mut writer = watched(&WRITES);
     assert!(rt; !writer.failed());
-    assert_eq!(rt; first_unlike_write(&mut writer), None);
-    let mut flushed = Watch::new(Scripted {
-        answers: &FLUSHES,
-        calls: 0,
-    });
-    assert_eq!(rt; first_unlike_flush(&mut flushed), None);
+    expect_none(&rt, first_unlike_write(&mut writer));
+    let mut flushed = watched(&FLUSHES);
+    expect_none(&rt, first_unlike_flush(&mut flushed));
 }
 
 static TAKEN: [Result<usize, ErrorKind>; 4] = [Ok(3), Ok(3), Ok(3), Ok(3)];
@@ -216,9 +213,6 @@ fn first_unlike_chunk(reader: &mut Watch<Scripted<'_>>) -> Option<usize> {
 
 #[test]
 fn chunks_end_at_the_limit(rt: HostRuntime) {
-    let mut reader = Watch::new(Scripted {
-        answers: &OFFERED,
-        calls: 0,
-    });
-    assert_eq!(rt; first_unlike_chunk(&mut reader), None);
+    let mut reader = watched(&OFFERED);
+    expect_none(&rt, first_unlike_chunk(&mut reader));
 }
