@@ -83,31 +83,13 @@ fn has_name(alloc: Global, tags: &Tags, part: &str, count: usize) -> bool {
     }
 }
 
-/// Parts of names, how many of each, and what they get.
-static NAMES: [(&str, usize, Result<(), TagError>); 3] = [
-    ("\"", 100, Ok(())),
-    ("\"", 101, Err(TagError::Long)),
-    ("\n", 200, Err(TagError::Text)),
-];
-
-/// The number of the first name that gets another result, from 0; or how many there are, if the first doesn't stay.
-fn first_other_name(alloc: Global) -> Option<usize> {
-    let mut tags = Tags::new(alloc);
-    for (number, (part, count, answer)) in NAMES.iter().enumerate() {
-        if !gets(alloc, &mut tags, part, *count, *answer) {
-            return Some(number);
-        }
-    }
-    if has_name(alloc, &tags, "\"", 100) {
-        None
-    } else {
-        Some(NAMES.len())
-    }
-}
-
 #[test]
 fn a_long_value_is_refused(rt: HostRuntime) {
-    expect_none(&rt, first_other_name(rt.alloc()));
+    let mut tags = Tags::new(rt.alloc());
+    assert!(rt; gets(rt.alloc(), &mut tags, "\"", 100, Ok(())));
+    assert!(rt; gets(rt.alloc(), &mut tags, "\"", 101, Err(TagError::Long)));
+    assert!(rt; gets(rt.alloc(), &mut tags, "\n", 200, Err(TagError::Text)));
+    assert!(rt; has_name(rt.alloc(), &tags, "\"", 100));
 }
 
 const ESCAPED: &str =
