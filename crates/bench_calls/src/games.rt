@@ -2,6 +2,7 @@
 
 ghost use Rattle.std.specs.Prelude.{◌≡◌};
 
+use crate::rules::MIDDLE_GAME;
 use chess_rules::{Kind, Move, Position, Square};
 use chess_text::read_fen;
 use dgt_frame::{Hms, Watch};
@@ -14,7 +15,7 @@ use std::io::{BufWriter, Write};
 /// Where games begin: the initial position, and positions with castling, en passant, promotion and Black to move.
 const STARTS: [&str; 5] = [
     "rnbqkbnr/pppppppp/8/8/8/8/PPPPPPPP/RNBQKBNR w KQkq - 0 1",
-    "r3k2r/p1ppqpb1/bn2pnp1/3PN3/1p2P3/2N2Q1p/PPPBBPPP/R3K2R w KQkq - 0 1",
+    MIDDLE_GAME,
     "8/2p5/3p4/KP5r/1R3p1k/8/4P1P1/8 w - - 0 1",
     "rnbqkbnr/ppp1pppp/8/8/3pP3/8/PPPP1PPP/RNBQKBNR b KQkq e3 0 3",
     "4k3/PPP5/8/8/8/8/ppp5/4K3 b - - 12 40",

@@ -4,7 +4,6 @@
 #![tactic(auto)]
 
 mod games;
-mod middle_game;
 mod rules;
 mod san;
 mod settling;
