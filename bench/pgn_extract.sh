@@ -10,7 +10,8 @@ trap 'rm -rf "$work"' EXIT
 
 extract=$(command -v pgn-extract || command -v /usr/games/pgn-extract || true)
 if [ -z "$extract" ]; then
-    apt-get install -y pgn-extract > "$work/apt.log"
+    apt-get update > "$work/apt.log"
+    apt-get install -y pgn-extract >> "$work/apt.log"
     extract=$(command -v pgn-extract || command -v /usr/games/pgn-extract)
 fi
 (cd crates/bench_calls && rt run -- games texts 1 > "$work/build.log")
