@@ -1,8 +1,8 @@
 """What an arbiter adds to a game: a result, or moves that no picture showed.
 
 Both become bytes in the capture, as if the board had shown them: dumps, and then one stray byte. So the game is still what the
-program makes of the capture. The stray byte is a fault, after which no update counts up to the next dump: what was added may have
-cut a frame of the board's, and need not be what stands on the board. A dump is to be asked for at once.
+program makes of the capture. The stray byte is a fault, after which no update counts up to the next dump: what was added may
+have cut a frame of the board's, and need not be what stands on the board. A dump is to be asked for at once.
 """
 
 from __future__ import annotations
