@@ -156,7 +156,7 @@ def noise(folder: pathlib.Path) -> None:
 
 
 def part_killed(folder: pathlib.Path) -> None:
-    """Each process but the main one is killed, alone, in mid-game; 100 kB of clock times follow. The recorder goes on, or ends
+    """Each process but the main one is killed, alone, in mid-game; 200 kB of clock times follow. The recorder goes on, or ends
     with a complaint and goes on when it is started again; nothing that was played is lost, and a signal ends it."""
     number, count = 0, 1
     while number < count:
@@ -171,7 +171,7 @@ def part_killed(folder: pathlib.Path) -> None:
         live.was_killed = True
         os.kill(children[number], signal.SIGKILL)
         board.play("g1f3")
-        for second in range(5000):
+        for second in range(20000):
             board.clock(3600 + second % 60, 3600)
             if second % 50 == 0:
                 until(lambda: not board.outgoing or not live.runs, f"that bytes are read where {killed} is killed")

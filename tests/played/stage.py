@@ -3,6 +3,7 @@
 Waits for what is to come, up to the end of the case's time, so that no case fails because the machine is slow.
 """
 
+import os
 import pathlib
 import select
 import signal
@@ -15,7 +16,7 @@ from played.boards import TOP, Board
 from played.recorder import Live, processes
 
 PROGRAM = TOP / "bin" / "dgt_replay"
-LIMIT = 120  # seconds that a case may take
+LIMIT = int(os.environ.get("CASE_SECONDS", "120"))  # that a case may take
 RUY = ["e2e4", "e7e5", "g1f3", "b8c6", "f1b5"]
 RUY_TEXT = "1. e4 e5 2. Nf3 Nc6 3. Bb5 *"
 SAMPLE_TEXT = (
@@ -52,7 +53,9 @@ def turn(pause: float = 0.005) -> None:
 def until(holds: Callable[[], object], what: str, pause: float = 0.005) -> None:
     """Lets the boards answer until it holds."""
     while not holds():
-        assert time.monotonic() < Stage.ends, f"{LIMIT} s are over, still to come: {what}"
+        if time.monotonic() > Stage.ends:
+            said = "\n".join(f"{live.name} says:\n{live.lines()[-2000:]}{live.complaint()[-2000:]}" for live in Live.all[-2:])
+            raise AssertionError(f"{LIMIT} s are over, still to come: {what}\n{said}")
         turn(pause)
     for board in Stage.boards:
         board.turn()
@@ -75,7 +78,18 @@ def rest(seconds: float) -> None:
 
 
 def until_line(live: Live, part: str, times: int = 1) -> None:
-    until(lambda: live.says(part, times), f"'{part}' in what the recorder of {live.name} says, which is\n{live.lines()}")
+    ran = True
+
+    def said() -> bool:
+        """Or it won't be: it has ended, and what it said before that was read after."""
+        nonlocal ran
+        if live.says(part, times):
+            return True
+        assert ran, f"'{part}' never comes: the recorder of {live.name} has ended, and said\n{live.lines()}{live.complaint()}"
+        ran = live.runs
+        return False
+
+    until(said, f"'{part}' in what the recorder of {live.name} says")
 
 
 def begun(live: Live, line: str = words.AGREES) -> None:

@@ -37,8 +37,8 @@ NOT_WRITTEN = "can't be written"
 # What to look at where no board answers.
 SILENT_ADVICE = ("cable", "power", "right device", "another program")
 
-# The time of day and two blanks stand in front of each line of a game.
-TIMED = re.compile(r"^\d\d:\d\d:\d\d  (.*)$")
+# The time of day and two blanks stand in front of each line; strokes where it was played before this call.
+TIMED = re.compile(r"^(?:\d\d:\d\d:\d\d|--:--:--)  (.*)$")
 # What a terminal takes for a command and not for text.
 CONTROLS = re.compile(r"\x1b\[[0-9;?]*[A-Za-z]|\x1b[=>78]")
 
