@@ -96,6 +96,7 @@ class Capture:
         self.size = os.fstat(number).st_size
         self.pending = bytearray()
         self.lost = 0  # bytes for which there was no memory left
+        self.limit: Optional[int] = LARGEST
         self.trouble = ""
 
     @staticmethod
@@ -144,11 +145,14 @@ class Capture:
 
     @property
     def at_limit(self) -> bool:
-        return self.size >= LARGEST
+        return self.limit is not None and self.size >= self.limit
 
     def append(self, sent: bytes) -> None:
         """Appended to the file, or kept for the next try where that fails. What is past the limit is dropped."""
-        room = max(0, min(MEMORY - len(self.pending), LARGEST - self.size - len(self.pending)))
+        room = MEMORY - len(self.pending)
+        if self.limit is not None:
+            room = min(room, self.limit - self.size - len(self.pending))
+        room = max(0, room)
         self.lost += max(0, len(sent) - room)
         self.pending += sent[:room]
         self.write()

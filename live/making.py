@@ -6,13 +6,23 @@ import os
 import subprocess
 from typing import Callable, Optional
 
-from live.files import Capture, Paths, new_of, sync_folder, text_of
+from live.files import Capture, Paths, new_of, put_in_place, sync_folder, text_of
 from live.loop import Loop, Timer, close
 from live.options import Options
-from live.program import Program
+from live.program import Program, wake
 
 AGAIN = 1.0  # seconds after a try that failed
 SLOWEST = 60.0  # seconds that a call may take before it is ended and begun anew
+
+
+def make_now(program: Program, paths: Paths, capture: Capture, options: Options, limit: Optional[int]) -> None:
+    """Makes NAME.pgn and waits for it. An OSError comes where it can't be written."""
+    sent = capture.bytes(0, limit)
+    answer = program.run("record", *options.words, given=sent)
+    if answer.returncode != 0:
+        raise OSError(f"record ended with status {answer.returncode}")
+    capture.sync()
+    put_in_place(paths.pgn, answer.stdout)
 
 
 class Maker:
@@ -40,7 +50,7 @@ class Maker:
         self._tries = 0
         self._timer: Optional[Timer] = None
         self.limit: Optional[int] = None
-        self.made = 0  # bytes of the capture that NAME.pgn surely has
+        self.made = capture.size  # bytes of the capture that NAME.pgn surely has: it was made as this began
         self.failing = False
 
     def want(self) -> None:
@@ -145,6 +155,11 @@ class Maker:
         except OSError as error:
             return text_of(error)
         return ""
+
+    def wake(self) -> None:
+        """To be called now and then: a call that was stopped from outside goes on."""
+        if self._child is not None:
+            wake(self._child)
 
     def close(self) -> None:
         """Ends what is under way."""

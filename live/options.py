@@ -3,7 +3,7 @@
 from __future__ import annotations
 
 from dataclasses import dataclass
-from typing import Callable, Dict, List, Optional, Sequence, Tuple
+from typing import Callable, Dict, Iterable, List, Optional, Sequence, Tuple
 
 from live.refused import ARGUMENTS, REFUSED, Refused
 
@@ -12,6 +12,7 @@ TAGS = ("--event", "--site", "--date", "--round", "--white", "--black")
 VALUED = BOARD + TAGS
 SEE_HELP = "see dgt_live --help"
 LINGER = 10
+Pair = Tuple[str, Optional[str]]  # an option and its value
 
 
 @dataclass(frozen=True)
@@ -92,9 +93,9 @@ class Options:
 
     words: Tuple[str, ...] = ()
 
-    def pairs(self) -> List[Tuple[str, Optional[str]]]:
+    def pairs(self) -> List[Pair]:
         """Each option with its value, if it has one."""
-        pairs: List[Tuple[str, Optional[str]]] = []
+        pairs: List[Pair] = []
         left = list(self.words)
         while left:
             option, equals, value = left.pop(0).partition("=")
@@ -147,8 +148,8 @@ class Options:
                 raise Refused(REFUSED, f"an option has a line break in it: {word!r}")
 
 
-def _words(pairs: object) -> Tuple[str, ...]:
+def _words(pairs: Iterable[Pair]) -> Tuple[str, ...]:
     words: List[str] = []
-    for option, value in pairs:  # type: ignore[attr-defined]
+    for option, value in pairs:
         words.extend([option] if value is None else [option, value])
     return tuple(words)

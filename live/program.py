@@ -9,7 +9,7 @@ import pathlib
 import signal
 import subprocess
 from dataclasses import dataclass
-from typing import Callable, Iterator, List, Optional, Sequence
+from typing import Callable, Iterator, List, Optional, Sequence, Tuple
 
 from live.files import Capture
 from live.loop import ENDING, Loop, Timer
@@ -63,6 +63,12 @@ class Program:
         output, error = child.communicate(given)
         return subprocess.CompletedProcess(list(words), child.returncode, output, error)
 
+    def positions(self, fen: Optional[str], moves: Sequence[str]) -> Tuple[List[str], str]:
+        """The FENs of the start and of the position after each move, and what is wrong with the first move that isn't legal."""
+        start = ["--fen", fen] if fen else []
+        answer = self.run("positions", *start, given=" ".join(moves).encode())
+        return lines_of(answer.stdout), answer.stderr.decode("utf-8", "replace").strip() if answer.returncode else ""
+
     def start(self, words: Sequence[str], stdin: int, stdout: int, stderr: int) -> subprocess.Popen[bytes]:
         """Starts it and goes on."""
         with _deaf_children():
@@ -92,7 +98,6 @@ class Listing:
         self._failures = 0
         self._failed_at = -FRESH
         self._finished: Optional[Callable[[], None]] = None
-        self._limit: Optional[int] = None
         self._timer: Optional[Timer] = None
         self._child: Optional[subprocess.Popen[bytes]] = None
         self._begin()
@@ -120,8 +125,8 @@ class Listing:
             return
         number = self._child.stdin.fileno()
         try:
-            while self._given < self._end():
-                part = self._capture.read(self._given, min(CHUNK, self._end() - self._given))
+            while self._given < self._capture.size:
+                part = self._capture.read(self._given, min(CHUNK, self._capture.size - self._given))
                 if not part:
                     break
                 self._given += os.write(number, part)
@@ -133,9 +138,6 @@ class Listing:
             return  # it has ended, as its output tells
         if self._finished:
             self._close_input()
-
-    def _end(self) -> int:
-        return self._capture.size if self._limit is None else min(self._limit, self._capture.size)
 
     def _writable(self) -> None:
         assert self._child and self._child.stdin
@@ -189,15 +191,15 @@ class Listing:
         else:
             self._timer = self._loop.after(0 if self._failures == 1 else 0.5, self._begin)
 
-    def finish(self, done: Callable[[], None], limit: Optional[int] = None) -> None:
-        """Ends its input, at an offset or where the file ends, and calls this when all lines have been heard."""
-        self._finished, self._limit = done, limit
+    def finish(self, done: Callable[[], None]) -> None:
+        """Ends its input where the file ends, and calls this when all lines have been heard."""
+        self._finished = done
         self.feed()
 
-    def restart(self) -> None:
-        """Kills it: so it is started anew, with all that stands."""
+    def wake(self) -> None:
+        """To be called now and then: one that was stopped from outside goes on."""
         if self._child is not None:
-            self._child.kill()
+            wake(self._child)
 
     def close(self) -> None:
         """Ends it; nothing is heard from here on."""
@@ -225,6 +227,13 @@ class Listing:
                 child.kill()
                 child.wait()
         return child.returncode
+
+
+def wake(child: subprocess.Popen[bytes]) -> None:
+    """A child that was stopped goes on."""
+    with contextlib.suppress(OSError):
+        if child.returncode is None and os.waitid(os.P_PID, child.pid, os.WSTOPPED | os.WNOHANG | os.WNOWAIT):
+            child.send_signal(signal.SIGCONT)
 
 
 def lines_of(output: bytes) -> List[str]:

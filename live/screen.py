@@ -11,6 +11,8 @@ from live.terminal import Terminal
 
 INDENT = " " * 10
 NO_TIME = "--:--:--"
+PROMPT = "  > "
+LASTS = 10.0  # seconds between two writings of a state that only lasts
 Clock = Callable[[], datetime.datetime]
 
 
@@ -46,10 +48,11 @@ class Told:
 class Screen:
     """Lines with the time of day, and the state of the board."""
 
-    def __init__(self, terminal: Terminal, clock: Clock = datetime.datetime.now) -> None:
+    def __init__(self, terminal: Optional[Terminal], clock: Clock = datetime.datetime.now) -> None:
         self._terminal, self._clock = terminal, clock
         self._log: Optional[Log] = None
-        self._state = ""
+        self._news: object = None
+        self._state_at = datetime.datetime.min
 
     def keep(self, log: Optional[Log]) -> None:
         """From here on the lines are kept in this log."""
@@ -60,31 +63,38 @@ class Screen:
     def say(self, text: str, *more: str) -> None:
         """A line, and those that belong to it."""
         now = self._clock()
-        self._terminal.line(f"{now:%H:%M:%S}  {text}")
+        self._print(f"{now:%H:%M:%S}  {text}")
         self._write(now, text)
         for line in more:
-            self._terminal.line(INDENT + line)
+            self._print(INDENT + line)
             self._write(now, line)
 
     def old(self, text: str) -> None:
         """A line of what was played before this call: nobody knows when."""
-        self._terminal.line(f"{NO_TIME}  {text}")
+        self._print(f"{NO_TIME}  {text}")
 
     def note(self, text: str) -> None:
         """A line for the log alone."""
         self._write(self._clock(), text)
 
-    def state(self, text: str) -> None:
-        """How the board stands: on a terminal in the last line, elsewhere a line for each change."""
-        if text == self._state:
-            return
-        self._state = text
+    def state(self, text: str, news: object) -> None:
+        """How the board stands, and what makes that another state than before: on a terminal the last line, elsewhere a line for
+        each other state."""
         now = self._clock()
-        if self._terminal.in_place:
-            self._terminal.state(f"{now:%H:%M:%S}  {text}")
-        else:
-            self._terminal.line(f"{now:%H:%M:%S}  {text}")
-        self._write(now, text)
+        is_news, self._news = news != self._news, news
+        if is_news:
+            self._write(now, text)
+        if self._terminal and self._terminal.in_place:
+            # It lasts: what is typed below isn't disturbed each second.
+            if is_news or abs((now - self._state_at).total_seconds()) >= LASTS:
+                self._state_at = now
+                self._terminal.state(f"{now:%H:%M:%S}  {text}{PROMPT}")
+        elif is_news:
+            self._print(f"{now:%H:%M:%S}  {text}")
+
+    def _print(self, line: str) -> None:
+        if self._terminal:
+            self._terminal.line(line)
 
     def _write(self, now: datetime.datetime, text: str) -> None:
         if self._log:

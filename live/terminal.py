@@ -3,7 +3,9 @@
 from __future__ import annotations
 
 import os
+import select
 import stat
+import time
 from typing import Callable, List, Optional
 
 from live.loop import Loop
@@ -99,12 +101,16 @@ class Terminal:
     def _writable(self) -> None:
         self._write()
 
-    def end(self) -> None:
-        """The state line is left as it stands; what can't be printed at once is dropped."""
+    def end(self, seconds: float) -> None:
+        """The state line is left as it stands. What can't be printed within so many seconds is dropped."""
         if self._shown:
             self._waiting += b"\n"
             self._shown = self._state = ""
+        ends = time.monotonic() + seconds
         self._write()
+        while self._waiting and self._number is not None and time.monotonic() < ends:
+            select.select([], [self._number], [], ends - time.monotonic())
+            self._write()
 
     def close(self) -> None:
         if self._number is not None:
@@ -166,3 +172,9 @@ class Typed:
         self._text = self._text[-4096:]
         for line in lines:
             self._heard(line.decode("utf-8", "replace").strip())
+
+    def close(self) -> None:
+        """Nothing is heard from here on."""
+        if self._number is not None:
+            self._loop.forget(self._number)
+            self._number = None
