@@ -34,12 +34,12 @@ from played.stage import (
 LONGEST = 67_108_864  # bytes of a capture
 
 
-def fill(board: Board, live: Live) -> None:
+def fill(board: Board, live: Live, text: object) -> None:
     """Plays five plies, and sends times until it says that the disk is full."""
     begun(live)
     for number, move in enumerate(RUY):
         board.play(move)
-        until(lambda: check(bytes_of(live.name + ".pgn")) == f"moves {number + 1}, result *", move)
+        until(lambda: check(bytes_of(text)) == f"moves {number + 1}, result *", move)
 
     def is_full() -> bool:
         board.clock(600, 600)
@@ -52,7 +52,7 @@ def full_disk(folder: pathlib.Path) -> None:
     """No more bytes can be written, from some byte on: it says so, goes on, and writes all when there is room."""
     board = a_board(folder)
     live = Live(board.device, folder / "game", limit=2000)
-    fill(board, live)
+    fill(board, live, live.name + ".pgn")
     assert len(bytes_of(live.name + ".dgt")) <= 2000
     game = movetext(live.name)
     board.play("a7a6")
@@ -74,7 +74,7 @@ def full_disk_ended(folder: pathlib.Path) -> None:
     """A signal while the disk is full ends it with status 3 and a complaint; what was kept is kept, and it goes on from it."""
     board = a_board(folder)
     live = Live(board.device, folder / "game", limit=2000)
-    fill(board, live)
+    fill(board, live, live.name + ".pgn")
     rest(1.5)
     live.send(signal.SIGINT)
     assert holds_within(lambda: not live.runs, 20), "it doesn't end"
@@ -163,7 +163,7 @@ def full_file_system(folder: pathlib.Path) -> None:
         os.unlink(inside / "other")
         take(24576)
         live = Live(board.device, place / "game", "--white", "Anna", start=start)
-        fill(board, live)
+        fill(board, live, inside / "game.pgn")
         board.play("a7a6")
         board.play("b5a4")
         rest(2)

@@ -109,8 +109,13 @@ def switched_off(folder: pathlib.Path) -> None:
     until_line(live, words.SILENT)
     board.play("b8c6")
     until_game(live.name, "1. e4 e5 2. Nf3 Nc6 *")
+    # Nothing is played meanwhile: it says that it agrees again.
+    board.switch_off()
+    until_line(live, words.SILENT, 2)
+    board.switch_on()
     quiet = live.lines().rindex(words.SILENT)
     until(lambda: words.AGREES in live.lines()[quiet:], "that it agrees again")
+    until(lambda: board.asked_for_updates, "a request for updates")
     # Shorter than it takes to be called silent: then updates are missing, and the dumps make up for them.
     board.switch_off()
     rest(0.3)

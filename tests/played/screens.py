@@ -138,7 +138,9 @@ def stopped_terminal(folder: pathlib.Path) -> None:
         board.play("b8c6")
         until_game(live.name, "1. e4 e5 2. Nf3 Nc6 *")
         live.told.hold(False)
-        until_line(live, "2... Nc6")
+        until(lambda: live.says("2... Nc6") or live.says(words.DROPPED), "what was told, or that it was dropped")
+        board.play("f1b5")
+        until_line(live, "3. Bb5")
         same(stop(live), 0)
 
     # The end comes though it is still stopped.
