@@ -21,6 +21,7 @@ from live.protocol import dump  # noqa: E402
 
 PROGRAM = BENCH.parent / "build" / "dgt_replay"
 EMPTY = 0
+KINGS = (5, 11)
 Change = Tuple[float, int, int]
 Way = Sequence[Tuple[int, int]]
 
@@ -41,21 +42,31 @@ def moves_of(text: str) -> List[str]:
     return [word for word in movetext(text)[:-1] if word[0].isalpha()]
 
 
-def random_game(chance: random.Random, plies: int, captures: float = 0.3) -> List[Way]:
-    """Moves of a game of so many plies in which no position ends it: each a list of the squares that change."""
+def random_game(chance: random.Random, plies: int) -> List[Way]:
+    """Moves of a game of so many plies in which no position ends it: each a list of the squares that change.
+
+    At random, but captures are preferred, sides castle mostly where they may, and kings are moved seldom, as players do.
+    """
     while True:
         game: Any = Game()
         ways: List[Way] = []
         while len(ways) < plies:
             legal = [way for way in game.ways() if game.is_legal(way)]
-            taking = [way for way in legal if game.board[way[1][0]] != EMPTY]
             if not legal:
                 break
-            way = chance.choice(taking if taking and chance.random() < captures else legal)
+            way = chance.choices(legal, [weight(game.board, way) for way in legal])[0]
             ways.append(way)
             game = game.after(way)
         if len(ways) == plies and game.goes_on():
             return ways
+
+
+def weight(board: Sequence[int], way: Way) -> float:
+    """How gladly a move is played."""
+    origin, (target, _) = way[0][0], way[1]
+    if board[origin] in KINGS:
+        return 20 if len(way) == 4 else 0.2
+    return 3 if board[target] != EMPTY else 1
 
 
 def lognormal(chance: random.Random, median: float, spread: float) -> float:

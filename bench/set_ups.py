@@ -15,11 +15,9 @@ from concurrent.futures import ProcessPoolExecutor
 from dataclasses import dataclass
 from typing import Callable, Dict, List, Sequence, Tuple
 
-from hands import EMPTY, INITIAL, Hands, lognormal, moves_of, program, random_game, updates
+from hands import EMPTY, INITIAL, KINGS, Hands, lognormal, moves_of, program, random_game, updates
 
 from live.ending import Line, game_end  # noqa: E402  (hands has put its folder on the path)
-
-KINGS = (5, 11)
 
 
 @dataclass
