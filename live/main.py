@@ -192,21 +192,28 @@ def list_devices() -> int:
 
 
 def main(arguments: Sequence[str], here: pathlib.Path) -> int:
-    """What the arguments ask for; the status."""
+    """What the arguments ask for; the status. All that was said is printed then."""
     signals = Signals()
+    status, complaint = DONE, ""
     try:
-        call = options.parse(arguments)
-        if call.help:
-            print(HELP, end="")
-            return DONE
-        if call.devices:
-            return list_devices()
-        program = Program.find(here)
-        return record(call, program, signals) if call.added is None else add(call, program)
+        status = call(options.parse(arguments), here, signals)
     except Refused as refused:
-        try:
-            sys.stderr.write(refused.text())
-            sys.stderr.flush()
-        except OSError:
-            pass
-        return refused.status
+        status, complaint = refused.status, refused.text()
+    try:
+        sys.stdout.flush()
+        sys.stderr.write(complaint)
+        sys.stderr.flush()
+    except OSError:
+        pass  # nobody reads it any more
+    return status
+
+
+def call(asked: Call, here: pathlib.Path, signals: Signals) -> int:
+    """What the call asks for."""
+    if asked.help:
+        print(HELP, end="")
+        return DONE
+    if asked.devices:
+        return list_devices()
+    program = Program.find(here)
+    return record(asked, program, signals) if asked.added is None else add(asked, program)

@@ -21,6 +21,7 @@ from live.standing import Standing
 
 PATIENCE = 5.0  # seconds that the last lines may take
 SETTLES = 0.2  # seconds after which both listings have told of a picture
+NO_PICTURE: protocol.Picture = ()
 DUMP_BEGINS = b"\x86\x00\x43"
 
 
@@ -153,18 +154,16 @@ class Recording:
         """A line of `pictures`."""
         self._shown = picture = protocol.picture_of_placement(placement)
         self.standing.board.shows(picture)
-        if picture == self._start and self.moves:
+        if self._start_again.takes(picture, NO_PICTURE):
             self._loop.after(SETTLES, self._look_at_start)
-        else:
-            self._start_again.takes(picture, self._start)
         self.standing.show()
 
     def _look_at_start(self) -> None:
-        """The start stands, and `follow` has told what it makes of it."""
-        if self._is_over:
+        """The start stood again, and `follow` has told what it makes of that. It ends a game that doesn't stand there."""
+        if self._is_over or not self.moves:
             return
         fens, _ = self._program.positions(self._options.fen, self.moves)
-        if fens and self._start_again.takes(self._start, protocol.picture_of_placement(fens[-1])):
+        if fens and protocol.picture_of_placement(fens[-1]) != self._start:
             self._end(Reason.RESULT if self._result != "*" else Reason.SET_UP)
 
     def _pgn_trouble(self, trouble: str) -> None:

@@ -52,6 +52,7 @@ class Screen:
         self._terminal, self._clock = terminal, clock
         self._log: Optional[Log] = None
         self._news: object = None
+        self._last = ""  # the text of the last line
         self._state_at = datetime.datetime.min
 
     def keep(self, log: Optional[Log]) -> None:
@@ -63,6 +64,7 @@ class Screen:
     def say(self, text: str, *more: str) -> None:
         """A line, and those that belong to it."""
         now = self._clock()
+        self._last = text
         self._print(f"{now:%H:%M:%S}  {text}")
         self._write(now, text)
         for line in more:
@@ -82,14 +84,14 @@ class Screen:
         each other state."""
         now = self._clock()
         is_news, self._news = news != self._news, news
-        if is_news:
+        if is_news and text != self._last:
             self._write(now, text)
         if self._terminal and self._terminal.in_place:
             # It lasts: what is typed below isn't disturbed each second.
             if is_news or abs((now - self._state_at).total_seconds()) >= LASTS:
                 self._state_at = now
                 self._terminal.state(f"{now:%H:%M:%S}  {text}{PROMPT}")
-        elif is_news:
+        elif is_news and text != self._last:
             self._print(f"{now:%H:%M:%S}  {text}")
 
     def _print(self, line: str) -> None:
