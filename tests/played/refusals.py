@@ -39,8 +39,8 @@ def refused(folder: pathlib.Path) -> None:
         ([board.device, "game", "--first", "green"], 2, "--first"),
         ([board.device, "game", "--fen", "8/8/8/8/8/8/8/4K3 w - - 0 1"], 1, "kings"),
         ([board.device, "game", "--date", "last Sunday"], 1, "2024.05.31"),
-        ([board.device, "game", "--white", "A" * 101], 1, "long"),
-        ([board.device, "game", "--white", "王"], 1, "White"),
+        ([board.device, "game", "--white", "A" * 101], 1, "100"),
+        ([board.device, "game", "--white", "王"], 1, "--white"),
         ([board.device, "game", "--colour", "red"], 2, "--colour"),
         ([board.device, "game", "--linger", "soon"], 2, "--linger"),
         ([board.device, "game", "--linger"], 2, "--linger"),
@@ -140,7 +140,8 @@ def names_and_dates(folder: pathlib.Path) -> None:
     board.play("e7e5")
     until_game(live.name, "1. e4 e5 *")
     same(stop(again), 0)
-    other = Live(board.device, folder / "other", "--date", "2024-05-31")
+    (folder / "room").mkdir()
+    other = Live(a_board(folder / "room").device, folder / "other", "--date", "2024-05-31")
     begun(other)
     same(stop(other), 0)
     assert b'[Date "2024.05.31"]' in bytes_of(other.name + ".pgn")

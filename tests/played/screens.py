@@ -61,10 +61,8 @@ def in_hand_and_wrong(folder: pathlib.Path) -> None:
     board, live = begin_game(folder)
     lifted = time.monotonic()
     board.lift("g1")
-    until_line(live, words.IN_HAND)
+    until(lambda: any(words.IN_HAND in line and "g1" in line.split() for line in live.lines().splitlines()), "g1 in hand")
     assert words.WRONG not in live.lines(), live.lines()
-    hand = [line for line in live.lines().splitlines() if words.IN_HAND in line][-1]
-    assert "g1" in hand.split(), hand
     until_line(live, words.WRONG)
     assert 9 < time.monotonic() - lifted, "the alarm comes too soon"
     wrong = [line for line in live.lines().splitlines() if words.WRONG in line][-1]
