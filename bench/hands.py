@@ -106,11 +106,11 @@ class Hands:
             self.changes.append((self.now, square, code))
 
     def play(self, ways: Sequence[Way], think: Callable[[], float]) -> None:
-        """Plays the moves, each after a time to think."""
+        """Plays the moves; after a time to think a hand lifts the first piece."""
         for way in ways:
             self.wait(think())
-            for square, code in hand(self.chance, self.board, way):
-                self.wait(self.chance.uniform(0.08, 0.6))
+            for at, (square, code) in enumerate(hand(self.chance, self.board, way)):
+                self.wait(self.chance.uniform(0.08, 0.6) if at else 0)
                 self.show(square, code)
 
 

@@ -8,7 +8,7 @@ from dataclasses import dataclass, field
 from live.protocol import DUMP_REQUEST, START_REQUEST, FrameKind, Frames
 
 UNFINISHED = 0.2  # seconds that a frame may stay so
-POLL = 1.0  # seconds that the last whole dump may be old
+POLL = 1.0  # seconds that the last whole dump may be old, from when it was asked for
 BETWEEN = 0.5  # seconds between two requests, at least
 PATIENCE = 1.0  # seconds that a request is open; then it counts as lost
 SILENCE = 5.0  # seconds without a whole dump after which the board is silent
@@ -37,7 +37,8 @@ class Asking:
     _wanted: bool = False  # at a fault, or a start, that no whole dump has followed
     _start: bool = True  # the next request asks for updates too
     _byte_at: float = 0.0
-    _dump_at: float = 0.0  # of the last whole dump, or of the connection
+    _dump_at: float = 0.0  # when the last whole dump was asked for, or came unasked; or the connection
+    _heard_at: float = 0.0  # when it came
     _asked_at: float = -math.inf
     _asked_open: bool = False
     _unanswered: int = 0  # requests since the last whole dump
@@ -48,7 +49,8 @@ class Asking:
         self._frames = Frames()
         self._open_line = self._wanted = self._start = True
         self._asked_open = False
-        self._asked_at, self._dump_at, self._byte_at = -math.inf, now, now
+        self._asked_at = -math.inf
+        self._dump_at = self._heard_at = self._byte_at = now
         self._unanswered, self.dump = 0, b""
 
     def disconnected(self) -> None:
@@ -72,8 +74,9 @@ class Asking:
         if self.dump and self._frames.whole != self.dump and not self._updated:
             self._start = True
         self.dump, self._updated = self._frames.whole, False
+        self._dump_at = self._asked_at if self._asked_open else now
+        self._heard_at, self._unanswered = now, 0
         self._wanted = self._asked_open = self.silent = False
-        self._dump_at, self._unanswered = now, 0
 
     def added(self, sent: bytes) -> None:
         """This was put into the capture by hand. It may have cut a frame of the board's, so a dump is asked for."""
@@ -98,7 +101,7 @@ class Asking:
             return b""
         if self._asked_open:
             self._start = True
-        if self._unanswered >= LOST and now - self._dump_at >= SILENCE:
+        if self._unanswered >= LOST and now - self._heard_at >= SILENCE:
             self.silent = True
         request = START_REQUEST if self._start else DUMP_REQUEST
         self._start = False

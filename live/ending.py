@@ -54,8 +54,8 @@ def game_end(lines: Sequence[Line], start: Picture) -> End:
 
     `lines` are those of the whole game and of the set-up after it, `start` is the picture at the game's start. From the last
     move on backwards a line was setting up where it brought a piece home and the next change came within 3 s, or within four
-    times the median time between two changes of the set-up; or, if it was a king or the move before it went home too, within
-    20 s. So was one of the same ply before it, or the last line at all, where the next change came within 1 s: a piece that was
+    times the median time between two changes of the set-up; or within 20 s, if it was a king that stood in no check, or the move
+    before it went home too. So was one of the same ply before it, or the last line at all, where the next change came within 1 s: a piece that was
     drawn. The game ends before these; but where its last move then stood for less than 1 s, at the one of them that stood
     longest, since nobody sets up so soon. Where no move would be left, all are kept.
     """
@@ -86,7 +86,8 @@ def _sets_up(lines: Sequence[Line], moves: Sequence[int], after: Sequence[int], 
     line, stood = lines[moves[-1]], _stood(lines, moves[-1])
     before = lines[moves[-2]] if len(moves) > 1 else None
     same_ply = before is not None and _ply(before) == _ply(line)
-    king = " K" in line.text or _uncastles(line, before)
+    escapes = before is not None and not same_ply and "+" in before.text
+    king = (" K" in line.text and not escapes) or _uncastles(line, before)
     if not goes_home(line.text, start) and not _uncastles(line, before):
         return stood < STANDS and (not after or _ply(lines[after[0]]) == _ply(line))
     again = before is not None and not same_ply and goes_home(before.text, start)

@@ -17,29 +17,24 @@ ANSWERED = [(0.1, EMPTY)]
 # name, what comes when, until when, what is sent when. The line is open at 0.
 CASES = [
     ("at the connection", [], 0.5, [(0, b"BK")]),
-    ("a dump each second, and no more", [(0.1, EMPTY), (1.2, EMPTY)], 2.1, [(0, b"BK"), (1.1, b"B")]),
-    ("the second from the dump on", [(0.1, EMPTY), (1.2, EMPTY)], 2.2, [(0, b"BK"), (1.1, b"B"), (2.2, b"B")]),
-    ("with a clock that runs", ANSWERED + [(0.5, TIME)], 1.1, [(0, b"BK"), (1.1, b"B")]),
-    ("with updates", ANSWERED + [(0.5, UPDATE), (1.0, UPDATE)], 1.1, [(0, b"BK"), (1.1, b"B")]),
+    ("a dump each second, and no more", [(0.1, EMPTY), (1.1, EMPTY)], 1.9, [(0, b"BK"), (1, b"B")]),
+    ("the second from the request on", [(0.1, EMPTY), (1.3, EMPTY)], 2, [(0, b"BK"), (1, b"B"), (2, b"B")]),
+    ("with a clock that runs", ANSWERED + [(0.5, TIME)], 1, [(0, b"BK"), (1, b"B")]),
+    ("with updates", ANSWERED + [(0.5, UPDATE), (0.9, UPDATE)], 1, [(0, b"BK"), (1, b"B")]),
     ("a dump that nobody asked for", ANSWERED + [(0.9, EMPTY)], 1.9, [(0, b"BK"), (1.9, b"B")]),
     ("a fault, 0.5 s after the last request", ANSWERED + [(0.2, b"\x00")], 0.6, [(0, b"BK"), (0.5, b"B")]),
     ("a fault later: at once", ANSWERED + [(0.8, b"\x00")], 0.9, [(0, b"BK"), (0.8, b"B")]),
-    ("a fault that a dump has healed", ANSWERED + [(0.2, b"\x00" + EMPTY)], 1.1, [(0, b"BK")]),
+    ("a fault that a dump has healed", ANSWERED + [(0.2, b"\x00" + EMPTY)], 1, [(0, b"BK")]),
     ("a cut frame", ANSWERED + [(0.6, UPDATE[:3] + UPDATE)], 0.7, [(0, b"BK"), (0.6, b"B")]),
     ("unfinished for 0.2 s", ANSWERED + [(0.6, UPDATE[:4])], 0.9, [(0, b"BK"), (0.8, b"B")]),
-    ("finished in time", ANSWERED + [(0.6, UPDATE[:4]), (0.75, UPDATE[4:])], 1.0, [(0, b"BK")]),
+    ("finished in time", ANSWERED + [(0.6, UPDATE[:4]), (0.75, UPDATE[4:])], 0.99, [(0, b"BK")]),
     ("0.2 s from its last byte on", ANSWERED + [(0.6, UPDATE[:3]), (0.7, UPDATE[3:4])], 0.9, [(0, b"BK"), (0.9, b"B")]),
     ("a lost request", [], 1.0, [(0, b"BK"), (1, b"BK")]),
-    ("a lost request, the answer late", [(1.5, EMPTY)], 2.5, [(0, b"BK"), (1, b"BK"), (2.5, b"B")]),
+    ("a lost request, the answer late", [(1.5, EMPTY)], 2, [(0, b"BK"), (1, b"BK"), (2, b"B")]),
     ("one open at a time", [(0.1, b"\x00" * 8), (0.6, b"\x81\x81")], 0.9, [(0, b"BK")]),
-    ("off for a moment: a lost request, then updates too", ANSWERED, 2.2, [(0, b"BK"), (1.1, b"B"), (2.1, b"BK")]),
-    ("it shows something new, and no update came", ANSWERED + [(1.2, PAWN)], 2.2, [(0, b"BK"), (1.1, b"B"), (2.2, b"BK")]),
-    (
-        "something new after an update",
-        ANSWERED + [(0.5, UPDATE), (1.2, PAWN)],
-        2.2,
-        [(0, b"BK"), (1.1, b"B"), (2.2, b"B")],
-    ),
+    ("off for a moment: a lost request, then updates too", ANSWERED, 2, [(0, b"BK"), (1, b"B"), (2, b"BK")]),
+    ("it shows something new, and no update came", ANSWERED + [(1.2, PAWN)], 2, [(0, b"BK"), (1, b"B"), (2, b"BK")]),
+    ("something new after an update", ANSWERED + [(0.5, UPDATE), (1.2, PAWN)], 2, [(0, b"BK"), (1, b"B"), (2, b"B")]),
 ]
 
 
@@ -80,9 +75,9 @@ def silent_boards():
     same("an update is no dump", asking.silent, True)
     same("asked for updates too", asking.request(6), b"BK")
     asking.came(6.1, EMPTY)
-    same("it answers", (asking.silent, asking.due()), (False, 7.1))
-    same("dumps alone again", asking.request(7.1), b"B")
-    asking.came(7.2, EMPTY)
+    same("it answers", (asking.silent, asking.due()), (False, 7))
+    same("dumps alone again", asking.request(7), b"B")
+    asking.came(7.1, EMPTY)
     asking.disconnected()
     same("no line", (asking.due(), asking.request(20)), (math.inf, b""))
     asking.connected(30)
@@ -91,14 +86,15 @@ def silent_boards():
     dies = Asking()
     dies.connected(0)
     seen = sent(dies, ANSWERED, 5.2)
-    same("dies after a dump at 0.1 s", seen[1:], [(1.1, b"B"), (2.1, b"BK"), (3.1, b"BK"), (4.1, b"BK"), (5.1, b"BK")])
-    same("silent 5 s after it", dies.silent, True)
+    same("dies after a dump at 0.1 s", seen[1:], [(1, b"B"), (2, b"BK"), (3, b"BK"), (4, b"BK"), (5, b"BK")])
+    same("not silent yet", dies.silent, False)
+    same("silent 5 s after it", (dies.request(6), dies.silent), (b"BK", True))
 
     stopped = Asking()
     stopped.connected(0)
     sent(stopped, ANSWERED, 1.2)
     stopped.came(60, EMPTY)
-    same("a recorder that was stopped for a minute", (stopped.request(60), stopped.silent), (b"", False))
+    same("a recorder that was stopped for a minute: the dump is old", (stopped.request(60), stopped.silent), (b"B", False))
     late = Asking()
     late.connected(0)
     sent(late, ANSWERED, 1.2)
@@ -117,7 +113,7 @@ def additions():
     asking.came(0.7, UPDATE[3:])
     same("the rest of the frame is no frame", (asking.request(1.6), asking.due()), (b"", 1.7))
     asking.came(1.61, EMPTY)
-    same("healed", round(asking.due(), 3), 2.61)
+    same("healed", round(asking.due(), 3), 1.7)
     halfway = Asking()
     halfway.connected(0)
     halfway.request(0)

@@ -32,6 +32,7 @@ CASES = [
     ),
     ("a king within 20 s", ["9 81 move 1. e4", "10.1 91 move 31. Ke1", *SET_UP], (82, False, ["move 31. Ke1"])),
     ("a king later", ["9 81 move 1. e4", "10 91 move 31. Ke1", *SET_UP], (92, False, [])),
+    ("a king out of a check", ["9 81 move 1. Qe5+", "11 91 move 31... Ke8", *SET_UP], (92, False, [])),
     (
         "two pieces within 20 s",
         ["8 81 move 1. e4", "9 91 move 5. Bf1", "10.1 95 move 5... Ng8", *SET_UP],
