@@ -2,6 +2,7 @@
 
 from __future__ import annotations
 
+import bisect
 import enum
 from typing import Callable, List, Optional, Sequence
 
@@ -20,6 +21,7 @@ from live.setting_up import TICK, pictures_words, start_placement
 from live.standing import Standing
 
 PATIENCE = 5.0  # seconds that the last lines may take
+LATE = 1.0  # seconds
 SETTLES = 0.2  # seconds after which both listings have told of a picture
 NO_PICTURE: protocol.Picture = ()
 DUMP_BEGINS = b"\x86\x00\x43"
@@ -32,6 +34,27 @@ class Reason(enum.Enum):
     TYPED = "its result was typed"
     SET_UP = "the pieces stand at the start again"
     LIMIT = "its capture has 64 MiB, and none may have more"
+
+
+def offsets(sent: bytes, part: bytes) -> List[int]:
+    """Where a part begins, each time."""
+    found = []
+    at = sent.find(part)
+    while at >= 0:
+        found.append(at)
+        at = sent.find(part, at + 1)
+    return found
+
+
+def ending_with_sign(lines: Sequence[ending.Line], size: int) -> int:
+    """The end of a game, with the kings' result that was shown after its last move and before the next one was seen."""
+    for line in lines:
+        if line.offset >= size:
+            if line.is_move:
+                break
+            if line.text.startswith("result ") and not line.text.endswith("*"):
+                return line.offset + 1
+    return size
 
 
 class Recording:
@@ -68,7 +91,7 @@ class Recording:
         self._start_again = ending.StartAgain(self._start)
         self._old = capture.size  # bytes from before this call
         self._began = loop.now()
-        self._old_dumps = capture.bytes().count(DUMP_BEGINS)
+        self._old_dumps = offsets(capture.bytes(), DUMP_BEGINS)
         self._faults: List[str] = []
         self._is_over = False
         self._done: Optional[Callable[[bool], None]] = None
@@ -142,13 +165,24 @@ class Recording:
             self._ends = None
         if result != "*" and not self._is_over:
             self._screen.say(f"ends in {self._linger} seconds, where the result stands")
-            self._ends = self._loop.after(self._linger, lambda: self._end(Reason.RESULT))
+            self._wait_for_end(self._linger)
+
+    def _wait_for_end(self, seconds: float) -> None:
+        due = self._loop.now() + seconds
+
+        def comes() -> None:
+            if self._loop.now() - due > LATE:
+                self._wait_for_end(LATE)  # this process was stopped: what came meanwhile is told first
+            else:
+                self._end(Reason.RESULT)
+
+        self._ends = self._loop.after(seconds, comes)
 
     def _time_of(self, offset: int, now: float) -> float:
         """When a line came. Of old bytes nobody knows; but they have a dump for each second."""
         if offset >= self._old:
             return now
-        return self._began - self._old_dumps + self._capture.bytes(0, offset).count(DUMP_BEGINS)
+        return self._began - len(self._old_dumps) + bisect.bisect(self._old_dumps, offset)
 
     def _saw(self, placement: str) -> None:
         """A line of `pictures`."""
@@ -204,7 +238,7 @@ class Recording:
             self.end = self._changed_at + 1
         elif reason is Reason.SET_UP:
             found = ending.game_end(self._lines, self._start)
-            self.end = found.size
+            self.end = ending_with_sign(self._lines, found.size)
             if found.dropped:
                 self._screen.say(f"taken for setting up, and not for moves: {'; '.join(found.dropped)}")
             if not found.sure:

@@ -39,6 +39,18 @@ def is_over(paths: Paths, capture: Capture) -> bool:
     return files.end_mark(paths) is not None or (bool(text) and b'[Result "*"]' not in text) or capture.at_limit
 
 
+def reason_of(error: Exception) -> str:
+    """What is told of an error."""
+    if isinstance(error, OSError):
+        return text_of(error)
+    return error.lines[0] if isinstance(error, Refused) else str(error)
+
+
+def printable(text: str) -> str:
+    """The beginning of what was typed, where it can be printed."""
+    return "".join(letter if letter.isprintable() else "?" for letter in text[:60])
+
+
 class Player:
     """Records the games of one board, one after the other.
 
@@ -147,20 +159,21 @@ class Player:
     def _next(self) -> Paths:
         return numbered(self._call.name, int(self.paths.name.rpartition("-")[2]) + 1)
 
-    def _begin_next(self, content: bytes) -> None:
-        """The start stands: the next capture begins with it."""
+    def _begin_next(self, content: bytes) -> bool:
+        """The start stands: the next capture begins with it. Whether it could be begun."""
         assert self._setting_up
         paths = self._next()
         try:
             if paths.pgn.exists():
-                raise OSError(f"{paths.pgn} is there without {paths.capture}")
+                self._fail(f"{paths.pgn} is there without {paths.capture}: choose another NAME, or move it away")
+                return False
             files.keep_options(paths, self._options)
             capture = Capture.begin(paths.capture, content)
             make_now(self._program, paths, capture, self._options, None)
         except (OSError, Refused) as error:
-            what = text_of(error) if isinstance(error, OSError) else error.lines[0]
-            self._broken(f"{paths.name} can't be begun: {what}")
-            return
+            if not self._setting_up.standing.disk_full:
+                self._screen.say(f"DISK FULL: {paths.name} can't be begun ({reason_of(error)}). Make room: it is tried again")
+            return False
         self._setting_up.close()
         self._setting_up = None
         self._before = self.paths
@@ -168,6 +181,7 @@ class Player:
         self.paths, self._capture = paths, capture
         self._open()
         self._record()
+        return True
 
     # What its line does.
 
@@ -230,42 +244,39 @@ class Player:
     def typed(self, text: str) -> None:
         """A line of the terminal. The name of the game before, or of this one, may stand behind it."""
         words, _, name = text.rpartition(" ")
-        if self._before and name in (self._before.name, self.paths.name):
-            text = words
-        elif self._before and self._recording and not self._recording.moves and text[:1] in ("0", "1", "½", "="):
-            self._screen.say(
-                f"refused: {text}: {self.paths.name} has no move yet. Type {text} {self._before.name}"
-                f" or {text} {self.paths.name}"
-            )
-            return
-        status, answer = self._add(text, self._before if self._before and name == self._before.name else None)
+        named = self._before is not None and name in (self._before.name, self.paths.name)
+        before = self._before if self._before and name == self._before.name else None
+        status, answer = self._add(words if named else text, before, sure=named, may_quit=True)
         if status != DONE:
             self._screen.say(answer)
 
     def _asked(self, text: str) -> Answer:
         """What another call asks for."""
-        status, answer = self._add(text, None)
+        status, answer = self._add(text, None, sure=True, may_quit=False)
         if status != DONE:
             self._screen.note(answer)
         return status, answer
 
-    def _add(self, text: str, before: Optional[Paths]) -> Answer:
+    def _add(self, text: str, before: Optional[Paths], sure: bool, may_quit: bool) -> Answer:
         try:
             typed = added.read_words(text)
             if isinstance(typed, added.Nothing):
                 return DONE, ""
-            if isinstance(typed, added.Quit):
+            if isinstance(typed, added.Quit) and may_quit:
                 self.end()
                 return DONE, "it ends"
             if before:
                 return self._add_before(before, typed)
-            if self._recording:
-                return self._recording.add(typed)
-            return self._add_last(typed)
-        except added.Refused as refused:
-            return REFUSED, f"refused: {text}: {refused}"
-        except (OSError, Refused) as error:
-            return FAILED, f"refused: {text}: {text_of(error) if isinstance(error, OSError) else error.lines[0]}"
+            if self._recording is None:
+                return self._add_last(typed)
+            if isinstance(typed, added.Result) and self._before and not sure and not self._recording.moves:
+                raise added.Refused(
+                    f"{self.paths.name} has no move yet. Type {typed.outcome} {self._before.name},"
+                    f" or {typed.outcome} {self.paths.name}"
+                )
+            return self._recording.add(typed)
+        except (added.Refused, OSError, Refused) as error:
+            return REFUSED, f"refused: {printable(text)}: {reason_of(error)}"
 
     def _add_before(self, paths: Paths, typed: added.Typed) -> Answer:
         """To the game before this one."""

@@ -2,12 +2,12 @@
 
 from __future__ import annotations
 
-from typing import Callable, List
+from typing import Callable, List, Optional
 
 from live import protocol
 from live.disk import Disk
 from live.files import LARGEST, Capture
-from live.loop import Loop
+from live.loop import Loop, Timer
 from live.options import Options
 from live.program import Listing, Program, lines_of
 from live.screen import Screen
@@ -30,7 +30,7 @@ class SettingUp:
     """Looks for the first picture of the start behind an offset of a capture: by `pictures`, which plays nothing.
 
     `ready` is given what the next game's capture begins with: a dump of the start, and all that came after the byte with which
-    the start stood. So a first move that is made at once is in it.
+    the start stood. So a first move that is made at once is in it. Where it can't take that yet, it is given more later.
     """
 
     def __init__(
@@ -41,7 +41,7 @@ class SettingUp:
         capture: Capture,
         end: int,
         options: Options,
-        ready: Callable[[bytes], None],
+        ready: Callable[[bytes], bool],
         broken: Callable[[str], None],
     ) -> None:
         self._loop, self._program, self._screen = loop, program, screen
@@ -54,6 +54,7 @@ class SettingUp:
         self._disk = Disk(screen, self.standing, capture)
         capture.limit = None  # the game is over: what comes now may go past what a game may have
         self._tick = loop.after(TICK, self._each_second)
+        self._tries: Optional[Timer] = None
         self._begin(end)
 
     def _begin(self, offset: int) -> None:
@@ -84,7 +85,9 @@ class SettingUp:
         if placement == self._placement:
             self._pictures.close()
             shown = self._capture.bytes(self._from)
-            self._ready(protocol.dump(self._start, self._options.rotated) + shown[self._first_start(shown) :])
+            content = protocol.dump(self._start, self._options.rotated) + shown[self._first_start(shown) :]
+            if not self._ready(content):
+                self._tries = self._loop.after(TICK, lambda: self._begin(self._from))
         else:
             squares = protocol.differing(protocol.picture_of_placement(placement), self._start)
             self.standing.board.differs(self._loop.now(), squares)
@@ -104,5 +107,7 @@ class SettingUp:
 
     def close(self) -> None:
         self._tick.cancel()
+        if self._tries:
+            self._tries.cancel()
         self.standing.close()
         self._pictures.close()

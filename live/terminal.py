@@ -25,7 +25,7 @@ class Terminal:
         self._waiting = bytearray()
         self._dropped = 0
         self._state = ""
-        self._shown = ""
+        self._shown = False
         self._stuck = False
         try:
             mode = os.fstat(number).st_mode
@@ -44,27 +44,25 @@ class Terminal:
             return
         self._erase()
         self._waiting += line
-        self._show_state()
         self._write()
 
     def state(self, text: str) -> None:
         """The line below all others, where there is one."""
         if self.in_place and text != self._state:
             self._state = text
-            if len(self._waiting) < WAITING - 4 * WIDEST:
+            if not self._stuck:
                 self._erase()
-                self._show_state()
                 self._write()
 
     def _erase(self) -> None:
         if self._shown:
             self._waiting += ERASE
-            self._shown = ""
+            self._shown = False
 
     def _show_state(self) -> None:
-        if self.in_place and self._state:
-            self._shown = self._state[: self._width() - 1]
-            self._waiting += self._shown.encode("utf-8", "backslashreplace")
+        if self._state and not self._shown:
+            self._waiting += self._state[: self._width() - 1].encode("utf-8", "backslashreplace")
+            self._shown = True
 
     def _width(self) -> int:
         try:
@@ -73,17 +71,19 @@ class Terminal:
             return WIDEST + 1
 
     def _write(self) -> None:
+        """Writes what waits, and the state below it. Where it is stuck the rest waits, and the newest state comes after it."""
         if self._number is None:
             self._waiting.clear()
             return
+        if not self._stuck:
+            self._show_state()
         try:
             while self._waiting:
-                count = os.write(self._number, self._waiting)
-                del self._waiting[:count]
+                del self._waiting[: os.write(self._number, self._waiting)]
         except BlockingIOError:
             if not self._stuck:
                 self._stuck = True
-                self._loop.watch(self._number, None, self._writable)
+                self._loop.watch(self._number, None, self._write)
             return
         except OSError:
             # Nobody reads it any more, or its disk is full.
@@ -94,22 +94,24 @@ class Terminal:
         if self._stuck:
             self._stuck = False
             self._loop.forget(self._number)
-        if self._dropped:
-            dropped, self._dropped = self._dropped, 0
-            self.line(f"          {dropped} lines were dropped here: the terminal was stopped; NAME.log has them")
+            self._erase()
+            self._tell_dropped()
+            self._write()
 
-    def _writable(self) -> None:
-        self._write()
+    def _tell_dropped(self) -> None:
+        if self._dropped:
+            self.line(f"          {self._dropped} lines were dropped here: the terminal was stopped; the log has them")
+            self._dropped = 0
 
     def end(self, seconds: float) -> None:
         """The state line is left as it stands. What can't be printed within so many seconds is dropped."""
         if self._shown:
             self._waiting += b"\n"
-            self._shown = self._state = ""
+        self._state, self._shown = "", False
         ends = time.monotonic() + seconds
         self._write()
         while self._waiting and self._number is not None and time.monotonic() < ends:
-            select.select([], [self._number], [], ends - time.monotonic())
+            select.select([], [self._number], [], max(0.0, ends - time.monotonic()))
             self._write()
 
     def close(self) -> None:
