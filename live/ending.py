@@ -1,8 +1,8 @@
 """Where a game ended that has no result: before its pieces were set up for the next one.
 
-Pieces that are carried home look like moves as long as the picture of each is that of a legal move: the first one or two may. Such a
-move brings a piece to a square of its own at the start, and is followed soon by the next piece. What is drawn over the board may
-look like a move on its way too: it stands for a moment.
+Pieces that are carried home look like moves as long as the picture of each is that of a legal move: the first one or two may.
+Such a move brings a piece to a square of its own at the start, and is followed soon by the next piece. What is drawn over the
+board may look like a move on its way too: it stands for a moment.
 """
 
 from __future__ import annotations
@@ -53,12 +53,16 @@ def game_end(lines: Sequence[Line], start: Picture) -> End:
     """Where the game ended, after which the start stood again.
 
     `lines` are those of the whole game and of the set-up after it, `start` is the picture at the game's start. From the last
-    move on backwards a line was setting up where it brought a piece home and the next change came within 3 s, or within four
-    times the median time between two changes of the set-up; or within 20 s, if it was a king that stood in no check, or the move
-    before it went home too. So was one of the same ply before it, or the last line at all, where the next change came within 1 s: a piece that was
-    drawn. The game ends before these; but where its last move then stood for less than 1 s, at the one of them that stood
-    longest, since nobody sets up so soon. Where no move would be left, all are kept.
+    move on backwards a line was setting up
+
+    - where it brought a piece home, and the next change came within 3 s, or within four times the median time between two
+      changes of the set-up; or within 20 s, if it was a king that stood in no check, or the move before it went home too;
+    - where the next change came within 1 s, and it was the last move, or its ply is that of such a line: a piece was drawn.
+
+    The game ends before these. But where its last move would have stood for less than 1 s it ends with the one of them that
+    stood longest, since nobody sets up so soon. Where no move would be left, all are kept.
     """
+    lines = [line for line in lines if not line.text.startswith("fault")]
     moves = [at for at, line in enumerate(lines) if line.is_move]
     last = moves[-1] if moves else -1
     gaps = [after.at - before.at for before, after in zip(lines[last + 1 :], lines[last + 2 :])]

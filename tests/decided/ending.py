@@ -56,6 +56,7 @@ CASES = [
         (82, False, ["correction 5. Bf1"]),
     ),
     ("a move of the game, 1 s before", ["9 81 move 1. e4", "29 91 move 1... e5", *SET_UP], (92, True, [])),
+    ("a fault is no change", ["9 81 move 1. e4", "11 91 move 1... e5", "11.1 95 fault cut", *SET_UP], (92, True, [])),
     ("what stood for less than 1 s", ["9 81 move 1. e4", "29.1 91 move 1... Qg5", *SET_UP], (82, False, ["move 1... Qg5"])),
     (
         "a rook drawn home",
