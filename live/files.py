@@ -198,6 +198,14 @@ def existing(path: pathlib.Path) -> bytes:
         return b""
 
 
+def size_of(path: pathlib.Path) -> int:
+    """The bytes of a file; none where it isn't there, or can't be."""
+    try:
+        return path.stat().st_size if path.is_file() else 0
+    except OSError:
+        return 0
+
+
 def end_mark(paths: Paths) -> Optional[int]:
     """How many bytes of the capture are the game's, where its end was marked."""
     words = existing(paths.end).split()

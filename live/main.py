@@ -2,6 +2,7 @@
 
 from __future__ import annotations
 
+import os
 import pathlib
 import sys
 from typing import Callable, Dict, List, Sequence
@@ -124,8 +125,7 @@ def record(call: Call, program: Program, signals: Signals) -> int:
     given = turned(typed)
     refuse_options(program, given)
     paths = numbered(call.name, last_number(call.name)) if call.series else Paths(call.name)
-    begun = paths.capture.is_file() and paths.capture.stat().st_size > 0
-    serial_line.check(call.device, may_wait=begun)
+    serial_line.check(call.device, may_wait=files.size_of(paths.capture) > 0)
     capture = open_to_record(call, paths)
     kept = options_of(program, paths, capture, given)
     try:
@@ -155,7 +155,7 @@ def add(call: Call, program: Program) -> int:
     """Adds to a game that is recorded, or to one that is over."""
     paths = Paths(call.name)
     words = call.added or ""
-    if not paths.capture.is_file():
+    if not os.path.isfile(paths.capture):
         raise Refused(REFUSED, f"there is no {paths.capture}: which game is meant?")
     answer = control.ask(paths.capture, words)
     if answer is None:
@@ -199,6 +199,8 @@ def main(arguments: Sequence[str], here: pathlib.Path) -> int:
         status = call(options.parse(arguments), here, signals)
     except Refused as refused:
         status, complaint = refused.status, refused.text()
+    except OSError as error:
+        status, complaint = FAILED, f"dgt_live: {error}\n"
     try:
         sys.stdout.flush()
         sys.stderr.write(complaint)
