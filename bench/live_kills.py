@@ -37,6 +37,9 @@ def batch(seed: int) -> int:
         killer = killing.Killer(place, seed)
         try:
             killing.kill_in_games(place, seed, BATCH, killer)
+        except Exception:
+            runner.tell_what_was_said()
+            raise
         finally:
             for kind, count in sorted(killer.killed.items()):
                 print(f"killed {count} {kind}")
@@ -70,7 +73,7 @@ def main() -> int:
             restarts += sum(map(int, re.findall(r"(?m)^started again (\d+)$", told)))
             if process.returncode:
                 failed.append(seed)
-                print(f"batch {seed} failed:\n{wrong}", flush=True)
+                print(f"batch {seed} failed:\n{told}{wrong}", flush=True)
     for kind, count in sorted(killed.items()):
         print(f"{count:6} {kind}")
     print(f"{sum(killed.values())} kills in {time.monotonic() - start:.0f} s, started again {restarts} times")

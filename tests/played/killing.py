@@ -13,19 +13,19 @@ from typing import Counter, List, Optional
 
 from played.boards import EMPTY, Board, field
 from played.games import PARIS, PARIS_TEXT
-from played.recorder import Live, command
+from played.recorder import Live, children_now, command
 from played.stage import (
     Stage,
     a_board,
     begun,
-    check,
     bytes_of,
+    check,
     ended,
+    go_on,
     movetext,
     rest,
     same,
     stop,
-    turn,
     until,
 )
 
@@ -61,26 +61,24 @@ class Killer:
             return [live.process.pid, *live.children()]
         if kind == "main":
             return [live.process.pid]
-        if kind == "record":
-            over = time.monotonic() + 0.25
-            while time.monotonic() < over:
-                found = [child for child in live.children() if "record" in command(child)]
-                if found:
-                    return found[:1]
-                turn(0)
+        over = time.monotonic() + 0.25
+        while kind == "record" and time.monotonic() < over:
+            for child in children_now(live.process.pid):
+                if "record" in command(child):
+                    return [child]
         children = live.children()
         return [self.random.choice(children)] if children else []
 
-    def kill(self, live: Live, kind: str, moment: str) -> bool:
-        """Whether there was one to kill."""
+    def kill(self, live: Live, kind: str, moment: str) -> None:
         victims = self.victims(live, kind)
+        names = [word for word in ("record", "follow", "pictures") if victims and word in command(victims[0])]
         for victim in victims:
             with contextlib.suppress(ProcessLookupError):
                 os.kill(victim, signal.SIGKILL)
         if victims:
             live.was_killed = True
-            self.killed[f"{kind}, {moment}"] += 1
-        return bool(victims)
+            name = kind if kind in ("main", "all") else "".join(names) or "another"
+            self.killed[f"{name}, {moment}"] += 1
 
     def play(self, board: Board, live: Live, move: str, kind: str, moment: str) -> None:
         """Plays one move, and kills at this moment of it."""
@@ -109,12 +107,14 @@ class Killer:
                 board.send(whole[cut:])
             return
         board.play(move)
-        rest(self.random.random() * 0.06)
+        if kind != "record":
+            rest(self.random.random() * 0.06)
         self.kill(live, kind, "after")
 
     def trial(self, board: Board, live: Live, ply: int) -> Live:
         """One ply with a kill. It answers the recorder that runs then, perhaps another one."""
-        kind, moment = self.random.choice(VICTIMS), self.random.choice(MOMENTS)
+        kind = self.random.choice(VICTIMS)
+        moment = "after" if kind == "record" else self.random.choice(MOMENTS)
         self.code = board.codes[field(PARIS[ply][:2])]
         self.play(board, live, PARIS[ply], kind, moment)
         wanted = game_text(ply + 1)
@@ -127,7 +127,7 @@ class Killer:
             ended(live)
             if self.random.random() < 0.5:
                 termios.tcflush(board.slave, termios.TCIFLUSH)
-            live = Live(board.device, live.name)
+            live = go_on(board, live)
             self.restarts += 1
         until(
             lambda: movetext(live.name) == wanted,

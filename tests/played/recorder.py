@@ -231,6 +231,13 @@ def processes(session: int) -> List[int]:
     return sorted(found)
 
 
+def children_now(process: int) -> List[int]:
+    """Those that the process has started, as the system lists them: faster, for what runs a few milliseconds."""
+    with contextlib.suppress(OSError):
+        return [int(word) for word in pathlib.Path(f"/proc/{process}/task/{process}/children").read_text().split()]
+    return []
+
+
 def command(process: int) -> List[str]:
     """The words that started a process."""
     with contextlib.suppress(OSError):

@@ -22,6 +22,12 @@ def out_of_time(*_: object) -> None:
     raise TimeoutError(f"{LIMIT} s are over")
 
 
+def tell_what_was_said() -> None:
+    """What the last recorders of a case that failed have said."""
+    for live in Live.all[-2:]:
+        print(f"{live.name}, status {live.process.poll()}, said:\n{live.lines()[-1500:]}{live.complaint()[-1500:]}", flush=True)
+
+
 def clear() -> None:
     """Ends what a case has left."""
     for live in Live.all:
@@ -52,6 +58,7 @@ def play(case: Case) -> int:
             status, outcome = SKIPPED, f"skipped, {skipped}:"
         except Exception:
             traceback.print_exc(file=sys.stdout)
+            tell_what_was_said()
             status, outcome = FAILED, "FAILED"
         finally:
             signal.alarm(0)

@@ -54,8 +54,7 @@ def until(holds: Callable[[], object], what: str, pause: float = 0.005) -> None:
     """Lets the boards answer until it holds."""
     while not holds():
         if time.monotonic() > Stage.ends:
-            said = "\n".join(f"{live.name} says:\n{live.lines()[-2000:]}{live.complaint()[-2000:]}" for live in Live.all[-2:])
-            raise AssertionError(f"{LIMIT} s are over, still to come: {what}\n{said}")
+            raise AssertionError(f"{LIMIT} s are over, still to come: {what}")
         turn(pause)
     for board in Stage.boards:
         board.turn()
