@@ -9,7 +9,7 @@ from live.protocol import DUMP_REQUEST, START_REQUEST, FrameKind, Frames
 
 UNFINISHED = 0.2  # seconds that a frame may stay so
 POLL = 1.0  # seconds that the last whole dump may be old, from when it was asked for
-BETWEEN = 0.5  # seconds between two requests, at least
+BETWEEN = 0.2  # seconds between two requests, at least
 PATIENCE = 1.0  # seconds that a request is open; then it counts as lost
 SILENCE = 5.0  # seconds without a whole dump after which the board is silent
 LOST = 3  # requests that must have been lost before it is called so: a recorder that was held up has sent none
@@ -22,9 +22,9 @@ class Asking:
     - `42 4B` when the line is open: a dump, and updates from then on.
     - `42` at a fault; where a frame stays unfinished for 0.2 s; where the last whole dump is 1 s old, so that an update that
       was lost whole is made up for. A whole dump settles all that came before it.
-    - A request is open until a whole dump comes, or for 1 s: then it is lost. One is open at a time, and two are 0.5 s apart.
+    - A request is open until a whole dump comes, or for 1 s: then it is lost. One is open at a time, and two are 0.2 s apart.
       So noise brings no more than one request a second, and what brings the most (a whole dump after each request, and a
-      fault after each) no more than two.
+      fault after each) no more than five: a third of the line.
     - `42 4B` again after a request that was lost, and where a dump shows another picture than the dump before it and no update
       came between: a board that was off has forgotten that updates are wanted.
     - A board that gives no whole dump for 5 s, though it was asked, is silent until it gives one.

@@ -143,6 +143,7 @@ def record(call: Call, program: Program, signals: Signals) -> int:
     reader = Typed(loop, player.typed)
     loop.run()
     reader.close()
+    terminal.clear()
     if player.refused is None:
         terminal.line(f"dgt_live: what was played is in {player.paths.pgn}")
     terminal.end(PRINTED)
@@ -165,7 +166,7 @@ def add(call: Call, program: Program) -> int:
                 program, paths, capture, files.kept_options(paths) or Options(), added.read_words(words)
             )
         except added.Refused as refused:
-            answer = REFUSED, f"refused: {words}: {refused}"
+            answer = REFUSED, f"refused: {refused}" if words in str(refused) else f"refused: {words}: {refused}"
         except OSError as error:
             answer = FAILED, f"{paths.name} can't be written ({text_of(error)}): is the disk full?"
         else:

@@ -77,6 +77,7 @@ class Player:
         self._setting_up: Optional[SettingUp] = None
         self._control: Optional[Control] = None
         self._unplugged = self._silent = False
+        self._reason: Optional[Reason] = None  # why the game is over
         self._ending = self._closing = False
         self._board = Board(loop, call.device, self)
         self._open()
@@ -96,6 +97,7 @@ class Player:
     # Its games.
 
     def _record(self) -> None:
+        self._reason = None
         self._screen.say(f"records {self._call.device} in {self.paths.capture} and {self.paths.pgn}; Ctrl-C ends it")
         self._recording = Recording(
             self._loop,
@@ -113,7 +115,7 @@ class Player:
 
     def _game_over(self, reason: Reason) -> None:
         """A game has ended."""
-        self._screen.say(f"{self.paths.name} is over: {reason.value}")
+        self._reason = reason
         if reason is Reason.LIMIT and not self._call.series:
             self.refused = Refused(
                 FAILED, f"{self.paths.capture} has 64 MiB, and none may have more: go on under another NAME, with --fen"
@@ -132,6 +134,8 @@ class Player:
     def _game_closed(self, written: bool) -> None:
         assert self._recording
         end = self._recording.end
+        if self._reason:
+            self._screen.say(f"{self.paths.name} is over: {self._reason.value}")
         self._closing = False
         self._recording.close()
         self._recording = None
@@ -150,7 +154,7 @@ class Player:
                 files.mark_end(self.paths, end)
             except OSError as error:
                 self._screen.say(f"{self.paths.end} can't be written ({text_of(error)})")
-        self._screen.say(f"{self.paths.name} is over; {self._next().name} begins when the pieces stand at the start")
+        self._screen.say(f"{self._next().name} begins when the pieces stand at the start")
         self._setting_up = SettingUp(
             self._loop, self._program, self._screen, self._capture, end, self._options, self._begin_next, self._broken
         )
@@ -276,7 +280,8 @@ class Player:
                 )
             return self._recording.add(typed)
         except (added.Refused, OSError, Refused) as error:
-            return REFUSED, f"refused: {printable(text)}: {reason_of(error)}"
+            reason = reason_of(error)
+            return REFUSED, f"refused: {reason}" if text in reason else f"refused: {printable(text)}: {reason}"
 
     def _add_before(self, paths: Paths, typed: added.Typed) -> Answer:
         """To the game before this one."""

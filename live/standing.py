@@ -2,20 +2,21 @@
 
 from __future__ import annotations
 
+import dataclasses
 import math
 from typing import Optional
 
 from live.loop import Loop, Timer
 from live.protocol import Picture
 from live.screen import Screen
-from live.state import BoardState
+from live.state import BoardState, Kind
 
 
 class Standing:
-    """The state of a board, which is told to a screen."""
+    """The state of a board, which is told to a screen; where no game is `played`, a piece in a hand is being set up."""
 
-    def __init__(self, loop: Loop, screen: Screen, start: Picture) -> None:
-        self._loop, self._screen = loop, screen
+    def __init__(self, loop: Loop, screen: Screen, start: Picture, played: bool = True) -> None:
+        self._loop, self._screen, self._played = loop, screen, played
         self.board = BoardState(start)
         self.disk_full = False
         self._timer: Optional[Timer] = None
@@ -27,6 +28,8 @@ class Standing:
             return
         now = self._loop.now()
         state = self.board.state(now)
+        if not self._played and state.kind in (Kind.WAITS, Kind.IN_HAND):
+            state = dataclasses.replace(state, kind=Kind.SETTING_UP, squares=())
         self._screen.state(state.text(now), state.news)
         if self._timer:
             self._timer.cancel()

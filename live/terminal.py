@@ -66,7 +66,7 @@ class Terminal:
 
     def _width(self) -> int:
         try:
-            return max(20, os.get_terminal_size(self._number or 0).columns)
+            return os.get_terminal_size(self._number or 0).columns or WIDEST + 1
         except OSError:
             return WIDEST + 1
 
@@ -103,11 +103,13 @@ class Terminal:
             self.line(f"          {self._dropped} lines were dropped here: the terminal was stopped; the log has them")
             self._dropped = 0
 
+    def clear(self) -> None:
+        """Takes the state away."""
+        self._state = ""
+        self._erase()
+
     def end(self, seconds: float) -> None:
-        """The state line is left as it stands. What can't be printed within so many seconds is dropped."""
-        if self._shown:
-            self._waiting += b"\n"
-        self._state, self._shown = "", False
+        """What can't be printed within so many seconds is dropped."""
         ends = time.monotonic() + seconds
         self._write()
         while self._waiting and self._number is not None and time.monotonic() < ends:
