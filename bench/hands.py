@@ -15,15 +15,27 @@ from typing import Any, Callable, List, Sequence, Tuple
 BENCH = pathlib.Path(__file__).resolve().parent
 sys.dont_write_bytecode = True
 sys.path[:0] = [str(BENCH), str(BENCH.parent)]
-from streams import INITIAL, Game  # noqa: E402
+import streams  # noqa: E402
 
 from live.protocol import dump  # noqa: E402
 
-PROGRAM = BENCH.parent / "build" / "dgt_replay"
+Game: Any = streams.Game
+INITIAL: List[int] = list(streams.INITIAL)
 EMPTY = 0
 KINGS = (5, 11)
 Change = Tuple[float, int, int]
 Way = Sequence[Tuple[int, int]]
+
+
+def program_path() -> str:
+    """The program that bin/dgt_replay runs."""
+    finder = BENCH.parent / "bin" / "program"
+    if finder.exists():
+        return subprocess.run([finder], stdout=subprocess.PIPE, check=True, text=True).stdout.strip()
+    return str(BENCH.parent / "build" / "dgt_replay")
+
+
+PROGRAM = program_path()
 
 
 def program(words: Sequence[str], sent: bytes) -> str:

@@ -22,8 +22,8 @@ CASES = [
     ("with a clock that runs", ANSWERED + [(0.5, TIME)], 1, [(0, b"BK"), (1, b"B")]),
     ("with updates", ANSWERED + [(0.5, UPDATE), (0.9, UPDATE)], 1, [(0, b"BK"), (1, b"B")]),
     ("a dump that nobody asked for", ANSWERED + [(0.9, EMPTY)], 1.9, [(0, b"BK"), (1.9, b"B")]),
-    ("a fault, 0.5 s after the last request", ANSWERED + [(0.2, b"\x00")], 0.6, [(0, b"BK"), (0.5, b"B")]),
-    ("a fault later: at once", ANSWERED + [(0.8, b"\x00")], 0.9, [(0, b"BK"), (0.8, b"B")]),
+    ("a fault, 0.2 s after the last request", ANSWERED + [(0.15, b"\x00")], 0.3, [(0, b"BK"), (0.2, b"B")]),
+    ("a fault later: at once", ANSWERED + [(0.3, b"\x00")], 0.4, [(0, b"BK"), (0.3, b"B")]),
     ("a fault that a dump has healed", ANSWERED + [(0.2, b"\x00" + EMPTY)], 1, [(0, b"BK")]),
     ("a cut frame", ANSWERED + [(0.6, UPDATE[:3] + UPDATE)], 0.7, [(0, b"BK"), (0.6, b"B")]),
     ("unfinished for 0.2 s", ANSWERED + [(0.6, UPDATE[:4])], 0.9, [(0, b"BK"), (0.8, b"B")]),
@@ -120,7 +120,7 @@ def additions():
     halfway.came(0.05, EMPTY[:30])
     halfway.added(EMPTY)
     halfway.came(0.1, EMPTY[30:])
-    same("a dump that was cut by it doesn't count", (halfway.due(), halfway.request(0.5)), (0.5, b"B"))
+    same("a dump that was cut by it doesn't count", (halfway.due(), halfway.request(0.2)), (0.2, b"B"))
 
 
 def floods(name, comings, seconds, most):
@@ -130,11 +130,11 @@ def floods(name, comings, seconds, most):
     requests = sent(asking, comings, seconds)
     same(name, (len(requests) <= most, len(requests) > 0), (True, True))
     times = [when for when, _ in requests]
-    same(name + ", apart", all(b - a >= 0.499 for a, b in zip(times, times[1:])), True)
+    same(name + ", apart", all(b - a >= 0.199 for a, b in zip(times, times[1:])), True)
 
 
 def noise():
-    """Noise at 960 bytes a second for 30 s: at most one request a second; with a dump for each request, at most two."""
+    """Noise at 960 bytes a second for 30 s: at most one request a second; with a dump for each request, at most five."""
     random.seed(7)
     for name, choose in (
         ("any bytes", lambda: random.randrange(256)),
@@ -148,7 +148,7 @@ def noise():
         kinds = [frames.take(came[0]) for _, came in comings]
         same(name + ": no dump in it", FrameKind.DUMP in kinds, False)
     worst = [(at / 100, EMPTY + b"\x00") for at in range(3000)]
-    floods("a dump and a fault, 100 times a second", worst, 30, 61)
+    floods("a dump and a fault, 100 times a second", worst, 30, 151)
 
 
 TABLES = [rules, silent_boards, additions, noise]
