@@ -7,8 +7,7 @@ cd "$(dirname "$0")/.."
 runs=${1:-21}
 . bench/timing.sh
 
-bin/dgt_replay --help > "$work/help"
-program=build/dgt_replay
+program=$(bin/program)
 extract=$(command -v pgn-extract || command -v /usr/games/pgn-extract || true)
 if [ -z "$extract" ]; then
     apt-get update > "$work/apt.log"

@@ -7,8 +7,7 @@ cd "$(dirname "$0")/.."
 runs=${1:-5}
 . bench/timing.sh
 
-bin/dgt_replay --help > "$work/help"
-program=build/dgt_replay
+program=$(bin/program)
 python3 bench/streams.py "$work" idle played fumbled
 
 processor

@@ -38,21 +38,25 @@ class Program:
 
     @staticmethod
     def find(beside: pathlib.Path) -> Program:
-        """The one in the folder of dgt_live. In the repository that is a script which builds the program where it must: not in
-        the midst of a game, so what it has built is called."""
-        door = beside / "dgt_replay"
-        if not os.access(door, os.X_OK):
+        """The one in the folder of dgt_live. In the repository a script tells which one belongs to the sources; where it has to
+        build it, that is done here and not in the midst of a game."""
+        finder, path = beside / "program", beside / "dgt_replay"
+        if finder.exists():
+            with _deaf_children():
+                found = subprocess.run([finder], stdin=subprocess.DEVNULL, stdout=subprocess.PIPE)
+            if found.returncode != 0:
+                raise Refused(NO_PROGRAM, "there is no program to record with, as is said above")
+            path = pathlib.Path(os.fsdecode(found.stdout.rstrip(b"\n")))
+        if not os.access(path, os.X_OK):
             raise Refused(NO_PROGRAM, f"there is no dgt_replay in {beside}: it belongs beside dgt_live")
-        built = beside.parent / "build" / "dgt_replay"
-        program = Program(str(built if (beside.parent / "crates.txt").exists() else door))
         try:
             with _deaf_children():
-                status = subprocess.run([door, "--help"], stdin=subprocess.DEVNULL, stdout=subprocess.DEVNULL).returncode
+                status = subprocess.run([path, "--help"], stdin=subprocess.DEVNULL, stdout=subprocess.DEVNULL).returncode
         except OSError:
             status = NO_PROGRAM
         if status != 0:
-            raise Refused(NO_PROGRAM, f"{door} doesn't run")
-        return program
+            raise Refused(NO_PROGRAM, f"{path} doesn't run")
+        return Program(str(path))
 
     def run(self, *words: str, given: bytes = b"") -> subprocess.CompletedProcess[bytes]:
         """Calls it and waits: for what takes a few milliseconds."""
