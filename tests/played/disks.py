@@ -7,8 +7,9 @@ import signal
 import subprocess
 import time
 
+from play_board import INITIAL, frame
 from played import words
-from played.boards import INITIAL, Board, frame
+from played.boards import Board
 from played.recorder import Live
 from played.stage import (
     RUY,
@@ -92,10 +93,11 @@ def full_disk_ended(folder: pathlib.Path) -> None:
 
 def full_from_the_start(folder: pathlib.Path) -> None:
     """Not even a game without moves can be written, and then not even the options: nothing is begun."""
-    for limit, options in ((50, []), (0, ["--white", "Anna"])):
+    for limit in (50, 0):
         place = folder / str(limit)
         place.mkdir()
         board = a_board(place)
+        options = ["--white", "Anna"] if limit == 0 else []
         live = Live(board.device, place / "game", *options, limit=limit)
         refuses(live, 3, words.FULL)
         same(board.asked, b"")

@@ -8,8 +8,8 @@ import sys
 import time
 from typing import List, Tuple
 
-from played import words
-from played.boards import EMPTY, INITIAL, TOP, field
+from play_board import EMPTY, INITIAL, field
+from played import TOP, words
 from played.recorder import Live
 from played.stage import (
     PROGRAM,
@@ -136,11 +136,11 @@ PARIS_TEXT = (
 
 def a_step(folder: pathlib.Path) -> float:
     """The seconds that a game takes here to be made and put in place: the middle of five."""
-    step = ["sh", "-c", '"$1" record < "$2" > new 2> /dev/null && sync new && mv new game && sync .', "", PROGRAM]
+    step = ["sh", "-c", '"$1" record < "$2" > new 2> /dev/null && sync new && mv new game && sync .', "", str(PROGRAM)]
     seconds = []
     for _ in range(5):
         start = time.monotonic()
-        subprocess.run([*step, TOP / "samples" / "short-game.dgt"], cwd=folder, check=True)
+        subprocess.run([*step, str(TOP / "samples" / "short-game.dgt")], cwd=folder, check=True)
         seconds.append(time.monotonic() - start)
     return sorted(seconds)[2]
 

@@ -5,8 +5,8 @@ import pathlib
 import time
 from typing import List
 
+from play_board import EMPTY, field
 from played import words
-from played.boards import EMPTY, field
 from played.recorder import Live
 from played.stage import (
     a_board,

@@ -3,8 +3,9 @@
 import pathlib
 from typing import Sequence
 
+from play_board import BLACK, KING, field
 from played import words
-from played.boards import BLACK, KING, Board, field
+from played.boards import Board
 from played.recorder import Live
 from played.stage import (
     a_board,

@@ -11,8 +11,8 @@ import subprocess
 import time
 from typing import Callable, List, Optional, Tuple
 
-from played import words
-from played.boards import TOP, Board
+from played import TOP, words
+from played.boards import Board
 from played.recorder import Live, processes
 
 PROGRAM = TOP / "bin" / "dgt_replay"

@@ -6,8 +6,8 @@ import pathlib
 import signal
 import time
 
+from play_board import DUMP, INITIAL, field, frame
 from played import words
-from played.boards import DUMP, INITIAL, field, frame
 from played.recorder import Live, Terminal
 from played.stage import (
     RUY,
