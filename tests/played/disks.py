@@ -71,6 +71,27 @@ def full_disk(folder: pathlib.Path) -> None:
     same(stop(again), 0)
 
 
+def full_disk_long(folder: pathlib.Path) -> None:
+    """The disk is full for more bytes than are kept in memory: what is played first is kept, a dump makes up for the rest."""
+    board = a_board(folder)
+    live = Live(board.device, folder / "game", limit=2000)
+    fill(board, live, live.name + ".pgn")
+    board.play("a7a6")
+    board.play("b5a4")
+    for number in range(1200):
+        board.send(bytes([0x93, 7, 0x68]) + bytes(1000 - 3))
+        if number % 8 == 0:
+            until(lambda: not board.outgoing, "that bytes are read")
+    board.play("g8f6")
+    rest(1)
+    assert live.runs, live.complaint()
+    live.make_room()
+    until(lambda: check(bytes_of(live.name + ".pgn")) == "moves 8, result *", "the plies of a full disk")
+    board.play("e1g1")
+    until(lambda: check(bytes_of(live.name + ".pgn")) == "moves 9, result *", "the ply after")
+    same(stop(live), 0)
+
+
 def full_disk_ended(folder: pathlib.Path) -> None:
     """A signal while the disk is full ends it with status 3 and a complaint; what was kept is kept, and it goes on from it."""
     board = a_board(folder)

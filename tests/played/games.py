@@ -12,7 +12,6 @@ from play_board import EMPTY, INITIAL, field
 from played import TOP, words
 from played.recorder import Live
 from played.stage import (
-    PROGRAM,
     RUY,
     a_board,
     begun,
@@ -20,6 +19,7 @@ from played.stage import (
     check,
     ended,
     movetext,
+    program,
     same,
     stop,
     until,
@@ -136,7 +136,7 @@ PARIS_TEXT = (
 
 def a_step(folder: pathlib.Path) -> float:
     """The seconds that a game takes here to be made and put in place: the middle of five."""
-    step = ["sh", "-c", '"$1" record < "$2" > new 2> /dev/null && sync new && mv new game && sync .', "", str(PROGRAM)]
+    step = ["sh", "-c", '"$1" record < "$2" > new 2> /dev/null && sync new && mv new game && sync .', "", program()]
     seconds = []
     for _ in range(5):
         start = time.monotonic()

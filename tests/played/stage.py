@@ -3,6 +3,7 @@
 Waits for what is to come, up to the end of the case's time, so that no case fails because the machine is slow.
 """
 
+import functools
 import os
 import pathlib
 import select
@@ -141,8 +142,14 @@ def until_game(name: object, text: str) -> None:
     until(lambda: movetext(name) == text, f"{text} in {name}.pgn, which has {movetext(name)}")
 
 
+@functools.lru_cache(maxsize=None)
+def program() -> str:
+    """The path of the program itself, which bin/dgt_replay looks for at each call."""
+    return subprocess.run([TOP / "bin" / "program"], stdout=subprocess.PIPE, check=True).stdout.decode().strip()
+
+
 def run(*arguments: str, given: bytes = b"") -> "subprocess.CompletedProcess[bytes]":
-    return subprocess.run([PROGRAM, *arguments], input=given, stdout=subprocess.PIPE, stderr=subprocess.PIPE)
+    return subprocess.run([program(), *arguments], input=given, stdout=subprocess.PIPE, stderr=subprocess.PIPE)
 
 
 def check(text: bytes) -> Optional[str]:

@@ -4,11 +4,12 @@ import contextlib
 import os
 import pathlib
 import signal
+import sys
 import time
 
 from play_board import DUMP, INITIAL, field, frame
 from played import words
-from played.recorder import Live, Terminal
+from played.recorder import Live, Terminal, children_now
 from played.stage import (
     RUY,
     RUY_TEXT,
@@ -353,9 +354,82 @@ def typed_signals(folder: pathlib.Path) -> None:
         for move in RUY:
             board.play(move)
         until_game(live.name, RUY_TEXT)
+        # Ctrl-Z doesn't stop it.
+        os.write(live.told.end, b"\x1a")
+        rest(0.3)
+        board.play("a7a6")
+        until_game(live.name, RUY_TEXT.replace("*", "a6 *"))
         for _ in range(times):
             with contextlib.suppress(OSError):
                 os.write(live.told.end, b"\x03")
             rest(0.005)
         same(ended(live), 0)
-        same(movetext(live.name), RUY_TEXT)
+        same(movetext(live.name), RUY_TEXT.replace("*", "a6 *"))
+
+
+def under_nohup(folder: pathlib.Path) -> None:
+    """Where the caller ignores HUP, as nohup does, it is no end; INT is one though it was ignored too."""
+    board = a_board(folder)
+    ignoring = ["sh", "-c", "trap '' INT; exec nohup \"$@\"", ""]
+    live = Live(board.device, folder / "game", start=ignoring)
+    begun(live)
+    board.play("e2e4")
+    until_game(live.name, "1. e4 *")
+    live.send(signal.SIGHUP)
+    rest(0.5)
+    board.play("e7e5")
+    until_game(live.name, "1. e4 e5 *")
+    same(stop(live), 0)
+
+
+BEHIND = """
+import os, sys
+child = os.fork()
+if child == 0:
+    os.setpgid(0, 0)
+    os.execv(sys.argv[1], sys.argv[1:])
+os.setpgid(child, child)
+sys.exit(os.waitstatus_to_exitcode(os.waitpid(child, 0)[1]))
+"""
+
+
+def in_the_background(folder: pathlib.Path) -> None:
+    """In the background of a terminal, as with &: what is typed for others doesn't stop it."""
+    board = a_board(folder)
+    live = Live(board.device, folder / "game", terminal=True, start=[sys.executable, "-c", BEHIND])
+    begun(live)
+    board.play("e2e4")
+    until_game(live.name, "1. e4 *")
+    live.type("ls")
+    rest(1)
+    board.play("e7e5")
+    until_game(live.name, "1. e4 e5 *")
+    live.type("1-0")
+    rest(1)
+    same(movetext(live.name), "1. e4 e5 *")
+    for child in live.children():
+        if child in children_now(live.process.pid):
+            os.kill(child, signal.SIGTERM)
+    same(ended(live), 0)
+
+
+def spoiled_marks(folder: pathlib.Path) -> None:
+    """After a power cut NAME.end, NAME.log or NAME.options may be empty, or hold anything: no traceback, and no byte is lost."""
+    for number, (end, text) in enumerate([("end", b""), ("end", b"99999999999\n"), ("end", b"\xff\x00"), ("log", b"\x00" * 50)]):
+        place = folder / str(number)
+        place.mkdir()
+        board, live = begin_game(place)
+        kill(live)
+        kept = bytes_of(live.name + ".dgt")
+        (place / f"game.{end}").write_bytes(text)
+        asked = board.asked.count(b"BK")
+        again = Live(board.device, live.name)
+        until(lambda: board.asked.count(b"BK") > asked or not again.runs, "that it goes on, or ends")
+        if again.runs:
+            board.play("g1f3")
+            until_game(live.name, "1. e4 e5 2. Nf3 *")
+            same(stop(again), 0)
+        ended(again)
+        assert "Traceback" not in again.complaint(), again.complaint()
+        same(bytes_of(live.name + ".dgt")[: len(kept)], kept)
+        assert movetext(live.name).startswith("1. e4 e5 "), movetext(live.name)
