@@ -159,13 +159,13 @@ def watched(folder: pathlib.Path) -> None:
     try:
         live = Live(board.device, folder / "game", "--linger", "1")
         begun(live)
-        until(seen, "the first text")
+        until(lambda: bytes_of(folder / "seen").count(b"\n") == 1, "the first text")
         sent = []
         for number, move in enumerate(PARIS):
             board.clock(5400 - number, 5400)
             board.play(move)
             sent.append(time.monotonic())
-            until(lambda: len(seen()) == number + 2, f"ply {number + 1}", 0.002)
+            until(lambda: bytes_of(folder / "seen").count(b"\n") == number + 2, f"ply {number + 1}", 0.002)
         same(ended(live), 0)
     finally:
         watcher.kill()

@@ -58,13 +58,13 @@ def refused(folder: pathlib.Path) -> None:
     if os.getuid():
         cases.append(([board.device, "shut/game"], 3, words.NOT_WRITTEN))
     before = sorted(path.name for path in folder.iterdir())
-    for (device, name, *options), status, part in cases:
-        live = Live(device, name, *options, cwd=folder)
+    calls = [(Live(device, name, *options, cwd=folder), status, part) for (device, name, *options), status, part in cases]
+    for live, status, part in calls:
         refuses(live, status, part)
-        same(sorted(path.name for path in folder.iterdir()), before)
-        same(list((folder / "shut").iterdir()), [])
         same(live.lines(), "")
         assert "Traceback" not in live.complaint(), live.complaint()
+    same(sorted(path.name for path in folder.iterdir()), before)
+    same(list((folder / "shut").iterdir()), [])
     (folder / "foreign.pgn").write_text("a game\n")
     refuses(Live(board.device, folder / "foreign"), 1, "foreign.pgn is there without")
     same((folder / "foreign.pgn").read_text(), "a game\n")
@@ -277,9 +277,9 @@ def ruff(folder: pathlib.Path) -> None:
 
 def mypy(folder: pathlib.Path) -> None:
     """mypy --strict has no complaint about the recorder, nor about its tests."""
-    complains_of_nothing("mypy", "--strict", f"--cache-dir={folder}/live", "live")
-    path = f".:{TOP / 'tools'}"
-    complains_of_nothing("mypy", "--strict", f"--cache-dir={folder}/tests", "-p", "played", place=TOP / "tests", path=path)
+    path = os.pathsep.join([".", str(TOP), str(TOP / "tools")])
+    packages = ["-p", "live", "-p", "played"]
+    complains_of_nothing("mypy", "--strict", f"--cache-dir={folder}", *packages, place=TOP / "tests", path=path)
 
 
 def compiles(folder: pathlib.Path) -> None:

@@ -124,8 +124,10 @@ def stopped_terminal(folder: pathlib.Path) -> None:
         place = folder / str(terminal)
         place.mkdir()
         board, live = begin_game(place, terminal=terminal)
+        if not terminal:
+            live.told.make_small()
         live.told.hold(True)
-        for number in range(4500):
+        for number in range(2600):
             # The square is lifted and set back, so that the state changes each time.
             board.lift("g1")
             board.put("g1", 3)

@@ -98,8 +98,8 @@ def begun(live: Live, line: str = words.AGREES) -> None:
 
 def ended(live: Live) -> int:
     """Its status; all that it started has ended too, and left nothing."""
-    until(lambda: not live.runs, f"the end of the recorder of {live.name}, which said\n{live.lines()}")
-    until(lambda: not processes(live.process.pid), f"the end of all that the recorder of {live.name} started")
+    until(lambda: not live.runs, f"the end of the recorder of {live.name}")
+    until(lambda: not processes(live.process.pid), f"the end of all that the recorder of {live.name} started", 0.02)
     if not live.was_killed:
         same(list(live.scratch.iterdir()), [])
     return live.process.returncode
@@ -152,6 +152,7 @@ def run(*arguments: str, given: bytes = b"") -> "subprocess.CompletedProcess[byt
     return subprocess.run([program(), *arguments], input=given, stdout=subprocess.PIPE, stderr=subprocess.PIPE)
 
 
+@functools.lru_cache(maxsize=64)
 def check(text: bytes) -> Optional[str]:
     """What `check` says of a text, where it passes."""
     answer = run("check", given=text)
