@@ -17,14 +17,13 @@ from live.options import Options
 from live.program import Listing, Program, lines_of
 from live.refused import DONE, REFUSED
 from live.screen import Screen, Told
-from live.setting_up import TICK, pictures_words, start_placement
+from live.setting_up import DUMP_BEGINS, TICK, pictures_words, start_placement
 from live.standing import Standing
 
 PATIENCE = 5.0  # seconds that the last lines may take
 LATE = 1.0  # seconds
 SETTLES = 0.2  # seconds after which both listings have told of a picture
 NO_PICTURE: protocol.Picture = ()
-DUMP_BEGINS = b"\x86\x00\x43"
 
 
 class Reason(enum.Enum):

@@ -206,6 +206,8 @@ class Player:
     def plugged(self) -> None:
         if self._unplugged:
             self._screen.say(f"{self._board.cable} is there")
+        elif self._board.cable != self._call.device:
+            self._screen.say(f"{self._call.device} has the cable {self._board.cable}: under that name it is waited for")
         self._unplugged = False
         game = self._recording or self._setting_up
         if game:

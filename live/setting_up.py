@@ -15,6 +15,7 @@ from live.standing import Standing
 
 INITIAL = "rnbqkbnr/pppppppp/8/8/8/8/PPPPPPPP/RNBQKBNR"
 TICK = 1.0
+DUMP_BEGINS = b"\x86\x00\x43"  # such bytes begin a dump wherever they stand, since only a frame's first has its top bit set
 
 
 def start_placement(options: Options) -> str:
@@ -57,10 +58,26 @@ class SettingUp:
         self._tries: Optional[Timer] = None
         self._begin(end)
 
-    def _begin(self, offset: int) -> None:
-        self._from = offset
+    def _begin(self, end: int) -> None:
+        """Looks behind this offset. What is listed begins with the last dump before it, without which no update would count."""
+        self._end = end
+        self._from, self._before = end, 0
+        before = self._capture.bytes(0, end)
+        dump = before.rfind(DUMP_BEGINS)
+        if dump >= 0:
+            listed = lines_of(self._program.run(*self._words, given=before[dump:]).stdout)
+            if listed[-1:] != [self._placement]:
+                self._from, self._before = dump, len(listed)
+        self._listed = 0
         self._pictures = Listing(
-            self._loop, self._program, self._words, self._capture, self._heard, self._screen.say, self._broken, start=offset
+            self._loop,
+            self._program,
+            self._words,
+            self._capture,
+            self._heard,
+            self._screen.say,
+            self._broken,
+            start=self._from,
         )
 
     def came(self, sent: bytes) -> None:
@@ -82,28 +99,31 @@ class SettingUp:
         self.standing.show()
 
     def _heard(self, placement: str) -> None:
+        self._listed += 1
+        if self._listed <= self._before:
+            return
         if placement == self._placement:
             self._pictures.close()
-            shown = self._capture.bytes(self._from)
-            content = protocol.dump(self._start, self._options.rotated) + shown[self._first_start(shown) :]
+            content = protocol.dump(self._start, self._options.rotated) + self._capture.bytes(self._first_start())
             if not self._ready(content):
-                self._tries = self._loop.after(TICK, lambda: self._begin(self._from))
+                self._tries = self._loop.after(TICK, lambda: self._begin(self._end))
         else:
             squares = protocol.differing(protocol.picture_of_placement(placement), self._start)
             self.standing.board.differs(self._loop.now(), squares)
             self.standing.show()
 
-    def _first_start(self, shown: bytes) -> int:
-        """How many bytes it took until the start stood: the shortest front of which `pictures` says so."""
-        low, high = 0, len(shown)
+    def _first_start(self) -> int:
+        """The offset behind the byte with which the start stood: the shortest front of which `pictures` says so."""
+        shown = self._capture.bytes(self._from)
+        low, high = self._end - self._from, len(shown)
         while low < high:
             middle = (low + high) // 2
             answer = self._program.run(*self._words, given=shown[:middle])
-            if self._placement in lines_of(answer.stdout):
+            if self._placement in lines_of(answer.stdout)[self._before :]:
                 high = middle
             else:
                 low = middle + 1
-        return low
+        return self._from + low
 
     def close(self) -> None:
         self._tick.cancel()
