@@ -49,6 +49,11 @@ class Paths:
         return self._with("end")
 
     @property
+    def before(self) -> pathlib.Path:
+        """What the board sent before the game, where some of it looked like a move."""
+        return self._with("before.dgt")
+
+    @property
     def folder(self) -> pathlib.Path:
         return self.capture.parent
 

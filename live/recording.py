@@ -59,8 +59,8 @@ def ending_with_sign(lines: Sequence[ending.Line], size: int) -> int:
 class Recording:
     """A game on a board, from its first byte to its text.
 
-    `over` is called once, where the game has ended; `broken` where a part of it fails again and again; `asks` where something was
-    added by hand, which the board is then asked about.
+    `over` is called once, where the game has ended; `anew` where it begins only now, and what was told was a set-up; `broken` where
+    a part of it fails again and again; `asks` where something was added by hand, which the board is then asked about.
     """
 
     def __init__(
@@ -74,14 +74,17 @@ class Recording:
         linger: int,
         series: bool,
         over: Callable[[Reason], None],
+        anew: Callable[[], None],
         broken: Callable[[str], None],
         asks: Callable[[bytes], None],
     ) -> None:
         self._loop, self._program, self._screen = loop, program, screen
         self.paths, self._capture, self._options = paths, capture, options
-        self._linger, self._series, self._over, self._asks = linger, series, over, asks
+        self._linger, self._series = linger, series
+        self._over, self._anew, self._asks = over, anew, asks
         self.end: Optional[int] = None  # how many bytes are the game's, where not all are
         self.moves: List[str] = []
+        self._has_agreed = False  # whether the board has stood as the game says
         self._result = "*"
         self._typed = ""  # the result that an arbiter has typed
         self._start = protocol.picture_of_placement(start_placement(options))
@@ -91,7 +94,8 @@ class Recording:
         self._start_again = ending.StartAgain(self._start)
         self._old = capture.size  # bytes from before this call
         self._began = loop.now()
-        self._pictures_left = self._old_pictures()  # of those from before this call
+        self._old_pictures = len(lines_of(program.run(*pictures_words(options), given=capture.bytes()).stdout))
+        self._pictures_seen = 0
         self._old_dumps = offsets(capture.bytes(), DUMP_BEGINS)
         self._faults: List[str] = []
         self._is_over = False
@@ -137,12 +141,15 @@ class Recording:
         told = Told.of_line(line)
         if told is None:
             return
+        if self.end is not None and told.offset >= self.end:
+            return  # the game is over
         if told.kind == "fault":
             self._faults.append(f"{told.text()} at {told.offset}")
             return
         now = self._loop.now()
         self._lines.append(ending.Line(told.offset, self._time_of(told.offset, now), f"{told.kind} {told.words}".rstrip()))
         self.standing.board.told(now, line)
+        self._has_agreed = self._has_agreed or told.kind == "agrees"
         if told.kind in ("move", "correction", "result"):
             self._hear_change(told)
         self.standing.show()
@@ -192,24 +199,25 @@ class Recording:
         """A line of `pictures`."""
         self._shown = picture = protocol.picture_of_placement(placement)
         self.standing.board.shows(picture)
-        is_old = self._pictures_left > 0
-        self._pictures_left -= is_old
+        is_old = self._pictures_seen < self._old_pictures
+        self._pictures_seen += 1
         # A single game that somebody goes on with has not ended where it seemed to.
         if self._start_again.takes(picture, NO_PICTURE) and (self._series or not is_old):
             self._loop.after(SETTLES, self._look_at_start)
         self.standing.show()
 
-    def _old_pictures(self) -> int:
-        words = pictures_words(self._options)
-        return len(lines_of(self._program.run(*words, given=self._capture.bytes()).stdout)) if self._old else 0
-
     def _look_at_start(self) -> None:
-        """The start stood again, and `follow` has told what it makes of that. It ends a game that doesn't stand there."""
+        """The start stands after a set-up, and `follow` has told what it makes of that. It ends a game that doesn't stand there;
+        but where the board has never stood as the game says, a move that was told was a part of the set-up."""
         if self._is_over or not self.moves:
             return
         fens, _ = self._program.positions(self._options.fen, self.moves)
-        if fens and protocol.picture_of_placement(fens[-1]) != self._start:
+        if not fens or protocol.picture_of_placement(fens[-1]) == self._start:
+            return
+        if self._has_agreed or len(self.moves) > 1:
             self._end(Reason.RESULT if self._result != "*" else Reason.SET_UP)
+        else:
+            self._anew()
 
     def _pgn_trouble(self, trouble: str) -> None:
         self._screen.say(f"{self.paths.pgn} can't be written ({trouble}); {self.paths.capture} is, and it is tried again")
@@ -268,10 +276,7 @@ class Recording:
         if self._marks:
             self._mark()
         self._watchdog = self._loop.after(PATIENCE, self._lines_are_told)
-        if self.end is None or self.end >= self._capture.size:
-            self._follow.finish(self._lines_are_told)
-        else:
-            self._lines_are_told()
+        self._follow.finish(self._lines_are_told)
 
     def _mark(self) -> None:
         try:

@@ -109,6 +109,7 @@ class Player:
             self._call.linger,
             self._call.series,
             self._game_over,
+            self._begins_now,
             self._broken,
             self._board.added,
         )
@@ -156,8 +157,11 @@ class Player:
             except OSError as error:
                 self._screen.say(f"{self.paths.end} can't be written ({text_of(error)})")
         self._screen.say(f"{self._next().name} begins when the pieces stand at the start")
+        self._look_for_start(end, self._begin_next)
+
+    def _look_for_start(self, end: int, ready: Callable[[bytes], bool]) -> None:
         self._setting_up = SettingUp(
-            self._loop, self._program, self._screen, self._capture, end, self._options, self._begin_next, self._broken
+            self._loop, self._program, self._screen, self._capture, end, self._options, ready, self._broken
         )
         self._tell_line(self._setting_up)
 
@@ -179,14 +183,42 @@ class Player:
             if not self._setting_up.standing.disk_full:
                 self._screen.say(f"DISK FULL: {paths.name} can't be begun ({reason_of(error)}). Make room: it is tried again")
             return False
+        self._before = self.paths
+        self.paths = paths
+        self._record_in(capture)
+        return True
+
+    def _begins_now(self) -> None:
+        """What was taken for the first move of this game was a part of its set-up."""
+        self._loop.after(0, self._look_for_this_start)
+
+    def _look_for_this_start(self) -> None:
+        if self._recording and not self._ending and not self._closing:
+            self._recording.close()
+            self._recording = None
+            self._look_for_start(0, self._begin_this)
+
+    def _begin_this(self, content: bytes) -> bool:
+        """The capture begins with the start; what came before it is kept beside."""
+        try:
+            files.put_in_place(self.paths.before, self._capture.bytes())
+            capture = Capture.begin(self.paths.capture, content)
+            make_now(self._program, self.paths, capture, self._options, None)
+        except OSError:
+            return False
+        self._screen.say(f"the pieces have been set up: {self.paths.name} begins now")
+        self._record_in(capture)
+        return True
+
+    def _record_in(self, capture: Capture) -> None:
+        """The pieces stand at the start, and this capture begins with that."""
+        assert self._setting_up
         self._setting_up.close()
         self._setting_up = None
-        self._before = self.paths
         self._capture.close()
-        self.paths, self._capture = paths, capture
+        self._capture = capture
         self._open()
         self._record()
-        return True
 
     # What its line does.
 
@@ -306,17 +338,7 @@ class Player:
         self._open()
         self._screen.say(f"added by hand to {self.paths.name}: {what}")
         end = files.end_mark(self.paths)
-        self._setting_up = SettingUp(
-            self._loop,
-            self._program,
-            self._screen,
-            capture,
-            capture.size if end is None else end,
-            self._options,
-            self._begin_next,
-            self._broken,
-        )
-        self._tell_line(self._setting_up)
+        self._look_for_start(capture.size if end is None else end, self._begin_next)
         return DONE, f"added to {self.paths.name}: {what}"
 
     # How it ends.
