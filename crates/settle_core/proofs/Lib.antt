@@ -28,3 +28,4 @@ pub mod Replying
 pub mod Whatever
 pub mod Resuming
 pub mod Ending
+pub mod Returning

@@ -12,3 +12,4 @@ pub mod Kept
 pub mod Tips
 pub mod AnyPlay
 pub mod Endings
+pub mod AnyHands

@@ -1,4 +1,5 @@
 //! What holds of all games, each law as the contract of a function; and how a move is read off two pictures.
+ghost use Rattle.settle_core.specs.AnyHands.{TakenBackAndMadeAgain, WholeMoveIsInHand};
 ghost use Rattle.settle_core.specs.AnyPlay.{HonestPlayResumes, KingsEndResumedPlay, KingsInCentreKeepThePlies, KingsInCentreMakeNoMove, NothingIsInvented, OnlyTheLastPlyMayChange, ResumedPlayStops};
 ghost use Rattle.settle_core.specs.Endings.{HonestPlayEnds, HonestPlayStopsAnywhere};
 ghost use Rattle.settle_core.specs.Laws.{FoldsOnce, FoldsSome, FrontsOfHonestPlay, GivesSome, HonestPlayFolds, HonestPlayIsKept, HonestPlayKeepsClocks, HonestPlayStops, KingsEndHonestPlay, NoEntryGivesTwo, NoMoreIsInHand, OneHandTriesItsPiece, RepeatsCountOnce, RepliesReplaceNothing, RestingWaits, SettlersTellTheScore, SignsSettleNothing, ThreeUnseenAddNothing, ThreeUnseenSettleNothing, TwoUnseenChangeNothing, TwoUnseenWait, UnderWayIsInHand};
@@ -149,4 +150,11 @@ pub fn kings_in_centre_make_no_move()
 pub fn honest_play_stops_anywhere()
     ensures ends { HonestPlayEnds }
     ensures stops { HonestPlayStopsAnywhere }
+{}
+
+/// A move that takes no piece may be made whole, taken back and made again before the other side begins: its whole picture has
+/// pieces in hand, and honest play with such pictures folds to its moves.
+pub fn moves_may_be_made_again()
+    ensures hand { WholeMoveIsInHand }
+    ensures folds { TakenBackAndMadeAgain }
 {}

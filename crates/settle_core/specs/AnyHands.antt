@@ -1,0 +1,42 @@
+-- Moves that are made whole, taken back and made again.
+use Rattle.std.specs.Prelude.{◌≡◌, List, [], ◌∷◌, None, reverse}
+use Rattle.chess_rules.specs.declared.chess_move.Move.{Move}
+use Rattle.chess_rules.specs.declared.parts.Parts.{Parts}
+use Rattle.chess_rules.specs.After.{after}
+use Rattle.chess_rules.specs.Legal.{Legal}
+use Rattle.chess_rules.specs.Picture.{picture}
+use Rattle.chess_rules.specs.Valid.{Valid}
+use Rattle.settle_core.specs.Entries.{Entry}
+use Rattle.settle_core.specs.Folding.{Score, moves_of}
+use Rattle.settle_core.specs.HonestPlay.{IsInHand, MayPass, Takes}
+use Rattle.settle_core.specs.Laws.{GivesScore, joined}
+use Rattle.settle_core.specs.Settling.{Line}
+
+-- The whole picture of a move that takes no piece has pieces in hand: so it may stand among the pictures on the way to this move,
+-- and to any other of the same side.
+abbrev pub WholeMoveIsInHand : Type 0
+WholeMoveIsInHand = (p : Parts) (m : Move) → Valid p → Legal p m → ¬ Takes p m → IsInHand p (picture (after p m))
+
+-- The entries, in their order, show the move in the end: the last of them has the picture after the move, and others may have it too.
+abbrev pub ShownInTheEnd : Parts → Move → List Entry → Type 0
+ShownInTheEnd p m [] = ⊥
+ShownInTheEnd p m (entry ∷ []) = entry.picture ≡ picture (after p m)
+ShownInTheEnd p m (entry ∷ next ∷ more) = MayPass p entry.picture × ShownInTheEnd p m (next ∷ more)
+
+-- The lists of entries show the moves of a line, one list for each.
+abbrev pub ShownEachInTheEnd : Parts → List Move → List (List Entry) → Type 0
+ShownEachInTheEnd p [] [] = Unit {0}
+ShownEachInTheEnd p [] (list ∷ lists) = ⊥
+ShownEachInTheEnd p (m ∷ moves) [] = ⊥
+ShownEachInTheEnd p (m ∷ moves) (list ∷ lists) = ShownInTheEnd p m list × ShownEachInTheEnd (after p m) moves lists
+
+-- Honest play folds to its line also where a move that takes no piece is made whole, taken back, and made again before the other
+-- side begins: the plies have exactly these moves, and no sign stands.
+abbrev pub TakenBackAndMadeAgain : Type 0
+TakenBackAndMadeAgain =
+    (start : Parts) (moves : List Move) (lists : List (List Entry)) (score : Score)
+    → Valid start
+    → Line start moves
+    → ShownEachInTheEnd start moves lists
+    → GivesScore start (joined lists) score
+    → (moves_of (reverse score.plies) ≡ moves) × (score.sign ≡ None)
