@@ -16,16 +16,17 @@ use Rattle.chess_rules.proofs.LawLemmas.{moves_stay_valid, pictures_tell_moves}
 use Rattle.settle_core.specs.declared.game.Ply.{Ply}
 use Rattle.settle_core.specs.declared.game.Seen.{Seen}
 use Rattle.settle_core.specs.declared.game.Seen.TheVariants.{Same, Moved, Sign, Replaced, Waits}
-use Rattle.settle_core.specs.AnyHands.{ShownEachInTheEnd, ShownInTheEnd, TakenBackAndMadeAgain, WholeMoveIsInHand}
+use Rattle.settle_core.specs.AnyHands.{MadeAgainStops, ShownEachInTheEnd, ShownInTheEnd, TakenBackAndMadeAgain, WholeMoveIsInHand}
 use Rattle.settle_core.specs.Entries.{Entry, deduplicated, last_picture, repeats}
 use Rattle.settle_core.specs.Folding.{Folds, Score, SeenAs, moves_of, score_after}
-use Rattle.settle_core.specs.HonestPlay.{IsInHand, MayPass, Takes}
+use Rattle.settle_core.specs.HonestPlay.{AllPass, IsAmong, IsInHand, MayPass, Takes}
 use Rattle.settle_core.specs.Laws.{joined}
-use Rattle.settle_core.specs.Settling.{Line, reached}
+use Rattle.settle_core.specs.Settling.{Line, Played, position_after, reached}
 use Rattle.settle_core.proofs.Apart.{apart_unless, apart_valid, no_sign_valid}
-use Rattle.settle_core.proofs.Fronts.{AllAre}
-use Rattle.settle_core.proofs.Lines.{begins, reverse_aux-append}
-use Rattle.settle_core.proofs.Once.{folds_once}
+use Rattle.settle_core.proofs.Fronts.{all_open, among, one_more}
+use Rattle.settle_core.proofs.Lines.{begins, open_no_sign, reverse_aux-append}
+use Rattle.settle_core.proofs.Lists.{position_in_order}
+use Rattle.settle_core.proofs.Once.{folds_once, folds_played}
 use Rattle.settle_core.proofs.Pieces.{no_new_after, no_reply, picture_moves, quiet_unless}
 use Rattle.settle_core.proofs.Stages.{Ends, EndsAt, IsOpen, IsSound, Opens, StandsIn, bare, end_again, end_first, entry_open, now, opens, shows_at}
 
@@ -252,4 +253,32 @@ taken_back_and_made_again start moves lists score v l h f =
     let made : MadeOn [] moves score = line_made start [] [] moves lists score (record { valid = v; played = tt }) (begins start) l h f in (
       ap (λ (x : Score). moves_of (reverse x.plies)) made.is ∙ ap moves_of (reverse-reverse made.made) ∙ made.moves_are,
       ap (λ (x : Score). x.sign) made.is,
+    )
+
+pub made_again_stops : MadeAgainStops
+made_again_stops start moves lists part score v l h a f =
+    let past : List Entry = reverse_aux (joined lists) [] in
+    let F : List Entry → Type 0 = λ es. Folds start (deduplicated es) score in
+    let g : Folds start (deduplicated (reverse_aux part past)) score = subst F (reverse_aux-append (joined lists) part []) f in
+    let mid : FoldedBefore start past = folded_before start part past score g in
+    let made : MadeOn [] moves mid.score = line_made start [] [] moves lists mid.score (record { valid = v; played = tt }) (begins start) l h mid.folds in
+    let plies : List Ply = made.made in
+    let P : Score → Type 0 = λ x. Played start (moves_of x.plies) in
+    let sound : IsSound start (reverse plies) = record { valid = v; played = subst P made.is (folds_played start (deduplicated past) mid.score mid.folds) } in
+    let at : reached start (moves_of (reverse plies)) ≡ position_after start moves =
+    sym (position_in_order start (reverse plies)) ∙ ap (λ (ps : List Ply). position_after start (moves_of ps)) (reverse-reverse plies)
+    ∙ ap (position_after start) made.moves_are in
+    let A : Parts → Type 0 = λ x. AllPass x part in
+    let before : Opens start (reverse plies) (IsAmong part) past = λ x k. inl (folds_once start (deduplicated past) x mid.score v k mid.folds ∙ made.is) in
+    let o : IsOpen start (reverse plies) (IsAmong part) score =
+    all_open start (reverse plies) (IsAmong part) part past sound (subst A (sym at) a) (among part [] part refl) before score g in (
+      open_no_sign start (reverse plies) (IsAmong part) score o,
+      (
+        plies,
+        made.moves_are,
+        elim o [
+          | inl e ↦ inl (ap (λ (x : Score). reverse x.plies) e ∙ reverse-reverse plies)
+          | inr i ↦ inr (one_more start (position_after start moves) plies part score at i)
+        ],
+      ),
     )

@@ -1,16 +1,17 @@
 -- Moves that are made whole, taken back and made again.
-use Rattle.std.specs.Prelude.{◌≡◌, List, [], ◌∷◌, None, reverse}
+use Rattle.std.specs.Prelude.{◌≡◌, ◌⊎◌, List, [], ◌∷◌, ◌++◌, None, reverse}
 use Rattle.chess_rules.specs.declared.chess_move.Move.{Move}
 use Rattle.chess_rules.specs.declared.parts.Parts.{Parts}
 use Rattle.chess_rules.specs.After.{after}
 use Rattle.chess_rules.specs.Legal.{Legal}
 use Rattle.chess_rules.specs.Picture.{picture}
 use Rattle.chess_rules.specs.Valid.{Valid}
+use Rattle.settle_core.specs.declared.game.Ply.{Ply}
 use Rattle.settle_core.specs.Entries.{Entry}
 use Rattle.settle_core.specs.Folding.{Score, moves_of}
-use Rattle.settle_core.specs.HonestPlay.{IsInHand, MayPass, Takes}
+use Rattle.settle_core.specs.HonestPlay.{AllPass, HasOneMore, IsInHand, MayPass, Takes}
 use Rattle.settle_core.specs.Laws.{GivesScore, joined}
-use Rattle.settle_core.specs.Settling.{Line}
+use Rattle.settle_core.specs.Settling.{Line, position_after}
 
 -- The whole picture of a move that takes no piece has pieces in hand: so it may stand among the pictures on the way to this move,
 -- and to any other of the same side.
@@ -40,3 +41,15 @@ TakenBackAndMadeAgain =
     → ShownEachInTheEnd start moves lists
     → GivesScore start (joined lists) score
     → (moves_of (reverse score.plies) ≡ moves) × (score.sign ≡ None)
+
+-- And where it stops between two moves: the plies are those of the whole moves, or these and one more.
+abbrev pub MadeAgainStops : Type 0
+MadeAgainStops =
+    (start : Parts) (moves : List Move) (lists : List (List Entry)) (part : List Entry) (score : Score)
+    → Valid start
+    → Line start moves
+    → ShownEachInTheEnd start moves lists
+    → AllPass (position_after start moves) part
+    → GivesScore start (joined lists ++ part) score
+    → (score.sign ≡ None) × ((made : List Ply) × (moves_of made ≡ moves)
+        × ((reverse score.plies ≡ made) ⊎ HasOneMore (position_after start moves) made part (reverse score.plies)))
