@@ -16,12 +16,14 @@ use Rattle.settle_core.specs.declared.game.Ply.{Ply}
 use Rattle.settle_core.specs.Endings.{IsEnd}
 use Rattle.settle_core.specs.Entries.{Entry, deduplicated, repeats}
 use Rattle.settle_core.specs.Folding.{Score, score_of}
-use Rattle.settle_core.specs.HonestPlay.{HasWhole, IsFront, shown_plies}
+use Rattle.settle_core.specs.HonestPlay.{HasOneMore, HasWhole, IsFront, shown_plies}
 use Rattle.settle_core.specs.Laws.{GivesScore, joined}
+use Rattle.settle_core.specs.Settling.{position_after}
 use Rattle.settle_core.proofs.Ending.{honest_play_ends, honest_play_stops_anywhere}
+use Rattle.settle_core.proofs.Returning.{made_again_stops}
 use Rattle.pgn_book.specs.Games.{Content, Result}
 use Rattle.board_session.specs.declared.recording.Setup.{Setup}
-use Rattle.board_session.specs.AnyRecording.{BeginsWithDump, HasFrontOf, HasLine, HasStop, HonestEndIsRecorded, HonestEndIsWritten, HonestStopAnywhereIsRecorded, HonestStopAnywhereIsWritten, KingsInCentreWriteNoMove, Left, NothingWrittenIsInvented, OnlyTheLastPlyIsRewritten, RestartsAreRecorded, RestartsAreWritten, ResumedPlayIsWritten, ResumedStopIsWritten, ShowsPictures}
+use Rattle.board_session.specs.AnyRecording.{BeginsWithDump, HasFrontOf, HasLine, HasStop, HonestEndIsRecorded, HonestEndIsWritten, HonestStopAnywhereIsRecorded, HonestStopAnywhereIsWritten, KingsInCentreWriteNoMove, Left, MadeAgainIsRecorded, MadeAgainIsWritten, NothingWrittenIsInvented, OnlyTheLastPlyIsRewritten, RestartsAreRecorded, RestartsAreWritten, ResumedPlayIsWritten, ResumedStopIsWritten, ShowsPictures}
 use Rattle.board_session.specs.Commands.{past_of}
 use Rattle.board_session.specs.Game.{IsGameOf}
 use Rattle.board_session.specs.Laws.{TellTheSame}
@@ -175,6 +177,23 @@ honest_stop_anywhere_is_written fronts setup left more moves lists end sign line
       game_is = honest_stop_anywhere_is_recorded setting setup.tags (past_of l.taken) l.game moves lists end sign first (reverse from.later) (start_valid setup left) line shown a
           parts taken l.game_is;
     }
+
+pub made_again_is_recorded : MadeAgainIsRecorded
+made_again_is_recorded setting tags past game moves lists part valid line shown passes are is =
+    let folds : GivesScore setting.start (joined lists ++ part) (score_of game.plies is.sign) = rw are at is.folds in
+    let stops = made_again_stops setting.start moves lists part (score_of game.plies is.sign) valid line shown passes folds in
+    let made = stops.1 in
+    let M : List Ply → Type 0 = λ ps. (ps ≡ made.0) ⊎ HasOneMore (position_after setting.start moves) made.0 part ps in
+    let R : Option Outcome → Type 0 = λ o. Result setting.start game.plies o game.result in
+    ((made.0, made.1, subst M (reverse-reverse game.plies) made.2), subst R stops.0 is.result_is)
+
+pub made_again_is_written : ShowsOnce → MadeAgainIsWritten
+made_again_is_written once setup left moves lists part line shown passes s none =
+    let l = left.leaves in
+    let setting : Setting = setting_of setup in
+    let same = once l.front l.taken s.events l.rest s.rest (all_taken setup left none) s.shows in
+    made_again_is_recorded setting setup.tags (past_of l.taken) l.game moves lists part (start_valid setup left) line shown passes
+    (ap (λ (ts : List Timed). deduplicated (entries_in setting (past_of ts))) same.0 ∙ s.are) l.game_is
 
 -- ---- restarts
 

@@ -8,10 +8,12 @@ use Rattle.dgt_frame.specs.Frames.{Frame}
 use Rattle.dgt_frame.specs.Streams.{Shows, Timed}
 use Rattle.settle_core.specs.declared.game.Outcome.{Outcome}
 use Rattle.settle_core.specs.declared.game.Ply.{Ply}
+use Rattle.settle_core.specs.AnyHands.{ShownEachInTheEnd}
 use Rattle.settle_core.specs.AnyPlay.{AllShowBothKings}
 use Rattle.settle_core.specs.Endings.{HasKings, IsEnd}
 use Rattle.settle_core.specs.Entries.{Entry, deduplicated}
-use Rattle.settle_core.specs.HonestPlay.{AllPass, HasWhole, IsFront, ShownEach, shown_plies}
+use Rattle.settle_core.specs.Folding.{moves_of}
+use Rattle.settle_core.specs.HonestPlay.{AllPass, HasOneMore, HasWhole, IsFront, ShownEach, shown_plies}
 use Rattle.settle_core.specs.Laws.{joined}
 use Rattle.settle_core.specs.Settling.{Line, position_after}
 use Rattle.pgn_book.specs.Games.{Content, Result}
@@ -150,6 +152,29 @@ HonestStopAnywhereIsWritten = (setup : Setup) (left : Left setup) (more : List �
     → Line setup.start moves → ShownEach setup.start moves lists → IsEnd (position_after setup.start moves) sign end
     → ShowsPictures (setting_of setup) (left.leaves.front ++ more) (joined lists ++ end)
     → HasStop (setting_of setup) moves lists end sign (entries_in (setting_of setup) (past_of left.leaves.taken)) left.leaves.game
+
+-- Where a move that takes no piece was made whole, taken back and made again, the moves are those of the line all the same, and
+-- where such play stops between two moves, these or one more.
+abbrev pub MadeAgainIsRecorded : Type 0
+MadeAgainIsRecorded = (setting : Setting) (tags : TagValues) (past : List Event) (game : Content) (moves : List Move) (lists : List (List Entry))
+    (part : List Entry)
+    → Valid setting.start → Line setting.start moves → ShownEachInTheEnd setting.start moves lists
+    → AllPass (position_after setting.start moves) part
+    → deduplicated (entries_in setting past) ≡ deduplicated (reverse (joined lists ++ part))
+    → IsGameOf game setting tags past
+    → ((made : List Ply) × (moves_of made ≡ moves)
+        × ((game.plies ≡ made) ⊎ HasOneMore (position_after setting.start moves) made part game.plies))
+    × Result setting.start game.plies None game.result
+
+-- Of `record`, whatever it returned, where memory didn't run out.
+abbrev pub MadeAgainIsWritten : Type 0
+MadeAgainIsWritten = (setup : Setup) (left : Left setup) (moves : List Move) (lists : List (List Entry)) (part : List Entry)
+    → Line setup.start moves → ShownEachInTheEnd setup.start moves lists
+    → AllPass (position_after setup.start moves) part
+    → ShowsPictures (setting_of setup) left.leaves.front (joined lists ++ part) → left.leaves.extra ≡ []
+    → ((made : List Ply) × (moves_of made ≡ moves)
+        × ((left.leaves.game.plies ≡ made) ⊎ HasOneMore (position_after setup.start moves) made part left.leaves.game.plies))
+    × Result setup.start left.leaves.game.plies None left.leaves.game.result
 
 -- The bytes begin with the frame of a dump.
 abbrev pub BeginsWithDump : List ℕ → Type 0

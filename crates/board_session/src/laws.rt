@@ -5,7 +5,7 @@ ghost use Rattle.dgt_frame.specs.declared.events.Event.{Event};
 ghost use Rattle.pgn_book.specs.Games.{Content};
 ghost use Rattle.pgn_book.specs.Pgn.{Pgn};
 ghost use Rattle.pgn_book.specs.Values.{TagValues};
-ghost use Rattle.board_session.specs.AnyRecording.{HonestEndIsRecorded, HonestEndIsWritten, HonestStopAnywhereIsRecorded, HonestStopAnywhereIsWritten, KingsInCentreWriteNoMove, NothingWrittenIsInvented, OnlyTheLastPlyIsRewritten, RestartsAreRecorded, RestartsAreWritten, ResumedPlayIsWritten, ResumedStopIsWritten};
+ghost use Rattle.board_session.specs.AnyRecording.{HonestEndIsRecorded, HonestEndIsWritten, HonestStopAnywhereIsRecorded, HonestStopAnywhereIsWritten, KingsInCentreWriteNoMove, MadeAgainIsRecorded, MadeAgainIsWritten, NothingWrittenIsInvented, OnlyTheLastPlyIsRewritten, RestartsAreRecorded, RestartsAreWritten, ResumedPlayIsWritten, ResumedStopIsWritten};
 ghost use Rattle.board_session.specs.AnyStream.{HonestPlayResumes, KingsEndResumedPlay, KingsInCentreKeepThePlies, NothingIsInvented, OnlyTheLastPlyMayChange, ResumedPlayStops};
 ghost use Rattle.board_session.specs.Game.{IsGameOf};
 ghost use Rattle.board_session.specs.HonestBoard.{HonestBoardsAreRead};
@@ -148,6 +148,15 @@ pub fn honest_stop_anywhere_is_written()
 {
     // The law that this one rests on.
     fronts_show_fronts();
+}
+
+/// A move that takes no piece may be made whole, taken back and made again: the game has the moves of the line.
+pub fn moves_may_be_made_again()
+    ensures recorded { MadeAgainIsRecorded }
+    ensures written { MadeAgainIsWritten }
+{
+    // The law that the second one rests on.
+    shows_once();
 }
 
 /// A stream that was broken off anywhere and begun again with a dump has the game of its two parts' events.
