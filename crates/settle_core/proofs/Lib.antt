@@ -29,3 +29,4 @@ pub mod Whatever
 pub mod Resuming
 pub mod Ending
 pub mod Returning
+pub mod Holding

@@ -2,14 +2,15 @@
 use Rattle.std.specs.Prelude.{◌≡◌, ◌⊎◌, List, [], ◌∷◌, ◌++◌, None, reverse}
 use Rattle.chess_rules.specs.declared.chess_move.Move.{Move}
 use Rattle.chess_rules.specs.declared.parts.Parts.{Parts}
-use Rattle.chess_rules.specs.After.{after}
-use Rattle.chess_rules.specs.Legal.{Legal}
+use Rattle.chess_rules.specs.declared.lines.Wing.{Wing}
+use Rattle.chess_rules.specs.After.{after, rook_home}
+use Rattle.chess_rules.specs.Legal.{Castles, Legal}
 use Rattle.chess_rules.specs.Picture.{picture}
 use Rattle.chess_rules.specs.Valid.{Valid}
 use Rattle.settle_core.specs.declared.game.Ply.{Ply}
 use Rattle.settle_core.specs.Entries.{Entry}
 use Rattle.settle_core.specs.Folding.{Score, moves_of}
-use Rattle.settle_core.specs.HonestPlay.{AllPass, HasOneMore, IsInHand, MayPass, Takes}
+use Rattle.settle_core.specs.HonestPlay.{AllPass, HasOneMore, HasWhole, HoldsOne, IsFront, IsInHand, MayPass, Takes, shown_plies}
 use Rattle.settle_core.specs.Laws.{GivesScore, joined}
 use Rattle.settle_core.specs.Settling.{Line, position_after}
 
@@ -53,3 +54,26 @@ MadeAgainStops =
     → GivesScore start (joined lists ++ part) score
     → (score.sign ≡ None) × ((made : List Ply) × (moves_of made ≡ moves)
         × ((reverse score.plies ≡ made) ⊎ HasOneMore (position_after start moves) made part (reverse score.plies)))
+
+-- one piece in hand on each of these pictures
+abbrev pub AllHoldOne : Parts → Move → List Entry → Type 0
+AllHoldOne p m [] = Unit {0}
+AllHoldOne p m (entry ∷ more) = HoldsOne p m entry.picture × AllHoldOne p m more
+
+-- The move tried is one of the piece of the move m, or the rook's where m castles.
+abbrev pub IsOfThePiece : Parts → Move → Move → Type 0
+IsOfThePiece p m tried = (tried.from ≡ m.from) ⊎ ((wing : Wing) × Castles p m wing × (tried.from ≡ rook_home p.side wing))
+
+-- Where honest play is broken off on the way to the move m, and each picture since the last whole move has one piece in hand, the
+-- one ply more, if there is one, is of this piece.
+abbrev pub OneHandStops : Type 0
+OneHandStops =
+    (start : Parts) (moves : List Move) (lists : List (List Entry)) (first : List Entry) (m : Move) (later : List Move) (made : List Ply)
+    → Valid start
+    → Line start moves
+    → (front : IsFront start moves lists first)
+    → front.later ≡ m ∷ later
+    → AllHoldOne (position_after start front.done) m front.part
+    → HasWhole start front.done front.whole front.part made
+    → (made ≡ shown_plies start front.done front.whole)
+    ⊎ ((ply : Ply) × (made ≡ shown_plies start front.done front.whole ++ ply ∷ []) × IsOfThePiece (position_after start front.done) m ply.mv)

@@ -1,5 +1,5 @@
 //! What holds of all games, each law as the contract of a function; and how a move is read off two pictures.
-ghost use Rattle.settle_core.specs.AnyHands.{MadeAgainStops, TakenBackAndMadeAgain, WholeMoveIsInHand};
+ghost use Rattle.settle_core.specs.AnyHands.{MadeAgainStops, OneHandStops, TakenBackAndMadeAgain, WholeMoveIsInHand};
 ghost use Rattle.settle_core.specs.AnyPlay.{HonestPlayResumes, KingsEndResumedPlay, KingsInCentreKeepThePlies, KingsInCentreMakeNoMove, NothingIsInvented, OnlyTheLastPlyMayChange, ResumedPlayStops};
 ghost use Rattle.settle_core.specs.Endings.{HonestPlayEnds, HonestPlayStopsAnywhere};
 ghost use Rattle.settle_core.specs.Laws.{FoldsOnce, FoldsSome, FrontsOfHonestPlay, GivesSome, HonestPlayFolds, HonestPlayIsKept, HonestPlayKeepsClocks, HonestPlayStops, KingsEndHonestPlay, NoEntryGivesTwo, NoMoreIsInHand, OneHandTriesItsPiece, RepeatsCountOnce, RepliesReplaceNothing, RestingWaits, SettlersTellTheScore, SignsSettleNothing, ThreeUnseenAddNothing, ThreeUnseenSettleNothing, TwoUnseenChangeNothing, TwoUnseenWait, UnderWayIsInHand};
@@ -158,4 +158,9 @@ pub fn moves_may_be_made_again()
     ensures hand { WholeMoveIsInHand }
     ensures folds { TakenBackAndMadeAgain }
     ensures stops { MadeAgainStops }
+{}
+
+/// So it is wherever honest play with one piece in hand is broken off: the one ply more, if there is one, is of this piece.
+pub fn one_hand_stops()
+    ensures { OneHandStops }
 {}
