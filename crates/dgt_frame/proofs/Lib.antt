@@ -7,3 +7,4 @@ pub mod FrontLemmas
 pub mod WholeLemmas
 pub mod PutLemmas
 pub mod InputLemmas
+pub mod RestartLemmas

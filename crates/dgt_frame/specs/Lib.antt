@@ -10,3 +10,4 @@ pub mod Streams
 pub mod Times
 pub mod Watch
 pub mod Whole
+pub mod Restarts
