@@ -1,18 +1,16 @@
 -- Honest play with its end, and its first entries.
-use Rattle.std.proofs.Common.{◌≡◌, ◌⊎◌, inl, inr, List, [], ◌∷◌, ◌++◌, Option, None, Some, reverse, refl, sym, ap, subst, ◌∙◌}
+use Rattle.std.proofs.Common.{◌≡◌, ◌⊎◌, inl, inr, List, [], ◌∷◌, ◌++◌, Option, None, Some, reverse, sym, ap, subst, ◌∙◌}
 use mathlib.Core.List.{reverse_aux}
 use Rattle.std.proofs.lemmas.List.{append-nil}
-use Rattle.chess_rules.specs.declared.chess_move.Move.{Move}
 use Rattle.chess_rules.specs.declared.parts.Parts.{Parts}
-use Rattle.chess_rules.specs.Valid.{Valid}
 use Rattle.settle_core.specs.declared.game.Outcome.{Outcome}
 use Rattle.settle_core.specs.declared.game.Ply.{Ply}
-use Rattle.settle_core.specs.Endings.{HonestPlayEnds, HonestPlayStopsAnywhere, IsEnd, StopsAfter, StopsWithin}
+use Rattle.settle_core.specs.Endings.{HonestPlayEnds, HonestPlayStopsAnywhere, IsEnd}
 use Rattle.settle_core.specs.Entries.{Entry, deduplicated}
-use Rattle.settle_core.specs.Folding.{Folds, Score, moves_of, score_of}
-use Rattle.settle_core.specs.HonestPlay.{AllRest, ShownEach, shown_plies}
+use Rattle.settle_core.specs.Folding.{Folds, moves_of}
+use Rattle.settle_core.specs.HonestPlay.{AllRest, shown_plies}
 use Rattle.settle_core.specs.Laws.{GivesScore, joined}
-use Rattle.settle_core.specs.Settling.{Line, position_after, reached}
+use Rattle.settle_core.specs.Settling.{position_after, reached}
 use Rattle.settle_core.proofs.Fronts.{align, honest_fronts, reached_shown}
 use Rattle.settle_core.proofs.Lines.{MakesMove, line_ends, reverse_aux-append}
 use Rattle.settle_core.proofs.Stages.{Gives}

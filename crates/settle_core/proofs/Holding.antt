@@ -1,5 +1,5 @@
 -- One piece in hand, where honest play is broken off.
-use Rattle.std.proofs.Common.{◌≡◌, ◌⊎◌, ℕ, inl, inr, List, [], ◌∷◌, ◌++◌, refl, sym, ap, subst, ◌∙◌}
+use Rattle.std.proofs.Common.{inl, inr, List, [], ◌∷◌, ◌++◌, ap, subst, ◌∙◌}
 use Rattle.chess_rules.specs.declared.chess_move.Move.{Move}
 use Rattle.chess_rules.specs.declared.parts.Parts.{Parts}
 use Rattle.chess_rules.specs.After.{after}
@@ -10,7 +10,7 @@ use Rattle.chess_rules.proofs.LawLemmas.{moves_stay_valid}
 use Rattle.settle_core.specs.declared.game.Ply.{Ply}
 use Rattle.settle_core.specs.AnyHands.{AllHoldOne, IsOfThePiece, OneHandStops}
 use Rattle.settle_core.specs.Entries.{Entry}
-use Rattle.settle_core.specs.HonestPlay.{HasOneMore, HoldsOne, IsAmong, IsFront, shown_plies}
+use Rattle.settle_core.specs.HonestPlay.{HasOneMore, HoldsOne, IsAmong, shown_plies}
 use Rattle.settle_core.specs.Settling.{Line, position_after}
 use Rattle.settle_core.proofs.Trying.{one_hand_tries}
 

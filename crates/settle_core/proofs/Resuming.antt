@@ -1,5 +1,5 @@
 -- Honest play after whatever was seen before.
-use Rattle.std.proofs.Common.{◌≡◌, ℕ, ◌⊎◌, inl, inr, List, [], ◌∷◌, ◌++◌, Option, None, Some, reverse, refl, sym, ap, subst, ◌∙◌, append_assoc}
+use Rattle.std.proofs.Common.{◌≡◌, ◌⊎◌, inl, inr, List, [], ◌∷◌, ◌++◌, None, Some, reverse, refl, sym, ap, subst, ◌∙◌, append_assoc}
 use mathlib.Core.List.{reverse_aux}
 use Rattle.std.proofs.lemmas.List.{reverse-append, reverse-reverse}
 use Rattle.chess_rules.specs.declared.chess_move.Move.{Move}
@@ -7,12 +7,11 @@ use Rattle.chess_rules.specs.declared.parts.Parts.{Parts}
 use Rattle.chess_rules.specs.Picture.{picture}
 use Rattle.chess_rules.specs.Valid.{Valid}
 use Rattle.settle_core.specs.declared.game.Ply.{Ply}
-use Rattle.settle_core.specs.declared.game.Outcome.{Outcome}
 use Rattle.settle_core.specs.AnyPlay.{HonestPlayResumes, KingsEndResumedPlay, ResumedPlayStops}
 use Rattle.settle_core.specs.Entries.{Entry, deduplicated, last_picture}
 use Rattle.settle_core.specs.Settling.{Line, position_after, reached}
 use Rattle.settle_core.specs.Folding.{Folds, Score, moves_of}
-use Rattle.settle_core.specs.HonestPlay.{AllPass, AllRest, HasOneMore, HasWhole, IsAmong, ShownEach, shown_plies}
+use Rattle.settle_core.specs.HonestPlay.{AllPass, AllRest, HasOneMore, IsAmong, ShownEach, shown_plies}
 use Rattle.settle_core.specs.Laws.{joined}
 use Rattle.settle_core.specs.Sign.{IsSign}
 use Rattle.settle_core.proofs.Fronts.{all_open, among, one_more}

@@ -1,9 +1,9 @@
 -- Honest play in which moves are taken back and made again.
-use Rattle.std.proofs.Common.{◌≡◌, ◌≢◌, ◌⊎◌, ℕ, inl, inr, Bool, true, false, List, [], ◌∷◌, ◌++◌, Option, None, Some, reverse, refl, sym, ap, subst, ◌∙◌}
+use Rattle.std.proofs.Common.{◌≡◌, ◌≢◌, ◌⊎◌, ℕ, inl, inr, true, false, List, [], ◌∷◌, Option, Some, reverse, refl, sym, ap, subst, ◌∙◌}
 use mathlib.Core.List.{reverse_aux}
 use Rattle.std.specs.Str.{bytes_eq}
 use Rattle.std.proofs.lemmas.Bool.{cases_Bool, cond-true, cond-false}
-use Rattle.std.proofs.lemmas.List.{append-nil, reverse-append, reverse-reverse}
+use Rattle.std.proofs.lemmas.List.{reverse-reverse}
 use Rattle.std.proofs.lemmas.Slice.Eq.{bytes_eq-Decides}
 use Rattle.dgt_frame.specs.declared.time.Reading.{Reading}
 use Rattle.chess_rules.specs.declared.chess_move.Move.{Move}
@@ -19,7 +19,7 @@ use Rattle.settle_core.specs.declared.game.Seen.TheVariants.{Same, Moved, Sign, 
 use Rattle.settle_core.specs.AnyHands.{MadeAgainStops, ShownEachInTheEnd, ShownInTheEnd, TakenBackAndMadeAgain, WholeMoveIsInHand}
 use Rattle.settle_core.specs.Entries.{Entry, deduplicated, last_picture, repeats}
 use Rattle.settle_core.specs.Folding.{Folds, Score, SeenAs, moves_of, score_after}
-use Rattle.settle_core.specs.HonestPlay.{AllPass, IsAmong, IsInHand, MayPass, Takes}
+use Rattle.settle_core.specs.HonestPlay.{AllPass, IsAmong, MayPass, Takes}
 use Rattle.settle_core.specs.Laws.{joined}
 use Rattle.settle_core.specs.Settling.{Line, Played, position_after, reached}
 use Rattle.settle_core.proofs.Apart.{apart_unless, apart_valid, no_sign_valid}
@@ -28,7 +28,7 @@ use Rattle.settle_core.proofs.Lines.{begins, open_no_sign, reverse_aux-append}
 use Rattle.settle_core.proofs.Lists.{position_in_order}
 use Rattle.settle_core.proofs.Once.{folds_once, folds_played}
 use Rattle.settle_core.proofs.Pieces.{no_new_after, no_reply, picture_moves, quiet_unless}
-use Rattle.settle_core.proofs.Stages.{Ends, EndsAt, IsOpen, IsSound, Opens, StandsIn, bare, end_again, end_first, entry_open, now, opens, shows_at}
+use Rattle.settle_core.proofs.Stages.{Ends, EndsAt, IsOpen, IsSound, Opens, bare, end_again, end_first, entry_open, now, opens, shows_at}
 
 pub whole_move_is_in_hand : WholeMoveIsInHand
 whole_move_is_in_hand p m v l quiet = record {

@@ -8,10 +8,10 @@ use Rattle.chess_rules.proofs.LawLemmas.{moves_stay_valid}
 use Rattle.settle_core.specs.declared.game.Ply.{Ply}
 use Rattle.settle_core.specs.declared.game.Seen.{Seen}
 use Rattle.settle_core.specs.declared.game.Seen.TheVariants.{Same, Moved, Sign, Replaced, Waits}
-use Rattle.settle_core.specs.AnyPlay.{AllShowBothKings, KeepsAllButLast, KingsInCentreKeepThePlies, KingsInCentreMakeNoMove, NothingIsInvented, OnlyTheLastPlyMayChange, ShowsBothKings, WereShown}
+use Rattle.settle_core.specs.AnyPlay.{KeepsAllButLast, KingsInCentreKeepThePlies, KingsInCentreMakeNoMove, NothingIsInvented, OnlyTheLastPlyMayChange, ShowsBothKings, WereShown}
 use Rattle.settle_core.specs.Entries.{Entry}
 use Rattle.settle_core.specs.Settling.{Settles, reached}
-use Rattle.settle_core.specs.Folding.{Folds, Score, SeenAs, moves_of, score_after, time_of}
+use Rattle.settle_core.specs.Folding.{Score, SeenAs, moves_of, score_after, time_of}
 use Rattle.settle_core.proofs.Apart.{apart_valid, both_codes}
 use Rattle.settle_core.proofs.Once.{folds_once, folds_played}
 use Rattle.settle_core.proofs.Stages.{bare, valid_reached}

@@ -53,7 +53,7 @@ MadeAgainStops =
     → AllPass (position_after start moves) part
     → GivesScore start (joined lists ++ part) score
     → (score.sign ≡ None) × ((made : List Ply) × (moves_of made ≡ moves)
-        × ((reverse score.plies ≡ made) ⊎ HasOneMore (position_after start moves) made part (reverse score.plies)))
+    × ((reverse score.plies ≡ made) ⊎ HasOneMore (position_after start moves) made part (reverse score.plies)))
 
 -- one piece in hand on each of these pictures
 abbrev pub AllHoldOne : Parts → Move → List Entry → Type 0

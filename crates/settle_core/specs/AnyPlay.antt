@@ -71,7 +71,7 @@ ResumedPlayStops =
     → AllPass (position_after (reached start (moves_of before.plies)) moves) part
     → Folds start (deduplicated (reverse (joined lists ++ part) ++ past)) score
     → (score.sign ≡ None) × ((made : List Ply) × (reverse score.plies ≡ reverse before.plies ++ made)
-        × HasWhole (reached start (moves_of before.plies)) moves lists part made)
+    × HasWhole (reached start (moves_of before.plies)) moves lists part made)
 
 -- And where the kings then end it, as after honest play from the start, the plies stand with the sign.
 abbrev pub KingsEndResumedPlay : Type 0
