@@ -166,7 +166,13 @@ fn positions<'a>(alloc: Global) -> Result<Command<'a>, AllocError>
         "positions",
         "Prints the FEN of each position as the moves on standard input are played",
     );
-    with_text(alloc, Ok(command), "fen", "TEXT", "The position at the start")
+    with_text(
+        alloc,
+        Ok(command),
+        "fen",
+        "TEXT",
+        "The position at the start",
+    )
 }
 
 /// The command of the program, with its subcommands.

@@ -106,7 +106,10 @@ pub static CASES: [Case<'static>; 6] = [
 
 /// Runs a case, where there is memory for its arguments.
 fn run_of(alloc: Global, case: &Case<'_>) -> Option<Left> {
-    let bytes = with_game(&[bytes_of(case.input).get(), case.moves.as_bytes()], &case.text);
+    let bytes = with_game(
+        &[bytes_of(case.input).get(), case.moves.as_bytes()],
+        &case.text,
+    );
     run_over(
         alloc,
         case.arguments,

@@ -1,4 +1,4 @@
-use Rattle.std.proofs.Common.{◌≡◌, ◌∙◌, ◌<◌, length, Bool, List, ℕ, Some, true, false, arith, codes, inl, inr, refl, rules, subst, sym}
+use Rattle.std.proofs.Common.{◌≡◌, ◌∙◌, ◌<◌, length, Bool, Some, true, false, arith, codes, inl, refl, rules, subst, sym}
 use Rattle.std.specs.Prelude.{IfSome}
 use Rattle.dgt_frame.specs.Watch.{inner_of, has_failed}
 use Rattle.dgt_replay.specs.Messages.{Tells}

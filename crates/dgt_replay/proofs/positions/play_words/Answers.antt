@@ -1,5 +1,5 @@
-use Rattle.std.proofs.Common.{◌≡◌, ◌∷◌, ◌+◌, ◌≤◌, ◌==◌, ◌∙◌, ℕ, List, Bool, false, true, Option, None, Some, ap, subst, sym, length, arith, rules, refl}
-use Rattle.dgt_replay.specs.Words.{filled, len_behind, parts_behind, words}
+use Rattle.std.proofs.Common.{◌≡◌, ◌∷◌, ◌+◌, ◌≤◌, ◌∙◌, sym, length, arith, rules}
+use Rattle.dgt_replay.specs.Words.{filled, parts_behind, words}
 use Rattle.dgt_replay.proofs.PlayedLemmas.{PlaysSoFar, none_first, plays_more, plays_none, plays_to_end, plays_to_word, word_first}
 use Rattle.dgt_replay.proofs.positions.play_words.Goals as goal
 use Rattle.dgt_replay.proofs.positions.play_words.Goals.{then-not-is_empty+in-Some+in_ok-add_position-2, else-not-is_empty}
@@ -51,8 +51,11 @@ parts-preserved c =
       | then-not-is_empty+in-Some+in_ok-add_position-2 w ↦
           let is : words l.left.now ≡ word ∷ filled behind = word_first l.left.now word behind c.first_part.ensures.parts (sym c.is_empty.ensures ∙ w.if-not-is_empty.true) in
           let m = w.in-Some.ensures.named in
-          rw (w.lines-is, w.position-is, w.number-is) (plays_more c.args.start begin all (filled behind) word l.position w.in-Some.next l.lines.items w.add_position-then-not-is_empty.new.lines.items l.number
-          m.0 (rw is at l.invariant.so) m.1 m.2 m.3 w.in_ok-add_position-2.ensures, omega (arith, len, l.invariant.short))
+          rw (w.lines-is, w.position-is, w.number-is) (
+            plays_more c.args.start begin all (filled behind) word l.position w.in-Some.next l.lines.items w.add_position-then-not-is_empty.new.lines.items l.number
+                m.0 (rw is at l.invariant.so) m.1 m.2 m.3 w.in_ok-add_position-2.ensures,
+            omega (arith, len, l.invariant.short),
+          )
       | else-not-is_empty w ↦
           let is : words l.left.now ≡ filled behind = none_first l.left.now word behind c.first_part.ensures.parts (sym c.is_empty.ensures ∙ w.if-not-is_empty.false) in
           rw (w.lines-is, w.position-is, w.number-is) (rw is at l.invariant.so, omega (arith, len, l.invariant.short))
