@@ -33,6 +33,9 @@ returns-in-Moves-clause-does g c =
       tells = ends.tells;
     })
 
+pub returns-in-Positions-clause-does : goal.returns-in-Positions-clause-does
+returns-in-Positions-clause-does g c = rw c.in-Positions.is (c.positions.ensures.plays, c.positions.ensures.refuses)
+
 pub returns-in-Moves-clause-moves_unread : goal.returns-in-Moves-clause-moves_unread
 returns-in-Moves-clause-moves_unread g c fen is = refl
 
