@@ -34,7 +34,7 @@ use Rattle.board_session.proofs.AnyLemmas.{deduplicated_on, honest_play_resumes,
 use Rattle.board_session.proofs.HonestLemmas.{ShowsFronts, ShowsOnce, entries_on, past_on, valid_start}
 use Rattle.board_session.proofs.LawLemmas.{faults_before_dumps_can_go}
 
-start_valid : (setup : Setup) (left : Left setup) → Valid setup.start
+pub start_valid : (setup : Setup) (left : Left setup) → Valid setup.start
 start_valid setup left =
     let l = left.leaves in
     valid_start setup l.game l.game_is.start_is l.text_is.is_game.start

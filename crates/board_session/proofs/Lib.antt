@@ -13,3 +13,4 @@ pub mod UnseenLemmas
 pub mod ViewLemmas
 pub mod LeftLemmas
 pub mod BoardLemmas
+pub mod SizeLemmas

@@ -13,3 +13,4 @@ pub mod View
 pub mod AnyStream
 pub mod AnyRecording
 pub mod HonestBoard
+pub mod Sizes

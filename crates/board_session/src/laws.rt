@@ -11,6 +11,7 @@ ghost use Rattle.board_session.specs.Game.{IsGameOf};
 ghost use Rattle.board_session.specs.HonestBoard.{HonestBoardsAreRead};
 ghost use Rattle.board_session.specs.Laws.{EventsTellTheGame, FaultsAskOnce, FaultsBeforeDumpsCanGo, HonestClocksAreRecorded, HonestFrontIsWritten, HonestPlayIsRecorded, HonestPlayIsWritten, HonestStopIsRecorded, IdleEventsCanGo, KingsEndIsRecorded, KingsEndIsWritten, NoEventGivesTwo, ThreeUnseenAddNothing, TwoUnseenAreNotRecorded};
 ghost use Rattle.board_session.specs.Settings.{Setting};
+ghost use Rattle.board_session.specs.Sizes.{FramesAreWithin, MovesTakeTenBytes, WrittenMovesTakeTenBytes};
 
 use dgt_frame::laws::{fronts_show_fronts, restarts_are_shown, shows_once};
 use pgn_book::{Game, PgnError, read_pgn};
@@ -173,6 +174,13 @@ pub fn restarts_are_recorded()
 /// A dump, and then one update for each square that changes, show exactly the pictures of the board, on a rotated one too.
 pub fn honest_boards_are_read()
     ensures { HonestBoardsAreRead }
+{}
+
+/// Each move takes ten bytes at least.
+pub fn moves_take_ten_bytes()
+    ensures frames { FramesAreWithin }
+    ensures moves { MovesTakeTenBytes }
+    ensures written { WrittenMovesTakeTenBytes }
 {}
 
 /// Reads the text of the game of some events back. It returns that game, unless it runs out of memory.

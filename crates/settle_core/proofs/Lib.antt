@@ -30,3 +30,4 @@ pub mod Resuming
 pub mod Ending
 pub mod Returning
 pub mod Holding
+pub mod Twice
