@@ -1,0 +1,41 @@
+"""A table of cases: each has a name, what is seen, and what is expected."""
+
+import traceback
+
+counts = {"passed": 0, "failed": 0}
+
+
+def same(name, seen, expected):
+    """Counts a case, and says what was seen where it isn't what was expected."""
+    if seen == expected:
+        counts["passed"] += 1
+    else:
+        counts["failed"] += 1
+        print(f"FAILED {name}\n  seen     {seen!r}\n  expected {expected!r}")
+
+
+def refused(name, error, call, *arguments):
+    """Counts a case whose call must raise the error, and gives what it says."""
+    try:
+        seen = call(*arguments)
+    except error as refusal:
+        counts["passed"] += 1
+        return str(refusal)
+    counts["failed"] += 1
+    print(f"FAILED {name}\n  seen     {seen!r}\n  expected {error.__name__}")
+    return ""
+
+
+def run(tables):
+    """Runs the tables, and prints the line that counts them. The status of the script."""
+    for table in tables:
+        before = dict(counts)
+        try:
+            table()
+        except Exception:
+            counts["failed"] += 1
+            traceback.print_exc()
+        passed, failed = (counts[key] - before[key] for key in ("passed", "failed"))
+        print(f"{table.__module__.split('.')[-1]}.{table.__name__}: {passed} passed, {failed} failed")
+    print(f"{counts['passed']} passed, {counts['failed']} failed")
+    return 1 if counts["failed"] else 0
