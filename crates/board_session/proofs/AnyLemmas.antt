@@ -1,12 +1,9 @@
 -- The game of all events, whatever they are.
-use Rattle.std.proofs.Common.{◌≡◌, ℕ, Bool, true, false, if◌then◌else◌, List, [], ◌∷◌, ◌++◌, map, reverse, Option, Some, None, refl, sym, ap, subst, ◌∙◌, append_assoc}
+use Rattle.std.proofs.Common.{◌≡◌, Bool, true, false, List, [], ◌∷◌, ◌++◌, reverse, Option, Some, None, refl, sym, ap, subst, ◌∙◌, append_assoc}
 use Rattle.std.proofs.lemmas.List.{reverse-append, reverse-reverse}
-use Rattle.chess_rules.specs.declared.chess_move.Move.{Move}
 use Rattle.chess_rules.specs.declared.parts.Parts.{Parts}
-use Rattle.chess_rules.specs.After.{after}
 use Rattle.chess_rules.specs.Legal.{Mated, Stale}
 use Rattle.chess_rules.specs.Picture.{picture}
-use Rattle.chess_rules.specs.Valid.{Valid}
 use Rattle.dgt_frame.specs.declared.events.Event.{Event}
 use Rattle.settle_core.specs.declared.game.Outcome.{Outcome}
 use Rattle.settle_core.specs.declared.game.Ply.{Ply}
@@ -14,20 +11,19 @@ use Rattle.settle_core.specs.AnyPlay.{AllShowBothKings, KeepsAllButLast as Keeps
 use Rattle.settle_core.specs.Entries.{Entry, deduplicated, last_picture, repeats}
 use Rattle.settle_core.specs.Folding.{Folds, Score, moves_of, score_of, time_of}
 use Rattle.settle_core.specs.HonestPlay.{AllPass, AllRest, HasWhole, ShownEach, shown_plies}
-use Rattle.settle_core.specs.Laws.{joined}
 use Rattle.settle_core.specs.Settling.{Line, position_after, reached}
 use Rattle.settle_core.specs.Sign.{IsSign}
 use Rattle.settle_core.proofs.Resuming.{honest_play_resumes as plies_resume, kings_end_resumed_play as kings_end_resumed, resumed_play_stops as resumed_stops}
 use Rattle.settle_core.proofs.Whatever.{kings_keep_the_plies, nothing_is_invented as plies_were_shown, only_the_last_may_change}
 use Rattle.pgn_book.specs.Games.{Content, Result}
 use Rattle.pgn_book.specs.Values.{TagValues}
-use Rattle.board_session.specs.AnyStream.{Agrees, HonestPlayResumes, KeepsAllButLast, KingsEndResumedPlay, KingsInCentreKeepThePlies, NothingIsInvented, OnlyTheLastPlyMayChange, ResumedPlayStops, WereShown, end_of}
+use Rattle.board_session.specs.AnyStream.{HonestPlayResumes, KeepsAllButLast, KingsEndResumedPlay, KingsInCentreKeepThePlies, NothingIsInvented, OnlyTheLastPlyMayChange, ResumedPlayStops, WereShown, end_of}
 use Rattle.board_session.specs.Entries.{entry_at, is_entry}
 use Rattle.board_session.specs.Game.{IsGameOf}
 use Rattle.board_session.specs.Settings.{Setting}
 use Rattle.board_session.specs.Session.{entries_in}
 use Rattle.board_session.proofs.HonestLemmas.{entries_on}
-use Rattle.board_session.proofs.UnseenLemmas.{in_order, reached_by}
+use Rattle.board_session.proofs.UnseenLemmas.{reached_by}
 
 -- the event of an entry, and the events before it
 record EventOf (setting : Setting) (past : List Event) (entry : Entry) (before : List Entry) : Type 0 where
@@ -86,7 +82,7 @@ event_step setting one past later before entry true true g r more e =
 event_step setting one past later before entry true false g r more e =
     let are : entries_in setting (one ∷ past) ≡ entry_at setting.first setting.rotated (one ∷ past) ∷ entries_in setting past = rw g refl in
     let new : deduplicated (entry_at setting.first setting.rotated (one ∷ past) ∷ entries_in setting past)
-        ≡ entry_at setting.first setting.rotated (one ∷ past) ∷ deduplicated (entries_in setting past) = rw r refl in
+    ≡ entry_at setting.first setting.rotated (one ∷ past) ∷ deduplicated (entries_in setting past) = rw r refl in
     new_entry setting one past later before entry g more (sym new ∙ ap deduplicated (sym are) ∙ e)
 
 event_of : (setting : Setting) (past : List Event) (later before : List Entry) (entry : Entry)

@@ -1,5 +1,5 @@
 -- The pictures of an honest board.
-use Rattle.std.proofs.Common.{◌≡◌, ℕ, ◌<◌, Bool, true, false, List, [], ◌∷◌, ◌++◌, map, reverse, length, slice_set, refl, sym, ap, subst, ◌∙◌}
+use Rattle.std.proofs.Common.{◌≡◌, ℕ, Bool, true, false, List, [], ◌∷◌, ◌++◌, map, reverse, length, slice_set, refl, sym, ap, subst, ◌∙◌}
 use mathlib.Core.List.{reverse_aux}
 use Rattle.std.proofs.lemmas.List.{reverse-reverse}
 use Rattle.dgt_frame.specs.declared.events.Message.TheVariants.{Dump, Update, Time, Other}
@@ -8,7 +8,6 @@ use Rattle.dgt_frame.specs.declared.events.Event.TheVariants.{Message as Message
 use Rattle.dgt_frame.specs.declared.First.{First}
 use Rattle.settle_core.specs.Entries.{Entry}
 use Rattle.settle_core.proofs.Resuming.{onto}
-use Rattle.board_session.specs.Entries.{entries}
 use Rattle.board_session.specs.History.{is_trusted, picture_of, turned}
 use Rattle.board_session.specs.HonestBoard.{HonestBoardsAreRead, SendsOn, fields_of, pictures_in}
 use Rattle.board_session.proofs.PictureLemmas.{plain_dump, rotated_dump, updated_picture}

@@ -1,8 +1,6 @@
 -- What a recording leaves, whatever it returned.
-use Rattle.std.proofs.Common.{◌≡◌, ◌⊎◌, inl, inr, ℕ, ◌+◌, Bool, true, false, zero, suc, List, [], ◌∷◌, ◌++◌, length, map, reverse, Option, Some, None, refl, sym, ap, subst, ◌∙◌, append_assoc, length-append, arith}
-use Rattle.std.proofs.lemmas.List.{append-nil, map-append, reverse-append, reverse-reverse}
-use Rattle.chess_rules.specs.declared.chess_move.Move.{Move}
-use Rattle.chess_rules.specs.declared.parts.Parts.{Parts}
+use Rattle.std.proofs.Common.{◌≡◌, ◌⊎◌, inl, inr, ℕ, ◌+◌, Bool, true, false, zero, suc, List, [], ◌∷◌, ◌++◌, length, map, reverse, Option, None, refl, sym, ap, subst, ◌∙◌, append_assoc, arith}
+use Rattle.std.proofs.lemmas.List.{append-nil, reverse-append, reverse-reverse}
 use Rattle.chess_rules.specs.Valid.{Valid}
 use Rattle.dgt_frame.specs.declared.events.Event.{Event}
 use Rattle.dgt_frame.specs.declared.events.Event.TheVariants.{Message as MessageEvent, Fault}
@@ -13,7 +11,6 @@ use Rattle.dgt_frame.specs.Restarts.{RestartsAreShown, cut_at, moved_on}
 use Rattle.dgt_frame.specs.Streams.{Shows, Timed}
 use Rattle.settle_core.specs.declared.game.Outcome.{Outcome}
 use Rattle.settle_core.specs.declared.game.Ply.{Ply}
-use Rattle.settle_core.specs.Endings.{IsEnd}
 use Rattle.settle_core.specs.Entries.{Entry, deduplicated, repeats}
 use Rattle.settle_core.specs.Folding.{Score, score_of}
 use Rattle.settle_core.specs.HonestPlay.{HasOneMore, HasWhole, IsFront, shown_plies}
@@ -23,14 +20,14 @@ use Rattle.settle_core.proofs.Ending.{honest_play_ends, honest_play_stops_anywhe
 use Rattle.settle_core.proofs.Returning.{made_again_stops}
 use Rattle.pgn_book.specs.Games.{Content, Result}
 use Rattle.board_session.specs.declared.recording.Setup.{Setup}
-use Rattle.board_session.specs.AnyRecording.{BeginsWithDump, HasFrontOf, HasLine, HasStop, HonestEndIsRecorded, HonestEndIsWritten, HonestStopAnywhereIsRecorded, HonestStopAnywhereIsWritten, KingsInCentreWriteNoMove, Left, MadeAgainIsRecorded, MadeAgainIsWritten, NothingWrittenIsInvented, OnlyTheLastPlyIsRewritten, RestartsAreRecorded, RestartsAreWritten, ResumedPlayIsWritten, ResumedStopIsWritten, ShowsPictures}
+use Rattle.board_session.specs.AnyRecording.{BeginsWithDump, HonestEndIsRecorded, HonestEndIsWritten, HonestStopAnywhereIsRecorded, HonestStopAnywhereIsWritten, KingsInCentreWriteNoMove, Left, MadeAgainIsRecorded, MadeAgainIsWritten, NothingWrittenIsInvented, OnlyTheLastPlyIsRewritten, RestartsAreRecorded, RestartsAreWritten, ResumedEndIsWritten, ResumedPlayIsWritten, ResumedStopIsWritten}
 use Rattle.board_session.specs.Commands.{past_of}
 use Rattle.board_session.specs.Game.{IsGameOf}
 use Rattle.board_session.specs.Laws.{TellTheSame}
 use Rattle.board_session.specs.Recording.{setting_of}
 use Rattle.board_session.specs.Settings.{Setting}
 use Rattle.board_session.specs.Session.{entries_in}
-use Rattle.board_session.proofs.AnyLemmas.{deduplicated_on, honest_play_resumes, kings_in_centre_keep_the_plies, nothing_is_invented, only_the_last_ply_may_change, resumed_play_stops}
+use Rattle.board_session.proofs.AnyLemmas.{deduplicated_on, honest_play_resumes, kings_end_resumed_play, kings_in_centre_keep_the_plies, nothing_is_invented, only_the_last_ply_may_change, resumed_play_stops}
 use Rattle.board_session.proofs.HonestLemmas.{ShowsFronts, ShowsOnce, entries_on, past_on, valid_start}
 use Rattle.board_session.proofs.LawLemmas.{faults_before_dumps_can_go}
 
@@ -74,6 +71,11 @@ pub resumed_stop_is_written : ResumedStopIsWritten
 resumed_stop_is_written setup left first later before moves lists part parts agrees on passes gives =
     resumed_play_stops (setting_of setup) setup.tags (past_of later) (past_of first) before left.leaves.game moves lists part (start_valid setup left) agrees on passes gives
     (in_parts setup left first later parts)
+
+pub resumed_end_is_written : ResumedEndIsWritten
+resumed_end_is_written setup left first later before moves lists clearing rest kings outcome parts agrees on a k b gives =
+    kings_end_resumed_play (setting_of setup) setup.tags (past_of later) (past_of first) before left.leaves.game moves lists clearing rest kings outcome (start_valid setup left)
+    agrees on a k b gives (in_parts setup left first later parts)
 
 pub kings_in_centre_write_no_move : KingsInCentreWriteNoMove
 kings_in_centre_write_no_move setup left first later before shown parts is are kings =

@@ -1,5 +1,5 @@
 -- How many bytes a game takes.
-use Rattle.std.proofs.Common.{◌≡◌, ◌≢◌, ◌⊎◌, inl, inr, ℕ, ◌+◌, ◌*◌, ◌<◌, ◌≤◌, suc, Bool, true, false, if◌then◌else◌, List, [], ◌∷◌, ◌++◌, drop, get_or, length, map, reverse, Option, Some, refl, sym, ap, subst, ◌∙◌, arith, length-append}
+use Rattle.std.proofs.Common.{◌≡◌, ◌≢◌, ◌⊎◌, inl, inr, ℕ, ◌+◌, ◌*◌, ◌<◌, ◌≤◌, suc, Bool, true, false, List, [], ◌∷◌, ◌++◌, drop, get_or, length, Some, refl, sym, ap, subst, ◌∙◌, arith, length-append}
 use Rattle.std.proofs.lemmas.Bool.Decides.{eqb_tells}
 use Rattle.std.proofs.lemmas.List.{length-reverse}
 use Rattle.chess_rules.specs.declared.chess_move.Move.{Move}
@@ -10,7 +10,7 @@ use Rattle.chess_rules.specs.Valid.{Valid}
 use Rattle.dgt_frame.specs.declared.events.Message.TheVariants.{Dump, Update, Time, Other}
 use Rattle.dgt_frame.specs.declared.events.Event.{Event}
 use Rattle.dgt_frame.specs.declared.events.Event.TheVariants.{Message as MessageEvent, Fault}
-use Rattle.dgt_frame.specs.Streams.{Opens, Shows, ShowsFrom, Timed}
+use Rattle.dgt_frame.specs.Streams.{Opens, ShowsFrom, Timed}
 use Rattle.settle_core.specs.declared.game.Ply.{Ply}
 use Rattle.settle_core.specs.declared.game.Seen.{Seen}
 use Rattle.settle_core.specs.declared.game.Seen.TheVariants.{Same, Moved, Sign, Replaced, Waits}
@@ -177,7 +177,7 @@ new_update : (setting : Setting) (field code : ℕ) (past : List Event) (before 
     → score ≡ score_after setting.start before (entry_at setting.first setting.rotated (MessageEvent (Update field code) ∷ past)).reading seen
     → (10 * length score.plies + 5 ≤ 5 + sizes past)
     ⊎ ((10 * length score.plies ≤ 5 + sizes past)
-        × (picture_of setting.rotated (MessageEvent (Update field code) ∷ past) ≡ picture (reached setting.start (moves_of score.plies))))
+    × (picture_of setting.rotated (MessageEvent (Update field code) ∷ past) ≡ picture (reached setting.start (moves_of score.plies))))
 new_update setting field code past before score Same v t b h is = absurd h
 new_update setting field code past before score Waits v t b h is =
     let same : length score.plies ≡ length before.plies = ap (λ (s : Score). length s.plies) is in

@@ -10,12 +10,13 @@ use Rattle.settle_core.specs.declared.game.Outcome.{Outcome}
 use Rattle.settle_core.specs.declared.game.Ply.{Ply}
 use Rattle.settle_core.specs.AnyHands.{ShownEachInTheEnd}
 use Rattle.settle_core.specs.AnyPlay.{AllShowBothKings}
-use Rattle.settle_core.specs.Endings.{HasKings, IsEnd}
+use Rattle.settle_core.specs.Endings.{IsEnd}
 use Rattle.settle_core.specs.Entries.{Entry, deduplicated}
 use Rattle.settle_core.specs.Folding.{moves_of}
-use Rattle.settle_core.specs.HonestPlay.{AllPass, HasOneMore, HasWhole, IsFront, ShownEach, shown_plies}
+use Rattle.settle_core.specs.HonestPlay.{AllPass, AllRest, HasOneMore, HasWhole, IsFront, ShownEach, shown_plies}
 use Rattle.settle_core.specs.Laws.{joined}
 use Rattle.settle_core.specs.Settling.{Line, position_after}
+use Rattle.settle_core.specs.Sign.{IsSign}
 use Rattle.pgn_book.specs.Games.{Content, Result}
 use Rattle.pgn_book.specs.Values.{TagValues}
 use Rattle.board_session.specs.declared.refusal.RecordError.{RecordError}
@@ -54,7 +55,7 @@ OnlyTheLastPlyIsRewritten = (setup : Setup) (left : Left setup) (bytes more : Li
     → KeepsAllButLast before.plies left.leaves.game.plies
 
 -- Honest play resumes: where the board agreed with the game of the first events taken, the moves that the later ones show honestly
--- are added to its plies, and nothing else is; so it is where that play stops.
+-- are added to its plies, and nothing else is; so it is where that play stops, and where the kings end it.
 abbrev pub ResumedPlayIsWritten : Type 0
 ResumedPlayIsWritten = (setup : Setup) (left : Left setup) (first later : List Timed) (before : Content) (moves : List Move) (lists : List (List Entry))
     → left.leaves.taken ≡ first ++ later
@@ -74,6 +75,19 @@ ResumedStopIsWritten = (setup : Setup) (left : Left setup) (first later : List T
     → GivesOn (setting_of setup) (past_of later) (past_of first) (joined lists ++ part)
     → ((made : List Ply) × (left.leaves.game.plies ≡ before.plies ++ made) × HasWhole (end_of before) moves lists part made)
     × Result setup.start left.leaves.game.plies None left.leaves.game.result
+
+abbrev pub ResumedEndIsWritten : Type 0
+ResumedEndIsWritten = (setup : Setup) (left : Left setup) (first later : List Timed) (before : Content) (moves : List Move) (lists : List (List Entry))
+    (clearing rest : List Entry) (kings : Entry) (outcome : Outcome)
+    → left.leaves.taken ≡ first ++ later
+    → Agrees before (setting_of setup) setup.tags (past_of first)
+    → ShowsOn (end_of before) moves lists
+    → AllRest (position_after (end_of before) moves) clearing
+    → IsSign (position_after (end_of before) moves) kings.picture outcome
+    → AllRest (position_after (end_of before) moves) rest
+    → GivesOn (setting_of setup) (past_of later) (past_of first) (joined lists ++ (clearing ++ kings ∷ rest))
+    → (left.leaves.game.plies ≡ before.plies ++ shown_plies (end_of before) moves lists)
+    × Result setup.start left.leaves.game.plies (Some outcome) left.leaves.game.result
 
 -- While both kings stand in the centre no move is made: where all entries of later events show them there, the plies are those of
 -- the first events.
@@ -100,7 +114,7 @@ HonestEndIsRecorded = (setting : Setting) (tags : TagValues) (past : List Event)
 -- The game has the plies of the whole moves of a front of honest play, or these and one more, and no sign.
 abbrev pub HasFrontOf : Setting → List Move → List (List Entry) → List Entry → Content → Type 0
 HasFrontOf setting moves lists first game = ((front : IsFront setting.start moves lists first)
-        × HasWhole setting.start front.done front.whole front.part game.plies)
+    × HasWhole setting.start front.done front.whole front.part game.plies)
     × Result setting.start game.plies None game.result
 
 -- The game has the plies of the line, and no sign or this one.
@@ -163,7 +177,7 @@ MadeAgainIsRecorded = (setting : Setting) (tags : TagValues) (past : List Event)
     → deduplicated (entries_in setting past) ≡ deduplicated (reverse (joined lists ++ part))
     → IsGameOf game setting tags past
     → ((made : List Ply) × (moves_of made ≡ moves)
-        × ((game.plies ≡ made) ⊎ HasOneMore (position_after setting.start moves) made part game.plies))
+    × ((game.plies ≡ made) ⊎ HasOneMore (position_after setting.start moves) made part game.plies))
     × Result setting.start game.plies None game.result
 
 -- Of `record`, whatever it returned, where memory didn't run out.
@@ -173,7 +187,7 @@ MadeAgainIsWritten = (setup : Setup) (left : Left setup) (moves : List Move) (li
     → AllPass (position_after setup.start moves) part
     → ShowsPictures (setting_of setup) left.leaves.front (joined lists ++ part) → left.leaves.extra ≡ []
     → ((made : List Ply) × (moves_of made ≡ moves)
-        × ((left.leaves.game.plies ≡ made) ⊎ HasOneMore (position_after setup.start moves) made part left.leaves.game.plies))
+    × ((left.leaves.game.plies ≡ made) ⊎ HasOneMore (position_after setup.start moves) made part left.leaves.game.plies))
     × Result setup.start left.leaves.game.plies None left.leaves.game.result
 
 -- The bytes begin with the frame of a dump.

@@ -5,7 +5,7 @@ ghost use Rattle.dgt_frame.specs.declared.events.Event.{Event};
 ghost use Rattle.pgn_book.specs.Games.{Content};
 ghost use Rattle.pgn_book.specs.Pgn.{Pgn};
 ghost use Rattle.pgn_book.specs.Values.{TagValues};
-ghost use Rattle.board_session.specs.AnyRecording.{HonestEndIsRecorded, HonestEndIsWritten, HonestStopAnywhereIsRecorded, HonestStopAnywhereIsWritten, KingsInCentreWriteNoMove, MadeAgainIsRecorded, MadeAgainIsWritten, NothingWrittenIsInvented, OnlyTheLastPlyIsRewritten, RestartsAreRecorded, RestartsAreWritten, ResumedPlayIsWritten, ResumedStopIsWritten};
+ghost use Rattle.board_session.specs.AnyRecording.{HonestEndIsRecorded, HonestEndIsWritten, HonestStopAnywhereIsRecorded, HonestStopAnywhereIsWritten, KingsInCentreWriteNoMove, MadeAgainIsRecorded, MadeAgainIsWritten, NothingWrittenIsInvented, OnlyTheLastPlyIsRewritten, RestartsAreRecorded, RestartsAreWritten, ResumedEndIsWritten, ResumedPlayIsWritten, ResumedStopIsWritten};
 ghost use Rattle.board_session.specs.AnyStream.{HonestPlayResumes, KingsEndResumedPlay, KingsInCentreKeepThePlies, NothingIsInvented, OnlyTheLastPlyMayChange, ResumedPlayStops};
 ghost use Rattle.board_session.specs.Game.{IsGameOf};
 ghost use Rattle.board_session.specs.HonestBoard.{HonestBoardsAreRead};
@@ -121,6 +121,7 @@ pub fn honest_play_resumes()
 pub fn resumed_play_is_written()
     ensures adds { ResumedPlayIsWritten }
     ensures stops { ResumedStopIsWritten }
+    ensures ends { ResumedEndIsWritten }
 {}
 
 /// While both kings stand in the centre no move is made, whatever else shows; the result alone can change.

@@ -8,3 +8,4 @@ pub mod WholeLemmas
 pub mod PutLemmas
 pub mod InputLemmas
 pub mod RestartLemmas
+pub mod LossLemmas

@@ -1,5 +1,5 @@
 -- Two streams, one after the other.
-use Rattle.std.proofs.Common.{◌≡◌, ◌≢◌, ℕ, ◌+◌, ◌<◌, ◌≤◌, List, [], ◌∷◌, ◌++◌, length, map, refl, sym, ◌∙◌, ap, subst, append_assoc, append-nil, length-append, arith, inl, inr}
+use Rattle.std.proofs.Common.{◌≡◌, ◌≢◌, ℕ, ◌+◌, ◌<◌, ◌≤◌, List, [], ◌∷◌, ◌++◌, length, refl, sym, ◌∙◌, ap, subst, append_assoc, length-append, arith, inl, inr}
 use Rattle.std.specs.List.{AllByRecursion}
 use Rattle.dgt_frame.specs.declared.events.Message.{Message}
 use Rattle.dgt_frame.specs.declared.events.Event.{Event}
@@ -10,12 +10,12 @@ use Rattle.dgt_frame.specs.Restarts.{RestartsAreShown, cut_at, moved_on}
 use Rattle.dgt_frame.specs.Streams.{Breaks, Opens, ShowsFrom, Skips, StartsHigh, Timed}
 use Rattle.dgt_frame.proofs.FrameLemmas.{later_low}
 
-low_at : (front : List ℕ) (byte : ℕ) (back : List ℕ) → AllByRecursion IsLow (front ++ byte ∷ back) → byte < 128
+pub low_at : (front : List ℕ) (byte : ℕ) (back : List ℕ) → AllByRecursion IsLow (front ++ byte ∷ back) → byte < 128
 low_at [] byte back h = h.0
 low_at (x ∷ front) byte back h = low_at front byte back h.1
 
 -- No frame goes on with a byte with its top bit set.
-never_within : (part : List ℕ) (byte : ℕ) (back : List ℕ) (message : Message) → part ≢ [] → 128 ≤ byte → Frame message (part ++ byte ∷ back) → ⊥
+pub never_within : (part : List ℕ) (byte : ℕ) (back : List ℕ) (message : Message) → part ≢ [] → 128 ≤ byte → Frame message (part ++ byte ∷ back) → ⊥
 never_within [] byte back message some high h = some refl
 never_within (x ∷ front) byte back message some high h =
     let low : byte < 128 = low_at front byte back (later_low message x (front ++ byte ∷ back) h) in

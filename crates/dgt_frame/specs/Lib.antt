@@ -11,3 +11,4 @@ pub mod Times
 pub mod Watch
 pub mod Whole
 pub mod Restarts
+pub mod Losses

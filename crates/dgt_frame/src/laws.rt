@@ -1,6 +1,7 @@
 //! Laws of what a stream shows: each stream shows exactly one list of events, its first bytes the first of them, and one that is
 //! broken off and begun again those of its two parts.
 ghost use Rattle.std.specs.Prelude.{◌≡◌, ◌++◌, ℕ, List};
+ghost use Rattle.dgt_frame.specs.Losses.{SmallLossesShow};
 ghost use Rattle.dgt_frame.specs.Restarts.{RestartsAreShown};
 ghost use Rattle.dgt_frame.specs.Streams.{Shows, Timed};
 
@@ -34,4 +35,10 @@ pub fn shows_some(bytes: &[u8])
 /// leaves some bytes of a frame.
 pub fn restarts_are_shown()
     ensures { RestartsAreShown }
+{}
+
+/// Where one to four bytes in a row are lost of a stream of dumps, updates and times, and a whole frame comes after them, a fault
+/// shows.
+pub fn small_losses_show()
+    ensures { SmallLossesShow }
 {}
