@@ -201,9 +201,7 @@ def one(arguments: Tuple[str, str, bool, str, str]) -> List[str]:
     expect("moves, the rest of the frame", with_moves + played.rest, (moves + words, outcome))
     stands = with_moves + played.rest + dump(picture_of_placement(fens[-1]), rotated)
     expect("moves, and they stand on the board", stands, (moves + words, outcome))
-    before_last = (fens[:-1] or [fen])[-1]
-    others = [positions(command, before_last, [word])[-1] for word in program(["moves", "--fen", before_last], b"").split()]
-    if shown[-1] not in [other.split()[0] for other in others]:  # else it corrects the last move, where pieces went there and back
+    if len(words) <= 2:  # more of them may lead back to what the board shows, which then looks like one move more
         as_before = with_moves + played.rest + dump(picture_of_placement(shown[-1]), rotated)
         expect("moves, and the board as it stood", as_before, (moves + words, outcome))
     if not mated:

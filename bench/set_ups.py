@@ -120,6 +120,18 @@ def carry_side(hands: Hands, homes: Sequence[int], pace: float) -> None:
             hands.show(square, EMPTY)
 
 
+def think_with_a_piece(hands: Hands, plies: int) -> None:
+    """The side to move lifts a piece, and thinks with it in hand; sets it back, or not."""
+    chance, low = hands.chance, 1 + 6 * (plies % 2)
+    hands.wait(chance.uniform(0.3, 3))
+    square = chance.choice([square for square in range(64) if low <= hands.board[square] < low + 6])
+    code = hands.board[square]
+    hands.show(square, EMPTY)
+    hands.wait(chance.uniform(1, 15))
+    if chance.random() < 0.5:
+        hands.show(square, code)
+
+
 ORDERS: Dict[str, Callable[[Hands, float], None]] = {
     "kings first": lambda hands, pace: set_up(hands, True, pace, 0.0),
     "random order": lambda hands, pace: set_up(hands, False, pace, 0.0),
@@ -136,8 +148,10 @@ def trial(seed: str, plies: int, order: str) -> Trial:
     hands.wait(2)
     thinking = 1.0 if chance.random() < 0.25 else 6.0  # a quarter is bullet chess
     hands.play(ways, lambda: lognormal(chance, thinking, 0.9))
-    hands.wait(1 + lognormal(chance, 6, 0.7))  # it is given up
     played = 67 + 5 * len(hands.changes)
+    if chance.random() < 0.15:
+        think_with_a_piece(hands, plies)
+    hands.wait(1 + lognormal(chance, 6, 0.7))  # it is given up
     ORDERS[order](hands, lognormal(chance, 1, 0.35))
     hands.wait(1)
     assert hands.board == INITIAL

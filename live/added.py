@@ -123,7 +123,9 @@ def check_result(legal_moves: Sequence[str]) -> None:
 def dumps_of_moves(fens: Sequence[str], rotated: bool) -> bytes:
     """Shows the positions after the moves, one after the other.
 
-    Each is one legal move from the one before it, and the first from the game's position; so each is settled as that move.
+    Each is one legal move from the one before it, and the first from the game's position; so each is settled as that move. What
+    the board shows then, where it stands as before, changes nothing after one move or two. Three or more may lead pieces back to
+    where the board still has them, and then its picture may be another move's: the pieces are to be set as the game stands.
     """
     return b"".join(dump(picture_of_placement(fen), rotated) for fen in fens) + STRAY
 

@@ -7,8 +7,8 @@ board may look like a move on its way too: it stands for a moment.
 
 from __future__ import annotations
 
+import math
 import re
-import statistics
 from dataclasses import dataclass, field
 from typing import Optional, Sequence, Tuple
 
@@ -17,8 +17,6 @@ from live.protocol import LETTERS, SQUARES, Picture, differing
 ONE_MOVE = 4  # squares that a move changes, at most: e4 that is taken back is no set-up
 STANDS = 1.0  # seconds that the last move of a game stands, at least, before somebody sets up
 HOME_STANDS = 3.0  # seconds that it does where it brought a piece home
-LIKELY_STANDS = 20.0  # where that is what mostly setting up does: a king, or two pieces one after the other
-PACES = 4  # or so many times as long as the hands that set up take for each change, where they are slow
 MOVE = re.compile(r"(?:move|correction) \d+\.(?P<black>\.\.)? (?P<kind>[KQRBN]?)[a-h]?[1-8]?x?(?P<square>[a-h][1-8])")
 
 
@@ -55,20 +53,17 @@ def game_end(lines: Sequence[Line], start: Picture) -> End:
     `lines` are those of the whole game and of the set-up after it, `start` is the picture at the game's start. From the last
     move on backwards a line was setting up
 
-    - where it brought a piece home, and the next change came within 3 s, or within four times the median time between two
-      changes of the set-up; or within 20 s, if it was a king that stood in no check, or the move before it went home too;
-    - where the next change came within 1 s, and it was the last move, or its ply is that of such a line: a piece was drawn.
+    - where it brought a piece home, and stood for less than 3 s;
+    - where it stood for less than 1 s, and hands went on at once; and it was the last move, or its ply is that of a line that
+      was setting up: a piece was drawn.
 
     The game ends before these. But where its last move would have stood for less than 1 s it ends with the one of them that
     stood longest, since nobody sets up so soon. Where no move would be left, all are kept.
     """
     lines = [line for line in lines if not line.text.startswith("fault")]
     moves = [at for at, line in enumerate(lines) if line.is_move]
-    last = moves[-1] if moves else -1
-    gaps = [after.at - before.at for before, after in zip(lines[last + 1 :], lines[last + 2 :])]
-    soon = max(HOME_STANDS, PACES * statistics.median(gaps)) if gaps else HOME_STANDS
     kept = len(moves)
-    while kept and _sets_up(lines, moves[:kept], moves[kept:], soon, start):
+    while kept and _sets_up(lines, moves[:kept], moves[kept:], start):
         kept -= 1
     if kept and kept < len(moves) and _stood(lines, moves[kept - 1]) < STANDS:
         kept = max(range(kept, len(moves)), key=lambda at: _stood(lines, moves[at])) + 1
@@ -81,21 +76,28 @@ def game_end(lines: Sequence[Line], start: Picture) -> End:
 
 
 def _stood(lines: Sequence[Line], at: int) -> float:
-    """How long the picture of a line stood."""
-    return lines[at + 1].at - lines[at].at if at + 1 < len(lines) else STANDS
+    """For how long the board showed the position after a move, from the move on; a piece may have been lifted and set back."""
+    last = at
+    for number in range(at + 1, len(lines)):
+        if lines[number].is_move:
+            break
+        if lines[number].text == "agrees":
+            last = number
+    return lines[last + 1].at - lines[at].at if last + 1 < len(lines) else math.inf
 
 
-def _sets_up(lines: Sequence[Line], moves: Sequence[int], after: Sequence[int], soon: float, start: Picture) -> bool:
+def _sets_up(lines: Sequence[Line], moves: Sequence[int], after: Sequence[int], start: Picture) -> bool:
     """Whether the last of these moves was setting up, as those after it were."""
     line, stood = lines[moves[-1]], _stood(lines, moves[-1])
-    before = lines[moves[-2]] if len(moves) > 1 else None
-    same_ply = before is not None and _ply(before) == _ply(line)
-    escapes = before is not None and not same_ply and "+" in before.text
-    king = (" K" in line.text and not escapes) or _uncastles(line, before)
-    if not goes_home(line.text, start) and not _uncastles(line, before):
-        return stood < STANDS and (not after or _ply(lines[after[0]]) == _ply(line))
-    again = before is not None and not same_ply and goes_home(before.text, start)
-    return stood < (max(soon, LIKELY_STANDS) if king or again else soon)
+    if goes_home(line.text, start) or _uncastles(line, lines[moves[-2]] if len(moves) > 1 else None):
+        return stood < HOME_STANDS
+    drawn = stood < STANDS and _goes_on(lines[moves[-1] + 1 :])
+    return drawn and (not after or _ply(lines[after[0]]) == _ply(line))
+
+
+def _goes_on(changes: Sequence[Line]) -> bool:
+    """Whether hands went on at once after a change, and nobody thought with a piece in hand."""
+    return len(changes) < 2 or changes[1].at - changes[0].at < HOME_STANDS
 
 
 def _uncastles(line: Line, before: Optional[Line]) -> bool:

@@ -17,7 +17,7 @@ from live.program import Program
 from live.refused import DONE, FAILED, REFUSED, Refused
 from live.screen import Screen
 from live.series import Player, last_number, numbered
-from live.terminal import Terminal, Typed
+from live.terminal import Terminal, Typed, open_standard_streams
 
 HELP = """\
 usage: dgt_live [--series] [--once] [--linger SECONDS] DEVICE NAME [OPTION..]
@@ -194,6 +194,7 @@ def list_devices() -> int:
 
 def main(arguments: Sequence[str], here: pathlib.Path) -> int:
     """What the arguments ask for; the status. All that was said is printed then."""
+    open_standard_streams()
     signals = Signals()
     status, complaint = DONE, ""
     try:
@@ -203,9 +204,9 @@ def main(arguments: Sequence[str], here: pathlib.Path) -> int:
     except OSError as error:
         status, complaint = FAILED, f"dgt_live: {error}\n"
     try:
-        sys.stdout.flush()
-        sys.stderr.write(complaint)
-        sys.stderr.flush()
+        if sys.stdout:
+            sys.stdout.flush()
+        os.write(2, complaint.encode("utf-8", "backslashreplace"))
     except OSError:
         pass  # nobody reads it any more
     return status

@@ -3,15 +3,17 @@
 from __future__ import annotations
 
 import os
+import signal
 import subprocess
 from typing import Callable, Optional
 
 from live.files import Capture, Paths, new_of, put_in_place, sync_folder, text_of
 from live.loop import Loop, Timer, close
 from live.options import Options
-from live.program import Program, wake
+from live.program import Program, ending_of, wake
 
 AGAIN = 1.0  # seconds after a try that failed
+WRITE_FAULT = 3  # of the program, whose streams failed
 SLOWEST = 60.0  # seconds that a call may take before it is ended and begun anew
 
 
@@ -51,7 +53,8 @@ class Maker:
         self._timer: Optional[Timer] = None
         self.limit: Optional[int] = None
         self.made = capture.size  # bytes of the capture that NAME.pgn surely has: it was made as this began
-        self.failing = False
+        self.full = False  # whether it couldn't be written
+        self._failing = False
 
     def want(self) -> None:
         """The game has changed: it is to be made anew, now or after the call that is under way."""
@@ -106,9 +109,10 @@ class Maker:
             return
         assert self._child
         status = self._child.wait()
-        self._ended("" if status == 0 else f"record ended with status {status}")
+        full = status in (WRITE_FAULT, -signal.SIGXFSZ)
+        self._ended("" if status == 0 else "no room" if full else f"record {ending_of(status)}", full)
 
-    def _ended(self, trouble: str) -> None:
+    def _ended(self, trouble: str, full: bool = True) -> None:
         if self._timer:
             self._timer.cancel()
             self._timer = None
@@ -118,9 +122,9 @@ class Maker:
             self._report = -1
         self._child = None
         if not trouble:
-            trouble = self._put_in_place()
+            trouble, full = self._put_in_place(), True
         if not trouble:
-            self.failing = False
+            self.full = self._failing = False
             self.made = self._covers
             if self._wanted:
                 self._start()
@@ -128,8 +132,9 @@ class Maker:
                 self._idle(True)
             return
         self._new.unlink(missing_ok=True)
-        if not self.failing:
-            self.failing = True
+        self.full = full
+        if not self._failing:
+            self._failing = True
             self._trouble(trouble)
         if self._idle:
             self._tries -= 1

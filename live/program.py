@@ -93,11 +93,13 @@ class Listing:
         words: Sequence[str],
         capture: Capture,
         heard: Callable[[str], None],
+        says: Callable[[str], None],
         failed: Callable[[str], None],
         start: int = 0,
     ) -> None:
         self._loop, self._program, self._words = loop, program, list(words)
-        self._capture, self._heard, self._failed, self._start = capture, heard, failed, start
+        self._capture, self._start = capture, start
+        self._heard, self._says, self._failed = heard, says, failed
         self._lines = 0
         self._failures = 0
         self._failed_at = -FRESH
@@ -182,7 +184,7 @@ class Listing:
             done, self._finished = self._finished, None
             done()
         else:
-            self._fail("was killed" if status < 0 else f"ended with status {status}")
+            self._fail(ending_of(status))
 
     def _fail(self, how: str) -> None:
         """Tries again, at once and then each second; gives up where it fails again and again."""
@@ -193,6 +195,7 @@ class Listing:
         if self._failures > FAILURES:
             self._failed(what)
         else:
+            self._says(f"{what}; it is started again")
             self._timer = self._loop.after(0 if self._failures == 1 else 0.5, self._begin)
 
     def finish(self, done: Callable[[], None]) -> None:
@@ -231,6 +234,11 @@ class Listing:
                 child.kill()
                 child.wait()
         return child.returncode
+
+
+def ending_of(status: int) -> str:
+    """How a child has ended that should not have."""
+    return "was killed" if status < 0 else f"ended with status {status}"
 
 
 def wake(child: subprocess.Popen[bytes]) -> None:

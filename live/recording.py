@@ -14,7 +14,7 @@ from live.files import Capture, Log, Paths, mark_end, text_of
 from live.loop import Loop, Timer
 from live.making import Maker
 from live.options import Options
-from live.program import Listing, Program
+from live.program import Listing, Program, lines_of
 from live.refused import DONE, REFUSED
 from live.screen import Screen, Told
 from live.setting_up import TICK, pictures_words, start_placement
@@ -73,13 +73,14 @@ class Recording:
         capture: Capture,
         options: Options,
         linger: int,
+        series: bool,
         over: Callable[[Reason], None],
         broken: Callable[[str], None],
         asks: Callable[[bytes], None],
     ) -> None:
         self._loop, self._program, self._screen = loop, program, screen
         self.paths, self._capture, self._options = paths, capture, options
-        self._linger, self._over, self._asks = linger, over, asks
+        self._linger, self._series, self._over, self._asks = linger, series, over, asks
         self.end: Optional[int] = None  # how many bytes are the game's, where not all are
         self.moves: List[str] = []
         self._result = "*"
@@ -91,17 +92,21 @@ class Recording:
         self._start_again = ending.StartAgain(self._start)
         self._old = capture.size  # bytes from before this call
         self._began = loop.now()
+        self._pictures_left = self._old_pictures()  # of those from before this call
         self._old_dumps = offsets(capture.bytes(), DUMP_BEGINS)
         self._faults: List[str] = []
         self._is_over = False
+        self._marks = False  # whether NAME.end is to say how many bytes are the game's
         self._done: Optional[Callable[[bool], None]] = None
         self._ends: Optional[Timer] = None
         self._watchdog: Optional[Timer] = None
         self.standing = Standing(loop, screen, self._start)
         self._maker = Maker(loop, program, paths, capture, options, self._pgn_trouble)
-        self._disk = Disk(screen, self.standing, capture, lambda: self._maker.failing)
-        self._follow = Listing(loop, program, ["follow", *options.of_board()], capture, self._heard, broken)
-        self._pictures = Listing(loop, program, pictures_words(options), capture, self._saw, broken)
+        self._disk = Disk(screen, self.standing, capture, lambda: self._maker.full)
+        self._follow = Listing(
+            loop, program, ["follow", *options.of_board()], capture, self._heard, screen.say, broken
+        )
+        self._pictures = Listing(loop, program, pictures_words(options), capture, self._saw, screen.say, broken)
         self._tick = loop.after(TICK, self._each_second)
 
     def came(self, sent: bytes) -> None:
@@ -188,9 +193,16 @@ class Recording:
         """A line of `pictures`."""
         self._shown = picture = protocol.picture_of_placement(placement)
         self.standing.board.shows(picture)
-        if self._start_again.takes(picture, NO_PICTURE):
+        is_old = self._pictures_left > 0
+        self._pictures_left -= is_old
+        # A single game that somebody goes on with has not ended where it seemed to.
+        if self._start_again.takes(picture, NO_PICTURE) and (self._series or not is_old):
             self._loop.after(SETTLES, self._look_at_start)
         self.standing.show()
+
+    def _old_pictures(self) -> int:
+        words = pictures_words(self._options)
+        return len(lines_of(self._program.run(*words, given=self._capture.bytes()).stdout)) if self._old else 0
 
     def _look_at_start(self) -> None:
         """The start stood again, and `follow` has told what it makes of that. It ends a game that doesn't stand there."""
@@ -243,18 +255,18 @@ class Recording:
                 self._screen.say(f"taken for setting up, and not for moves: {'; '.join(found.dropped)}")
             if not found.sure:
                 self._screen.say(f"LOOK at the last moves of {self.paths.pgn}: where the game ended isn't sure")
+        self._marks = self._series or reason in (Reason.TYPED, Reason.SET_UP)
         self._is_over = True
         self._over(reason)
 
-    def finish(self, marks: bool, done: Callable[[bool], None]) -> None:
-        """Hears the last lines, makes the game a last time, and tells whether it could be written; where it `marks` the end,
-        NAME.end says how many bytes are the game's."""
+    def finish(self, done: Callable[[bool], None]) -> None:
+        """Hears the last lines, makes the game a last time, and tells whether it could be written."""
         self._is_over = True
         self._done = done
         if self._ends:
             self._ends.cancel()
         self._capture.write()
-        if marks:
+        if self._marks:
             self._mark()
         self._watchdog = self._loop.after(PATIENCE, self._lines_are_told)
         if self.end is None or self.end >= self._capture.size:

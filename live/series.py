@@ -107,6 +107,7 @@ class Player:
             self._capture,
             self._options,
             self._call.linger,
+            self._call.series,
             self._game_over,
             self._broken,
             self._board.added,
@@ -120,16 +121,16 @@ class Player:
             self.refused = Refused(
                 FAILED, f"{self.paths.capture} has 64 MiB, and none may have more: go on under another NAME, with --fen"
             )
-        self._loop.after(0, lambda: self._close_game(self._call.series or reason in (Reason.TYPED, Reason.SET_UP)))
+        self._loop.after(0, self._close_game)
 
-    def _close_game(self, marks: bool) -> None:
+    def _close_game(self) -> None:
         if self._ending or self._closing or self._recording is None:
             return
         self._closing = True
         if not self._call.series:
             self._ending = True
             self._board.last_words()
-        self._recording.finish(marks, self._game_closed)
+        self._recording.finish(self._game_closed)
 
     def _game_closed(self, written: bool) -> None:
         assert self._recording
@@ -327,7 +328,7 @@ class Player:
         if self._closing:
             return  # the game is being closed, and then all is
         if self._recording:
-            self._recording.finish(False, self._game_closed)
+            self._recording.finish(self._game_closed)
         else:
             if self._setting_up:
                 self._setting_up.close()

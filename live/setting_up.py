@@ -60,7 +60,7 @@ class SettingUp:
     def _begin(self, offset: int) -> None:
         self._from = offset
         self._pictures = Listing(
-            self._loop, self._program, self._words, self._capture, self._heard, self._broken, start=offset
+            self._loop, self._program, self._words, self._capture, self._heard, self._screen.say, self._broken, start=offset
         )
 
     def came(self, sent: bytes) -> None:

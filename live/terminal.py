@@ -16,6 +16,15 @@ PAUSE = 1.0  # seconds, where a terminal can't be read just now
 ERASE = b"\r\x1b[K"
 
 
+def open_standard_streams() -> None:
+    """Where one of them is closed, a file that is opened would take its number, and get what is printed."""
+    for number in (0, 1, 2):
+        try:
+            os.fstat(number)
+        except OSError:
+            os.open(os.devnull, os.O_RDWR)
+
+
 class Terminal:
     """Standard output: lines, and on a terminal below them one line that is rewritten in place."""
 

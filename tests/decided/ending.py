@@ -14,8 +14,8 @@ HOME = [
     "move 9. Nf1g1",
 ]  # fmt: skip
 NOT_HOME = [
-    "move 1. e4", "move 1... Ke1", "move 31. Ke8", "move 4. O-O", "move 4... O-O-O", "move 30. b8=N", "move 4. Nf3 1:29:55",
-    "differs e1", "agrees", "result 1-0", "fault cut", "move 9. Bb1", "move 9. Qe1",
+    "move 1. e4", "move 1... Ke1", "move 31. Ke8", "move 4. O-O", "move 4... O-O-O", "move 30. b8=N",
+    "move 4. Nf3 1:29:55", "differs e1", "agrees", "result 1-0", "fault cut", "move 9. Bb1", "move 9. Qe1",
 ]  # fmt: skip
 
 # name; the lines, each 'seconds offset words'; the bytes of the game, whether that is sure, what was dropped
@@ -24,38 +24,30 @@ CASES = [
     ("no line", [], (0, True, [])),
     ("no move", ["1 66 agrees", "2 71 differs e2", "3 76 agrees"], (77, True, [])),
     ("a move, and a set-up", ["1 66 agrees", "9 81 move 1. e4", *SET_UP], (82, True, [])),
-    ("a king home at once", ["9 81 move 1. e4", "20 91 move 31. Ke1", "21 92 differs d7", *SET_UP], (82, False, ["move 31. Ke1"])),
+    ("a king home", ["9 81 move 1. e4", "20 91 move 31. Ke1", "21 92 differs d7", *SET_UP], (82, False, ["move 31. Ke1"])),
     (
         "both kings",
         ["9 81 move 1. e4", "26 91 move 3. Ke1", "28 95 move 3... Ke8", *SET_UP],
         (82, False, ["move 3. Ke1", "move 3... Ke8"]),
     ),
-    ("a king within 20 s", ["9 81 move 1. e4", "10.1 91 move 31. Ke1", *SET_UP], (82, False, ["move 31. Ke1"])),
-    ("a king later", ["9 81 move 1. e4", "10 91 move 31. Ke1", *SET_UP], (92, False, [])),
-    ("a king out of a check", ["9 81 move 1. Qe5+", "11 91 move 31... Ke8", *SET_UP], (92, False, [])),
-    (
-        "two pieces within 20 s",
-        ["8 81 move 1. e4", "9 91 move 5. Bf1", "10.1 95 move 5... Ng8", *SET_UP],
-        (82, False, ["move 5. Bf1", "move 5... Ng8"]),
-    ),
-    ("two pieces later", ["8 81 move 1. e4", "9 91 move 5. Bf1", "10 95 move 5... Ng8", *SET_UP], (96, False, [])),
     ("a king that had castled", ["9 81 move 9. O-O-O", "29 91 correction 9. Rd1", *SET_UP], (82, False, ["correction 9. Rd1"])),
     ("a rook, and then it castles", ["9 81 move 9. Rd1", "29 91 correction 9. O-O-O", *SET_UP], (92, True, [])),
     (
         "fast moves, the last of them home: it stood longest",
-        ["9 81 move 8. Qf3", "9.5 85 move 8... Qg3", "10 89 move 9. Nxg1", "10.5 93 move 9... Rh8", "13 97 differs e1", "14 99 differs a2"],
+        ["9 81 move 8. Qf3", "9.5 85 move 8... Qg3", "10 89 move 9. Nxg1", "10.5 93 move 9... Rh8", "13 97 differs e1"],
         (94, False, []),
     ),
     ("a bishop, late", ["9 81 move 1. e4", "20 91 move 5. Bf1", *SET_UP], (92, False, [])),
-    ("a bishop, 4 s before: each change takes 1 s", ["9 81 move 1. e4", "26 91 move 5. Bf1", *SET_UP], (92, False, [])),
-    ("a bishop, less", ["9 81 move 1. e4", "26.1 91 move 5. Bf1", *SET_UP], (82, False, ["move 5. Bf1"])),
-    ("quick hands: 3 s", ["9 81 move 1. e4", "27 91 move 5. Bf1", "30 95 differs a1", "30.2 99 differs b1"], (92, False, [])),
+    ("a bishop, 3 s before", ["9 81 move 1. e4", "27 91 move 5. Bf1", *SET_UP], (92, False, [])),
+    ("a bishop, less", ["9 81 move 1. e4", "27.1 91 move 5. Bf1", *SET_UP], (82, False, ["move 5. Bf1"])),
     (
         "the last move of the game comes back with it",
         ["9 81 move 5. Ba4", "29 91 correction 5. Bf1", *SET_UP],
         (82, False, ["correction 5. Bf1"]),
     ),
     ("a move of the game, 1 s before", ["9 81 move 1. e4", "29 91 move 1... e5", *SET_UP], (92, True, [])),
+    ("a piece is lifted at once, and set back", ["9 81 move 1. e4", "9.5 91 differs e7", "11 96 agrees", *SET_UP], (82, True, [])),
+    ("a piece is lifted at once, and held", ["9 81 move 1. e4", "20 91 move 1... e5", "20.4 96 differs e2", *SET_UP], (92, True, [])),
     ("a fault is no change", ["9 81 move 1. e4", "11 91 move 1... e5", "11.1 95 fault cut", *SET_UP], (92, True, [])),
     ("what stood for less than 1 s", ["9 81 move 1. e4", "29.1 91 move 1... Qg5", *SET_UP], (82, False, ["move 1... Qg5"])),
     (
@@ -67,11 +59,6 @@ CASES = [
         "a king drawn home that can't go there",
         ["9 81 move 8. Ra4", "28 91 move 8... Ke7", "28.2 95 differs e7", "28.6 99 differs e7 e8", *SET_UP],
         (82, False, ["move 8... Ke7"]),
-    ),
-    (
-        "slow hands: 2 s for each change, so 8 s",
-        ["9 81 move 8. Ra4", "20 91 move 9. Ke1", "27 95 differs e7", "29 99 differs e8", "31 104 differs a1", "33 109 differs a2"],
-        (82, False, ["move 9. Ke1"]),
     ),
     (
         "an agreement after the last move is none",

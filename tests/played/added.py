@@ -3,8 +3,8 @@
 import pathlib
 import subprocess
 
+from play_board import DUMP, UPDATE, field, frame
 from played import words
-from played.boards import DUMP, UPDATE, field, frame
 from played.recorder import LIVE, Live
 from played.stage import (
     RUY,

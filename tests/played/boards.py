@@ -6,15 +6,12 @@ Nothing of it runs by itself: `turn` takes what it is asked and sends what is du
 import os
 import pathlib
 import random
-import sys
 import time
 import tty
 from typing import Dict, Iterator, List, Optional, Sequence, Tuple
 
-TOP = pathlib.Path(__file__).resolve().parents[2]
-sys.path.insert(0, str(TOP / "tools"))
-import play_board  # noqa: E402
-from play_board import BLACK, DUMP, EMPTY, INITIAL, KING, UPDATE, field, frame  # noqa: E402
+import play_board
+from play_board import BLACK, DUMP, EMPTY, INITIAL, KING, UPDATE, field, frame
 
 RATE = 960  # bytes a second of the line: 9600 baud, ten bits a byte
 

@@ -7,8 +7,9 @@ import signal
 import subprocess
 import time
 
+from play_board import INITIAL, frame
 from played import words
-from played.boards import INITIAL, Board, frame
+from played.boards import Board
 from played.recorder import Live
 from played.stage import (
     RUY,
@@ -70,6 +71,27 @@ def full_disk(folder: pathlib.Path) -> None:
     same(stop(again), 0)
 
 
+def full_disk_long(folder: pathlib.Path) -> None:
+    """The disk is full for more bytes than are kept in memory: what is played first is kept, a dump makes up for the rest."""
+    board = a_board(folder)
+    live = Live(board.device, folder / "game", limit=2000)
+    fill(board, live, live.name + ".pgn")
+    board.play("a7a6")
+    board.play("b5a4")
+    for number in range(1200):
+        board.send(bytes([0x93, 7, 0x68]) + bytes(1000 - 3))
+        if number % 8 == 0:
+            until(lambda: not board.outgoing, "that bytes are read")
+    board.play("g8f6")
+    rest(1)
+    assert live.runs, live.complaint()
+    live.make_room()
+    until(lambda: check(bytes_of(live.name + ".pgn")) == "moves 8, result *", "the plies of a full disk")
+    board.play("e1g1")
+    until(lambda: check(bytes_of(live.name + ".pgn")) == "moves 9, result *", "the ply after")
+    same(stop(live), 0)
+
+
 def full_disk_ended(folder: pathlib.Path) -> None:
     """A signal while the disk is full ends it with status 3 and a complaint; what was kept is kept, and it goes on from it."""
     board = a_board(folder)
@@ -92,10 +114,11 @@ def full_disk_ended(folder: pathlib.Path) -> None:
 
 def full_from_the_start(folder: pathlib.Path) -> None:
     """Not even a game without moves can be written, and then not even the options: nothing is begun."""
-    for limit, options in ((50, []), (0, ["--white", "Anna"])):
+    for limit in (50, 0):
         place = folder / str(limit)
         place.mkdir()
         board = a_board(place)
+        options = ["--white", "Anna"] if limit == 0 else []
         live = Live(board.device, place / "game", *options, limit=limit)
         refuses(live, 3, words.FULL)
         same(board.asked, b"")

@@ -8,11 +8,10 @@ import sys
 import time
 from typing import List, Tuple
 
-from played import words
-from played.boards import EMPTY, INITIAL, TOP, field
+from play_board import EMPTY, INITIAL, field
+from played import TOP, words
 from played.recorder import Live
 from played.stage import (
-    PROGRAM,
     RUY,
     a_board,
     begun,
@@ -20,6 +19,7 @@ from played.stage import (
     check,
     ended,
     movetext,
+    program,
     same,
     stop,
     until,
@@ -136,11 +136,11 @@ PARIS_TEXT = (
 
 def a_step(folder: pathlib.Path) -> float:
     """The seconds that a game takes here to be made and put in place: the middle of five."""
-    step = ["sh", "-c", '"$1" record < "$2" > new 2> /dev/null && sync new && mv new game && sync .', "", PROGRAM]
+    step = ["sh", "-c", '"$1" record < "$2" > new 2> /dev/null && sync new && mv new game && sync .', "", program()]
     seconds = []
     for _ in range(5):
         start = time.monotonic()
-        subprocess.run([*step, TOP / "samples" / "short-game.dgt"], cwd=folder, check=True)
+        subprocess.run([*step, str(TOP / "samples" / "short-game.dgt")], cwd=folder, check=True)
         seconds.append(time.monotonic() - start)
     return sorted(seconds)[2]
 
@@ -159,13 +159,13 @@ def watched(folder: pathlib.Path) -> None:
     try:
         live = Live(board.device, folder / "game", "--linger", "1")
         begun(live)
-        until(seen, "the first text")
+        until(lambda: bytes_of(folder / "seen").count(b"\n") == 1, "the first text")
         sent = []
         for number, move in enumerate(PARIS):
             board.clock(5400 - number, 5400)
             board.play(move)
             sent.append(time.monotonic())
-            until(lambda: len(seen()) == number + 2, f"ply {number + 1}", 0.002)
+            until(lambda: bytes_of(folder / "seen").count(b"\n") == number + 2, f"ply {number + 1}", 0.002)
         same(ended(live), 0)
     finally:
         watcher.kill()

@@ -8,8 +8,9 @@ import signal
 import time
 from typing import List
 
+from play_board import EMPTY, field
 from played import words
-from played.boards import EMPTY, Cables, field
+from played.boards import Cables
 from played.recorder import Live, command
 from played.stage import (
     RUY,

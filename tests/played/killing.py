@@ -11,7 +11,8 @@ import termios
 import time
 from typing import Counter, List, Optional
 
-from played.boards import EMPTY, Board, field
+from play_board import EMPTY, field
+from played.boards import Board
 from played.games import PARIS, PARIS_TEXT
 from played.recorder import Live, children_now, command
 from played.stage import (

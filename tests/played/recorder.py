@@ -13,8 +13,7 @@ import tempfile
 import termios
 from typing import Dict, List, Optional, Sequence
 
-from played import words
-from played.boards import TOP
+from played import TOP, words
 
 # Another recorder may be put to the test: RECORDER is its path.
 LIVE = pathlib.Path(os.environ.get("RECORDER") or TOP / "bin" / "dgt_live").resolve()

@@ -5,14 +5,13 @@ import pathlib
 import shutil
 import subprocess
 
-from played import words
+from played import TOP, words
 from played.recorder import LIVE, Live
 from played.stage import (
     PROGRAM,
     RUY,
     RUY_TEXT,
     SAMPLE_TEXT,
-    TOP,
     Skipped,
     a_board,
     begin_game,
@@ -59,13 +58,13 @@ def refused(folder: pathlib.Path) -> None:
     if os.getuid():
         cases.append(([board.device, "shut/game"], 3, words.NOT_WRITTEN))
     before = sorted(path.name for path in folder.iterdir())
-    for (device, name, *options), status, part in cases:
-        live = Live(device, name, *options, cwd=folder)
+    calls = [(Live(device, name, *options, cwd=folder), status, part) for (device, name, *options), status, part in cases]
+    for live, status, part in calls:
         refuses(live, status, part)
-        same(sorted(path.name for path in folder.iterdir()), before)
-        same(list((folder / "shut").iterdir()), [])
         same(live.lines(), "")
         assert "Traceback" not in live.complaint(), live.complaint()
+    same(sorted(path.name for path in folder.iterdir()), before)
+    same(list((folder / "shut").iterdir()), [])
     (folder / "foreign.pgn").write_text("a game\n")
     refuses(Live(board.device, folder / "foreign"), 1, "foreign.pgn is there without")
     same((folder / "foreign.pgn").read_text(), "a game\n")
@@ -218,7 +217,7 @@ def archive(folder: pathlib.Path) -> None:
     for left in unpacked.rglob("*"):
         assert left.suffix != ".pyc" and left.name != "__pycache__", f"{left} is of no use"
     sample = (unpacked / "short-game.dgt").read_bytes()
-    answer = subprocess.run([unpacked / "dgt_replay", "record"], input=sample, capture_output=True, env={})
+    answer = subprocess.run([unpacked / "dgt_replay", "record"], input=sample, capture_output=True, env={"LC_ALL": "C"})
     same(answer.stdout.split(b"\n\n")[1].replace(b"\n", b" ").decode(), SAMPLE_TEXT)
     same(answer.stderr, b"BKB\nmessages 24, faults 1, moves 5, rest 0\n")
     for page in ["dgt_live.1", "dgt_replay.1"]:
@@ -251,32 +250,36 @@ def sources(kind: str) -> "list[pathlib.Path]":
     return found
 
 
-def complains(tool: str, *arguments: object) -> None:
-    """Nothing, where the tool is here."""
+def complains_of_nothing(tool: str, *arguments: object, place: pathlib.Path = TOP, path: str = "") -> None:
+    """Where the tool is here."""
     if not shutil.which(tool):
         raise Skipped(f"there is no {tool} here")
-    answer = subprocess.run([tool, *map(str, arguments)], cwd=TOP, stdout=subprocess.PIPE, stderr=subprocess.STDOUT)
-    same((answer.returncode, answer.stdout.decode()), (0, answer.stdout.decode() if tool == "ruff" else ""))
+    answer = subprocess.run(
+        [tool, *map(str, arguments)],
+        cwd=place,
+        stdout=subprocess.PIPE,
+        stderr=subprocess.STDOUT,
+        env={**os.environ, "MYPYPATH": path},
+    )
+    assert answer.returncode == 0, answer.stdout.decode()
 
 
 def shellcheck(folder: pathlib.Path) -> None:
     """shellcheck warns of nothing in the shell scripts."""
-    complains("shellcheck", "--severity=warning", *sources("sh"))
+    complains_of_nothing("shellcheck", "--severity=warning", *sources("sh"))
 
 
 def ruff(folder: pathlib.Path) -> None:
     """ruff has no complaint about the recorder and its tests."""
-    complains("ruff", "check", "--no-cache", "--line-length=127", "live", "bin/dgt_live", "tests", "tools")
+    places = ["live", "bin/dgt_live", "tests/live", "tests/played", "tools"]
+    complains_of_nothing("ruff", "check", "--no-cache", "--line-length=127", *places)
 
 
 def mypy(folder: pathlib.Path) -> None:
-    """mypy --strict has no complaint about the recorder."""
-    if not shutil.which("mypy"):
-        raise Skipped("there is no mypy here")
-    answer = subprocess.run(
-        ["mypy", "--strict", "--no-error-summary", f"--cache-dir={folder}", "live"], cwd=TOP, stdout=subprocess.PIPE
-    )
-    same((answer.returncode, answer.stdout.decode()), (0, ""))
+    """mypy --strict has no complaint about the recorder, nor about its tests."""
+    path = os.pathsep.join([".", str(TOP), str(TOP / "tools")])
+    packages = ["-p", "live", "-p", "played"]
+    complains_of_nothing("mypy", "--strict", f"--cache-dir={folder}", *packages, place=TOP / "tests", path=path)
 
 
 def compiles(folder: pathlib.Path) -> None:

@@ -83,10 +83,18 @@ class Playing:
         return self.process.poll() is not None
 
 
+def environment(folder: pathlib.Path) -> Dict[str, str]:
+    """That of a case. Each recorder is run by this Python, and what it compiles is kept for the next, but not beside it."""
+    path = f"{pathlib.Path(sys.executable).parent}{os.pathsep}{os.environ.get('PATH', os.defpath)}"
+    others = {name: value for name, value in os.environ.items() if name != "PYTHONDONTWRITEBYTECODE"}
+    return {**others, "PATH": path, "PYTHONPYCACHEPREFIX": str(folder / "compiled")}
+
+
 def begin(script: str, name: str, folder: pathlib.Path) -> Playing:
     output = folder / name
+    words = [sys.executable, script, "--alone", name]
     with open(output, "wb") as kept:
-        process = subprocess.Popen([sys.executable, script, "--alone", name], stdout=kept, stderr=subprocess.STDOUT)
+        process = subprocess.Popen(words, stdout=kept, stderr=subprocess.STDOUT, env=environment(folder))
     return Playing(name, output, process, time.monotonic() + LIMIT + 30)
 
 

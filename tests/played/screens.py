@@ -5,8 +5,8 @@ import pathlib
 import time
 from typing import List
 
+from play_board import EMPTY, field
 from played import words
-from played.boards import EMPTY, field
 from played.recorder import Live
 from played.stage import (
     a_board,
@@ -124,8 +124,10 @@ def stopped_terminal(folder: pathlib.Path) -> None:
         place = folder / str(terminal)
         place.mkdir()
         board, live = begin_game(place, terminal=terminal)
+        if not terminal:
+            live.told.make_small()
         live.told.hold(True)
-        for number in range(4500):
+        for number in range(2600):
             # The square is lifted and set back, so that the state changes each time.
             board.lift("g1")
             board.put("g1", 3)

@@ -3,8 +3,9 @@
 import pathlib
 from typing import Sequence
 
+from play_board import BLACK, KING, field
 from played import words
-from played.boards import BLACK, KING, Board, field
+from played.boards import Board
 from played.recorder import Live
 from played.stage import (
     a_board,
@@ -190,3 +191,44 @@ def three_games(folder: pathlib.Path) -> None:
     same(stop(live), 0)
     texts = ["1. e4 e5 2. Nf3 Nc6 1-0", "1. d4 d5 2. c4 e6 3. Nc3 Nf6 *", "1. f3 e5 0-1"]
     same([movetext(folder / f"blitz-{number}") for number in (1, 2, 3)], texts)
+
+
+def killed_between_games(folder: pathlib.Path) -> None:
+    """KILL of all while the pieces are set up, and just as the first move of the next game is made at once: it is recorded when
+    it is started again. A game ends by the kings, or is resigned."""
+    for number in range(8):
+        place = folder / str(number)
+        place.mkdir()
+        board = a_board(place, seed=number)
+        live = Live(board.device, place / "round", "--series", "--linger", "0")
+        begun(live)
+        play(board, ["e2e4", "c7c5", "g1f3", "d7d6", "d2d4", "c5d4", "f3d4", "g8f6"])
+        text = "1. e4 c5 2. Nf3 d6 3. d4 cxd4 4. Nxd4 Nf6"
+        until_game(place / "round-1", f"{text} *")
+        if number % 2 == 0:
+            board.kings_in_centre("e5", "d5")
+            until_line(live, f"round-2 {words.BEGINS}")
+            text += " 1/2-1/2"
+        else:
+            rest(3.5)
+            text += " *"
+        steps = list(range(100))
+        for step, _ in zip(steps, board.homecoming()):
+            rest(0.03)
+            if number >= 6 and step == 12:
+                kill(live)
+                live = Live(board.device, place / "round", "--series", "--linger", "0")
+        if number < 6:
+            rest(0.4)
+            board.play("d2d4")
+            rest(0.02 * number)
+            kill(live)
+            live = Live(board.device, place / "round", "--series", "--linger", "0")
+        else:
+            until(lambda: len(bytes_of(place / "round-2.dgt")) >= 67, "the second game")
+            board.play("d2d4")
+        until_game(place / "round-2", "1. d4 *")
+        board.play("d7d5")
+        until_game(place / "round-2", "1. d4 d5 *")
+        same(stop(live), 0)
+        same(movetext(place / "round-1"), text)

@@ -3,6 +3,7 @@
 Waits for what is to come, up to the end of the case's time, so that no case fails because the machine is slow.
 """
 
+import functools
 import os
 import pathlib
 import select
@@ -11,8 +12,8 @@ import subprocess
 import time
 from typing import Callable, List, Optional, Tuple
 
-from played import words
-from played.boards import TOP, Board
+from played import TOP, words
+from played.boards import Board
 from played.recorder import Live, processes
 
 PROGRAM = TOP / "bin" / "dgt_replay"
@@ -97,8 +98,8 @@ def begun(live: Live, line: str = words.AGREES) -> None:
 
 def ended(live: Live) -> int:
     """Its status; all that it started has ended too, and left nothing."""
-    until(lambda: not live.runs, f"the end of the recorder of {live.name}, which said\n{live.lines()}")
-    until(lambda: not processes(live.process.pid), f"the end of all that the recorder of {live.name} started")
+    until(lambda: not live.runs, f"the end of the recorder of {live.name}")
+    until(lambda: not processes(live.process.pid), f"the end of all that the recorder of {live.name} started", 0.02)
     if not live.was_killed:
         same(list(live.scratch.iterdir()), [])
     return live.process.returncode
@@ -141,10 +142,17 @@ def until_game(name: object, text: str) -> None:
     until(lambda: movetext(name) == text, f"{text} in {name}.pgn, which has {movetext(name)}")
 
 
+@functools.lru_cache(maxsize=None)
+def program() -> str:
+    """The path of the program itself, which bin/dgt_replay looks for at each call."""
+    return subprocess.run([TOP / "bin" / "program"], stdout=subprocess.PIPE, check=True).stdout.decode().strip()
+
+
 def run(*arguments: str, given: bytes = b"") -> "subprocess.CompletedProcess[bytes]":
-    return subprocess.run([PROGRAM, *arguments], input=given, stdout=subprocess.PIPE, stderr=subprocess.PIPE)
+    return subprocess.run([program(), *arguments], input=given, stdout=subprocess.PIPE, stderr=subprocess.PIPE)
 
 
+@functools.lru_cache(maxsize=64)
 def check(text: bytes) -> Optional[str]:
     """What `check` says of a text, where it passes."""
     answer = run("check", given=text)

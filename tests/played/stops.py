@@ -4,11 +4,14 @@ import contextlib
 import os
 import pathlib
 import signal
+import sys
 import time
+from typing import Tuple
 
+from play_board import DUMP, INITIAL, field, frame
 from played import words
-from played.boards import DUMP, INITIAL, field, frame
-from played.recorder import Live, Terminal
+from played.boards import Board
+from played.recorder import Live, Terminal, children_now
 from played.stage import (
     RUY,
     RUY_TEXT,
@@ -47,12 +50,19 @@ def signals(folder: pathlib.Path) -> None:
         same(stop(live, number), 0)
         same(movetext(live.name), RUY_TEXT)
         same(live.complaint(), "")
+    rooms = []
     for at in range(8):
         place = folder / str(at)
         place.mkdir()
-        live = Live(a_board(place).device, place / "game")
-        until((place / "game.pgn").exists, "the first text", 0)
-        same(stop(live, signal.SIGTERM), 0)
+        rooms.append(Live(a_board(place).device, place / "game"))
+    begins = list(rooms)
+    while begins:
+        until(lambda: any(pathlib.Path(live.name + ".pgn").exists() for live in begins), "a first text", 0)
+        for live in [live for live in begins if pathlib.Path(live.name + ".pgn").exists()]:
+            live.send(signal.SIGTERM)
+            begins.remove(live)
+    for live in rooms:
+        same(ended(live), 0)
         same(live.complaint(), "")
 
 
@@ -75,46 +85,61 @@ def group_signal(folder: pathlib.Path) -> None:
         same(movetext(live.name), RUY_TEXT)
 
 
+def a_room(folder: pathlib.Path, *options: str) -> Tuple[Board, Live]:
+    """A board and a recorder in a folder of their own."""
+    place = folder / str(len(Live.all))
+    place.mkdir()
+    board = a_board(place)
+    return board, Live(board.device, place / "game", *options)
+
+
 def killed_in_frame(folder: pathlib.Path) -> None:
     """KILL of all processes after a part of a frame, of each length; its rest is lost, or comes to the next session."""
-    for length in range(1, 5):
-        for rest_comes in (False, True):
-            place = folder / f"{length}{rest_comes}"
-            place.mkdir()
-            board, live = begin_game(place)
-            board.lift("g1")
-            board.codes[field("f3")] = 3
-            whole = board.update(field("f3"))
-            kept = len(bytes_of(live.name + ".dgt"))
-            # A dump may come in between, where the recorder has just asked for one.
-            board.send(whole[:length])
-            until(lambda: len(bytes_of(live.name + ".dgt")) >= kept + length, "a part of a frame")
-            kill(live)
-            if rest_comes:
-                board.send(whole[length:])
-            again = go_on(board, live)
-            until_game(live.name, "1. e4 e5 2. Nf3 *")
-            board.play("b8c6")
-            board.play("f1b5")
-            until_game(live.name, RUY_TEXT)
-            same(stop(again), 0)
-    for length in (1, 2, 3, 40, 66):
-        place = folder / f"dump{length}"
-        place.mkdir()
-        board = a_board(place)
+    rooms = [(*room, length, comes) for length in range(1, 5) for comes in (False, True) for room in [a_room(folder)]]
+    for _, live, _, _ in rooms:
+        begun(live)
+    for board, live, length, comes in rooms:
+        for move in RUY[:2]:
+            board.play(move)
+        until_game(live.name, "1. e4 e5 *")
+        board.lift("g1")
+        board.codes[field("f3")] = 3
+        whole = board.update(field("f3"))
+        kept = len(bytes_of(live.name + ".dgt"))
+        board.send(whole[:length])
+        until(lambda: len(bytes_of(live.name + ".dgt")) >= kept + length, "a part of a frame")
+        kill(live)
+        if comes:
+            board.send(whole[length:])
+    again = [Live(board.device, live.name) for board, live, _, _ in rooms]
+    for (board, live, length, comes), other in zip(rooms, again):
+        until_game(live.name, "1. e4 e5 2. Nf3 *")
+        until(lambda: board.asked.count(b"BK") > 1, "a request for updates")
+        board.play("b8c6")
+        board.play("f1b5")
+        until_game(live.name, RUY_TEXT)
+        same(stop(other), 0)
+
+
+def killed_in_dump(folder: pathlib.Path) -> None:
+    """KILL of all processes after a part of the first dump: no ply stands, and the options are kept."""
+    rooms = [(*a_room(folder, "--white", "Anna"), length) for length in (1, 2, 3, 40, 66)]
+    for board, _, _ in rooms:
         board.deaf = True
-        live = Live(board.device, place / "game", "--white", "Anna")
+    for board, live, length in rooms:
         until(lambda: b"B" in board.asked, "a request for a dump")
         board.send(frame(DUMP, board.codes)[:length])
         until(lambda: len(bytes_of(live.name + ".dgt")) == length, "a part of a dump")
         kill(live)
         board.deaf = False
-        again = go_on(board, live)
+    again = [Live(board.device, live.name) for board, live, _ in rooms]
+    for (board, live, length), other in zip(rooms, again):
+        until(lambda: board.asked_for_updates, "a request for updates")
         for move in RUY:
             board.play(move)
         until_game(live.name, RUY_TEXT)
         assert b'[White "Anna"]' in bytes_of(live.name + ".pgn")
-        same(stop(again), 0)
+        same(stop(other), 0)
 
 
 def killed_in_move(folder: pathlib.Path) -> None:
@@ -353,9 +378,82 @@ def typed_signals(folder: pathlib.Path) -> None:
         for move in RUY:
             board.play(move)
         until_game(live.name, RUY_TEXT)
+        # Ctrl-Z doesn't stop it.
+        os.write(live.told.end, b"\x1a")
+        rest(0.3)
+        board.play("a7a6")
+        until_game(live.name, RUY_TEXT.replace("*", "a6 *"))
         for _ in range(times):
             with contextlib.suppress(OSError):
                 os.write(live.told.end, b"\x03")
             rest(0.005)
         same(ended(live), 0)
-        same(movetext(live.name), RUY_TEXT)
+        same(movetext(live.name), RUY_TEXT.replace("*", "a6 *"))
+
+
+def under_nohup(folder: pathlib.Path) -> None:
+    """Where the caller ignores HUP, as nohup does, it is no end; INT is one though it was ignored too."""
+    board = a_board(folder)
+    ignoring = ["sh", "-c", "trap '' INT; exec nohup \"$@\"", ""]
+    live = Live(board.device, folder / "game", start=ignoring)
+    begun(live)
+    board.play("e2e4")
+    until_game(live.name, "1. e4 *")
+    live.send(signal.SIGHUP)
+    rest(0.5)
+    board.play("e7e5")
+    until_game(live.name, "1. e4 e5 *")
+    same(stop(live), 0)
+
+
+BEHIND = """
+import os, sys
+child = os.fork()
+if child == 0:
+    os.setpgid(0, 0)
+    os.execv(sys.argv[1], sys.argv[1:])
+os.setpgid(child, child)
+sys.exit(os.waitstatus_to_exitcode(os.waitpid(child, 0)[1]))
+"""
+
+
+def in_the_background(folder: pathlib.Path) -> None:
+    """In the background of a terminal, as with &: what is typed for others doesn't stop it."""
+    board = a_board(folder)
+    live = Live(board.device, folder / "game", terminal=True, start=[sys.executable, "-c", BEHIND])
+    begun(live)
+    board.play("e2e4")
+    until_game(live.name, "1. e4 *")
+    live.type("ls")
+    rest(1)
+    board.play("e7e5")
+    until_game(live.name, "1. e4 e5 *")
+    live.type("1-0")
+    rest(1)
+    same(movetext(live.name), "1. e4 e5 *")
+    for child in live.children():
+        if child in children_now(live.process.pid):
+            os.kill(child, signal.SIGTERM)
+    same(ended(live), 0)
+
+
+def spoiled_marks(folder: pathlib.Path) -> None:
+    """After a power cut NAME.end, NAME.log or NAME.options may be empty, or hold anything: no traceback, and no byte is lost."""
+    for number, (end, text) in enumerate([("end", b""), ("end", b"99999999999\n"), ("end", b"\xff\x00"), ("log", b"\x00" * 50)]):
+        place = folder / str(number)
+        place.mkdir()
+        board, live = begin_game(place)
+        kill(live)
+        kept = bytes_of(live.name + ".dgt")
+        (place / f"game.{end}").write_bytes(text)
+        asked = board.asked.count(b"BK")
+        again = Live(board.device, live.name)
+        until(lambda: board.asked.count(b"BK") > asked or not again.runs, "that it goes on, or ends")
+        if again.runs:
+            board.play("g1f3")
+            until_game(live.name, "1. e4 e5 2. Nf3 *")
+            same(stop(again), 0)
+        ended(again)
+        assert "Traceback" not in again.complaint(), again.complaint()
+        same(bytes_of(live.name + ".dgt")[: len(kept)], kept)
+        assert movetext(live.name).startswith("1. e4 e5 "), movetext(live.name)
