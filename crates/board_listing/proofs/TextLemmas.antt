@@ -1,7 +1,7 @@
 -- The text of lines tells the lines.
-use Rattle.std.proofs.Common.{◌≡◌, ◌⊎◌, ◌∙◌, ℕ, zero, suc, ◌+◌, ◌-◌, ◌/◌, ◌%◌, ◌<◌, ◌≤◌, ◌==◌, Bool, true, false, List, [], ◌∷◌, ◌++◌, inl, inr, length, codes, slice_index, Option, Some, None, ap, refl, sym, subst, append_assoc, append-nil, length-append, arith}
+use Rattle.std.proofs.Common.{◌≡◌, ◌∙◌, ℕ, zero, suc, ◌+◌, ◌/◌, ◌%◌, ◌<◌, ◌≤◌, ◌==◌, Bool, true, false, List, [], ◌∷◌, ◌++◌, inl, inr, length, codes, slice_index, Option, Some, None, ap, refl, sym, subst, append_assoc, append-nil, length-append, arith}
 use Rattle.std.specs.Prelude.{⊤, decimal, if◌then◌else◌, nat_lt}
-use Rattle.std.specs.Fmt.{digits, digits_onto}
+use Rattle.std.specs.Fmt.{digit_glyph, digits, digits_onto}
 use Rattle.std.specs.List.{AllByRecursion}
 use Rattle.std.proofs.lemmas.Bool.{ltb-true}
 use Rattle.std.proofs.lemmas.Fmt.{decimal_injective}
@@ -12,7 +12,7 @@ use Rattle.chess_rules.specs.declared.pieces.Side.{Side}
 use Rattle.chess_rules.specs.declared.pieces.Side.TheVariants.{White, Black}
 use Rattle.chess_rules.specs.Picture.{picture}
 use Rattle.chess_rules.specs.Valid.{Valid}
-use Rattle.chess_text.specs.Laws.{IsSanByte, TextsArePlain, TextsTellMoves}
+use Rattle.chess_text.specs.Laws.{IsSanByte, TextsArePlain}
 use Rattle.chess_text.specs.Squares.{square_text}
 use Rattle.dgt_frame.specs.declared.Hms.{Hms}
 use Rattle.dgt_frame.specs.declared.events.FaultKind.{FaultKind}
@@ -26,10 +26,10 @@ use Rattle.settle_core.proofs.Stages.{valid_reached}
 use Rattle.pgn_book.specs.Movetext.{number_token}
 use Rattle.board_session.specs.Recording.{limit}
 use Rattle.board_listing.specs.EventLines.{kind_text, rest_line}
-use Rattle.board_listing.specs.GameLines.{clock_words, differing, line, move_words, result_words, squares_text, waiting_words}
+use Rattle.board_listing.specs.GameLines.{clock_words, differing, result_words, squares_text, waiting_words}
 use Rattle.board_listing.specs.GivenGame.{AreInStream, Changes, CorrectsPly, EndsLines, GameLine, Gives, IsOther, LinesGiveOneGame, TellsLegal, TextTellsTheGame, TextTellsTheLines, text_of}
 use Rattle.board_listing.proofs.OffsetLemmas.{all_append}
-use Rattle.board_listing.proofs.OnceLemmas.{Ends, apart, gives_played}
+use Rattle.board_listing.proofs.OnceLemmas.{apart, gives_played}
 use Rattle.board_listing.proofs.SquareLemmas.{all_squares, differing_more, told}
 
 -- ---- the bytes of a line
@@ -44,7 +44,7 @@ Printed text = AllByRecursion IsPrinted text
 both : (xs ys : List ℕ) → Printed xs → Printed ys → Printed (xs ++ ys)
 both xs ys h k = all_append IsPrinted xs ys h k
 
-are_printed : List ℕ → Bool
+abbrev are_printed : List ℕ → Bool
 are_printed [] = true
 are_printed (byte ∷ bytes) = if nat_lt 31 byte then are_printed bytes else false
 
@@ -73,8 +73,10 @@ one_of false xs ys h k = k
 onto_digits : (k n : ℕ) (text : List ℕ) → AllByRecursion IsDigit text → AllByRecursion IsDigit (digits_onto k 10 false n text)
 onto_digits zero n text h = h
 onto_digits (suc k) n text h =
-    let next = (glyph (nat_lt (n % 10) 10) (n % 10) (omega arith), h) in
-    one_of (n / 10 == 0) _ _ next (onto_digits k (n / 10) _ next)
+    let more = digit_glyph false (n % 10) ∷ text in
+    let digit : IsDigit (digit_glyph false (n % 10)) = glyph (nat_lt (n % 10) 10) (n % 10) (omega arith) in
+    let next : AllByRecursion IsDigit more = (digit, h) in
+    one_of (n / 10 == 0) more (digits_onto k 10 false (n / 10) more) next (onto_digits k (n / 10) more next)
 
 decimal_digits : (n : ℕ) → AllByRecursion IsDigit (decimal n)
 unfolding digits
@@ -84,11 +86,22 @@ weaker : (P Q : ℕ → Type 0) → ((byte : ℕ) → P byte → Q byte) → (te
 weaker P Q on [] h = tt
 weaker P Q on (byte ∷ bytes) h = (on byte h.0, weaker P Q on bytes h.1)
 
+san_byte : (byte : ℕ) → IsSanByte byte → IsPrinted byte
+san_byte byte is =
+    let low : 32 < byte = is.0 in
+    omega (arith, low)
+
 san_printed : (text : List ℕ) → AllByRecursion IsSanByte text → Printed text
-san_printed text h = weaker IsSanByte IsPrinted (λ byte is. (let low = is.0 in omega (arith, low))) text h
+san_printed text h = weaker IsSanByte IsPrinted san_byte text h
+
+digit_byte : (byte : ℕ) → IsDigit byte → IsSanByte byte
+digit_byte byte is =
+    let low : 32 < byte = is.0 in
+    let high : byte < 114 = is.1 in
+    (low, omega (arith, high))
 
 number_plain : (n : ℕ) → AllByRecursion IsSanByte (decimal n)
-number_plain n = weaker IsDigit IsSanByte (λ byte is. (let low = is.0 in let high = is.1 in (omega (arith, low), omega (arith, high)))) (decimal n) (decimal_digits n)
+number_plain n = weaker IsDigit IsSanByte digit_byte (decimal n) (decimal_digits n)
 
 number_printed : (n : ℕ) → Printed (decimal n)
 number_printed n = san_printed (decimal n) (number_plain n)
@@ -195,18 +208,21 @@ whole_end (byte ∷ []) = refl
 whole_end (byte ∷ next ∷ text) = whole_end (next ∷ text)
 
 never_whole : (byte : ℕ) (text more : List ℕ) → Whole (byte ∷ text) → Printed (byte ∷ (text ++ more)) → ⊥
-never_whole byte [] more h printed = let low = printed.0 in omega (arith, h, low)
+never_whole byte [] more h printed =
+    let end : byte ≡ 10 = h in
+    let low : 31 < byte = printed.0 in
+    omega (arith, end, low)
 never_whole byte (next ∷ text) more h printed = never_whole next text more h printed.1
 
 last_apart : (a b x y : List ℕ) → Whole a → Whole b → Printed x → Printed y → a ++ x ≡ b ++ y → (a ≡ b) × (x ≡ y)
 last_apart [] [] x y ha hb hx hy e = (refl, e)
-last_apart [] (b ∷ bs) x y ha hb hx hy e = absurd (never_whole b bs y hb (subst Printed e hx))
-last_apart (a ∷ as) [] x y ha hb hx hy e = absurd (never_whole a as x ha (subst Printed (sym e) hy))
-last_apart (a ∷ as) (b ∷ bs) x y ha hb hx hy e =
+last_apart [] (b ∷ others) x y ha hb hx hy e = absurd (never_whole b others y hb (subst Printed e hx))
+last_apart (a ∷ front) [] x y ha hb hx hy e = absurd (never_whole a front x ha (subst Printed (sym e) hy))
+last_apart (a ∷ front) (b ∷ others) x y ha hb hx hy e =
     let head : a ≡ b = cc in
-    let tail : as ++ x ≡ bs ++ y = cc in
-    let rest = last_apart as bs x y (whole_tail a as ha) (whole_tail b bs hb) hx hy tail in
-    (ap (λ c. c ∷ as) head ∙ ap (λ cs. b ∷ cs) rest.0, rest.1)
+    let tail : front ++ x ≡ others ++ y = cc in
+    let rest = last_apart front others x y (whole_tail a front ha) (whole_tail b others hb) hx hy tail in
+    (ap (λ c. c ∷ front) head ∙ ap (λ cs. b ∷ cs) rest.0, rest.1)
 
 -- a line without its LF
 abbrev body : GameLine → List ℕ
@@ -220,7 +236,7 @@ text_whole : (lines : List GameLine) → Whole (text_of lines)
 text_whole [] = tt
 text_whole (told ∷ earlier) = subst Whole (append_assoc (text_of earlier) (body told) (codes "\n")) (whole_end (text_of earlier ++ body told))
 
-make_line : ℕ → List ℕ → GameLine
+abbrev make_line : ℕ → List ℕ → GameLine
 make_line offset words = record { offset = offset; words = words }
 
 body_once : (a b : GameLine) → IsLine a → IsLine b → body a ≡ body b → a ≡ b
@@ -228,8 +244,8 @@ body_once a b ha hb e =
     let behind : decimal a.offset ++ (codes " " ++ a.words) ≡ decimal b.offset ++ (codes " " ++ b.words) =
     sym (append_assoc (decimal a.offset) (codes " ") a.words) ∙ e ∙ append_assoc (decimal b.offset) (codes " ") b.words in
     let parts = apart (decimal a.offset) (decimal b.offset) (codes " " ++ a.words) (codes " " ++ b.words) (number_plain a.offset) (number_plain b.offset) refl refl behind in
-    let low = ha.0 in
-    let low' = hb.0 in
+    let low : a.offset < limit = ha.0 in
+    let low' : b.offset < limit = hb.0 in
     let offset : a.offset ≡ b.offset = decimal_injective a.offset b.offset (omega (arith, low)) (omega (arith, low')) parts.0 in
     let words : a.words ≡ b.words = append_cancel_left (codes " ") a.words b.words parts.1 in
     ap (λ n. make_line n a.words) offset ∙ ap (λ ws. make_line b.offset ws) words
@@ -265,7 +281,7 @@ rest_printed rest = both (codes "rest ") (decimal rest) (fixed (codes "rest ") r
 never_rest : (number words text : List ℕ) → AllByRecursion IsDigit number → number ++ 32 ∷ words ≡ 114 ∷ text → ⊥
 never_rest [] words text h e = let bad : 32 ≡ 114 = ap (λ l. slice_index l 0) e in omega (arith, bad)
 never_rest (byte ∷ number) words text h e =
-    let high = h.0.1 in
+    let high : byte < 114 = h.0.1 in
     let bad : byte ≡ 114 = ap (λ l. slice_index l 0) e in
     omega (arith, bad, high)
 
