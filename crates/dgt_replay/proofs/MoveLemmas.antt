@@ -14,8 +14,7 @@ use Rattle.dgt_replay.specs.Printed.{PrintsPart, TellsMoves}
 tells_more : (p : Parts) (moves : List Move) (m : Move) (text san : List ℕ) → TellsMoves p moves text → San p m san → TellsMoves p (moves ++ m ∷ []) (text ++ (san ++ codes "\n"))
 tells_more p [] m text san told is = (san, [], is, ap (λ (x : List ℕ). x ++ (san ++ codes "\n")) told ∙ sym (append-nil (san ++ codes "\n")), refl)
 tells_more p (n ∷ moves) m text san told is =
-    let line = san ++ codes "\n" in
-    (
+    let line = san ++ codes "\n" in (
       told.0,
       told.1 ++ line,
       told.2,
@@ -35,13 +34,12 @@ told_to_end p moves i text le told = let P : List Move → Type 0 = λ xs. Tells
 
 -- A first part of what waits was written.
 pub part_written : (begin written written' : Option (List ℕ)) (waiting text : List ℕ) → Gathers begin written waiting text → AppendsPart written written' waiting → AppendsPart begin written' text
-part_written begin written written' waiting text gathered part =
-    (
-      gathered.0 ++ part.0,
-      part.1,
-      gathered.1 ∙ ap (λ (bs : List ℕ). gathered.0 ++ bs) part.2 ∙ sym (append_assoc gathered.0 part.0 part.1),
-      Appends-trans begin written written' gathered.0 part.0 gathered.2 part.3,
-    )
+part_written begin written written' waiting text gathered part = (
+  gathered.0 ++ part.0,
+  part.1,
+  gathered.1 ∙ ap (λ (bs : List ℕ). gathered.0 ++ bs) part.2 ∙ sym (append_assoc gathered.0 part.0 part.1),
+  Appends-trans begin written written' gathered.0 part.0 gathered.2 part.3,
+)
 
 -- One more line waits.
 pub gathers_more : (begin written : Option (List ℕ)) (waiting waiting' line text : List ℕ) → Gathers begin written waiting text → waiting' ≡ waiting ++ line

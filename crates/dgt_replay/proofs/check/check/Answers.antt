@@ -86,12 +86,12 @@ returns-then-is_err-clause-fault g c three =
     let part : AppendsPart written (g.O.Write.contents (inner_of c.then-is_err.out)) c.as_slice-2.result.now = elim c.then-is_err.branch [
       | then-is_err-via-then-is_err w ↦ rw w.out-is (part_put c.put.result written put c.as_slice-2.result.now c.put.ensures.ok c.put.ensures.fault)
       | then-is_err-via-else-is_err+then-is_err-2 w ↦ rw w.out-is (
-          c.as_slice-2.result.now,
-          [],
-          sym (append-nil c.as_slice-2.result.now),
-          Appends-kept written put (g.O.Write.contents (inner_of w.flush.new.self)) c.as_slice-2.result.now
-              (at_ok (Appends written put c.as_slice-2.result.now) c.put.result (sym c.is_err.ensures.value ∙ w.if-is_err.false) c.put.ensures.ok) w.flush.ensures.bytes,
-        )
+        c.as_slice-2.result.now,
+        [],
+        sym (append-nil c.as_slice-2.result.now),
+        Appends-kept written put (g.O.Write.contents (inner_of w.flush.new.self)) c.as_slice-2.result.now
+            (at_ok (Appends written put c.as_slice-2.result.now) c.put.result (sym c.is_err.ensures.value ∙ w.if-is_err.false) c.put.ensures.ok) w.flush.ensures.bytes,
+      )
     ] in
     let P : List ℕ → Type 0 = λ bs. AppendsPart written (g.O.Write.contents (inner_of c.then-is_err.out)) bs in
     checked_part input written (g.O.Write.contents (inner_of c.then-is_err.out)) c.in-Ok.text.items game c.in-Ok.ensures.whole (rw c.as_slice.ensures.value at c.in-Ok-read_pgn.ensures.found) c.in-Ok.ensures.within (subst P is part)
