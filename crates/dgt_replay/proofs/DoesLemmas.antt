@@ -83,6 +83,8 @@ checks_memory status s lacks =
       done = λ e. absurd (omega arith);
       tells = tells_memory status (RefusesText s.input) s.said s.said' s.reader_failed s.out_failed s.err_failed four lacks.says;
       bounded = none_read text_limit s.input s.input' lacks.untouched.0;
+      fault = λ e. absurd (omega arith);
+      unread = λ e. lacks.untouched.1;
       silent = λ e. lacks.untouched.1;
     }
 
@@ -93,6 +95,7 @@ prints_memory fen status s lacks =
       done = λ start starts e. absurd (omega arith);
       refuses = λ none. inr four;
       refused = λ e. absurd (omega arith);
+      fault = λ start starts e. absurd (omega arith);
       silent = λ e. lacks.untouched.1;
       tells = tells_memory status (RefusesStart fen) s.said s.said' false s.out_failed s.err_failed four lacks.says;
     }

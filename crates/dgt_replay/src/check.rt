@@ -1,9 +1,9 @@
 //! The subcommand `check`.
-ghost use Rattle.std.specs.Prelude.{◌≡◌, ◌≢◌, ◌≤◌, ◌⊎◌, ◌+◌, ◌++◌, false};
+ghost use Rattle.std.specs.Prelude.{◌≡◌, ◌≢◌, ◌≤◌, ◌⊎◌, ◌+◌, ◌++◌, false, true};
 ghost use Rattle.std.specs.Io.KnownBytes.{Keeps};
 ghost use Rattle.arrayvec.specs.ArrayVec.{array_vec_len};
 ghost use Rattle.dgt_frame.specs.Watch.{inner_of, has_failed};
-ghost use Rattle.dgt_replay.specs.Checked.{ChecksGame, RefusesText, summary_line};
+ghost use Rattle.dgt_replay.specs.Checked.{ChecksGame, ChecksPart, RefusesText, summary_line};
 ghost use Rattle.board_listing.specs.Listings.{ReadsWithin};
 ghost use Rattle.dgt_replay.specs.Messages.{Tells};
 
@@ -46,6 +46,8 @@ pub fn check<R: Read, O: Write, E: Write>(
     ensures tells { Tells result (RefusesText (R.remaining (inner_of reader.old))) (E.contents (inner_of err.old)) (E.contents (inner_of err.new))
         (has_failed reader.new) (has_failed out.new) (has_failed err.new) }
     ensures bounded { ReadsWithin TEXT_LIMIT (R.remaining (inner_of reader.old)) (R.remaining (inner_of reader.new)) }
+    ensures fault { result ≡ 3 → ChecksPart (R.remaining (inner_of reader.old)) (O.contents (inner_of out.old)) (O.contents (inner_of out.new)) }
+    ensures unread { has_failed reader.new ≡ true → Keeps (O.contents (inner_of out.old)) (O.contents (inner_of out.new)) }
     ensures silent { (result ≡ 1) ⊎ (result ≡ 4) → Keeps (O.contents (inner_of out.old)) (O.contents (inner_of out.new)) }
     ensures works { result ≡ 0 → (has_failed reader.new ≡ false) × ((has_failed out.new ≡ false) × (err.new ≡ err.old)) }
     ensures known { result ≤ 4 }
