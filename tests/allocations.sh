@@ -9,7 +9,7 @@
 set -eu
 
 cd "$(dirname "$0")/../crates/test_allocations"
-calls=15
+calls=16
 runs=600
 folder=$(mktemp -d)
 trap 'rm -rf "$folder"' EXIT

@@ -2,8 +2,10 @@ pub mod FollowLemmas
 pub mod GatherLemmas
 pub mod GivenGameLemmas
 pub mod LineLemmas
+pub mod OffsetLemmas
 pub mod OnceLemmas
 pub mod ChunkLemmas
 pub mod PrinterLemmas
 pub mod SquareLemmas
 pub mod StreamLemmas
+pub mod TextLemmas

@@ -6,6 +6,7 @@ use Rattle.std.proofs.lemmas.List.{append_cancel_left}
 use Rattle.std.proofs.lemmas.List.Elements.{recursion_from_All}
 use Rattle.chess_rules.specs.declared.chess_move.Move.{Move}
 use Rattle.chess_rules.specs.declared.parts.Parts.{Parts}
+use Rattle.chess_rules.specs.Picture.{picture}
 use Rattle.chess_rules.specs.Valid.{Valid}
 use Rattle.chess_text.specs.Laws.{IsSanByte, TextsArePlain, TextsTellMoves}
 use Rattle.chess_text.specs.San.{San}
@@ -18,13 +19,13 @@ use Rattle.settle_core.specs.Settling.{Played, reached}
 use Rattle.settle_core.proofs.Stages.{valid_reached}
 use Rattle.pgn_book.specs.Movetext.{number_token}
 use Rattle.board_session.proofs.GameLemmas.{one_result}
-use Rattle.board_listing.specs.GameLines.{clock_words, move_words, result_words, waiting_words}
+use Rattle.board_listing.specs.GameLines.{clock_words, move_words, result_words, squares_text, waiting_words}
 use Rattle.board_listing.specs.GivenGame.{AddsPly, Changes, CorrectsPly, GameLine, Gives, IsOther, LinesGiveOneGame, TellsLegal}
 
 -- ---- what stands before a space
 
 -- no byte, or a space first
-abbrev Ends : List ℕ → Type 0
+abbrev pub Ends : List ℕ → Type 0
 Ends [] = ⊤
 Ends (byte ∷ bytes) = byte ≡ 32
 
@@ -32,7 +33,7 @@ no_space : (b c : ℕ) → 32 < b → c ≡ b → c ≡ 32 → ⊥
 no_space b c lt same space = omega (arith, lt, same, space)
 
 -- Two texts without a space that stand before such ends are the same, and so are the ends.
-apart : (s t x y : List ℕ) → AllByRecursion IsSanByte s → AllByRecursion IsSanByte t → Ends x → Ends y → s ++ x ≡ t ++ y → (s ≡ t) × (x ≡ y)
+pub apart : (s t x y : List ℕ) → AllByRecursion IsSanByte s → AllByRecursion IsSanByte t → Ends x → Ends y → s ++ x ≡ t ++ y → (s ≡ t) × (x ≡ y)
 apart [] [] x y hs ht ex ey e = (refl, e)
 apart [] (b ∷ t) [] y hs ht ex ey e = absurd (let bad : [] ≡ b ∷ (t ++ y) = e in cc)
 apart [] (b ∷ t) (c ∷ x) y hs ht ex ey e = let same : c ≡ b = cc in absurd (no_space b c ht.0.0 same ex)
@@ -121,9 +122,9 @@ waiting_first : (squares words : List ℕ) → words ≡ waiting_words squares �
 waiting_first [] words is = inl (ap first is)
 waiting_first (byte ∷ bytes) words is = inr (inl (ap first is))
 
-other_first : (words : List ℕ) → IsOther words → IsPlain (first words)
-other_first words (inl (squares, is)) = waiting_first squares words is
-other_first words (inr (kind, is)) = inr (inr (ap first is))
+other_first : (p : Parts) (words : List ℕ) → IsOther p words → IsPlain (first words)
+other_first p words (inl (shown, is)) = waiting_first (squares_text (picture p) shown) words is
+other_first p words (inr (kind, is)) = inr (inr (ap first is))
 
 abbrev IsNews : ℕ → Type 0
 IsNews n = (n ≡ 109) ⊎ ((n ≡ 99) ⊎ (n ≡ 114))
@@ -177,25 +178,25 @@ changes_once plain tell start before old words plies others result other valid p
 changes_once plain tell start before old words plies others result other valid played (inl x) (inr (inr (inl y))) =
     let bad : 109 ≡ 114 = two_kinds (first words) 109 114 (move_first start before words plies x.0) (result_first words other y.1) in absurd (omega (arith, bad))
 changes_once plain tell start before old words plies others result other valid played (inl x) (inr (inr (inr y))) =
-    absurd (news_or_not (first words) (inl (move_first start before words plies x.0)) (other_first words y.2))
+    absurd (news_or_not (first words) (inl (move_first start before words plies x.0)) (other_first (reached start (moves_of before)) words y.2))
 changes_once plain tell start before old words plies others result other valid played (inr (inl x)) (inl y) =
     let bad : 99 ≡ 109 = two_kinds (first words) 99 109 (correction_first start before words plies x.0) (move_first start before words others y.0) in absurd (omega (arith, bad))
 changes_once plain tell start before old words plies others result other valid played (inr (inl x)) (inr (inr (inl y))) =
     let bad : 99 ≡ 114 = two_kinds (first words) 99 114 (correction_first start before words plies x.0) (result_first words other y.1) in absurd (omega (arith, bad))
 changes_once plain tell start before old words plies others result other valid played (inr (inl x)) (inr (inr (inr y))) =
-    absurd (news_or_not (first words) (inr (inl (correction_first start before words plies x.0))) (other_first words y.2))
+    absurd (news_or_not (first words) (inr (inl (correction_first start before words plies x.0))) (other_first (reached start (moves_of before)) words y.2))
 changes_once plain tell start before old words plies others result other valid played (inr (inr (inl x))) (inl y) =
     let bad : 114 ≡ 109 = two_kinds (first words) 114 109 (result_first words result x.1) (move_first start before words others y.0) in absurd (omega (arith, bad))
 changes_once plain tell start before old words plies others result other valid played (inr (inr (inl x))) (inr (inl y)) =
     let bad : 114 ≡ 99 = two_kinds (first words) 114 99 (result_first words result x.1) (correction_first start before words others y.0) in absurd (omega (arith, bad))
 changes_once plain tell start before old words plies others result other valid played (inr (inr (inl x))) (inr (inr (inr y))) =
-    absurd (news_or_not (first words) (inr (inr (result_first words result x.1))) (other_first words y.2))
+    absurd (news_or_not (first words) (inr (inr (result_first words result x.1))) (other_first (reached start (moves_of before)) words y.2))
 changes_once plain tell start before old words plies others result other valid played (inr (inr (inr x))) (inl y) =
-    absurd (news_or_not (first words) (inl (move_first start before words others y.0)) (other_first words x.2))
+    absurd (news_or_not (first words) (inl (move_first start before words others y.0)) (other_first (reached start (moves_of before)) words x.2))
 changes_once plain tell start before old words plies others result other valid played (inr (inr (inr x))) (inr (inl y)) =
-    absurd (news_or_not (first words) (inr (inl (correction_first start before words others y.0))) (other_first words x.2))
+    absurd (news_or_not (first words) (inr (inl (correction_first start before words others y.0))) (other_first (reached start (moves_of before)) words x.2))
 changes_once plain tell start before old words plies others result other valid played (inr (inr (inr x))) (inr (inr (inl y))) =
-    absurd (news_or_not (first words) (inr (inr (result_first words other y.1))) (other_first words x.2))
+    absurd (news_or_not (first words) (inr (inr (result_first words other y.1))) (other_first (reached start (moves_of before)) words x.2))
 
 -- ---- lines
 
@@ -215,7 +216,7 @@ changes_played start before old words after new played (inr (inl x)) = played_co
 changes_played start before old words after new played (inr (inr (inl x))) = let P : List Ply → Type 0 = λ ps. Played start (moves_of ps) in subst P (sym x.0) played
 changes_played start before old words after new played (inr (inr (inr x))) = let P : List Ply → Type 0 = λ ps. Played start (moves_of ps) in subst P (sym x.0) played
 
-gives_played : (start : Parts) (lines : List GameLine) (plies : List Ply) (result : Option Outcome) → Gives start lines plies result → Played start (moves_of plies)
+pub gives_played : (start : Parts) (lines : List GameLine) (plies : List Ply) (result : Option Outcome) → Gives start lines plies result → Played start (moves_of plies)
 gives_played start [] plies result (none, is) = let P : List Ply → Type 0 = λ ps. Played start (moves_of ps) in subst P (sym none) tt
 gives_played start (told ∷ earlier) plies result (before, old, gives, changes) =
     changes_played start before old told.words plies result (gives_played start earlier before old gives) changes

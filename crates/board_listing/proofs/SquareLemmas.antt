@@ -23,7 +23,7 @@ last a (suc n) j e = ap (λ l. a ∷ l) (last (a + 1) n j (omega arith))
 counting_more : (n : ℕ) → range_with_len 0 (n + 1) ≡ range_with_len 0 n ++ n ∷ []
 counting_more n = let on : n + 1 ≡ suc n = omega arith in ap (range_with_len 0) on ∙ last 0 n n (omega arith)
 
-differing_more : (n : ℕ) (stands seen : List ℕ) → differing (n + 1) stands seen ≡ differing n stands seen ++ told stands seen n
+pub differing_more : (n : ℕ) (stands seen : List ℕ) → differing (n + 1) stands seen ≡ differing n stands seen ++ told stands seen n
 differing_more n stands seen = ap (flat_map (told stands seen)) (counting_more n)
     ∙ flat_map-append (told stands seen) (range_with_len 0 n) (n ∷ [])
     ∙ ap (λ text. differing n stands seen ++ text) (append-nil (told stands seen n))

@@ -1,5 +1,5 @@
 //! What the lines of `follow` give, each law as the contract of a function that does nothing.
-ghost use Rattle.board_listing.specs.GivenGame.{FollowTellsTheGame, LinesGiveOneGame, LinesGiveTheGame};
+ghost use Rattle.board_listing.specs.GivenGame.{FollowTellsTheGame, LinesGiveOneGame, LinesGiveTheGame, TextTellsTheGame, TextTellsTheLines};
 
 use chess_text::laws::{texts_are_plain, texts_tell_moves};
 use dgt_frame::laws::shows_once;
@@ -25,4 +25,22 @@ pub fn lines_give_one_game()
     // The laws that this one rests on.
     texts_are_plain();
     texts_tell_moves();
+}
+
+/// A text of lines of `follow` tells the lines: no other lines that give a game have it. The line of the rest may stand behind
+/// them.
+pub fn text_tells_the_lines()
+    ensures { TextTellsTheLines }
+{
+    // The law that this one rests on.
+    texts_are_plain();
+}
+
+/// A text of lines of `follow` tells one list of plies and one result at most.
+pub fn text_tells_the_game()
+    ensures { TextTellsTheGame }
+{
+    // The laws that this one rests on.
+    text_tells_the_lines();
+    lines_give_one_game();
 }

@@ -142,7 +142,7 @@ fn finish<O: Write>(
 }
 
 /// Writes the lines of a stream. Those of a chunk are written before the next read, so that those of a slow board stand
-/// as they come.
+/// as they come. It doesn't flush.
 pub fn list_stream<R: Read, O: Write>(
     alloc: Global,
     listing: Listing,
@@ -155,6 +155,10 @@ pub fn list_stream<R: Read, O: Write>(
         (O.contents (inner_of out.old)) (O.contents (inner_of out.new))) }
     ensures reading { result ≡ Err ListError.Read → has_failed reader.new ≡ true }
     ensures working { result ≡ Err ListError.Write → has_failed out.new ≡ true }
+
+    // Before a read nobody knows whether it will fail, and after one that failed nothing may be written, since a write might
+    // fail. So each read begins with the lines of all bytes before it written, as `read` says of those that stand then.
+    ensures reader_blamed { has_failed reader.new ≡ true → (result ≡ Err ListError.Read) × (has_failed out.new ≡ false) }
     ensures whole { OnOk result ((has_failed reader.new ≡ false) × (has_failed out.new ≡ false)) }
     ensures bounded { ReadsWithin LIMIT (R.remaining (inner_of reader.old)) (R.remaining (inner_of reader.new)) }
 

@@ -21,11 +21,11 @@ use Rattle.board_session.specs.Session.{entries_in}
 use Rattle.board_session.proofs.GameLemmas.{honest_clocks_are_recorded, honest_play_is_recorded, kings_end_is_recorded}
 
 -- a stream shows one list of events
-abbrev ShowsOnce : Type 0
+abbrev pub ShowsOnce : Type 0
 ShowsOnce = (bytes : List ℕ) (events others : List Timed) (rest other : ℕ) → Shows bytes events rest → Shows bytes others other → (events ≡ others) × (rest ≡ other)
 
 -- the first bytes show the first events
-abbrev ShowsFronts : Type 0
+abbrev pub ShowsFronts : Type 0
 ShowsFronts = (bytes more : List ℕ) (events all : List Timed) (rest last : ℕ)
     → Shows bytes events rest → Shows (bytes ++ more) all last → (later : List Timed) × (all ≡ events ++ later)
 
@@ -36,7 +36,7 @@ entries_shown setting bytes shown events rest once h s =
     ap (λ (ts : List Timed). deduplicated (entries_in setting (past_of ts))) (once bytes events s.events rest s.rest h s.shows).0 ∙ ap deduplicated s.are
 
 -- the start of a game that was written is valid
-valid_start : (setup : Setup) (game : Content) → game.start ≡ setup.start → Valid game.start → Valid setup.start
+pub valid_start : (setup : Setup) (game : Content) → game.start ≡ setup.start → Valid game.start → Valid setup.start
 valid_start setup game e v = rw e at v
 
 pub honest_play_is_written : ShowsOnce → HonestPlayIsWritten
@@ -56,7 +56,7 @@ kings_end_is_written once setup report bytes sent sent' written written' r moves
     kings_end_is_recorded setting setup.tags (past_of r.events) r.game moves lists clearing later kings outcome valid line shown a k b are r.game_is
 
 -- the entries of more events are those of the first and some more
-entries_on : (setting : Setting) (later past : List Event) → (more : List Entry) × (entries_in setting (later ++ past) ≡ more ++ entries_in setting past)
+pub entries_on : (setting : Setting) (later past : List Event) → (more : List Entry) × (entries_in setting (later ++ past) ≡ more ++ entries_in setting past)
 entries_on setting [] past = ([], refl)
 entries_on setting (event ∷ later) past =
     let on = entries_on setting later past in
@@ -73,7 +73,7 @@ entries_on setting (event ∷ later) past =
         let are : entries_in setting (event ∷ (later ++ past)) ≡ entries_in setting (later ++ past) = rw e refl in
         (on.0, are ∙ on.1)
 
-past_on : (taken later : List Timed) → past_of (taken ++ later) ≡ past_of later ++ past_of taken
+pub past_on : (taken later : List Timed) → past_of (taken ++ later) ≡ past_of later ++ past_of taken
 past_on taken later = ap reverse (map-append (λ (t : Timed). t.event) taken later)
     ∙ reverse-append (map (λ (t : Timed). t.event) taken) (map (λ (t : Timed). t.event) later)
 

@@ -1,3 +1,4 @@
+pub mod AnyLemmas
 pub mod CountLemmas
 pub mod GameLemmas
 pub mod HearLemmas
@@ -10,3 +11,6 @@ pub mod StreamLemmas
 pub mod TakeLemmas
 pub mod UnseenLemmas
 pub mod ViewLemmas
+pub mod LeftLemmas
+pub mod BoardLemmas
+pub mod SizeLemmas

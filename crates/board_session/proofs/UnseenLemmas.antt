@@ -23,7 +23,7 @@ use Rattle.board_session.specs.Session.{entries_in}
 use Rattle.board_session.proofs.GameLemmas.{events_tell_the_game}
 
 -- the position that plies in their order lead to
-reached_by : (start : Parts) (plies : List Ply) → position_after start (moves_of plies) ≡ reached start (moves_of (reverse plies))
+pub reached_by : (start : Parts) (plies : List Ply) → position_after start (moves_of plies) ≡ reached start (moves_of (reverse plies))
 reached_by start plies = ap (λ (ps : List Ply). position_after start (moves_of ps)) (sym (reverse-reverse plies)) ∙ position_in_order start (reverse plies)
 
 -- an entry with the picture after two unseen plies leaves the score, counted or not
@@ -102,7 +102,7 @@ last_event setting past event before score m reply next false e valid h lm ln lx
     inl (rw are at k)
 
 -- the latest of plies, in their order
-in_order : (plies : List Ply) (last : Ply) (earlier : List Ply) → reverse plies ≡ last ∷ earlier → plies ≡ reverse earlier ++ last ∷ []
+pub in_order : (plies : List Ply) (last : Ply) (earlier : List Ply) → reverse plies ≡ last ∷ earlier → plies ≡ reverse earlier ++ last ∷ []
 in_order plies last earlier e = sym (reverse-reverse plies) ∙ ap reverse e ∙ reverse-append (last ∷ []) earlier
 
 pub three_unseen_add_nothing : ThreeUnseenAddNothing

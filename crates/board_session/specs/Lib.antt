@@ -10,3 +10,7 @@ pub mod Session
 pub mod States
 pub mod Pictures
 pub mod View
+pub mod AnyStream
+pub mod AnyRecording
+pub mod HonestBoard
+pub mod Sizes

@@ -5,11 +5,15 @@ ghost use Rattle.dgt_frame.specs.declared.events.Event.{Event};
 ghost use Rattle.pgn_book.specs.Games.{Content};
 ghost use Rattle.pgn_book.specs.Pgn.{Pgn};
 ghost use Rattle.pgn_book.specs.Values.{TagValues};
+ghost use Rattle.board_session.specs.AnyRecording.{HonestEndIsRecorded, HonestEndIsWritten, HonestStopAnywhereIsRecorded, HonestStopAnywhereIsWritten, KingsInCentreWriteNoMove, MadeAgainIsRecorded, MadeAgainIsWritten, NothingWrittenIsInvented, OnlyTheLastPlyIsRewritten, RestartsAreRecorded, RestartsAreWritten, ResumedEndIsWritten, ResumedPlayIsWritten, ResumedStopIsWritten};
+ghost use Rattle.board_session.specs.AnyStream.{HonestPlayResumes, KingsEndResumedPlay, KingsInCentreKeepThePlies, NothingIsInvented, OnlyTheLastPlyMayChange, ResumedPlayStops};
 ghost use Rattle.board_session.specs.Game.{IsGameOf};
+ghost use Rattle.board_session.specs.HonestBoard.{HonestBoardsAreRead};
 ghost use Rattle.board_session.specs.Laws.{EventsTellTheGame, FaultsAskOnce, FaultsBeforeDumpsCanGo, HonestClocksAreRecorded, HonestFrontIsWritten, HonestPlayIsRecorded, HonestPlayIsWritten, HonestStopIsRecorded, IdleEventsCanGo, KingsEndIsRecorded, KingsEndIsWritten, NoEventGivesTwo, ThreeUnseenAddNothing, TwoUnseenAreNotRecorded};
 ghost use Rattle.board_session.specs.Settings.{Setting};
+ghost use Rattle.board_session.specs.Sizes.{FramesAreWithin, MovesTakeTenBytes, WrittenMovesTakeTenBytes};
 
-use dgt_frame::laws::{fronts_show_fronts, shows_once};
+use dgt_frame::laws::{fronts_show_fronts, restarts_are_shown, shows_once};
 use pgn_book::{Game, PgnError, read_pgn};
 use std::alloc::Global;
 
@@ -89,6 +93,96 @@ pub fn kings_end_is_written()
     // The law that this one rests on.
     shows_once();
 }
+
+/// Nothing is invented: whatever a board sends, each ply was shown whole, in its turn, with its clock.
+pub fn nothing_is_invented()
+    ensures recorded { NothingIsInvented }
+    ensures written { NothingWrittenIsInvented }
+{}
+
+/// Only the last ply may change: whatever comes later, all plies but the last stand for good.
+pub fn only_the_last_ply_may_change()
+    ensures recorded { OnlyTheLastPlyMayChange }
+    ensures written { OnlyTheLastPlyIsRewritten }
+{
+    // The law that the second one rests on.
+    fronts_show_fronts();
+}
+
+/// Honest play resumes: whatever was sent before, where the board agrees with the game, the moves that are shown honestly from
+/// there on are added, and nothing else is. So it is where that play stops, and where the kings end it.
+pub fn honest_play_resumes()
+    ensures adds { HonestPlayResumes }
+    ensures stops { ResumedPlayStops }
+    ensures ends { KingsEndResumedPlay }
+{}
+
+/// So it is in what `record` leaves, whatever it returned.
+pub fn resumed_play_is_written()
+    ensures adds { ResumedPlayIsWritten }
+    ensures stops { ResumedStopIsWritten }
+    ensures ends { ResumedEndIsWritten }
+{}
+
+/// While both kings stand in the centre no move is made, whatever else shows; the result alone can change.
+pub fn kings_in_centre_make_no_move()
+    ensures recorded { KingsInCentreKeepThePlies }
+    ensures written { KingsInCentreWriteNoMove }
+{}
+
+/// Honest play with its end, pieces put away or the kings in the centre, is recorded; and so it is where this is broken off anywhere.
+pub fn honest_end_is_recorded()
+    ensures ends { HonestEndIsRecorded }
+    ensures stops { HonestStopAnywhereIsRecorded }
+{}
+
+/// What `record` leaves of honest play and its end, whatever it returned.
+pub fn honest_end_is_written()
+    ensures { HonestEndIsWritten }
+{
+    // The law that this one rests on.
+    shows_once();
+}
+
+/// And wherever it ended.
+pub fn honest_stop_anywhere_is_written()
+    ensures { HonestStopAnywhereIsWritten }
+{
+    // The law that this one rests on.
+    fronts_show_fronts();
+}
+
+/// A move that takes no piece may be made whole, taken back and made again: the game has the moves of the line.
+pub fn moves_may_be_made_again()
+    ensures recorded { MadeAgainIsRecorded }
+    ensures written { MadeAgainIsWritten }
+{
+    // The law that the second one rests on.
+    shows_once();
+}
+
+/// A stream that was broken off anywhere and begun again with a dump has the game of its two parts' events.
+pub fn restarts_are_recorded()
+    ensures recorded { RestartsAreRecorded }
+    ensures written { RestartsAreWritten }
+{
+    // The laws that these rest on.
+    shows_once();
+    fronts_show_fronts();
+    restarts_are_shown();
+}
+
+/// A dump, and then one update for each square that changes, show exactly the pictures of the board, on a rotated one too.
+pub fn honest_boards_are_read()
+    ensures { HonestBoardsAreRead }
+{}
+
+/// Each move takes ten bytes at least.
+pub fn moves_take_ten_bytes()
+    ensures frames { FramesAreWithin }
+    ensures moves { MovesTakeTenBytes }
+    ensures written { WrittenMovesTakeTenBytes }
+{}
 
 /// Reads the text of the game of some events back. It returns that game, unless it runs out of memory.
 pub fn read_recorded(alloc: Global, text: &[u8]) -> Result<Game, PgnError>

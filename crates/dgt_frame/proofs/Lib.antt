@@ -7,3 +7,5 @@ pub mod FrontLemmas
 pub mod WholeLemmas
 pub mod PutLemmas
 pub mod InputLemmas
+pub mod RestartLemmas
+pub mod LossLemmas

@@ -10,3 +10,5 @@ pub mod Streams
 pub mod Times
 pub mod Watch
 pub mod Whole
+pub mod Restarts
+pub mod Losses

@@ -1,5 +1,8 @@
-//! Laws of what a stream shows: each stream shows exactly one list of events, and its first bytes the first of them.
+//! Laws of what a stream shows: each stream shows exactly one list of events, its first bytes the first of them, and one that is
+//! broken off and begun again those of its two parts.
 ghost use Rattle.std.specs.Prelude.{◌≡◌, ◌++◌, ℕ, List};
+ghost use Rattle.dgt_frame.specs.Losses.{SmallLossesShow};
+ghost use Rattle.dgt_frame.specs.Restarts.{RestartsAreShown};
 ghost use Rattle.dgt_frame.specs.Streams.{Shows, Timed};
 
 use crate::decode::Decoder;
@@ -27,3 +30,15 @@ pub fn shows_some(bytes: &[u8])
     // The bytes show the events so far and this rest: only that is wanted.
     decoder.pending();
 }
+
+/// A stream that is broken off anywhere and begun again shows the events of its two parts, and a cut between them where the first
+/// leaves some bytes of a frame.
+pub fn restarts_are_shown()
+    ensures { RestartsAreShown }
+{}
+
+/// Where one to four bytes in a row are lost of a stream of dumps, updates and times, and a whole frame comes after them, a fault
+/// shows.
+pub fn small_losses_show()
+    ensures { SmallLossesShow }
+{}

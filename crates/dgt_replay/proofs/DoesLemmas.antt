@@ -2,6 +2,7 @@
 use Rattle.std.proofs.Common.{◌≡◌, ℕ, List, Option, Bool, false, codes, inr, subst, sym, arith}
 use Rattle.std.specs.Io.KnownBytes.{Keeps}
 use Rattle.clap.specs.Walk.{Row, Text, first_of}
+use Rattle.chess_rules.specs.declared.parts.Parts.{Parts}
 use Rattle.board_session.specs.Recording.{limit}
 use Rattle.board_session.specs.Settings.{Setting}
 use Rattle.board_session.specs.declared.recording.Setup.{Setup}
@@ -13,17 +14,18 @@ use Rattle.dgt_frame.specs.Streams.{Timed}
 use Rattle.pgn_book.specs.declared.values.Tag.{Tag}
 use Rattle.replay_arguments.specs.declared.arguments.Subcommand.{Subcommand}
 use Rattle.replay_arguments.specs.Subcommands.{Asks, AsksFor, AsksForPictures, AsksToCheck, AsksToFollow, AsksToRecord, AsksToShow}
-use Rattle.replay_arguments.specs.Setups.{HasNoStart, SetsUpNothing, given, option_of, tag_text}
+use Rattle.replay_arguments.specs.Setups.{HasNoStart, SetsUpNothing, StartsAt, given, option_of, tag_text}
 use Rattle.dgt_replay.specs.Checked.{RefusesText, text_limit}
-use Rattle.dgt_replay.specs.Does.{Checks, Does, Lists, Prints, Records, Refuses, Untouched, WritesText}
+use Rattle.dgt_replay.specs.Does.{Checks, Does, Lists, Plays, Prints, Records, Refuses, Untouched, WritesText}
 use Rattle.dgt_replay.specs.Messages.{IsTooLong, Says}
+use Rattle.dgt_replay.specs.Played.{RefusesMoves, line_limit}
 use Rattle.dgt_replay.specs.Refusals.{RefusesSetup, RefusesStart}
 use Rattle.dgt_replay.specs.Streams.{Streams}
 use Rattle.dgt_replay.proofs.EndLemmas.{ends_for_memory, none_read}
 use Rattle.dgt_replay.proofs.MessageLemmas.{tells_alike, tells_memory}
 use Rattle.dgt_replay.proofs.RefusalLemmas.{refuses_alike, refuses_start_alike}
 use Rattle.dgt_replay.proofs.SetupLemmas.{meets_nothing}
-use Rattle.dgt_replay.proofs.SubcommandLemmas.{chooses_check, chooses_follow, chooses_pictures, chooses_record, chooses_show, follow_chosen, moves_chosen, record_chosen}
+use Rattle.dgt_replay.proofs.SubcommandLemmas.{chooses_check, chooses_follow, chooses_pictures, chooses_record, chooses_show, follow_chosen, moves_chosen, positions_chosen, record_chosen}
 
 -- Memory ran out before anything was read, or written to the output.
 pub record LacksMemory (status : ℕ) (s : Streams) : Type 0 where
@@ -81,6 +83,8 @@ checks_memory status s lacks =
       done = λ e. absurd (omega arith);
       tells = tells_memory status (RefusesText s.input) s.said s.said' s.reader_failed s.out_failed s.err_failed four lacks.says;
       bounded = none_read text_limit s.input s.input' lacks.untouched.0;
+      fault = λ e. absurd (omega arith);
+      unread = λ e. lacks.untouched.1;
       silent = λ e. lacks.untouched.1;
     }
 
@@ -91,8 +95,21 @@ prints_memory fen status s lacks =
       done = λ start starts e. absurd (omega arith);
       refuses = λ none. inr four;
       refused = λ e. absurd (omega arith);
+      fault = λ start starts e. absurd (omega arith);
       silent = λ e. lacks.untouched.1;
       tells = tells_memory status (RefusesStart fen) s.said s.said' false s.out_failed s.err_failed four lacks.says;
+    }
+
+pub plays_memory : (start : Parts) (status : ℕ) (s : Streams) → LacksMemory status s → Plays start status s
+plays_memory start status s lacks =
+    let four : status ≡ 4 = lacks.four in
+    record {
+      done = λ e. absurd (omega arith);
+      tells = tells_memory status (RefusesMoves start s.input s.written s.written') s.said s.said' s.reader_failed s.out_failed s.err_failed four lacks.says;
+      fault = λ e. absurd (omega arith);
+      unread = λ e. lacks.untouched.1;
+      memory = λ e. lacks.untouched.1;
+      bounded = none_read line_limit s.input s.input' lacks.untouched.0;
     }
 
 -- Another reason for the same refusal.
@@ -157,3 +174,20 @@ pub does_moves : (arguments : List Text) (subcommand : Subcommand) (status : ℕ
 does_moves arguments subcommand status s asked does rows asks =
     let chosen = moves_chosen arguments rows subcommand asks asked in
     let P : Option Text → Type 0 = λ fen. Prints fen status s in subst P chosen.2 (does_as subcommand _ status s chosen.1 does)
+
+pub does_positions : (arguments : List Text) (subcommand : Subcommand) (status : ℕ) (s : Streams) → AsksFor arguments subcommand → Does subcommand status s
+    → (rows : List Row) → Asks arguments (codes "positions") rows → (start : Parts) → StartsAt (first_of (codes "fen") rows) start → Plays start status s
+does_positions arguments subcommand status s asked does rows asks start starts =
+    let chosen = positions_chosen arguments rows subcommand asks asked in
+    let P : Option Text → Type 0 = λ fen. StartsAt fen start in
+    (does_as subcommand _ status s chosen.1 does).0 start (subst P (sym chosen.2) starts)
+
+pub does_refuse_positions : (arguments : List Text) (subcommand : Subcommand) (status : ℕ) (s : Streams) → AsksFor arguments subcommand → Does subcommand status s
+    → (rows : List Row) → Asks arguments (codes "positions") rows → HasNoStart (first_of (codes "fen") rows) → Refuses (RefusesStart (first_of (codes "fen") rows)) status s
+does_refuse_positions arguments subcommand status s asked does rows asks none =
+    let chosen = positions_chosen arguments rows subcommand asks asked in
+    let fen = given chosen.0 in
+    let same = chosen.2 in
+    refuses_too (RefusesStart fen) (RefusesStart (first_of (codes "fen") rows)) status s
+    (λ message refuses. refuses_start_alike fen (first_of (codes "fen") rows) message same refuses)
+    ((does_as subcommand _ status s chosen.1 does).1 (subst HasNoStart (sym same) none))

@@ -4,6 +4,7 @@ pub mod EndLemmas
 pub mod FaultLemmas
 pub mod MessageLemmas
 pub mod MoveLemmas
+pub mod PlayedLemmas
 pub mod RefusalLemmas
 pub mod SetupLemmas
 pub mod SubcommandLemmas

@@ -1,35 +1,45 @@
 -- The lines of moves, as they are gathered one after another.
-use Rattle.std.proofs.Common.{◌≡◌, ℕ, ◌+◌, ◌<◌, ◌≤◌, List, [], ◌∷◌, ◌++◌, length, get_or, drop, codes, Option, refl, sym, ap, subst, ◌∙◌, append_assoc, append-nil, add-one, drop-cons}
-use Rattle.std.proofs.lemmas.List.{drop_all}
+use Rattle.std.proofs.Common.{◌≡◌, ℕ, ◌+◌, ◌<◌, ◌≤◌, List, [], ◌∷◌, ◌++◌, length, get_or, take, drop, codes, Option, Result, Ok, Err, OnErr, inl, inr, refl, sym, ap, subst, ◌∙◌, append_assoc, append-nil}
+use Rattle.std.proofs.lemmas.List.{take-append-drop, take_all, take_more}
 use Rattle.std.proofs.KnownBytes.{Appends-trans}
 use Rattle.std.specs.Io.KnownBytes.{Appends}
 use Rattle.chess_rules.specs.declared.chess_move.Move.{Move}
 use Rattle.chess_rules.specs.declared.parts.Parts.{Parts}
+use Rattle.chess_rules.specs.Moves.{ListsLegal}
 use Rattle.chess_text.specs.San.{San}
+use Rattle.board_session.specs.Recording.{AppendsPart}
 use Rattle.board_listing.specs.Listings.{Gathers}
-use Rattle.dgt_replay.specs.Printed.{TellsMoves}
+use Rattle.dgt_replay.specs.Printed.{PrintsPart, TellsMoves}
 
--- Whatever text the rest of the moves has, all of them have what is done, and then that text.
-abbrev pub Continues : Parts → List Move → List Move → List ℕ → Type 0
-Continues p moves more done = (text : List ℕ) → TellsMoves p more text → TellsMoves p moves (done ++ text)
+tells_more : (p : Parts) (moves : List Move) (m : Move) (text san : List ℕ) → TellsMoves p moves text → San p m san → TellsMoves p (moves ++ m ∷ []) (text ++ (san ++ codes "\n"))
+tells_more p [] m text san told is = (san, [], is, ap (λ (x : List ℕ). x ++ (san ++ codes "\n")) told ∙ sym (append-nil (san ++ codes "\n")), refl)
+tells_more p (n ∷ moves) m text san told is =
+    let line = san ++ codes "\n" in (
+      told.0,
+      told.1 ++ line,
+      told.2,
+      ap (λ (x : List ℕ). x ++ line) told.3 ∙ append_assoc (told.0 ++ codes "\n") told.1 line,
+      tells_more p moves m told.1 san told.4 is,
+    )
 
-pub continues_at_start : (p : Parts) (moves : List Move) → Continues p moves moves []
-continues_at_start p moves = λ text told. told
+-- The text of the moves up to the next one, and with it.
+pub told_more : (p : Parts) (moves : List Move) (i : ℕ) (m : Move) (text san : List ℕ) → i < length moves → m ≡ get_or moves i m → San p m san
+    → TellsMoves p (take i moves) text → TellsMoves p (take (i + 1) moves) (text ++ (san ++ codes "\n"))
+told_more p moves i m text san lt e is told =
+    let P : List Move → Type 0 = λ xs. TellsMoves p xs (text ++ (san ++ codes "\n")) in
+    subst P (ap (λ (x : Move). take i moves ++ x ∷ []) e ∙ sym (take_more moves i m lt)) (tells_more p (take i moves) m text san told is)
 
-cut_at : (moves : List Move) (i : ℕ) (m : Move) → i < length moves → m ≡ get_or moves i m → drop i moves ≡ m ∷ drop (i + 1) moves
-cut_at moves i m lt e = rw (add-one, drop-cons moves i m, ← e) refl
+pub told_to_end : (p : Parts) (moves : List Move) (i : ℕ) (text : List ℕ) → length moves ≤ i → TellsMoves p (take i moves) text → TellsMoves p moves text
+told_to_end p moves i text le told = let P : List Move → Type 0 = λ xs. TellsMoves p xs text in subst P (take_all i moves le) told
 
-pub continues_more : (p : Parts) (moves : List Move) (i : ℕ) (m : Move) (done san : List ℕ) → i < length moves → m ≡ get_or moves i m → San p m san
-    → Continues p moves (drop i moves) done → Continues p moves (drop (i + 1) moves) (done ++ (san ++ codes "\n"))
-continues_more p moves i m done san lt e is h = λ text told.
-    let both : TellsMoves p (m ∷ drop (i + 1) moves) (san ++ codes "\n" ++ text) = (san, text, is, refl, told) in
-    let all = h (san ++ codes "\n" ++ text) (subst (λ (xs : List Move). TellsMoves p xs (san ++ codes "\n" ++ text)) (sym (cut_at moves i m lt e)) both) in
-    subst (λ (bs : List ℕ). TellsMoves p moves bs) (sym (append_assoc done (san ++ codes "\n") text)) all
-
-pub continues_to_end : (p : Parts) (moves : List Move) (i : ℕ) (done : List ℕ) → length moves ≤ i → Continues p moves (drop i moves) done → TellsMoves p moves done
-continues_to_end p moves i done le h =
-    let none : TellsMoves p (drop i moves) [] = subst (λ (xs : List Move). TellsMoves p xs []) (sym (drop_all i moves le)) refl in
-    subst (λ (bs : List ℕ). TellsMoves p moves bs) (append-nil done) (h [] none)
+-- A first part of what waits was written.
+pub part_written : (begin written written' : Option (List ℕ)) (waiting text : List ℕ) → Gathers begin written waiting text → AppendsPart written written' waiting → AppendsPart begin written' text
+part_written begin written written' waiting text gathered part = (
+  gathered.0 ++ part.0,
+  part.1,
+  gathered.1 ∙ ap (λ (bs : List ℕ). gathered.0 ++ bs) part.2 ∙ sym (append_assoc gathered.0 part.0 part.1),
+  Appends-trans begin written written' gathered.0 part.0 gathered.2 part.3,
+)
 
 -- One more line waits.
 pub gathers_more : (begin written : Option (List ℕ)) (waiting waiting' line text : List ℕ) → Gathers begin written waiting text → waiting' ≡ waiting ++ line
@@ -41,3 +51,19 @@ gathers_more begin written waiting waiting' line text gathered is =
 pub all_written : (begin written written' : Option (List ℕ)) (waiting text : List ℕ) → Gathers begin written waiting text → Appends written written' waiting → Appends begin written' text
 all_written begin written written' waiting text gathered sent =
     subst (λ (bs : List ℕ). Appends begin written' bs) (sym gathered.1) (Appends-trans begin written written' gathered.0 waiting gathered.2 sent)
+
+-- Of a write that failed: the lines of the first moves, or a first part of them.
+pub part_told : {T E : Type 0} (r : Result T E) (p : Parts) (moves : List Move) (i : ℕ) (begin written written' : Option (List ℕ)) (waiting done : List ℕ) → TellsMoves p (take i moves) done
+    → Gathers begin written waiting done → AppendsPart written written' waiting
+    → OnErr r ((first more : List Move) × (text : List ℕ) × (moves ≡ first ++ more) × TellsMoves p first text × AppendsPart begin written' text)
+part_told {T} {E} (Ok v) p moves i begin written written' waiting done told gathered part = tt
+part_told {T} {E} (Err e) p moves i begin written written' waiting done told gathered part =
+    (take i moves, drop i moves, done, sym (take-append-drop i moves), told, part_written begin written written' waiting done gathered part)
+
+pub prints_part : (p start : Parts) (items now first more : List Move) (text : List ℕ) (written written' : Option (List ℕ)) → p ≡ start → ListsLegal p items → now ≡ items → now ≡ first ++ more
+    → TellsMoves p first text → AppendsPart written written' text → PrintsPart start written written'
+prints_part p start items now first more text written written' same listed is parts told part =
+    let L : List Move → Type 0 = λ ms. ListsLegal p ms in
+    let P : Parts → Type 0 = λ q. ListsLegal q (first ++ more) in
+    let Q : Parts → Type 0 = λ q. TellsMoves q first text in
+    inr (first, more, text, subst P same (subst L (sym is ∙ parts) listed), subst Q same told, part)

@@ -8,7 +8,7 @@ use Rattle.clap.specs.Simple.{subcommand_of}
 use Rattle.board_session.specs.declared.recording.Setup.{Setup}
 use Rattle.board_session.specs.Settings.{Setting}
 use Rattle.replay_arguments.specs.declared.arguments.Subcommand.{Subcommand}
-use Rattle.replay_arguments.specs.declared.arguments.Subcommand.TheVariants.{Show, Pictures, Record, Follow, Check, Moves}
+use Rattle.replay_arguments.specs.declared.arguments.Subcommand.TheVariants.{Show, Pictures, Record, Follow, Check, Moves, Positions}
 use Rattle.replay_arguments.specs.declared.arguments.FollowArguments.{FollowArguments}
 use Rattle.replay_arguments.specs.declared.arguments.RecordArguments.{RecordArguments}
 use Rattle.replay_arguments.specs.Command.{replay}
@@ -79,6 +79,13 @@ pub moves_chosen : (arguments : List Text) (rows : List Row) (subcommand : Subco
 moves_chosen arguments rows subcommand asks asked =
     let found = (chosen arguments (codes "moves") rows subcommand asks asked).moves refl in
     (found.0, same_subcommand subcommand (Moves found.0) found.1, found.2)
+
+-- `positions` asks for those of a line from the start that its option says
+pub positions_chosen : (arguments : List Text) (rows : List Row) (subcommand : Subcommand) → Asks arguments (codes "positions") rows → AsksFor arguments subcommand
+    → (fen : Option (Bor Text)) × (subcommand ≡ Positions fen) × (given fen ≡ first_of (codes "fen") rows)
+positions_chosen arguments rows subcommand asks asked =
+    let found = (chosen arguments (codes "positions") rows subcommand asks asked).positions refl in
+    (found.0, same_subcommand subcommand (Positions found.0) found.1, found.2)
 
 -- None of them is refused.
 pub show_unrefused : (arguments : List Text) → AsksToShow arguments → IsRefused arguments → ⊥

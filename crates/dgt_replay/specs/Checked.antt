@@ -1,6 +1,7 @@
 -- What `check` says of a text.
 use Rattle.std.specs.Prelude.{◌≡◌, ℕ, ◌<◌, ◌≤◌, ◌⊎◌, List, ◌++◌, codes, decimal, length, Option, IfSome}
-use Rattle.std.specs.Io.KnownBytes.{Appends}
+use Rattle.std.specs.Io.KnownBytes.{Appends, Keeps}
+use Rattle.board_session.specs.Recording.{AppendsPart}
 use Rattle.settle_core.specs.declared.game.Outcome.{Outcome}
 use Rattle.pgn_book.specs.Games.{Content}
 use Rattle.pgn_book.specs.Movetext.{result_text}
@@ -19,6 +20,11 @@ text_limit = 268435456
 abbrev pub ChecksGame : Option (List ℕ) → Option (List ℕ) → Option (List ℕ) → Type 0
 ChecksGame input written written' = IfSome input (λ bytes. (game : Content) × Pgn game bytes × (length bytes ≤ text_limit)
     × Appends written written' (summary_line (length game.plies) game.result))
+
+-- A first part of that line was written, or nothing.
+abbrev pub ChecksPart : Option (List ℕ) → Option (List ℕ) → Option (List ℕ) → Type 0
+ChecksPart input written written' = Keeps written written' ⊎ IfSome input (λ bytes. (game : Content) × Pgn game bytes × (length bytes ≤ text_limit)
+    × AppendsPart written written' (summary_line (length game.plies) game.result))
 
 -- The message about a refused text: it is longer than a text may be; or it is not, and is the export text of no game.
 abbrev pub RefusesText : Option (List ℕ) → List ℕ → Type 0

@@ -1,5 +1,5 @@
 -- What each subcommand does with the streams, by its status.
-use Rattle.std.specs.Prelude.{◌≡◌, ◌⊎◌, ℕ, List, Option, codes, false}
+use Rattle.std.specs.Prelude.{◌≡◌, ◌⊎◌, ℕ, List, Option, codes, false, true}
 use Rattle.std.specs.Io.KnownBytes.{Keeps}
 use Rattle.clap.specs.Walk.{Text}
 use Rattle.chess_rules.specs.declared.parts.Parts.{Parts}
@@ -13,11 +13,12 @@ use Rattle.board_listing.specs.OneText.{TextEnds, event_lines, no_line, picture_
 use Rattle.board_listing.specs.declared.listing.Listing.{Listing}
 use Rattle.board_listing.specs.declared.listing.Listing.TheVariants.{Game}
 use Rattle.replay_arguments.specs.declared.arguments.Subcommand.{Subcommand}
-use Rattle.replay_arguments.specs.declared.arguments.Subcommand.TheVariants.{Show, Pictures, Record, Follow, Check, Moves}
+use Rattle.replay_arguments.specs.declared.arguments.Subcommand.TheVariants.{Show, Pictures, Record, Follow, Check, Moves, Positions}
 use Rattle.replay_arguments.specs.Setups.{HasNoStart, Meets, MeetsNothing, MeetsToFollow, StartsAt, given, tag_text}
-use Rattle.dgt_replay.specs.Checked.{ChecksGame, RefusesText, text_limit}
+use Rattle.dgt_replay.specs.Checked.{ChecksGame, ChecksPart, RefusesText, text_limit}
 use Rattle.dgt_replay.specs.Messages.{IsTooLong, Says, Tells}
-use Rattle.dgt_replay.specs.Printed.{PrintsMoves}
+use Rattle.dgt_replay.specs.Played.{PlaysAll, PlaysPart, RefusesMoves, line_limit}
+use Rattle.dgt_replay.specs.Printed.{PrintsMoves, PrintsPart}
 use Rattle.dgt_replay.specs.Recorded.{EndsFor, Fails, RecordsAndTells}
 use Rattle.dgt_replay.specs.Refusals.{RefusesSetup, RefusesStart}
 use Rattle.dgt_replay.specs.Streams.{Streams}
@@ -60,6 +61,9 @@ pub record Checks (status : ℕ) (s : Streams) : Type 0 where
   pub tells : Tells status (RefusesText s.input) s.said s.said' s.reader_failed s.out_failed s.err_failed
   -- at most one byte past the limit was read
   pub bounded : ReadsWithin text_limit s.input s.input'
+  -- a stream has failed: a first part of the line stands, and nothing where it is the reader
+  pub fault : status ≡ 3 → ChecksPart s.input s.written s.written'
+  pub unread : s.reader_failed ≡ true → Keeps s.written s.written'
   -- nothing was written of a text that is refused, or where memory ran out
   pub silent : (status ≡ 1) ⊎ (status ≡ 4) → Keeps s.written s.written'
 
@@ -69,9 +73,23 @@ pub record Prints (fen : Option Text) (status : ℕ) (s : Streams) : Type 0 wher
   -- where no position has the FEN, status 1 comes, or 4; and 1 never else
   pub refuses : HasNoStart fen → (status ≡ 1) ⊎ (status ≡ 4)
   pub refused : status ≡ 1 → HasNoStart fen
+  -- the output has failed, and a first part of the lines stands
+  pub fault : (start : Parts) → StartsAt fen start → status ≡ 3 → PrintsPart start s.written s.written'
   -- nothing was written of a FEN that is refused, or where memory ran out
   pub silent : (status ≡ 1) ⊎ (status ≡ 4) → Keeps s.written s.written'
   pub tells : Tells status (RefusesStart fen) s.said s.said' false s.out_failed s.err_failed
+
+-- The moves that the input names were played from the start, and each position was written; or why not was said.
+pub record Plays (start : Parts) (status : ℕ) (s : Streams) : Type 0 where
+  pub done : status ≡ 0 → PlaysAll start s.input s.written s.written'
+  -- the message of a refused input says what was written of it too
+  pub tells : Tells status (RefusesMoves start s.input s.written s.written') s.said s.said' s.reader_failed s.out_failed s.err_failed
+  -- a stream has failed: a first part stands, and nothing where it is the reader
+  pub fault : status ≡ 3 → PlaysPart start s.input s.written s.written'
+  pub unread : s.reader_failed ≡ true → Keeps s.written s.written'
+  pub memory : status ≡ 4 → Keeps s.written s.written'
+  -- at most one byte past the limit was read
+  pub bounded : ReadsWithin line_limit s.input s.input'
 
 -- What a subcommand does, by the setups, settings or starts that its options give.
 abbrev pub Does : Subcommand → ℕ → Streams → Type 0
@@ -83,3 +101,5 @@ Does (Follow options) status s = ((setting : Setting) → MeetsToFollow options 
     × (HasNoStart (given options.fen) → Refuses (RefusesStart (given options.fen)) status s)
 Does Check status s = Checks status s
 Does (Moves fen) status s = Prints (given fen) status s
+Does (Positions fen) status s = ((start : Parts) → StartsAt (given fen) start → Plays start status s)
+    × (HasNoStart (given fen) → Refuses (RefusesStart (given fen)) status s)

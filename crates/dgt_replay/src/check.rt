@@ -1,15 +1,16 @@
 //! The subcommand `check`.
-ghost use Rattle.std.specs.Prelude.{◌≡◌, ◌≢◌, ◌<◌, ◌≤◌, ◌⊎◌, ◌+◌, ◌++◌, Err, IfOk, OnOk, IfSome, false, true, length};
+ghost use Rattle.std.specs.Prelude.{◌≡◌, ◌≢◌, ◌≤◌, ◌⊎◌, ◌+◌, ◌++◌, false, true};
 ghost use Rattle.std.specs.Io.KnownBytes.{Keeps};
 ghost use Rattle.arrayvec.specs.ArrayVec.{array_vec_len};
 ghost use Rattle.dgt_frame.specs.Watch.{inner_of, has_failed};
-ghost use Rattle.dgt_replay.specs.Checked.{ChecksGame, RefusesText, summary_line};
+ghost use Rattle.dgt_replay.specs.Checked.{ChecksGame, ChecksPart, RefusesText, summary_line};
 ghost use Rattle.board_listing.specs.Listings.{ReadsWithin};
 ghost use Rattle.dgt_replay.specs.Messages.{Tells};
 
+use crate::input::{TextError, read_text};
 use crate::messages::{refused, refused_run};
 use board_listing::{GATHERED, LONGEST, Lines, add};
-use dgt_frame::{CHUNK, Watch, put, read_chunk};
+use dgt_frame::{Watch, put};
 use itoa::Buffer;
 use pgn_book::{PgnError, read_pgn, result_str};
 use settle_core::Outcome;
@@ -18,41 +19,6 @@ use std::io::{Read, Write};
 
 /// The most bytes of a PGN text.
 pub const TEXT_LIMIT: usize = 268_435_456;
-
-/// Why a text could not be read.
-enum TextError {
-    Memory,
-    Read,
-    TooLong,
-}
-
-// Reads a text to its end, or one byte past its limit.
-fn read_text<R: Read>(alloc: Global, reader: &mut Watch<R>) -> Result<Vec<u8>, TextError>
-    requires { has_failed reader.old ≡ false }
-    ensures whole { IfOk result (λ text. IfSome (R.remaining (inner_of reader.old)) (λ bytes. text.items ≡ bytes)) }
-    ensures within { IfOk result (λ text. length text.items ≤ TEXT_LIMIT) }
-    ensures bounded { ReadsWithin TEXT_LIMIT (R.remaining (inner_of reader.old)) (R.remaining (inner_of reader.new)) }
-    ensures read { result ≡ Err TextError.Read → has_failed reader.new ≡ true }
-    ensures works { OnOk result (has_failed reader.new ≡ false) }
-    ensures long { result ≡ Err TextError.TooLong → IfSome (R.remaining (inner_of reader.old)) (λ bytes. TEXT_LIMIT < length bytes) }
-{
-    let mut text = Vec::new(alloc);
-    let mut buffer = [0u8; CHUNK];
-    'chunks: loop {
-        let Ok(read) = read_chunk(reader, &mut buffer, TEXT_LIMIT - text.len()) else {
-            return Err(TextError::Read);
-        };
-        let Some(chunk) = read else {
-            return Ok(text);
-        };
-        if chunk.past {
-            return Err(TextError::TooLong);
-        }
-        if text.extend_from_slice(&buffer[..chunk.within]).is_err() {
-            return Err(TextError::Memory);
-        }
-    }
-}
 
 // Adds how many moves a game has, and its result.
 fn add_summary(lines: &mut Lines, moves: u64, outcome: Option<Outcome>)
@@ -80,12 +46,14 @@ pub fn check<R: Read, O: Write, E: Write>(
     ensures tells { Tells result (RefusesText (R.remaining (inner_of reader.old))) (E.contents (inner_of err.old)) (E.contents (inner_of err.new))
         (has_failed reader.new) (has_failed out.new) (has_failed err.new) }
     ensures bounded { ReadsWithin TEXT_LIMIT (R.remaining (inner_of reader.old)) (R.remaining (inner_of reader.new)) }
+    ensures fault { result ≡ 3 → ChecksPart (R.remaining (inner_of reader.old)) (O.contents (inner_of out.old)) (O.contents (inner_of out.new)) }
+    ensures unread { has_failed reader.new ≡ true → Keeps (O.contents (inner_of out.old)) (O.contents (inner_of out.new)) }
     ensures silent { (result ≡ 1) ⊎ (result ≡ 4) → Keeps (O.contents (inner_of out.old)) (O.contents (inner_of out.new)) }
     ensures works { result ≡ 0 → (has_failed reader.new ≡ false) × ((has_failed out.new ≡ false) × (err.new ≡ err.old)) }
     ensures known { result ≤ 4 }
     ensures status { result ≢ 2 }
 {
-    let text = match read_text(alloc, reader) {
+    let text = match read_text(alloc, reader, TEXT_LIMIT) {
         Ok(text) => text,
         Err(TextError::Memory) => return refused_run(out, err, b"memory\n", 4),
         Err(TextError::Read) => return refused_run(out, err, b"read fault\n", 3),

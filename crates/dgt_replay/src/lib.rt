@@ -2,8 +2,10 @@
 #![tactic(auto)]
 
 mod check;
+mod input;
 mod messages;
 mod moves;
+mod positions;
 mod program;
 mod record;
 

@@ -2,11 +2,13 @@
 ghost use Rattle.std.specs.Prelude.{◌≡◌, ◌≢◌, ◌≤◌, ◌⊎◌, ◌+◌, ◌++◌, ℕ, List, All, OnErr, OnOk, codes, false, true};
 ghost use Rattle.std.specs.Io.KnownBytes.{Appends, Keeps};
 ghost use Rattle.arrayvec.specs.ArrayVec.{array_vec_len};
+ghost use Rattle.board_session.specs.Recording.{AppendsPart};
+ghost use Rattle.chess_rules.specs.declared.chess_move.Move.{Move as MoveOf};
 ghost use Rattle.chess_rules.specs.declared.parts.Parts.{Parts as PartsOf};
 ghost use Rattle.chess_rules.specs.Legal.{Legal};
 ghost use Rattle.chess_text.specs.San.{San};
 ghost use Rattle.dgt_frame.specs.Watch.{inner_of, has_failed};
-ghost use Rattle.dgt_replay.specs.Printed.{PrintsMoves, TellsMoves};
+ghost use Rattle.dgt_replay.specs.Printed.{PrintsMoves, PrintsPart, TellsMoves};
 ghost use Rattle.replay_arguments.specs.Setups.{HasNoStart, StartsAt, given};
 ghost use Rattle.dgt_replay.specs.Refusals.{RefusesStart};
 ghost use Rattle.dgt_replay.specs.Messages.{Tells};
@@ -41,6 +43,8 @@ fn put_moves<O: Write>(
     ensures told { OnOk result ((text : List ℕ) × TellsMoves position.now moves.now text × Appends (O.contents (inner_of out.old)) (O.contents (inner_of out.new)) text) }
     ensures working { OnOk result (has_failed out.new ≡ false) }
     ensures failed { OnErr result (has_failed out.new ≡ true) }
+    ensures part { OnErr result ((first more : List MoveOf) × (text : List ℕ) × (moves.now ≡ first ++ more) × TellsMoves position.now first text
+        × AppendsPart (O.contents (inner_of out.old)) (O.contents (inner_of out.new)) text) }
 {
     let mut lines = Lines::new();
     for m in moves {
@@ -62,6 +66,7 @@ pub fn moves<O: Write, E: Write>(
 ) -> u8
     requires working { has_failed out.old ≡ false }
     ensures prints { (start : PartsOf) → StartsAt (given fen.entry) start → result ≡ 0 → PrintsMoves start (O.contents (inner_of out.old)) (O.contents (inner_of out.new)) }
+    ensures part { (start : PartsOf) → StartsAt (given fen.entry) start → result ≡ 3 → PrintsPart start (O.contents (inner_of out.old)) (O.contents (inner_of out.new)) }
     ensures accepts { (start : PartsOf) → StartsAt (given fen.entry) start → result ≢ 1 }
     ensures refuses { HasNoStart (given fen.entry) → (result ≡ 1) × Keeps (O.contents (inner_of out.old)) (O.contents (inner_of out.new)) }
     ensures tells { Tells result (RefusesStart (given fen.entry)) (E.contents (inner_of err.old)) (E.contents (inner_of err.new)) false (has_failed out.new) (has_failed err.new) }

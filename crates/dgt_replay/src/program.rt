@@ -4,6 +4,7 @@ ghost use Rattle.std.specs.Borrow.{Bor};
 ghost use Rattle.std.specs.Io.KnownBytes.{Keeps};
 ghost use Rattle.board_session.specs.declared.recording.Setup.{Setup};
 ghost use Rattle.board_session.specs.Settings.{Setting};
+ghost use Rattle.chess_rules.specs.declared.parts.Parts.{Parts as PartsOf};
 ghost use Rattle.clap.specs.Values.{kind_of};
 ghost use Rattle.clap.specs.Walk.{Row, first_of};
 ghost use Rattle.dgt_frame.specs.Watch.{inner_of, has_failed};
@@ -11,8 +12,8 @@ ghost use Rattle.replay_arguments.specs.Subcommands.{AreMistaken, Asks, AsksForH
 ghost use Rattle.board_listing.specs.declared.listing.Listing.{Listing};
 ghost use Rattle.board_listing.specs.EventLines.{rest_line};
 ghost use Rattle.board_listing.specs.OneText.{event_lines, no_line, picture_lines};
-ghost use Rattle.replay_arguments.specs.Setups.{HasNoStart, MeetsToFollow, SetsUpNothing, given, option_of};
-ghost use Rattle.dgt_replay.specs.Does.{Checks, Does, Lists, Prints, Records, Refuses, WritesText};
+ghost use Rattle.replay_arguments.specs.Setups.{HasNoStart, MeetsToFollow, SetsUpNothing, StartsAt, given, option_of};
+ghost use Rattle.dgt_replay.specs.Does.{Checks, Does, Lists, Plays, Prints, Records, Refuses, WritesText};
 ghost use Rattle.dgt_replay.specs.Refusals.{RefusesSetup, RefusesStart};
 ghost use Rattle.dgt_replay.specs.Messages.{GivesText, RefusesArguments, Says};
 ghost use Rattle.dgt_replay.specs.Streams.{streams};
@@ -20,6 +21,7 @@ ghost use Rattle.dgt_replay.specs.Streams.{streams};
 use crate::check::check;
 use crate::messages::{refused, refused_fen};
 use crate::moves::moves;
+use crate::positions::positions;
 use crate::record::record_game;
 use board_listing::{Listing, list_stream};
 use clap::Error;
@@ -150,6 +152,7 @@ fn dispatch<R: Read, O: Write, E: Write>(
         Subcommand::Follow(options) => follow(alloc, options, reader, out, err),
         Subcommand::Check => check(alloc, reader, out, err),
         Subcommand::Moves { fen } => moves(alloc, *fen, out, err),
+        Subcommand::Positions { fen } => positions(alloc, *fen, reader, out, err),
     }
 }
 
@@ -198,6 +201,14 @@ pub fn run<R: Read, O: Write, E: Write>(
     ensures moves { (rows : List Row) → Asks (map string_bytes arguments.now) (codes "moves") rows → Prints (first_of (codes "fen") rows) result
         (streams R.remaining O.contents E.contents reader.old reader.new out.old out.new err.old err.new) }
     ensures moves_unread { (rows : List Row) → Asks (map string_bytes arguments.now) (codes "moves") rows → reader.new ≡ reader.old }
+
+    // `positions` with any options: the position that they say, and that after each move of the input, as FEN. Where no position
+    // has the FEN, the reason is said.
+    ensures positions { (rows : List Row) → Asks (map string_bytes arguments.now) (codes "positions") rows → (start : PartsOf) → StartsAt (first_of (codes "fen") rows) start
+        → Plays start result (streams R.remaining O.contents E.contents reader.old reader.new out.old out.new err.old err.new) }
+    ensures positions_refuses { (rows : List Row) → Asks (map string_bytes arguments.now) (codes "positions") rows → HasNoStart (first_of (codes "fen") rows)
+        → Refuses (RefusesStart (first_of (codes "fen") rows)) result
+        (streams R.remaining O.contents E.contents reader.old reader.new out.old out.new err.old err.new) }
 
     // Mistaken arguments: nothing is read, nothing is written to the output, and the reason alone is said. Help and the version
     // read nothing.

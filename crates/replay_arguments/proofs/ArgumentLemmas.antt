@@ -17,7 +17,7 @@ use Rattle.pgn_book.specs.declared.values.Tag.TheVariants.{Event, Site, Date, Ro
 use Rattle.board_session.specs.Recording.{setting_of}
 use Rattle.replay_arguments.specs.declared.arguments.Subcommand.{Subcommand}
 use Rattle.replay_arguments.specs.Command.{replay}
-use Rattle.replay_arguments.specs.Subcommands.{Asks, AsksForPictures, AsksToCheck, AsksToShow, AsksForMoves, AsksToFollow, AsksToRecord, Chooses, IsCheck, IsFollow, IsMoves, IsPictures, IsRecord, IsShow, is_subcommand}
+use Rattle.replay_arguments.specs.Subcommands.{Asks, AsksForPictures, AsksToCheck, AsksToShow, AsksForMoves, AsksForPositions, AsksToFollow, AsksToRecord, Chooses, IsCheck, IsFollow, IsMoves, IsPictures, IsPositions, IsRecord, IsShow, is_subcommand}
 use Rattle.replay_arguments.specs.Setups.{flag_text, given, option_of, plain_setup, side_in}
 use Rattle.replay_arguments.proofs.SetupLemmas.{follows_plainly, sets_up_plainly}
 
@@ -88,6 +88,18 @@ follow_not_check name is other = let bad : 102 ≡ 99 = ap (λ t. slice_index t 
 
 pub follow_not_moves : (name : Text) → name ≡ codes "follow" → name ≡ codes "moves" → ⊥
 follow_not_moves name is other = let bad : 102 ≡ 109 = ap (λ t. slice_index t 0) (sym is ∙ other) in absurd (omega (arith, bad))
+
+pub pictures_not_positions : (name : Text) → name ≡ codes "pictures" → name ≡ codes "positions" → ⊥
+pictures_not_positions name is other = let bad : 105 ≡ 111 = ap (λ t. slice_index t 1) (sym is ∙ other) in absurd (omega (arith, bad))
+
+pub record_not_positions : (name : Text) → name ≡ codes "record" → name ≡ codes "positions" → ⊥
+record_not_positions name is other = let bad : 114 ≡ 112 = ap (λ t. slice_index t 0) (sym is ∙ other) in absurd (omega (arith, bad))
+
+pub follow_not_positions : (name : Text) → name ≡ codes "follow" → name ≡ codes "positions" → ⊥
+follow_not_positions name is other = let bad : 102 ≡ 112 = ap (λ t. slice_index t 0) (sym is ∙ other) in absurd (omega (arith, bad))
+
+pub moves_not_positions : (name : Text) → name ≡ codes "moves" → name ≡ codes "positions" → ⊥
+moves_not_positions name is other = let bad : 109 ≡ 112 = ap (λ t. slice_index t 0) (sym is ∙ other) in absurd (omega (arith, bad))
 
 -- ---- fixed arguments
 
@@ -246,3 +258,16 @@ moves_asks arguments (name, is) =
     let these = name ∷ codes "moves" ∷ [] in
     let P : List Text → Type 0 = λ w. AsksForMoves w initial in
     subst P (sym is) (rows_for these, asks_by these (codes "moves") f.2 f.0 refl, rw f.1 refl)
+
+positions_found : (name : Text) → (name_in (subcommand_of replay (name ∷ codes "positions" ∷ [])) ≡ Some (codes "positions"))
+    × (first_of (codes "fen") (rows_for (name ∷ codes "positions" ∷ [])) ≡ None)
+    × (takes replay (name ∷ codes "positions" ∷ []) ≡ true)
+unfolding clap_on_literals
+positions_found name = (refl, refl, refl)
+
+pub positions_asks : (arguments : List Text) → IsPositions arguments → AsksForPositions arguments initial
+positions_asks arguments (name, is) =
+    let f = positions_found name in
+    let these = name ∷ codes "positions" ∷ [] in
+    let P : List Text → Type 0 = λ w. AsksForPositions w initial in
+    subst P (sym is) (rows_for these, asks_by these (codes "positions") f.2 f.0 refl, rw f.1 refl)

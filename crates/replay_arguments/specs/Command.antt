@@ -41,6 +41,9 @@ check_app = new_app (codes "check")
 abbrev pub moves_app : App
 moves_app = with_text (new_app (codes "moves")) (codes "fen")
 
+abbrev pub positions_app : App
+positions_app = with_text (new_app (codes "positions")) (codes "fen")
+
 abbrev pub follow_app : App
 follow_app = with_board (new_app (codes "follow"))
 
@@ -50,8 +53,8 @@ with_version app = record app { top = record app.top { has_version = true; subco
 
 -- the command with its subcommands
 abbrev pub replay : App
-replay = with_subcommand (with_subcommand (with_subcommand (with_subcommand (with_subcommand (with_subcommand (with_version (new_app (codes "dgt_replay")))
-    show_app.top) pictures_app.top) record_app.top) follow_app.top) check_app.top) moves_app.top
+replay = with_subcommand (with_subcommand (with_subcommand (with_subcommand (with_subcommand (with_subcommand (with_subcommand (with_version (new_app (codes "dgt_replay")))
+    show_app.top) pictures_app.top) record_app.top) follow_app.top) check_app.top) moves_app.top) positions_app.top
 
 -- The command is read so by a parse.
 pub record IsApp (command : Command) (app : App) : Type 0 where

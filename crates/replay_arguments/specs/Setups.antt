@@ -1,4 +1,4 @@
--- What the arguments of `record`, of `follow` and of `moves` mean.
+-- What the arguments of `record`, of `follow`, of `moves` and of `positions` mean.
 use Rattle.std.specs.Prelude.{◌≡◌, ◌⊎◌, Bool, List, [], ◌∷◌, ◌++◌, All, ℕ, codes, Option, Some, None, MatchOption, option_map, true, false, if◌then◌else◌, ⊤}
 use Rattle.std.specs.Borrow.{Bor}
 use Rattle.std.specs.Str.{bytes_eq}

@@ -13,7 +13,7 @@ use Rattle.chess_rules.specs.declared.parts.Parts.{Parts}
 use Rattle.board_session.specs.declared.recording.Setup.{Setup}
 use Rattle.board_session.specs.Settings.{Setting}
 use Rattle.replay_arguments.specs.declared.arguments.Subcommand.{Subcommand}
-use Rattle.replay_arguments.specs.declared.arguments.Subcommand.TheVariants.{Show, Pictures, Record, Follow, Check, Moves}
+use Rattle.replay_arguments.specs.declared.arguments.Subcommand.TheVariants.{Show, Pictures, Record, Follow, Check, Moves, Positions}
 use Rattle.replay_arguments.specs.declared.arguments.FollowArguments.{FollowArguments}
 use Rattle.replay_arguments.specs.declared.arguments.RecordArguments.{RecordArguments}
 use Rattle.replay_arguments.specs.Command.{replay}
@@ -22,7 +22,7 @@ use Rattle.replay_arguments.specs.Setups.{SetsFollowingUp, SetsUp, StartsAt, Wan
 -- whether the subcommand is one of the program's, and the side after `--first`, if there is one, is white or black
 abbrev pub is_subcommand : Text → List Row → Bool
 is_subcommand name rows = if bytes_eq name (codes "record") || bytes_eq name (codes "follow") then is_some (side_in (first_of (codes "first") rows))
-    else (bytes_eq name (codes "show") || bytes_eq name (codes "pictures") || bytes_eq name (codes "check") || bytes_eq name (codes "moves"))
+    else (bytes_eq name (codes "show") || bytes_eq name (codes "pictures") || bytes_eq name (codes "check") || bytes_eq name (codes "moves") || bytes_eq name (codes "positions"))
 
 -- what a subcommand with these arguments asks for
 pub record Chooses (name : Text) (rows : List Row) (subcommand : Option Subcommand) : Type 0 where
@@ -32,6 +32,7 @@ pub record Chooses (name : Text) (rows : List Row) (subcommand : Option Subcomma
   pub follow : name ≡ codes "follow" → IfSome subcommand (λ chosen. (options : FollowArguments) × (chosen ≡ Follow options) × WantsToFollow rows options)
   pub check : name ≡ codes "check" → subcommand ≡ Some Check
   pub moves : name ≡ codes "moves" → (fen : Option (Bor Text)) × (subcommand ≡ Some (Moves fen)) × (given fen ≡ first_of (codes "fen") rows)
+  pub positions : name ≡ codes "positions" → (fen : Option (Bor Text)) × (subcommand ≡ Some (Positions fen)) × (given fen ≡ first_of (codes "fen") rows)
   pub known : is_some subcommand ≡ is_subcommand name rows
 
 -- a parse finds this in the arguments
@@ -87,6 +88,10 @@ AsksToFollow arguments setting = (rows : List Row) × Asks arguments (codes "fol
 abbrev pub AsksForMoves : List Text → Parts → Type 0
 AsksForMoves arguments start = (rows : List Row) × Asks arguments (codes "moves") rows × StartsAt (first_of (codes "fen") rows) start
 
+-- The arguments ask for the positions of a line of moves from this start.
+abbrev pub AsksForPositions : List Text → Parts → Type 0
+AsksForPositions arguments start = (rows : List Row) × Asks arguments (codes "positions") rows × StartsAt (first_of (codes "fen") rows) start
+
 -- The arguments are a program's name, whatever it is, and `show`.
 abbrev pub IsShow : List Text → Type 0
 IsShow arguments = (name : Text) × (arguments ≡ name ∷ codes "show" ∷ [])
@@ -110,6 +115,10 @@ IsCheck arguments = (name : Text) × (arguments ≡ name ∷ codes "check" ∷ [
 -- The arguments are a program's name, whatever it is, and `moves`.
 abbrev pub IsMoves : List Text → Type 0
 IsMoves arguments = (name : Text) × (arguments ≡ name ∷ codes "moves" ∷ [])
+
+-- The arguments are a program's name, whatever it is, and `positions`.
+abbrev pub IsPositions : List Text → Type 0
+IsPositions arguments = (name : Text) × (arguments ≡ name ∷ codes "positions" ∷ [])
 
 -- The arguments are a program's name, whatever it is, and `--help` or `-h`.
 abbrev pub IsHelp : List Text → Type 0

@@ -31,6 +31,8 @@ pub enum Subcommand<'a> {
     Check,
     /// The legal moves of a position.
     Moves { fen: Option<&'a str> },
+    /// The positions of a line of moves.
+    Positions { fen: Option<&'a str> },
 }
 
 /// How a game is to be recorded.
@@ -139,6 +141,9 @@ fn subcommand_named<'a>(name: &str, matches: &ArgMatches<'a>) -> Option<Subcomma
         },
         "check" => Some(Subcommand::Check),
         "moves" => Some(Subcommand::Moves {
+            fen: matches.get_str("fen"),
+        }),
+        "positions" => Some(Subcommand::Positions {
             fen: matches.get_str("fen"),
         }),
         _ => None,

@@ -1,7 +1,7 @@
 //! The command line of the program, as `clap` parses it.
 ghost use Rattle.std.specs.Prelude.{◌≡◌, IfOk};
 ghost use Rattle.clap.specs.Simple.{App, app_of, new_app};
-ghost use Rattle.replay_arguments.specs.Command.{AddsRule, AddsApp, IsApp, Makes, check_app, follow_app, moves_app, pictures_app, record_app, replay, rotated_rule, show_app, text_rule, with_board, with_tags};
+ghost use Rattle.replay_arguments.specs.Command.{AddsRule, AddsApp, IsApp, Makes, check_app, follow_app, moves_app, pictures_app, positions_app, record_app, replay, rotated_rule, show_app, text_rule, with_board, with_tags};
 
 use clap::{Arg, ArgAction, Command};
 use std::alloc::{AllocError, Global};
@@ -158,6 +158,23 @@ fn moves<'a>(alloc: Global) -> Result<Command<'a>, AllocError>
     with_text(alloc, Ok(command), "fen", "TEXT", "The position")
 }
 
+fn positions<'a>(alloc: Global) -> Result<Command<'a>, AllocError>
+    ensures { IfOk result (λ command. IsApp command positions_app) }
+{
+    let command = named(
+        alloc,
+        "positions",
+        "Prints the FEN of each position as the moves on standard input are played",
+    );
+    with_text(
+        alloc,
+        Ok(command),
+        "fen",
+        "TEXT",
+        "The position at the start",
+    )
+}
+
 /// The command of the program, with its subcommands.
 pub fn command<'a>(alloc: Global) -> Result<Command<'a>, AllocError>
     ensures { IfOk result (λ command. app_of command ≡ replay) }
@@ -174,5 +191,6 @@ pub fn command<'a>(alloc: Global) -> Result<Command<'a>, AllocError>
     let command = with_subcommand(command, record(alloc));
     let command = with_subcommand(command, follow(alloc));
     let command = with_subcommand(command, Ok(check(alloc)));
-    with_subcommand(command, moves(alloc))
+    let command = with_subcommand(command, moves(alloc));
+    with_subcommand(command, positions(alloc))
 }

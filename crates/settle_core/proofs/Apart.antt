@@ -102,7 +102,7 @@ pub apart : (seen : List ℕ) (side : Side) (k : BothKings seen side) → k.mine
 apart seen side k e = codes_differ side (sym k.mine_stands ∙ ap (λ s. get_or seen s 0) e ∙ k.theirs_stands)
 
 -- both kings' codes in the centre, from where White's and Black's stand
-both_codes : (seen : List ℕ) (side : Side) (white black : ℕ) → InCentre white → InCentre black
+pub both_codes : (seen : List ℕ) (side : Side) (white black : ℕ) → InCentre white → InCentre black
     → get_or seen white 0 ≡ code_of_piece White King → get_or seen black 0 ≡ code_of_piece Black King → BothKings seen side
 both_codes seen White white black a b x y =
     record { mine = white; theirs = black; mine_centre = a; theirs_centre = b; mine_stands = x; theirs_stands = y }
@@ -113,7 +113,7 @@ pub apart_unless : (seen : List ℕ) (side : Side) → ¬ BothKings seen side �
 apart_unless seen side none white black a b x y = none (both_codes seen side white black a b x y)
 
 -- the picture of a valid position has the kings apart
-apart_valid : (p : Parts) (seen : List ℕ) → Valid p → seen ≡ picture p → ¬ BothKings seen p.side
+pub apart_valid : (p : Parts) (seen : List ℕ) → Valid p → seen ≡ picture p → ¬ BothKings seen p.side
 apart_valid p seen v e k =
     kings_apart p k.mine k.theirs v
     (on_shown p seen k.mine p.side King (rw v.squares (centre_low k.mine k.mine_centre)) e k.mine_stands)

@@ -43,14 +43,14 @@ all_open start earlier Q (entry ∷ more) past s a q o =
     all_open start earlier Q more (entry ∷ past) s a.1 q.1 (entry_open start earlier Q past entry s a.0 q.0 o)
 
 -- each picture is one of the list's
-among : (whole first rest : List Entry) → whole ≡ first ++ rest → AllAre (IsAmong whole) rest
+pub among : (whole first rest : List Entry) → whole ≡ first ++ rest → AllAre (IsAmong whole) rest
 among whole first [] e = tt
 among whole first (entry ∷ rest) e =
     let e' : whole ≡ (first ++ entry ∷ []) ++ rest = e ∙ sym (append_assoc first (entry ∷ []) rest) in
     (record { entry = entry; first = first; rest = rest; stands = e; shows = refl }, among whole (first ++ entry ∷ []) rest e')
 
 -- what stands in is a ply more
-one_more :
+pub one_more :
     (start : Parts) (p : Parts) (plies : List Ply) (part : List Entry) (score : Score)
     → reached start (moves_of (reverse plies)) ≡ p
     → StandsIn start (reverse plies) (IsAmong part) score
@@ -91,7 +91,7 @@ honest_stops start moves lists part score v l h a f =
 abbrev pub Aligned : List Entry → List Entry → List Entry → List Entry → Type 0
 Aligned xs ys us vs = ((zs : List Entry) × (us ≡ xs ++ zs) × (ys ≡ zs ++ vs)) ⊎ ((z : Entry) × (zs : List Entry) × (xs ≡ us ++ z ∷ zs))
 
-align : (xs ys us vs : List Entry) → xs ++ ys ≡ us ++ vs → Aligned xs ys us vs
+pub align : (xs ys us vs : List Entry) → xs ++ ys ≡ us ++ vs → Aligned xs ys us vs
 align [] ys us vs e = inl (us, refl, e)
 align (x ∷ xs) ys [] vs e = inr (x, xs, refl)
 align (x ∷ xs) ys (u ∷ us) vs e =

@@ -25,3 +25,9 @@ pub mod Trying
 pub mod Skipping
 pub mod Lacking
 pub mod Replying
+pub mod Whatever
+pub mod Resuming
+pub mod Ending
+pub mod Returning
+pub mod Holding
+pub mod Twice

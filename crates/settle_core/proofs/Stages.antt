@@ -177,7 +177,7 @@ abbrev pub NotYet : Parts → Move → List ℕ → Type 0
 NotYet p m seen = seen ≢ picture (after p m)
 
 -- the picture after m, where no other move stands in its place
-end_first :
+pub end_first :
     (start : Parts) (earlier : List Ply) (m : Move) (seen : List ℕ) (reading : Option Reading) (shown : Seen)
     → IsSound start earlier
     → Legal (reached start (moves_of earlier)) m
@@ -196,7 +196,7 @@ end_first start earlier m seen reading Waits s l e h =
     absurd (h.0 m (settles_end (reached start (moves_of earlier)) m seen (now start earlier s) l e))
 
 -- and where one does
-end_again :
+pub end_again :
     (start : Parts) (earlier : List Ply) (ply : Ply) (m : Move) (seen : List ℕ) (reading : Option Reading) (shown : Seen)
     → IsSound start earlier
     → Legal (reached start (moves_of earlier)) ply.mv

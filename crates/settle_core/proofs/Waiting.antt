@@ -110,7 +110,7 @@ rest_step start plies sign past entry s rest g =
     let same : seen ≡ Waits = shows_once start (moves_of plies) entry.picture seen Waits (now start plies s) (shows_at start score final entry.picture seen e h) waits in
     ap (λ (x : Seen). score_after start score entry.reading x) same ∙ e)
 
-rest_all :
+pub rest_all :
     (start : Parts) (plies : List Ply) (sign : Option Outcome) (entries past : List Entry)
     → IsSound start plies
     → AllRest (reached start (moves_of plies)) entries
@@ -120,7 +120,7 @@ rest_all start plies sign [] past s a g = g
 rest_all start plies sign (entry ∷ entries) past s a g =
     rest_all start plies sign entries (entry ∷ past) s a.1 (rest_step start plies sign past entry s a.0 g)
 
-rest_last :
+pub rest_last :
     (start : Parts) (plies : List Ply) (entries past : List Entry)
     → IsSound start plies
     → AllRest (reached start (moves_of plies)) entries
@@ -136,7 +136,7 @@ sign_is_new p seen outcome [] h n = refl
 sign_is_new p seen outcome (entry ∷ past) h n =
     differ_false seen entry.picture (λ e. n outcome (let P : List ℕ → Type 0 = λ xs. IsSign p xs outcome in subst P e h))
 
-sign_step :
+pub sign_step :
     (start : Parts) (plies : List Ply) (sign : Option Outcome) (past : List Entry) (entry : Entry) (outcome : Outcome)
     → IsSound start plies
     → IsSign (reached start (moves_of plies)) entry.picture outcome
@@ -151,7 +151,7 @@ sign_step start plies sign past entry outcome s k n g =
     let same : seen ≡ Sign outcome = shows_once start (moves_of plies) entry.picture seen (Sign outcome) (now start plies s) (shows_at start score final entry.picture seen e h) k in
     ap (λ (x : Seen). score_after start score entry.reading x) same ∙ ap (λ (x : Score). with_sign x.plies (Some outcome)) e)
 
-ends_no_sign : (p : Parts) (past : List Entry) → Valid p → EndsAt p past → NoSignLast p past
+pub ends_no_sign : (p : Parts) (past : List Entry) → Valid p → EndsAt p past → NoSignLast p past
 ends_no_sign p [] v h = tt
 ends_no_sign p (entry ∷ past) v h = Rattle.settle_core.proofs.Apart.no_sign_valid p entry.picture v h p
 

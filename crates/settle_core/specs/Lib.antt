@@ -10,3 +10,6 @@ pub mod Candidate
 pub mod Settler
 pub mod Kept
 pub mod Tips
+pub mod AnyPlay
+pub mod Endings
+pub mod AnyHands

@@ -1,4 +1,7 @@
 //! What holds of all games, each law as the contract of a function; and how a move is read off two pictures.
+ghost use Rattle.settle_core.specs.AnyHands.{MadeAgainStops, OneHandStops, TakenBackAndMadeAgain, WholeMoveIsInHand};
+ghost use Rattle.settle_core.specs.AnyPlay.{HonestPlayResumes, KingsEndResumedPlay, KingsInCentreKeepThePlies, KingsInCentreMakeNoMove, NothingIsInvented, OnlyTheLastPlyMayChange, ResumedPlayStops};
+ghost use Rattle.settle_core.specs.Endings.{HonestPlayEnds, HonestPlayStopsAnywhere};
 ghost use Rattle.settle_core.specs.Laws.{FoldsOnce, FoldsSome, FrontsOfHonestPlay, GivesSome, HonestPlayFolds, HonestPlayIsKept, HonestPlayKeepsClocks, HonestPlayStops, KingsEndHonestPlay, NoEntryGivesTwo, NoMoreIsInHand, OneHandTriesItsPiece, RepeatsCountOnce, RepliesReplaceNothing, RestingWaits, SettlersTellTheScore, SignsSettleNothing, ThreeUnseenAddNothing, ThreeUnseenSettleNothing, TwoUnseenChangeNothing, TwoUnseenWait, UnderWayIsInHand};
 
 pub use crate::candidate::candidate;
@@ -115,4 +118,49 @@ pub fn signs_settle_nothing()
 /// which of the two is tested first.
 pub fn replies_replace_nothing()
     ensures { RepliesReplaceNothing }
+{}
+
+/// Nothing is invented: whatever a board shows, each ply was shown whole, in its turn, with its clock.
+pub fn nothing_is_invented()
+    ensures { NothingIsInvented }
+{}
+
+/// Only the last ply may change: whatever comes later, all plies but the last stand for good.
+pub fn only_the_last_ply_may_change()
+    ensures { OnlyTheLastPlyMayChange }
+{}
+
+/// Honest play resumes: whatever was seen before, where no sign stands and the board agrees with the game, the moves that are
+/// shown honestly from there on are added, and nothing else is. So it is where play stops, and where the kings end it.
+pub fn honest_play_resumes()
+    ensures adds { HonestPlayResumes }
+    ensures stops { ResumedPlayStops }
+    ensures ends { KingsEndResumedPlay }
+{}
+
+/// While both kings stand in the centre no move is made, whatever else shows: pieces may be put away, and the sign alone can
+/// change.
+pub fn kings_in_centre_make_no_move()
+    ensures settles { KingsInCentreMakeNoMove }
+    ensures plies { KingsInCentreKeepThePlies }
+{}
+
+/// After honest play pieces are taken off and set up again, and the kings may give a sign: the line stands, with the sign. And
+/// where all this is broken off anywhere, no whole move is lost.
+pub fn honest_play_stops_anywhere()
+    ensures ends { HonestPlayEnds }
+    ensures stops { HonestPlayStopsAnywhere }
+{}
+
+/// A move that takes no piece may be made whole, taken back and made again before the other side begins: its whole picture has
+/// pieces in hand, and honest play with such pictures folds to its moves.
+pub fn moves_may_be_made_again()
+    ensures hand { WholeMoveIsInHand }
+    ensures folds { TakenBackAndMadeAgain }
+    ensures stops { MadeAgainStops }
+{}
+
+/// So it is wherever honest play with one piece in hand is broken off: the one ply more, if there is one, is of this piece.
+pub fn one_hand_stops()
+    ensures { OneHandStops }
 {}

@@ -15,7 +15,9 @@ pub struct Case<'a> {
     pub name: &'a str,
     arguments: &'a [&'a str],
     input: &'a [Signal<'a>],
-    /// A text behind the capture.
+    /// Moves behind the capture.
+    moves: &'a str,
+    /// A text behind the moves.
     text: Option<GameText<'a>>,
     /// The lines of the output.
     out: &'a str,
@@ -32,6 +34,7 @@ const PLAIN: Case<'static> = Case {
     name: "",
     arguments: &[],
     input: &[],
+    moves: "",
     text: None,
     out: "",
     game: None,
@@ -40,7 +43,7 @@ const PLAIN: Case<'static> = Case {
     ply_refused: "",
 };
 
-pub static CASES: [Case<'static>; 5] = [
+pub static CASES: [Case<'static>; 6] = [
     Case {
         name: "record",
         arguments: &["record"],
@@ -92,11 +95,21 @@ pub static CASES: [Case<'static>; 5] = [
         out: "a4\na3\nb4\nb3\nc4\nc3\nd4\nd3\ne4\ne3\nf4\nf3\ng4\ng3\nh4\nh3\nNa3\nNc3\nNf3\nNh3\n",
         ..PLAIN
     },
+    Case {
+        name: "positions",
+        arguments: &["positions", "--fen", "4k3/8/8/8/8/8/8/4K3 w - -"],
+        moves: "Ke2 Ke7",
+        out: "4k3/8/8/8/8/8/8/4K3 w - - 0 1\n4k3/8/8/8/8/8/4K3/8 b - - 1 1\n8/4k3/8/8/8/8/4K3/8 w - - 2 2\n",
+        ..PLAIN
+    },
 ];
 
 /// Runs a case, where there is memory for its arguments.
 fn run_of(alloc: Global, case: &Case<'_>) -> Option<Left> {
-    let bytes = with_game(&[bytes_of(case.input).get()], &case.text);
+    let bytes = with_game(
+        &[bytes_of(case.input).get(), case.moves.as_bytes()],
+        &case.text,
+    );
     run_over(
         alloc,
         case.arguments,

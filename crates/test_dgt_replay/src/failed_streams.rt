@@ -19,7 +19,7 @@ pub const FAILED_READ: Case<'static> = Case {
     ..PLAIN
 };
 
-static FAILED_READS: [Case<'static>; 5] = [
+static FAILED_READS: [Case<'static>; 6] = [
     Case {
         arguments: &["show"],
         out: &[INITIAL_LINE, b"71 update 52 0\n76 update 36 1\n"],
@@ -45,6 +45,11 @@ static FAILED_READS: [Case<'static>; 5] = [
         arguments: &["check"],
         ..FAILED_READ
     },
+    Case {
+        arguments: &["positions"],
+        input: &[b"e4"],
+        ..FAILED_READ
+    },
 ];
 
 #[test]
@@ -61,7 +66,7 @@ pub const FAILED_WRITE: Case<'static> = Case {
 };
 
 /// What stands in the output after ten bytes.
-static FAILED_WRITES: [Case<'static>; 6] = [
+static FAILED_WRITES: [Case<'static>; 7] = [
     Case {
         arguments: &["show"],
         out: &[b"66 dump 89"],
@@ -95,6 +100,12 @@ static FAILED_WRITES: [Case<'static>; 6] = [
         out: &[b"a4\na3\nb4\nb"],
         ..FAILED_WRITE
     },
+    Case {
+        arguments: &["positions"],
+        input: &[b"e4"],
+        out: &[b"rnbqkbnr/p"],
+        ..FAILED_WRITE
+    },
 ];
 
 /// With room for ten bytes, the output of the case is all that stands.
@@ -124,7 +135,7 @@ fn first_written(alloc: Global, cases: &[Case<'_>]) -> Option<usize> {
 }
 
 /// Of these only the status and standard error are told.
-static FAILED_TWICE: [Case<'static>; 11] = [
+static FAILED_TWICE: [Case<'static>; 14] = [
     // a read that fails too
     Case {
         arguments: &["show"],
@@ -184,6 +195,25 @@ static FAILED_TWICE: [Case<'static>; 11] = [
     },
     Case {
         arguments: &["check"],
+        fails: true,
+        flushes: false,
+        ..FAILED_WRITE
+    },
+    // a word that is no move, or an input that can't be read, and a flush or a write that fails
+    Case {
+        arguments: &["positions"],
+        input: &[b"e5"],
+        flushes: false,
+        ..FAILED_WRITE
+    },
+    Case {
+        arguments: &["positions"],
+        input: &[b"e5"],
+        room: 20,
+        ..FAILED_WRITE
+    },
+    Case {
+        arguments: &["positions"],
         fails: true,
         flushes: false,
         ..FAILED_WRITE
@@ -288,7 +318,7 @@ const FAILED_ERROR: Case<'static> = Case {
 };
 
 /// Nothing is written after a failure, and only a status of 0 changes.
-static FAILED_ERRORS: [Case<'static>; 10] = [
+static FAILED_ERRORS: [Case<'static>; 11] = [
     Case {
         arguments: &["record"],
         error_room: 0,
@@ -345,6 +375,15 @@ static FAILED_ERRORS: [Case<'static>; 10] = [
         error_room: 3,
         status: 1,
         err: b"pgn",
+        ..FAILED_ERROR
+    },
+    Case {
+        arguments: &["positions", "--fen", "4k3/8/8/8/8/8/8/4K3 w - -"],
+        input: &[b"e4"],
+        error_room: 7,
+        status: 1,
+        out: &[b"4k3/8/8/8/8/8/8/4K3 w - - 0 1\n"],
+        err: b"move 1:",
         ..FAILED_ERROR
     },
     Case {

@@ -14,6 +14,8 @@ mod inputs;
 #[cfg(test)]
 mod listed_moves;
 #[cfg(test)]
+mod listed_positions;
+#[cfg(test)]
 mod long_streams;
 #[cfg(test)]
 mod picture_lines;

@@ -7,7 +7,7 @@ use std::alloc::Global;
 use test_streams::bytes::Bytes;
 use test_streams::streams::{Sink, Source};
 
-static REFUSED_ARGUMENTS: [&[&str]; 10] = [
+static REFUSED_ARGUMENTS: [&[&str]; 11] = [
     &[],
     &["fly"],
     &["record", "--first", "green"],
@@ -16,6 +16,7 @@ static REFUSED_ARGUMENTS: [&[&str]; 10] = [
     &["follow", "--white", "Anna"],
     &["show", "--rotated"],
     &["moves", "--rotated"],
+    &["positions", "e4"],
     &["check", "game.pgn"],
     &["pictures", "--rotated", "--rotated"],
 ];

@@ -1,12 +1,13 @@
-use Rattle.std.proofs.Common.{◌≡◌, List, ℕ, arith, length, codes, inl, inr, refl, rules, subst, sym, true, ◌∙◌, ◌++◌}
+use Rattle.std.proofs.Common.{◌≡◌, List, [], append-nil, ℕ, arith, length, codes, inl, inr, refl, rules, subst, sym, true, ◌∙◌, ◌++◌}
 use Rattle.std.proofs.KnownBytes.{Appends-kept}
 use Rattle.std.specs.Io.KnownBytes.{Appends}
 use Rattle.dgt_frame.specs.Watch.{inner_of, has_failed}
+use Rattle.board_session.specs.Recording.{AppendsPart}
 use Rattle.dgt_replay.specs.Checked.{RefusesText, summary_line}
-use Rattle.dgt_replay.proofs.CheckLemmas.{checked, no_game}
+use Rattle.dgt_replay.proofs.CheckLemmas.{checked, checked_part, no_game}
 use Rattle.pgn_book.specs.Pgn.{Pgn}
 use Rattle.dgt_replay.proofs.EndLemmas.{true_or}
-use Rattle.dgt_replay.proofs.MessageLemmas.{never_done, tells_fault, tells_memory, tells_or_fault, tells_refused}
+use Rattle.dgt_replay.proofs.MessageLemmas.{never_done, part_put, tells_fault, tells_memory, tells_or_fault, tells_refused}
 use Rattle.board_listing.proofs.GatherLemmas.{at_err, at_ok}
 use Rattle.dgt_replay.proofs.check.check.Goals as goal
 use Rattle.dgt_replay.proofs.check.check.Goals.{then-is_err-via-then-is_err, then-is_err-via-else-is_err+then-is_err-2}
@@ -71,3 +72,26 @@ returns-in-Err-NotExport-clause-passes g c zero = never_done c.refused_run-in-Er
 
 pub returns-in-Err-NotExport-clause-works : goal.returns-in-Err-NotExport-clause-works
 returns-in-Err-NotExport-clause-works g c zero = never_done c.refused_run-in-Err-NotExport.result 1 _ _ _ _ _ (omega arith) c.refused_run-in-Err-NotExport.ensures.ended zero
+
+pub returns-then-is_err-clause-fault : goal.returns-then-is_err-clause-fault
+returns-then-is_err-clause-fault g c three =
+    let input = g.R.Read.remaining (inner_of c.args.reader.now) in
+    let written = g.O.Write.contents (inner_of c.args.out.now) in
+    let put = g.O.Write.contents (inner_of c.put.new.out) in
+    let game = c.in-Ok-read_pgn.game in
+    let lines = c.add_summary.new.lines.items in
+    let line = summary_line (length game.plies) game.result in
+    let same : c.new-lines.result.items ++ summary_line (length c.plies.result.now) c.result.result ≡ line = rw (c.new-lines.ensures, c.plies.ensures.plies, c.result.ensures) refl in
+    let is : c.as_slice-2.result.now ≡ line = c.as_slice-2.ensures.value ∙ c.add_summary.ensures ∙ same in
+    let part : AppendsPart written (g.O.Write.contents (inner_of c.then-is_err.out)) c.as_slice-2.result.now = elim c.then-is_err.branch [
+      | then-is_err-via-then-is_err w ↦ rw w.out-is (part_put c.put.result written put c.as_slice-2.result.now c.put.ensures.ok c.put.ensures.fault)
+      | then-is_err-via-else-is_err+then-is_err-2 w ↦ rw w.out-is (
+        c.as_slice-2.result.now,
+        [],
+        sym (append-nil c.as_slice-2.result.now),
+        Appends-kept written put (g.O.Write.contents (inner_of w.flush.new.self)) c.as_slice-2.result.now
+            (at_ok (Appends written put c.as_slice-2.result.now) c.put.result (sym c.is_err.ensures.value ∙ w.if-is_err.false) c.put.ensures.ok) w.flush.ensures.bytes,
+      )
+    ] in
+    let P : List ℕ → Type 0 = λ bs. AppendsPart written (g.O.Write.contents (inner_of c.then-is_err.out)) bs in
+    checked_part input written (g.O.Write.contents (inner_of c.then-is_err.out)) c.in-Ok.text.items game c.in-Ok.ensures.whole (rw c.as_slice.ensures.value at c.in-Ok-read_pgn.ensures.found) c.in-Ok.ensures.within (subst P is part)

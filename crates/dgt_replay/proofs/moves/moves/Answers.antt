@@ -1,15 +1,18 @@
-use Rattle.std.proofs.Common.{◌≡◌, List, get_or, inr, rules, sym, ◌∙◌, subst, true}
+use Rattle.std.proofs.Common.{◌≡◌, List, [], append-nil, get_or, inl, inr, rules, sym, ◌∙◌, subst, true}
 use Rattle.std.specs.List.{Contains}
+use Rattle.std.proofs.KnownBytes.{Appends-kept}
 use Rattle.std.proofs.lemmas.List.Elements.{Contains-get_or}
 use Rattle.chess_rules.specs.declared.chess_move.Move.{Move}
 use Rattle.replay_arguments.specs.Setups.{given}
 use Rattle.dgt_replay.specs.Refusals.{RefusesStart}
 use Rattle.dgt_replay.specs.Messages.{fen_message}
 use Rattle.dgt_replay.proofs.MessageLemmas.{tells_fault, tells_refused}
-use Rattle.dgt_frame.specs.Watch.{has_failed}
+use Rattle.dgt_frame.specs.Watch.{has_failed, inner_of}
 use Rattle.dgt_replay.proofs.EndLemmas.{true_or}
 use Rattle.dgt_replay.proofs.RefusalLemmas.{start_refused}
-use Rattle.board_listing.proofs.GatherLemmas.{at_err}
+use Rattle.board_listing.proofs.GatherLemmas.{at_err, at_ok}
+use Rattle.dgt_replay.proofs.MoveLemmas.{prints_part}
+use Rattle.dgt_replay.proofs.SetupLemmas.{ok_same}
 use Rattle.dgt_replay.proofs.moves.moves.Goals as goal
 use Rattle.dgt_replay.proofs.moves.moves.Goals.{then-is_err-via-then-is_err, then-is_err-via-else-is_err+then-is_err-2}
 
@@ -43,3 +46,24 @@ returns-then-is_err-clause-tells g c =
 
 pub returns-clause-works : goal.returns-clause-works
 returns-clause-works g c zero = search rules
+
+pub returns-in_default-clause-part : goal.returns-in_default-clause-part
+returns-in_default-clause-part g c start starts three = inl c.refused_run.ensures.kept
+
+pub returns-then-is_err-clause-part : goal.returns-then-is_err-clause-part
+returns-then-is_err-clause-part g c start starts three =
+    let begin = g.O.Write.contents (inner_of c.args.out.now) in
+    let put = g.O.Write.contents (inner_of c.put_moves.new.out) in
+    let position = c.in-Ok.position in
+    let items = c.in-Ok-legal_moves.moves.items in
+    let now = c.as_slice.result.now in
+    let same = ok_same c.start_of.result position start c.in-Ok.is ((c.start_of.ensures.start start).1 starts) in
+    elim c.then-is_err.branch [
+      | then-is_err-via-then-is_err w ↦
+          let part = at_err _ c.put_moves.result (sym c.is_err.ensures.value ∙ w.if-is_err.true) c.put_moves.ensures.part in
+          rw w.out-is (prints_part position start items now part.0 part.1 part.2 begin put same c.in-Ok-legal_moves.ensures.listed c.as_slice.ensures.value part.3 part.4 part.5)
+      | then-is_err-via-else-is_err+then-is_err-2 w ↦
+          let told = at_ok _ c.put_moves.result (sym c.is_err.ensures.value ∙ w.if-is_err.false) c.put_moves.ensures.told in
+          rw w.out-is (prints_part position start items now now [] told.0 begin (g.O.Write.contents (inner_of w.flush.new.self)) same c.in-Ok-legal_moves.ensures.listed c.as_slice.ensures.value (sym (append-nil now)) told.1
+          (told.0, [], sym (append-nil told.0), Appends-kept begin put (g.O.Write.contents (inner_of w.flush.new.self)) told.0 told.2 w.flush.ensures.bytes))
+    ]

@@ -2,7 +2,8 @@ use Rattle.std.proofs.Common.{◌++◌, ◌∙◌, codes, rules, append_assoc, a
 use Rattle.dgt_frame.specs.Watch.{inner_of}
 use Rattle.board_listing.specs.Listings.{Gathers}
 use Rattle.board_listing.proofs.GatherLemmas.{gathers_sent, on_ok}
-use Rattle.dgt_replay.proofs.MoveLemmas.{all_written, continues_more, continues_to_end, gathers_more}
+use Rattle.dgt_replay.proofs.MessageLemmas.{part_put}
+use Rattle.dgt_replay.proofs.MoveLemmas.{all_written, gathers_more, part_told, told_more, told_to_end}
 use Rattle.dgt_replay.proofs.moves.put_moves.Goals as goal
 use Rattle.dgt_replay.proofs.moves.put_moves.Goals.{then-len-gt-GATHERED+in_ok-put, else-len-gt-GATHERED}
 
@@ -23,7 +24,7 @@ loop-m-preserved g c =
     record {
       working = search rules;
       done = done ++ line;
-      continues = continues_more c.args.position.now c.args.moves.now l.m-index c.m-item.result done san (omega arith) c.m-item.is c.add_san.ensures.1 l.invariant.continues;
+      told = told_more c.args.position.now c.args.moves.now l.m-index c.m-item.result done san (omega arith) c.m-item.is c.add_san.ensures.1 l.invariant.told;
       gathers = gathers_more begin (g.O.Write.contents (inner_of c.if-len-gt-GATHERED.out)) waiting c.add_san.new.lines.items line done before (c.add_san.ensures.2 ∙ append_assoc waiting san (codes "\n"));
     }
 
@@ -32,5 +33,23 @@ returns-clause-told g c =
     let l = c.loop-m in
     let begin = g.O.Write.contents (inner_of c.args.out.now) in
     let done = l.invariant.done in
-    let told = continues_to_end c.args.position.now c.args.moves.now l.m-index done (omega arith) l.invariant.continues in
+    let told = told_to_end c.args.position.now c.args.moves.now l.m-index done (omega arith) l.invariant.told in
     on_ok _ _ c.put-2.result c.put-2.ensures.ok (λ sent. (done, told, all_written begin (g.O.Write.contents (inner_of l.out)) (g.O.Write.contents (inner_of c.put-2.new.out)) l.lines.items done l.invariant.gathers (rw c.as_slice-2.ensures.value at sent)))
+
+pub returns-in_err-put-clause-part : goal.returns-in_err-put-clause-part
+returns-in_err-put-clause-part g c =
+    let l = c.loop-m in
+    let begin = g.O.Write.contents (inner_of c.args.out.now) in
+    let now = g.O.Write.contents (inner_of l.out) in
+    let after = g.O.Write.contents (inner_of c.put.new.out) in
+    part_told c.from_residual.result c.args.position.now c.args.moves.now l.m-index begin now after l.lines.items l.invariant.done l.invariant.told l.invariant.gathers
+    (rw c.as_slice.ensures.value at (part_put c.put.result now after c.as_slice.result.now c.put.ensures.ok c.put.ensures.fault))
+
+pub returns-clause-part : goal.returns-clause-part
+returns-clause-part g c =
+    let l = c.loop-m in
+    let begin = g.O.Write.contents (inner_of c.args.out.now) in
+    let now = g.O.Write.contents (inner_of l.out) in
+    let after = g.O.Write.contents (inner_of c.put-2.new.out) in
+    part_told c.put-2.result c.args.position.now c.args.moves.now l.m-index begin now after l.lines.items l.invariant.done l.invariant.told l.invariant.gathers
+    (rw c.as_slice-2.ensures.value at (part_put c.put-2.result now after c.as_slice-2.result.now c.put-2.ensures.ok c.put-2.ensures.fault))

@@ -1,13 +1,13 @@
-use Rattle.std.proofs.Common.{◌≡◌, ℕ, List, drop, false}
+use Rattle.std.proofs.Common.{◌≡◌, ℕ, List, take, false}
 use Rattle.dgt_frame.specs.Watch.{inner_of, has_failed}
 use Rattle.board_listing.specs.Listings.{Gathers}
-use Rattle.dgt_replay.proofs.MoveLemmas.{Continues}
+use Rattle.dgt_replay.specs.Printed.{TellsMoves}
 use Rattle.dgt_replay.proofs.moves.put_moves.Given as goal
 
 abbrev pub invariant-loop-m : goal.invariant-loop-m
 invariant-loop-m g l = record {
   working : has_failed l.out ≡ false;
   done : List ℕ;
-  continues : Continues l.position l.moves (drop l.m-index l.moves) done;
+  told : TellsMoves l.position (take l.m-index l.moves) done;
   gathers : Gathers (g.O.Write.contents (inner_of l.initial.out)) (g.O.Write.contents (inner_of l.out)) l.lines.items done;
 }

@@ -17,7 +17,7 @@ returns-in-Follow-clause-does g c = rw c.in-Follow.is (c.follow.ensures.lists, c
 pub returns-in-Check-clause-does : goal.returns-in-Check-clause-does
 returns-in-Check-clause-does g c =
     let ends = c.check.ensures in
-    rw c.in-Check.is (record { done = ends.passes; tells = ends.tells; bounded = ends.bounded; silent = ends.silent })
+    rw c.in-Check.is (record { done = ends.passes; tells = ends.tells; bounded = ends.bounded; fault = ends.fault; unread = ends.unread; silent = ends.silent })
 
 pub returns-in-Moves-clause-does : goal.returns-in-Moves-clause-does
 returns-in-Moves-clause-does g c =
@@ -26,12 +26,16 @@ returns-in-Moves-clause-does g c =
       done = ends.prints;
       refuses = λ none. inl (ends.refuses none).0;
       refused = λ one start starts. ends.accepts start starts one;
+      fault = ends.part;
       silent = λ e. elim e [
         | inl one ↦ (ends.refuses (λ start starts. ends.accepts start starts one)).1
         | inr four ↦ ends.silent four
       ];
       tells = ends.tells;
     })
+
+pub returns-in-Positions-clause-does : goal.returns-in-Positions-clause-does
+returns-in-Positions-clause-does g c = rw c.in-Positions.is (c.positions.ensures.plays, c.positions.ensures.refuses)
 
 pub returns-in-Moves-clause-moves_unread : goal.returns-in-Moves-clause-moves_unread
 returns-in-Moves-clause-moves_unread g c fen is = refl

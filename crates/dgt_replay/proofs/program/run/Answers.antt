@@ -9,7 +9,7 @@ use Rattle.board_listing.specs.OneText.{event_lines, no_line, picture_lines}
 use Rattle.board_listing.specs.declared.listing.Listing.TheVariants.{Game}
 use Rattle.replay_arguments.specs.Setups.{option_of}
 use Rattle.dgt_replay.specs.Refusals.{RefusesSetup, RefusesStart}
-use Rattle.dgt_replay.proofs.DoesLemmas.{checks_memory, does_check, does_follow, does_moves, does_pictures, does_record, does_refuse_setup, does_refuse_start, does_show, lacks_memory, lists_memory, prints_memory, records_memory, refuses_memory, text_memory}
+use Rattle.dgt_replay.proofs.DoesLemmas.{checks_memory, does_check, does_follow, does_moves, does_pictures, does_positions, does_record, does_refuse_positions, does_refuse_setup, does_refuse_start, does_show, lacks_memory, lists_memory, plays_memory, prints_memory, records_memory, refuses_memory, text_memory}
 use Rattle.dgt_replay.proofs.FaultLemmas.{mistaken_asks_nothing, mistaken_kind, one_fault, one_kind}
 use Rattle.dgt_replay.proofs.MessageLemmas.{text_out_of_memory}
 use Rattle.dgt_replay.proofs.SubcommandLemmas.{check_unrefused, follow_unrefused, moves_chosen, or_refused, pictures_unrefused, record_unrefused, show_unrefused, unrefused}
@@ -99,6 +99,26 @@ pub returns-in-Ok-clause-moves_unread : goal.returns-in-Ok-clause-moves_unread
 returns-in-Ok-clause-moves_unread g c rows asks =
     let chosen = moves_chosen (map string_bytes c.args.arguments.now) rows c.in-Ok.subcommand asks c.in-Ok.ensures.chooses in
     c.dispatch.ensures.moves_unread chosen.0 chosen.1
+
+pub returns-in-Err-clause-positions : goal.returns-in-Err-clause-positions
+returns-in-Err-clause-positions g c rows asks start starts =
+    let arguments = map string_bytes c.args.arguments.now in
+    plays_memory start _ _ (lacks_memory _ _ (Keeps-refl (g.R.Read.remaining (inner_of c.args.reader.now))) (c.refused_arguments.ensures.memory (or_refused c.in-Err.ensures.refused (unrefused arguments (codes "positions") rows asks))))
+
+pub returns-in-Ok-clause-positions : goal.returns-in-Ok-clause-positions
+returns-in-Ok-clause-positions g c rows asks start starts =
+    let arguments = map string_bytes c.args.arguments.now in
+    does_positions arguments c.in-Ok.subcommand c.dispatch.result _ c.in-Ok.ensures.chooses c.dispatch.ensures.does rows asks start starts
+
+pub returns-in-Err-clause-positions_refuses : goal.returns-in-Err-clause-positions_refuses
+returns-in-Err-clause-positions_refuses g c rows asks none =
+    let arguments = map string_bytes c.args.arguments.now in
+    refuses_memory (RefusesStart (first_of (codes "fen") rows)) _ _ (lacks_memory _ _ (Keeps-refl (g.R.Read.remaining (inner_of c.args.reader.now))) (c.refused_arguments.ensures.memory (or_refused c.in-Err.ensures.refused (unrefused arguments (codes "positions") rows asks))))
+
+pub returns-in-Ok-clause-positions_refuses : goal.returns-in-Ok-clause-positions_refuses
+returns-in-Ok-clause-positions_refuses g c rows asks none =
+    let arguments = map string_bytes c.args.arguments.now in
+    does_refuse_positions arguments c.in-Ok.subcommand c.dispatch.result _ c.in-Ok.ensures.chooses c.dispatch.ensures.does rows asks none
 
 pub returns-in-Err-clause-mistaken : goal.returns-in-Err-clause-mistaken
 returns-in-Err-clause-mistaken g c mistaken =

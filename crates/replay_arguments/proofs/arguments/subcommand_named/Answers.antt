@@ -5,7 +5,7 @@ use Rattle.clap.specs.Matches.{found_of}
 use Rattle.clap.specs.Walk.{rows_of}
 use Rattle.replay_arguments.specs.declared.arguments.Subcommand.TheVariants.{Pictures}
 use Rattle.replay_arguments.specs.Setups.{Wants, WantsToFollow}
-use Rattle.replay_arguments.proofs.ArgumentLemmas.{flag_reads, if_some_at, follow_not_check, follow_not_moves, pictures_not_check, pictures_not_follow, pictures_not_moves, pictures_not_record, record_not_check, record_not_follow, record_not_moves, side_known, text_given}
+use Rattle.replay_arguments.proofs.ArgumentLemmas.{flag_reads, if_some_at, follow_not_check, follow_not_moves, follow_not_positions, moves_not_positions, pictures_not_check, pictures_not_follow, pictures_not_moves, pictures_not_positions, pictures_not_record, record_not_check, record_not_follow, record_not_moves, record_not_positions, side_known, text_given}
 use Rattle.replay_arguments.proofs.arguments.subcommand_named.Goals as goal
 
 pub returns-in-show : goal.returns-in-show
@@ -16,6 +16,7 @@ returns-in-show c = record {
   follow = search rules;
   check = search rules;
   moves = search rules;
+  positions = search rules;
   known = search rules;
 }
 
@@ -27,6 +28,7 @@ returns-in-pictures c = record {
   follow = λ e. absurd (pictures_not_follow c.args.name.now c.in-pictures.is e);
   check = λ e. absurd (pictures_not_check c.args.name.now c.in-pictures.is e);
   moves = λ e. absurd (pictures_not_moves c.args.name.now c.in-pictures.is e);
+  positions = λ e. absurd (pictures_not_positions c.args.name.now c.in-pictures.is e);
   known = rw c.in-pictures.is refl;
 }
 
@@ -38,6 +40,7 @@ returns-in-Some c = record {
   follow = λ e. absurd (record_not_follow c.args.name.now c.in-record.is e);
   check = λ e. absurd (record_not_check c.args.name.now c.in-record.is e);
   moves = λ e. absurd (record_not_moves c.args.name.now c.in-record.is e);
+  positions = λ e. absurd (record_not_positions c.args.name.now c.in-record.is e);
   known = rw c.in-record.is (ap is_some (sym c.in-Some.is) ∙ side_known (found_of c.args.matches.now) c.record_arguments_of.result c.record_arguments_of.ensures.known);
 }
 
@@ -49,6 +52,7 @@ returns-in-None c = record {
   follow = λ e. absurd (record_not_follow c.args.name.now c.in-record.is e);
   check = λ e. absurd (record_not_check c.args.name.now c.in-record.is e);
   moves = λ e. absurd (record_not_moves c.args.name.now c.in-record.is e);
+  positions = λ e. absurd (record_not_positions c.args.name.now c.in-record.is e);
   known = rw c.in-record.is (ap is_some (sym c.in-None.is) ∙ side_known (found_of c.args.matches.now) c.record_arguments_of.result c.record_arguments_of.ensures.known);
 }
 
@@ -60,7 +64,20 @@ returns-in-moves c = record {
   follow = λ e. absurd (c.in-moves.not-follow e);
   check = λ e. absurd (c.in-moves.not-check e);
   moves = λ e. (c.get_str.result, refl, text_given (found_of c.args.matches.now) (codes "fen") c.get_str.result c.get_str.ensures);
+  positions = λ e. absurd (moves_not_positions c.args.name.now c.in-moves.is e);
   known = rw c.in-moves.is refl;
+}
+
+pub returns-in-positions : goal.returns-in-positions
+returns-in-positions c = record {
+  show = λ e. absurd (c.in-positions.not-show e);
+  pictures = λ rotated e given. absurd (c.in-positions.not-pictures e);
+  record_is = λ e. absurd (c.in-positions.not-record e);
+  follow = λ e. absurd (c.in-positions.not-follow e);
+  check = λ e. absurd (c.in-positions.not-check e);
+  moves = λ e. absurd (c.in-positions.not-moves e);
+  positions = λ e. (c.get_str-in-positions.result, refl, text_given (found_of c.args.matches.now) (codes "fen") c.get_str-in-positions.result c.get_str-in-positions.ensures);
+  known = rw c.in-positions.is refl;
 }
 
 pub returns-in-Some-follow_arguments_of : goal.returns-in-Some-follow_arguments_of
@@ -71,6 +88,7 @@ returns-in-Some-follow_arguments_of c = record {
   follow = λ e. (c.in-Some-follow_arguments_of.follow, refl, if_some_at (WantsToFollow (rows_of (found_of c.args.matches.now))) c.follow_arguments_of.result c.in-Some-follow_arguments_of.follow c.in-Some-follow_arguments_of.is c.follow_arguments_of.ensures.wants);
   check = λ e. absurd (follow_not_check c.args.name.now c.in-follow.is e);
   moves = λ e. absurd (follow_not_moves c.args.name.now c.in-follow.is e);
+  positions = λ e. absurd (follow_not_positions c.args.name.now c.in-follow.is e);
   known = rw c.in-follow.is (ap is_some (sym c.in-Some-follow_arguments_of.is) ∙ side_known (found_of c.args.matches.now) c.follow_arguments_of.result c.follow_arguments_of.ensures.known);
 }
 
@@ -82,5 +100,6 @@ returns-in-None-follow_arguments_of c = record {
   follow = λ e. tt;
   check = λ e. absurd (follow_not_check c.args.name.now c.in-follow.is e);
   moves = λ e. absurd (follow_not_moves c.args.name.now c.in-follow.is e);
+  positions = λ e. absurd (follow_not_positions c.args.name.now c.in-follow.is e);
   known = rw c.in-follow.is (ap is_some (sym c.in-None-follow_arguments_of.is) ∙ side_known (found_of c.args.matches.now) c.follow_arguments_of.result c.follow_arguments_of.ensures.known);
 }

@@ -1,6 +1,6 @@
 use Rattle.std.proofs.Common.{codes, rules}
 use Rattle.clap.specs.Simple.{App, new_app, with_subcommand}
-use Rattle.replay_arguments.specs.Command.{IsApp, check_app, follow_app, moves_app, pictures_app, record_app, replay, show_app, with_version}
+use Rattle.replay_arguments.specs.Command.{IsApp, check_app, follow_app, moves_app, pictures_app, positions_app, record_app, replay, show_app, with_version}
 use Rattle.replay_arguments.proofs.CommandLemmas.{app_made}
 use Rattle.replay_arguments.proofs.command.command.Goals as goal
 
@@ -18,4 +18,6 @@ returns c =
     let s3 = c.with_subcommand-command-3.ensures two record_app s2 c.record.ensures in
     let s4 = c.with_subcommand-command-4.ensures three follow_app s3 c.follow.ensures in
     let s5 = c.with_subcommand-command-5.ensures four check_app s4 c.check.ensures in
-    app_made c.with_subcommand.result replay (c.with_subcommand.ensures five moves_app s5 c.moves.ensures)
+    let six = with_subcommand five moves_app.top in
+    let s6 = c.with_subcommand-command-6.ensures five moves_app s5 c.moves.ensures in
+    app_made c.with_subcommand.result replay (c.with_subcommand.ensures six positions_app s6 c.positions.ensures)

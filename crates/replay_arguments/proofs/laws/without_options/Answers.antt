@@ -1,4 +1,4 @@
-use Rattle.replay_arguments.proofs.ArgumentLemmas.{check_asks, follow_asks, moves_asks, pictures_asks, record_asks, show_asks}
+use Rattle.replay_arguments.proofs.ArgumentLemmas.{check_asks, follow_asks, moves_asks, pictures_asks, positions_asks, record_asks, show_asks}
 use Rattle.replay_arguments.proofs.laws.without_options.Goals as goal
 
 pub returns-clause-shows : goal.returns-clause-shows
@@ -18,3 +18,6 @@ returns-clause-checks c = check_asks
 
 pub returns-clause-moves : goal.returns-clause-moves
 returns-clause-moves c = moves_asks
+
+pub returns-clause-positions : goal.returns-clause-positions
+returns-clause-positions c = positions_asks

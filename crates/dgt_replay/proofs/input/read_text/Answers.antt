@@ -5,21 +5,21 @@ use Rattle.dgt_frame.specs.Input.{GivesChunk}
 use Rattle.dgt_frame.specs.Watch.{inner_of}
 use Rattle.dgt_replay.proofs.CheckLemmas.{read_more, too_long}
 use Rattle.board_listing.proofs.StreamLemmas.{if_ok}
-use Rattle.dgt_replay.proofs.check.read_text.Goals as goal
+use Rattle.dgt_replay.proofs.input.read_text.Goals as goal
 
 pub returns-then-chunk-clause-bounded : goal.returns-then-chunk-clause-bounded
 returns-then-chunk-clause-bounded g c =
-    read_more 268435456 _ (g.R.Read.remaining (inner_of c.args.reader.now)) (g.R.Read.remaining (inner_of c.chunks.reader)) (g.R.Read.remaining (inner_of c.read_chunk.new.reader))
+    read_more c.args.limit _ (g.R.Read.remaining (inner_of c.args.reader.now)) (g.R.Read.remaining (inner_of c.chunks.reader)) (g.R.Read.remaining (inner_of c.read_chunk.new.reader))
     c.chunks.text.items c.read_chunk.new.buffer c.in-Some.chunk c.chunks.invariant.read (rw c.in-Some.is at c.in-Ok.ensures.bytes) (omega (arith, c.chunks.invariant.within, c.len.ensures))
 
 pub returns-then-is_err-clause-bounded : goal.returns-then-is_err-clause-bounded
 returns-then-is_err-clause-bounded g c =
-    read_more 268435456 _ (g.R.Read.remaining (inner_of c.args.reader.now)) (g.R.Read.remaining (inner_of c.chunks.reader)) (g.R.Read.remaining (inner_of c.read_chunk.new.reader))
+    read_more c.args.limit _ (g.R.Read.remaining (inner_of c.args.reader.now)) (g.R.Read.remaining (inner_of c.chunks.reader)) (g.R.Read.remaining (inner_of c.read_chunk.new.reader))
     c.chunks.text.items c.read_chunk.new.buffer c.in-Some.chunk c.chunks.invariant.read (rw c.in-Some.is at c.in-Ok.ensures.bytes) (omega (arith, c.chunks.invariant.within, c.len.ensures))
 
 pub returns-then-chunk-clause-long : goal.returns-then-chunk-clause-long
 returns-then-chunk-clause-long g c same =
-    too_long 268435456 _ (g.R.Read.remaining (inner_of c.args.reader.now)) (g.R.Read.remaining (inner_of c.chunks.reader)) (g.R.Read.remaining (inner_of c.read_chunk.new.reader))
+    too_long c.args.limit _ (g.R.Read.remaining (inner_of c.args.reader.now)) (g.R.Read.remaining (inner_of c.chunks.reader)) (g.R.Read.remaining (inner_of c.read_chunk.new.reader))
     c.chunks.text.items c.read_chunk.new.buffer c.in-Some.chunk c.chunks.invariant.read (rw c.in-Some.is at c.in-Ok.ensures.bytes) (omega (arith, c.chunks.invariant.within, c.len.ensures)) c.if-chunk.true
 
 pub chunks-preserved : goal.chunks-preserved

@@ -1,0 +1,29 @@
+-- The words of a text.
+use Rattle.std.specs.Prelude.{ℕ, ◌+◌, ◌==◌, ◌||◌, not, Bool, List, [], filter, length, Option, None, Some}
+use Rattle.std.specs.List.{slice_split}
+use denote.Ref.{Bor}
+
+-- a space, a tab, or a byte of an end of line
+abbrev pub is_blank : ℕ → Bool
+is_blank b = b == 32 || b == 9 || b == 13 || b == 10
+
+-- what stands between the blanks
+abbrev pub parts : List ℕ → List (List ℕ)
+parts text = slice_split is_blank text
+
+-- those that aren't empty
+abbrev pub filled : List (List ℕ) → List (List ℕ)
+filled = filter (λ part. not (length part == 0))
+
+-- the words: what stands between the blanks, where that isn't empty
+abbrev pub words : List ℕ → List (List ℕ)
+words text = filled (parts text)
+
+-- the parts behind a blank, if there is one, and how many bytes the blank and they have
+abbrev pub parts_behind : Option (Bor (List ℕ)) → List (List ℕ)
+parts_behind None = []
+parts_behind (Some behind) = parts behind.now
+
+abbrev pub len_behind : Option (Bor (List ℕ)) → ℕ
+len_behind None = 0
+len_behind (Some behind) = length behind.now + 1
