@@ -87,7 +87,7 @@ def lognormal(chance: random.Random, median: float, spread: float) -> float:
 
 
 def hand(chance: random.Random, board: Sequence[int], way: Way) -> List[Tuple[int, int]]:
-    """The squares in the order in which a hand changes them: what is taken goes off first or last but one, pieces up, then down."""
+    """The squares in the order in which a hand changes them: what is taken and what moves go up, in any order, then down."""
     taken = [(square, EMPTY) for square, code in way if code != EMPTY and board[square] != EMPTY]
     up = [change for change in way if change[1] == EMPTY]
     down = [change for change in way if change[1] != EMPTY]

@@ -1,9 +1,9 @@
 #!/usr/bin/env python3
 """Simulated set-ups after games without a result: where the recorder takes the game to have ended, and whether that is right.
 
-A random game of so many plies is given up; after a while the pieces are carried home, one at a time, and the start stands. What
-the board sent goes through the real `follow`; live/ending.py says how many bytes are the game's; `record` of these must give the
-game that was played.  set_ups.py [--games N] [--seed N] [--rules]
+A random game of so many plies is given up; after a while the pieces are carried home, one at a time, and the start stands.
+What the board sent goes through the real `follow`; live/ending.py says how many bytes are the game's; `record` of these must
+give the game that was played.  set_ups.py [--games N] [--seed N] [--show]
 """
 
 from __future__ import annotations
@@ -211,7 +211,8 @@ def main() -> int:
     with ProcessPoolExecutor(4) as pool:
         for order in ORDERS:
             for plies in (6, 20, 60):
-                rows = list(pool.map(one, [(f"{words.seed} {order} {plies} {n}", plies, order) for n in range(words.games)]))
+                cases = [(f"{words.seed} {order} {plies} {number}", plies, order) for number in range(words.games)]
+                rows = list(pool.map(one, cases))
                 bad = [row for row in rows if row[0][2] != "right"]
                 quiet = [row for row in bad if row[1]]
                 gained = sum(row[0][0] == "longer" for row in rows)

@@ -38,8 +38,8 @@ class Line:
 class End:
     """The end of a game: so many bytes of the capture are the game's.
 
-    `dropped` are the lines after it that were taken for setting up. Where it isn't sure, somebody is to look at the last moves:
-    some were dropped, or the last one brought a piece home, as setting up does.
+    `dropped` are the lines after it that were taken for setting up. Where it isn't sure, somebody is to look at the last
+    moves: some were dropped, or the last one brought a piece home, as setting up does.
     """
 
     size: int

@@ -1,7 +1,7 @@
 """The state of a board, as an arbiter reads it: from the lines of `follow`, what the line and the disk do, and the time.
 
 - `agrees`: the board shows the game's position. `result 1-0`: it has shown the result.
-- `in hand g1 f3`: a few squares differ, none of them for 10 s. `WRONG since 40 s: e2 d5`: those that have differed for so long.
+- `in hand g1 f3`: a few squares differ, none of them for 10 s. `WRONG since 40 s: e2 d5`: those that have differed so long.
 - `setting up`: more squares differ than hands change in a move, and pieces are still moved, or no move has been played; or the
   game has a result. When a few are left they are `WRONG` once nothing has moved for 10 s.
 - `SILENT`, `UNPLUGGED`: the board answers no more, or its line is gone; whatever was shown before. `DISK FULL` beside any.

@@ -49,8 +49,8 @@ TYPED = {
     "e2e4": Moves(("e2e4",)),  # of that form, and no move: the program says so
 }
 NOT_TYPED = [
-    "Sf3", "nf3", "1-1", "2-0", "e9", "12.", "1. 2.", "Nf3 Nc6 1-0", "1-0 Nf3", "Nf3 q", "O-O-O-O", "e8=K", "Qa1xb2#+", "12 Nf3",
-    "help", "\x1b[A", "N" * 1000, "3 e4", "e4,e5", "½-0", "exd6ep", "Nf３",
+    "Sf3", "nf3", "1-1", "2-0", "e9", "12.", "1. 2.", "Nf3 Nc6 1-0", "1-0 Nf3", "Nf3 q", "O-O-O-O", "e8=K", "Qa1xb2#+",
+    "12 Nf3", "help", "\x1b[A", "N" * 1000, "3 e4", "e4,e5", "½-0", "exd6ep", "Nf３",
 ]  # fmt: skip
 SIGNS = [
     # position, result, the squares of the sign that differ from the position, with what they show

@@ -24,13 +24,17 @@ CASES = [
     ("no line", [], (0, True, [])),
     ("no move", ["1 66 agrees", "2 71 differs e2", "3 76 agrees"], (77, True, [])),
     ("a move, and a set-up", ["1 66 agrees", "9 81 move 1. e4", *SET_UP], (82, True, [])),
-    ("a king home", ["9 81 move 1. e4", "20 91 move 31. Ke1", "21 92 differs d7", *SET_UP], (82, False, ["move 31. Ke1"])),
+    ("a king home", ["9 81 move 1. e4", "20 91 move 31. Ke1", "21 92 differs d7"], (82, False, ["move 31. Ke1"])),
     (
         "both kings",
         ["9 81 move 1. e4", "26 91 move 3. Ke1", "28 95 move 3... Ke8", *SET_UP],
         (82, False, ["move 3. Ke1", "move 3... Ke8"]),
     ),
-    ("a king that had castled", ["9 81 move 9. O-O-O", "29 91 correction 9. Rd1", *SET_UP], (82, False, ["correction 9. Rd1"])),
+    (
+        "a king that had castled",
+        ["9 81 move 9. O-O-O", "29 91 correction 9. Rd1", *SET_UP],
+        (82, False, ["correction 9. Rd1"]),
+    ),
     ("a rook, and then it castles", ["9 81 move 9. Rd1", "29 91 correction 9. O-O-O", *SET_UP], (92, True, [])),
     (
         "fast moves, the last of them home: it stood longest",
@@ -47,7 +51,7 @@ CASES = [
     ),
     ("a move of the game, 1 s before", ["9 81 move 1. e4", "29 91 move 1... e5", *SET_UP], (92, True, [])),
     ("a piece is lifted at once, and set back", ["9 81 move 1. e4", "9.5 91 differs e7", "11 96 agrees", *SET_UP], (82, True, [])),
-    ("a piece is lifted at once, and held", ["9 81 move 1. e4", "20 91 move 1... e5", "20.4 96 differs e2", *SET_UP], (92, True, [])),
+    ("a piece is lifted at once, and held", ["9 81 move 1. e4", "9.4 96 differs e7", *SET_UP], (82, True, [])),
     ("a fault is no change", ["9 81 move 1. e4", "11 91 move 1... e5", "11.1 95 fault cut", *SET_UP], (92, True, [])),
     ("what stood for less than 1 s", ["9 81 move 1. e4", "29.1 91 move 1... Qg5", *SET_UP], (82, False, ["move 1... Qg5"])),
     (

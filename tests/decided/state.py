@@ -27,7 +27,7 @@ CASES = [
     (
         "a hand that takes long",
         [(0, "66 agrees"), (5, "71 differs g1"), (6, "76 differs g1 f3")],
-        [(6.5, "in hand g1 f3"), (15, "WRONG since 10 s: g1"), (16, "WRONG since 11 s: g1 f3"), (45, f"{WRONG} 40 s: g1 f3")],
+        [(6.5, "in hand g1 f3"), (15, f"{WRONG} 10 s: g1"), (16, f"{WRONG} 11 s: g1 f3"), (45, f"{WRONG} 40 s: g1 f3")],
     ),
     (
         "one square stays wrong while others are played on",
@@ -56,8 +56,8 @@ CASES = [
     ),
     (
         "a result by the kings, and the pieces are put away",
-        [(0, "66 agrees"), (5, "71 differs e1"), (6, "86 result 1-0"), (9, "91 differs d1"), (50, "96 result *"), (51, "99 differs d1")],
-        [(5.5, "in hand e1"), (7, "result 1-0"), (30, "setting up"), (50.5, "agrees"), (52, "in hand d1")],
+        [(0, "66 agrees"), (5, "71 differs e1"), (6, "86 result 1-0"), (9, "91 differs d1"), (50, "96 result *")],
+        [(5.5, "in hand e1"), (7, "result 1-0"), (30, "setting up"), (50.5, "agrees")],
     ),
     (
         "mate",
