@@ -13,6 +13,7 @@ import os
 import pathlib
 import random
 import selectors
+import signal
 import sys
 import tempfile
 import time
@@ -179,6 +180,7 @@ def of_100(seconds: Sequence[float], share: float) -> float:
 
 
 def main() -> None:
+    signal.signal(signal.SIGTERM, lambda *_: sys.exit(143))
     boards, moves, pause = int(sys.argv[1]), int(sys.argv[2]), float(sys.argv[3])
     with tempfile.TemporaryDirectory(prefix="dgt_live.") as folder:
         (pathlib.Path(folder) / "room").mkdir()

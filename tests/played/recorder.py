@@ -1,6 +1,7 @@
 """A call of the recorder: its processes, what it says, what may be typed, and how it is ended."""
 
 import contextlib
+import ctypes
 import fcntl
 import os
 import pathlib
@@ -19,6 +20,8 @@ from played import TOP, words
 LIVE = pathlib.Path(os.environ.get("RECORDER") or TOP / "bin" / "dgt_live").resolve()
 XON, XOFF = b"\x11", b"\x13"
 SET_PIPE_SIZE = 1031  # F_SETPIPE_SZ of Linux
+SIGNAL_AT_PARENTS_DEATH = 1  # PR_SET_PDEATHSIG of Linux
+LIBRARY = ctypes.CDLL(None)
 
 
 class Pipe:
@@ -130,6 +133,8 @@ class Live:
             keys, self.typing = os.pipe()
 
         def prepare() -> None:
+            # One that is left over would take another board, where the system gives its device's name anew.
+            LIBRARY.prctl(SIGNAL_AT_PARENTS_DEATH, signal.SIGKILL)
             # One that was ignored can't be caught by a shell, and a call in the background ignores INT.
             for number in (signal.SIGINT, signal.SIGTERM, signal.SIGHUP):
                 signal.signal(number, signal.SIG_DFL)

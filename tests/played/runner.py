@@ -78,8 +78,9 @@ class Playing:
 
     @property
     def is_over(self) -> bool:
-        if self.process.poll() is None and time.monotonic() > self.ends:
-            self.process.kill()
+        late = time.monotonic() - self.ends
+        if self.process.poll() is None and late > 0:
+            self.process.kill() if late > 20 else self.process.terminate()
         return self.process.poll() is not None
 
 

@@ -195,8 +195,18 @@ def three_games(folder: pathlib.Path) -> None:
 
 def killed_between_games(folder: pathlib.Path) -> None:
     """KILL of all while the pieces are set up, and just as the first move of the next game is made at once: it is recorded when
-    it is started again. A game ends by the kings, or is resigned."""
-    for number in range(8):
+    it is started again. The game ended by the kings."""
+    between_games(folder, range(0, 8, 2))
+
+
+def killed_after_resigning(folder: pathlib.Path) -> None:
+    """The same where the game was resigned."""
+    between_games(folder, range(1, 8, 2))
+
+
+def between_games(folder: pathlib.Path, numbers: Sequence[int]) -> None:
+    """KILL between two games for each of these seeds; those that are even have a result."""
+    for number in numbers:
         place = folder / str(number)
         place.mkdir()
         board = a_board(place, seed=number)

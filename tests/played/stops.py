@@ -439,21 +439,25 @@ def in_the_background(folder: pathlib.Path) -> None:
 
 def spoiled_marks(folder: pathlib.Path) -> None:
     """After a power cut NAME.end, NAME.log or NAME.options may be empty, or hold anything: no traceback, and no byte is lost."""
-    for number, (end, text) in enumerate([("end", b""), ("end", b"99999999999\n"), ("end", b"\xff\x00"), ("log", b"\x00" * 50)]):
-        place = folder / str(number)
-        place.mkdir()
-        board, live = begin_game(place)
+    marks = [("end", b""), ("end", b"99999999999\n"), ("end", b"\xff\x00"), ("log", b"\x00" * 50)]
+    rooms = [a_room(folder) for _ in marks]
+    again = []
+    for (board, live), (end, text) in zip(rooms, marks):
+        begun(live)
+        for move in RUY[:2]:
+            board.play(move)
+        until_game(live.name, "1. e4 e5 *")
         kill(live)
         kept = bytes_of(live.name + ".dgt")
-        (place / f"game.{end}").write_bytes(text)
-        asked = board.asked.count(b"BK")
-        again = Live(board.device, live.name)
-        until(lambda: board.asked.count(b"BK") > asked or not again.runs, "that it goes on, or ends")
-        if again.runs:
+        pathlib.Path(f"{live.name}.{end}").write_bytes(text)
+        again.append((board, Live(board.device, live.name), board.asked.count(b"BK"), kept))
+    for board, live, asked, kept in again:
+        until(lambda: board.asked.count(b"BK") > asked or not live.runs, "that it goes on, or ends")
+        if live.runs:
             board.play("g1f3")
             until_game(live.name, "1. e4 e5 2. Nf3 *")
-            same(stop(again), 0)
-        ended(again)
-        assert "Traceback" not in again.complaint(), again.complaint()
+            same(stop(live), 0)
+        ended(live)
+        assert "Traceback" not in live.complaint(), live.complaint()
         same(bytes_of(live.name + ".dgt")[: len(kept)], kept)
         assert movetext(live.name).startswith("1. e4 e5 "), movetext(live.name)
