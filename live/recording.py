@@ -15,7 +15,7 @@ from live.loop import Loop, Timer
 from live.making import Maker
 from live.options import Options
 from live.program import Listing, Program, lines_of
-from live.refused import DONE, REFUSED
+from live.refused import DONE
 from live.screen import Screen, Told
 from live.setting_up import DUMP_BEGINS, TICK, pictures_words, start_placement
 from live.standing import Standing
@@ -88,7 +88,6 @@ class Recording:
         self._result = "*"
         self._typed = ""  # the result that an arbiter has typed
         self._start = protocol.picture_of_placement(start_placement(options))
-        self._shown: Optional[protocol.Picture] = None
         self._lines: List[ending.Line] = []
         self._changed_at = -1  # the offset of the last line that changed the game
         self._start_again = ending.StartAgain(self._start)
@@ -197,7 +196,7 @@ class Recording:
 
     def _saw(self, placement: str) -> None:
         """A line of `pictures`."""
-        self._shown = picture = protocol.picture_of_placement(placement)
+        picture = protocol.picture_of_placement(placement)
         self.standing.board.shows(picture)
         is_old = self._pictures_seen < self._old_pictures
         self._pictures_seen += 1
@@ -227,21 +226,14 @@ class Recording:
 
     def add(self, typed: added.Typed) -> Answer:
         """Adds a result, which ends the game, or moves. Refused where that can't be."""
-        addition = Addition(self._program, self._options, self.moves)
-        if isinstance(typed, added.Result):
-            sent, what = addition.result(typed.outcome, self._shown), f"the result {typed.outcome}"
-        elif isinstance(typed, added.Moves):
-            sent, moves = addition.moves(typed.words)
-            what = " ".join(moves)
-        else:
-            return REFUSED, added.WAYS
         if self._is_over:
             raise added.Refused("the game is just being ended. Type it again")
         if self._capture.full:
             raise added.Refused("the disk is full, and nothing can be added. Make room, and type it again")
+        put, what = Addition(self._program, self._options, self._capture.bytes()).of(typed)
         self._screen.say(f"added by hand: {what}")
-        self.came(sent)
-        self._asks(sent)
+        self.came(put)
+        self._asks(put)
         if isinstance(typed, added.Result) and not self._is_over:
             self._typed = typed.outcome
             self.end = self._capture.size

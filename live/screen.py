@@ -2,9 +2,10 @@
 
 from __future__ import annotations
 
+import collections
 import datetime
 from dataclasses import dataclass
-from typing import Callable, Optional
+from typing import Callable, Deque, Optional
 
 from live.files import Log
 from live.terminal import Terminal
@@ -52,7 +53,7 @@ class Screen:
         self._terminal, self._clock = terminal, clock
         self._log: Optional[Log] = None
         self._news: object = None
-        self._last = ""  # the text of the last line
+        self._last: Deque[str] = collections.deque(maxlen=3)  # the texts of the last lines
         self._state_at = datetime.datetime.min
 
     def keep(self, log: Optional[Log]) -> None:
@@ -64,7 +65,7 @@ class Screen:
     def say(self, text: str, *more: str) -> None:
         """A line, and those that belong to it."""
         now = self._clock()
-        self._last = text
+        self._last.append(text)
         self._print(f"{now:%H:%M:%S}  {text}")
         self._write(now, text)
         for line in more:
@@ -83,15 +84,16 @@ class Screen:
         """How the board stands, and what makes that another state than before: on a terminal the last line, elsewhere a line for
         each other state."""
         now = self._clock()
+        # A result that was just told as a line needs no second one.
         is_news, self._news = news != self._news, news
-        if is_news and text != self._last:
+        if is_news and text not in self._last:
             self._write(now, text)
         if self._terminal and self._terminal.in_place:
             # It lasts: what is typed below isn't disturbed each second.
             if is_news or abs((now - self._state_at).total_seconds()) >= LASTS:
                 self._state_at = now
                 self._terminal.state(f"{now:%H:%M:%S}  {text}{PROMPT}")
-        elif is_news and text != self._last:
+        elif is_news and text not in self._last:
             self._print(f"{now:%H:%M:%S}  {text}")
 
     def _print(self, line: str) -> None:

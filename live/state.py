@@ -70,7 +70,8 @@ class State:
         elif self.kind is Kind.IN_HAND:
             text += f" {words}"
         elif self.kind in ALARMS:
-            text += f" since {lasting(now - self.since)}" + (f": {words}" if words else "")
+            text += f" since {lasting(now - self.since)}" if now >= self.since + 1 else ""
+            text += f": {words}" if words else ""
         if self.hint:
             text += f"; {self.hint}"
         return f"DISK FULL, {text}" if self.disk_full else text

@@ -67,7 +67,7 @@ CASES = [
     (
         "silent, and it answers again",
         [(0, "66 agrees"), (9, "silent"), (10, "silent"), (20, "answers")],
-        [(9, "agrees"), (9.5, "SILENT since 0 s"), (19, "SILENT since 10 s"), (21, "agrees")],
+        [(9, "agrees"), (9.5, "SILENT"), (19, "SILENT since 10 s"), (21, "agrees")],
     ),
     (
         "unplugged, and there again",
