@@ -1,0 +1,4 @@
+pub mod Losing
+pub mod Adding
+pub mod Putting
+pub mod Sequels

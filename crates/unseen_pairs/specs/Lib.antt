@@ -1,0 +1,4 @@
+pub mod Pairs
+pub mod Recovering
+pub mod Lost
+pub mod Candidates
