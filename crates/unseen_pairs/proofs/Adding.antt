@@ -64,11 +64,14 @@ replies_more p seen m n replies i old now new l legal low is so add = record {
   sound = λ x c.
       elim (add.sound x c) [
         | inl before ↦ so.sound x before
-        | inr h ↦ inr (h.0, record {
-          first = subst (λ (z : Move). Legal p z) (sym h.0) l;
-          second = subst (λ (z : Move). Legal (after p z) x.second) (sym h.0) (subst (λ (z : Move). Legal (after p m) z) (sym h.1) legal);
-          shows = h.2 ∙ ap (λ (z : Move). picture (after (after p m) z)) (sym h.1) ∙ ap (λ (z : Move). picture (after (after p z) x.second)) (sym h.0);
-        })
+        | inr h ↦ inr (
+          h.0,
+          record {
+            first = subst (λ (z : Move). Legal p z) (sym h.0) l;
+            second = subst (λ (z : Move). Legal (after p z) x.second) (sym h.0) (subst (λ (z : Move). Legal (after p m) z) (sym h.1) legal);
+            shows = h.2 ∙ ap (λ (z : Move). picture (after (after p m) z)) (sym h.1) ∙ ap (λ (z : Move). picture (after (after p z) x.second)) (sym h.0);
+          },
+        )
       ];
   keeps = λ x c. add.keeps x (so.keeps x c);
   whole = λ x k below at f two.

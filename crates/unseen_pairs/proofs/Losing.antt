@@ -81,10 +81,12 @@ mover_loses p m n seen v two =
 pub other_loses : (p : Parts) (m n : Move) (seen : List ℕ) → Valid p → IsAfterTwo p seen m n → Loses p seen (other p.side)
 other_loses p m n seen v two =
     let w : Valid (after p m) = moves_stay_valid p m v two.first in
-    let g : Goes (after p m) n = goes (after p m) n w two.second in
-    (n.from, record {
-      low = g.low;
-      kind = g.kind;
-      stands = theirs_stood p m n.from g.kind v two.first g.stood;
-      gone = λ e. code_no_zero (other p.side) g.kind (sym e ∙ empty_from (after p m) n seen w two.second two.shows);
-    })
+    let g : Goes (after p m) n = goes (after p m) n w two.second in (
+      n.from,
+      record {
+        low = g.low;
+        kind = g.kind;
+        stands = theirs_stood p m n.from g.kind v two.first g.stood;
+        gone = λ e. code_no_zero (other p.side) g.kind (sym e ∙ empty_from (after p m) n seen w two.second two.shows);
+      },
+    )

@@ -22,11 +22,11 @@ use Rattle.unseen_pairs.specs.declared.pair.Pair.{Pair}
 use Rattle.unseen_pairs.specs.declared.pair.Recovery.{Recovery}
 use Rattle.unseen_pairs.specs.declared.pair.Told.{Told}
 use Rattle.unseen_pairs.specs.declared.pair.Told.TheVariants.{Shown, Recovered}
-use Rattle.unseen_pairs.specs.Pairs.{Confirms, Explains, ExplainsFirst, GoesOn, IsAfterTwo, IsInstead, begins, ends, root}
+use Rattle.unseen_pairs.specs.Pairs.{Confirms, Explains, ExplainsAt, GoesOn, IsAfterTwo, IsInstead, begins, ends, root}
 use Rattle.unseen_pairs.specs.Recovering.{recovered, score_told}
 
 -- the picture after a legal move settles it
-settles_own : (p : Parts) (m : Move) → Valid p → Legal p m → Settles p (picture (after p m)) m
+pub settles_own : (p : Parts) (m : Move) → Valid p → Legal p m → Settles p (picture (after p m)) m
 settles_own p m v l = record { legal = l; shows = refl; alone = λ n k e. sym (pictures_tell_moves p m n v l k e) }
 
 replaces_own :
@@ -54,8 +54,7 @@ first_seen :
 first_seen start plies m v h l i =
     let r = replaces_own start plies m v h l i in
     let seen = picture (after (reached start (moves_of (drop 1 plies))) m) in
-    let u : Valid (reached start (moves_of (drop 1 plies))) = valid_reached start (moves_of (drop 1 plies)) v (played_before start plies h) in
-    (
+    let u : Valid (reached start (moves_of (drop 1 plies))) = valid_reached start (moves_of (drop 1 plies)) v (played_before start plies h) in (
       λ n s. replies_replace_nothing start (moves_of plies) seen n m v h s r,
       λ outcome s. signs_settle_nothing (reached start (moves_of (drop 1 plies))) (reached start (moves_of plies)) seen m outcome u (settles_own _ m u l) s,
       r,
@@ -103,18 +102,10 @@ goes_seen start moves seen (Replaced m) h = absurd h
 goes_seen start moves seen Waits h = absurd h
 goes_seen start moves seen Same h = absurd h
 
-roots : (corrects : Bool) (plies : List Ply) → root corrects (moves_of plies) ≡ moves_of (root corrects plies)
+pub roots : (corrects : Bool) (plies : List Ply) → root corrects (moves_of plies) ≡ moves_of (root corrects plies)
 roots false plies = refl
 roots true [] = refl
 roots true (last ∷ earlier) = refl
-
--- what waits and is explained is explained
-pub explained :
-    (start : Parts) (moves : List Move) (waiting : List Entry) (pair : Pair) (reading : Option Reading)
-    → ExplainsFirst start moves waiting pair reading → (seen : List ℕ) × Explains start moves seen pair
-explained start moves [] pair reading h = absurd h
-explained start moves (entry ∷ past) pair reading (inl h) = explained start moves past pair reading h
-explained start moves (entry ∷ past) pair reading (inr h) = (entry.picture, h.1)
 
 -- The entries with the two pictures put in fold to the score with the pair and its sequel.
 pub put_in_folds :
@@ -123,15 +114,11 @@ pub put_in_folds :
     → Folds start past before
     → Confirms start (moves_of before.plies) waiting seen r
     → Folds start
-    (entry_of seen reading
-    ∷ entry_of (picture (ends start (moves_of before.plies) r.pair)) r.reading
-    ∷ entry_of (picture (after (begins start (moves_of before.plies) r.pair) (r.pair).first)) r.reading
-    ∷ past)
+    (entry_of seen reading ∷ entry_of (picture r.after) r.reading ∷ entry_of (picture r.middle) r.reading ∷ past)
     (score_told start before reading (Recovered r))
 put_in_folds start past before waiting seen reading r v f c =
     let pair : Pair = r.pair in
-    let x = explained start (moves_of before.plies) waiting pair r.reading (c.confirmed).explains in
-    let e : Explains start (moves_of before.plies) x.0 pair = x.1 in
+    let e : Explains start (moves_of before.plies) (c.entry).picture pair = (c.explains).explains in
     let same = roots pair.corrects before.plies in
     let P : List Move → Type 0 = λ ms.
     Legal (reached start ms) pair.first
@@ -146,4 +133,10 @@ put_in_folds start past before waiting seen reading r v f c =
     let at : P (moves_of (root pair.corrects before.plies)) = λ l k g.
     let s : Score = recovered start before r.reading pair in
     (s, r.sequel, pair_folds start past before r.reading pair.corrects pair.first pair.second v f l e.instead k, goes_seen start (moves_of s.plies) seen r.sequel g, refl) in
-    subst P (sym same) at (e.after_two).first (e.after_two).second (c.confirmed).goes_on
+    let M : Parts → Type 0 = λ (q : Parts). Folds start
+    (entry_of seen reading ∷ entry_of (picture (ends start (moves_of before.plies) pair)) r.reading ∷ entry_of (picture q) r.reading ∷ past)
+    (score_told start before reading (Recovered r)) in
+    let E : Parts → Type 0 = λ (q : Parts). Folds start
+    (entry_of seen reading ∷ entry_of (picture q) r.reading ∷ entry_of (picture r.middle) r.reading ∷ past)
+    (score_told start before reading (Recovered r)) in
+    subst E (sym c.after_is) (subst M (sym c.middle_is) (subst P (sym same) at (e.after_two).first (e.after_two).second c.goes_on))

@@ -2,3 +2,4 @@ pub mod Pairs
 pub mod Recovering
 pub mod Lost
 pub mod Candidates
+pub mod Recoverer

@@ -1,5 +1,5 @@
 -- Two plies of which no picture was whole.
-use Rattle.std.specs.Prelude.{◌≡◌, ◌≢◌, ◌⊎◌, ℕ, Bool, true, false, List, [], ◌∷◌, Option, drop, if◌then◌else◌}
+use Rattle.std.specs.Prelude.{◌≡◌, ◌≢◌, ◌<◌, ℕ, Bool, true, false, List, [], ◌∷◌, Option, Some, drop, slice_get, if◌then◌else◌}
 use Rattle.dgt_frame.specs.declared.time.Reading.{Reading}
 use Rattle.chess_rules.specs.declared.chess_move.Move.{Move}
 use Rattle.chess_rules.specs.declared.parts.Parts.{Parts}
@@ -42,13 +42,11 @@ pub record Explains (start : Parts) (moves : List Move) (seen : List ℕ) (pair 
   pub after_two : IsAfterTwo (begins start moves pair) seen pair.first pair.second
   pub instead : pair.corrects ≡ true → IsInstead moves pair.first
 
--- Of these entries, of which the latest comes first, the first one in time that the pair explains has this reading.
-abbrev pub ExplainsFirst : Parts → List Move → List Entry → Pair → Option Reading → Type 0
-ExplainsFirst start moves [] pair reading = ⊥
-ExplainsFirst start moves (entry ∷ past) pair reading =
-    ExplainsFirst start moves past pair reading
-    ⊎ (((r : Option Reading) → ¬ ExplainsFirst start moves past pair r)
-    × Explains start moves entry.picture pair × (reading ≡ entry.reading))
+-- Of the last 256 of these entries, of which the latest comes first, the pair explains the one at this place.
+pub record ExplainsAt (start : Parts) (moves : List Move) (waiting : List Entry) (pair : Pair) (place : ℕ) (entry : Entry) : Type 0 where
+  pub low : place < 256
+  pub waits : slice_get waiting place ≡ Some entry
+  pub explains : Explains start moves entry.picture pair
 
 -- The picture goes on from this position: by a move, or by a sign.
 abbrev pub GoesOn : Parts → List ℕ → Seen → Type 0
@@ -56,12 +54,17 @@ GoesOn p seen (Moved m) = Settles p seen m
 GoesOn p seen (Sign outcome) = IsSign p seen outcome
 GoesOn p seen _ = ⊥
 
--- The pair explains an entry that waits, first one with this reading, and the picture goes on from it.
-pub record IsConfirmed (start : Parts) (moves : List Move) (waiting : List Entry) (seen : List ℕ) (r : Recovery) : Type 0 where
-  pub explains : ExplainsFirst start moves waiting r.pair r.reading
-  pub goes_on : GoesOn (ends start moves r.pair) seen r.sequel
-
--- The picture confirms this pair, and no other.
+-- The picture confirms this pair, and no other: the pair explains an entry that waits, of which the first in time has this
+-- reading, and the picture goes on from the position after both plies; it goes on from no other pair that explains one that waits.
 pub record Confirms (start : Parts) (moves : List Move) (waiting : List Entry) (seen : List ℕ) (r : Recovery) : Type 0 where
-  pub confirmed : IsConfirmed start moves waiting seen r
-  pub alone : (other : Recovery) → IsConfirmed start moves waiting seen other → other.pair ≡ r.pair
+  pub place : ℕ
+  pub entry : Entry
+  pub explains : ExplainsAt start moves waiting r.pair place entry
+  pub first : (earlier : ℕ) (other : Entry) → place < earlier → ¬ ExplainsAt start moves waiting r.pair earlier other
+  pub reading_is : r.reading ≡ entry.reading
+  pub before_is : r.before ≡ begins start moves r.pair
+  pub middle_is : r.middle ≡ after (begins start moves r.pair) r.pair.first
+  pub after_is : r.after ≡ ends start moves r.pair
+  pub goes_on : GoesOn (ends start moves r.pair) seen r.sequel
+  pub alone : (pair : Pair) (k : ℕ) (other : Entry) (a : Seen)
+      → ExplainsAt start moves waiting pair k other → GoesOn (ends start moves pair) seen a → pair ≡ r.pair

@@ -5,7 +5,7 @@ ghost use Rattle.settle_core.specs.declared.game.Seen.{Seen as SeenOf};
 ghost use Rattle.settle_core.specs.Folding.{SeenAs};
 ghost use Rattle.unseen_pairs.specs.Pairs.{GoesOn};
 ghost use Rattle.unseen_pairs.specs.declared.confirming.Confirmed.{Confirmed as ConfirmedOf};
-ghost use Rattle.unseen_pairs.specs.Candidates.{IsOnlyOne};
+ghost use Rattle.unseen_pairs.specs.Candidates.{IsOlder, IsOnlyOne};
 
 use crate::pair::Pair;
 use chess_rules::Position;
@@ -13,13 +13,20 @@ use dgt_frame::Reading;
 use settle_core::{Seen, Settler};
 use std::alloc::{AllocError, Global};
 
-/// A pair that explains a picture that waits: the positions after its plies, and the reading of the first such picture.
+/// A pair that explains a picture that waits.
 #[derive(Clone, Copy, Debug)]
 pub struct Candidate {
     pub pair: Pair,
+    /// The position in which the pair begins.
+    pub before: Position,
+    /// The position after its first ply.
     pub middle: Position,
+    /// The position after both.
     pub after: Position,
+    /// The clocks' reading of that picture.
     pub reading: Option<Reading>,
+    /// How many pictures have come to wait after that one.
+    pub age: u8,
 }
 
 /// The one candidate that a picture confirms, and what goes on from it.
@@ -53,7 +60,7 @@ fn going_on(seen: Seen) -> Option<Seen>
 }
 
 /// What goes on from the position, if anything: the move that the picture settles there, or the sign over it.
-pub fn sequel(alloc: Global, p: &Position, picture: &[u8; 64]) -> Result<Option<Seen>, AllocError>
+fn sequel(alloc: Global, p: &Position, picture: &[u8; 64]) -> Result<Option<Seen>, AllocError>
     requires { All (λ code. code < 16) picture.now }
     ensures some { IfOk result (λ found. IfSome found (GoesOn p.now picture.now)) }
     ensures none { IfOk result (λ found. IfNone found ((a : SeenOf) → ¬ GoesOn p.now picture.now a)) }
@@ -68,8 +75,23 @@ fn is_same(a: &Pair, b: &Pair) -> bool
     *a == *b
 }
 
-/// The one pair that goes on to the picture, if there is exactly one.
-pub fn only_one(alloc: Global, candidates: &[Candidate], picture: &[u8; 64]) -> Result<Option<Confirmed>, AllocError>
+/// The older of two.
+fn older(a: &Confirmed, b: &Confirmed) -> Confirmed
+    ensures { IsOlder a.now b.now result }
+{
+    if a.candidate.age < b.candidate.age {
+        *b
+    } else {
+        *a
+    }
+}
+
+/// The oldest candidate of the one pair from which the picture goes on, if there is exactly one such pair.
+pub fn only_one(
+    alloc: Global,
+    candidates: &[Candidate],
+    picture: &[u8; 64],
+) -> Result<Option<Confirmed>, AllocError>
     requires { All (λ code. code < 16) picture.now }
     ensures some { IfOk result (λ found. IfSome found (IsOnlyOne candidates.now picture.now)) }
     ensures none { IfOk result (λ found. IfNone found ((one : ConfirmedOf) → ¬ IsOnlyOne candidates.now picture.now one)) }
@@ -79,13 +101,17 @@ pub fn only_one(alloc: Global, candidates: &[Candidate], picture: &[u8; 64]) -> 
         let Some(sequel) = sequel(alloc, &candidate.after, picture)? else {
             continue;
         };
+        let one = Confirmed {
+            candidate: *candidate,
+            sequel,
+        };
         found = match found {
-            None => Some(Confirmed { candidate: *candidate, sequel }),
+            None => Some(one),
             Some(before) => {
                 if !is_same(&before.candidate.pair, &candidate.pair) {
                     return Ok(None);
                 }
-                Some(before)
+                Some(older(&before, &one))
             }
         };
     }

@@ -141,7 +141,11 @@ fn push_pairs_with(
 }
 
 /// The pairs of plies that give the picture from this position.
-pub fn pairs_that_explain(alloc: Global, p: &Position, seen: &[u8; 64]) -> Result<Vec<TwoPlies>, AllocError>
+pub fn pairs_that_explain(
+    alloc: Global,
+    p: &Position,
+    seen: &[u8; 64],
+) -> Result<Vec<TwoPlies>, AllocError>
     ensures { IfOk result (λ pairs. (x : TwoPliesOf) → Contains pairs.items x ↔ IsAfterTwo p.now seen.now x.first x.second) }
 {
     let mut pairs = Vec::new(alloc);

@@ -4,7 +4,8 @@
 mod confirming;
 mod explaining;
 mod pair;
+mod recoverer;
+mod waiting;
 
-pub use confirming::{Candidate, Confirmed, only_one, sequel};
-pub use explaining::pairs_that_explain;
-pub use pair::{Pair, Recovery, Told, TwoPlies};
+pub use pair::{Pair, Recovery, Told};
+pub use recoverer::Recoverer;

@@ -1,5 +1,5 @@
 // Pairs of plies, and what a picture tells of them.
-use chess_rules::Move;
+use chess_rules::{Move, Position};
 use dgt_frame::Reading;
 use settle_core::Seen;
 
@@ -19,16 +19,24 @@ pub struct Pair {
     pub second: Move,
 }
 
-/// A pair that is confirmed: the reading of the picture that it explains, and what goes on from it, a move or a sign.
-#[derive(Clone, Copy, PartialEq, Eq, Debug)]
+/// A pair that is confirmed.
+#[derive(Clone, Copy, Debug)]
 pub struct Recovery {
     pub pair: Pair,
+    /// The position in which the pair begins.
+    pub before: Position,
+    /// The position after its first ply.
+    pub middle: Position,
+    /// The position after both.
+    pub after: Position,
+    /// The clocks' reading of the first picture that waited and that the pair explains.
     pub reading: Option<Reading>,
+    /// What goes on from the position after both, a move or a sign.
     pub sequel: Seen,
 }
 
 /// What a picture tells.
-#[derive(Clone, Copy, PartialEq, Eq, Debug)]
+#[derive(Clone, Copy, Debug)]
 pub enum Told {
     /// What it shows by itself.
     Shown(Seen),
