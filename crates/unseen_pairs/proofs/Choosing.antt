@@ -1,5 +1,5 @@
 -- The one candidate is the pair that the picture confirms.
-use Rattle.std.proofs.Common.{◌≡◌, ◌⊎◌, ℕ, ◌<◌, ◌≤◌, inl, inr, List, Contains, refl, sym, ap, subst, ◌∙◌, arith}
+use Rattle.std.proofs.Common.{◌≡◌, ℕ, ◌≤◌, inl, inr, List, Contains, sym, ap, subst, ◌∙◌, arith}
 use Rattle.std.proofs.lemmas.Bool.{cases_lt}
 use Rattle.chess_rules.specs.declared.chess_move.Move.{Move}
 use Rattle.chess_rules.specs.declared.parts.Parts.{Parts}
@@ -9,7 +9,7 @@ use Rattle.unseen_pairs.specs.declared.pair.Pair.{Pair}
 use Rattle.unseen_pairs.specs.declared.pair.Recovery.{Recovery}
 use Rattle.unseen_pairs.specs.declared.confirming.Candidate.{Candidate}
 use Rattle.unseen_pairs.specs.declared.confirming.Confirmed.{Confirmed}
-use Rattle.unseen_pairs.specs.Pairs.{Confirms, ExplainsAt, GoesOn, begins, ends}
+use Rattle.unseen_pairs.specs.Pairs.{Confirms, ExplainsAt, GoesOn, ends}
 use Rattle.unseen_pairs.specs.Candidates.{IsCandidate, IsOnlyOne, ListsCandidates}
 
 abbrev pub recovery_of : Confirmed → Recovery

@@ -1,5 +1,5 @@
 -- Two plies take a piece of each side off its square.
-use Rattle.std.proofs.Common.{◌≡◌, ◌≢◌, ℕ, ◌<◌, inl, inr, List, Option, None, get_or, length, refl, sym, ap, subst, ◌∙◌}
+use Rattle.std.proofs.Common.{◌≡◌, ℕ, ◌<◌, inl, inr, List, None, get_or, sym, ap, subst, ◌∙◌}
 use Rattle.chess_rules.specs.declared.pieces.Side.{Side}
 use Rattle.chess_rules.specs.declared.pieces.Kind.{Kind}
 use Rattle.chess_rules.specs.declared.pieces.Kind.TheVariants.{King}
@@ -14,7 +14,7 @@ use Rattle.chess_rules.proofs.LawLemmas.{moves_move_pieces, moves_stay_valid}
 use Rattle.settle_core.proofs.Boards.{on_board, none_piece, other-other}
 use Rattle.settle_core.proofs.Pieces.{at_picture, on_shown, code_no_zero, theirs_stood}
 use Rattle.unseen_pairs.specs.Pairs.{IsAfterTwo}
-use Rattle.unseen_pairs.specs.Lost.{LosesAt, Loses}
+use Rattle.unseen_pairs.specs.Lost.{Loses}
 
 -- the piece that a move takes off its square
 pub record Goes (p : Parts) (m : Move) : Type 0 where

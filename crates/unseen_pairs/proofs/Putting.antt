@@ -1,6 +1,6 @@
 -- Pictures put in give the recovered score: the entries with those of a confirmed pair's two positions before its sequel fold, as
 -- entries do, to the score that the pair gives.
-use Rattle.std.proofs.Common.{◌≡◌, ◌≢◌, ℕ, Bool, true, false, inl, inr, List, [], ◌∷◌, Option, drop, refl, sym, ap, subst, ◌∙◌}
+use Rattle.std.proofs.Common.{◌≡◌, ℕ, Bool, true, false, List, [], ◌∷◌, Option, drop, refl, sym, subst}
 use Rattle.dgt_frame.specs.declared.time.Reading.{Reading}
 use Rattle.chess_rules.specs.declared.chess_move.Move.{Move}
 use Rattle.chess_rules.specs.declared.parts.Parts.{Parts}
@@ -8,21 +8,19 @@ use Rattle.chess_rules.specs.After.{after}
 use Rattle.chess_rules.specs.Legal.{Legal}
 use Rattle.chess_rules.specs.Valid.{Valid}
 use Rattle.chess_rules.specs.Picture.{picture}
-use Rattle.chess_rules.proofs.LawLemmas.{pictures_tell_moves, moves_stay_valid}
-use Rattle.settle_core.specs.declared.game.Outcome.{Outcome}
+use Rattle.chess_rules.proofs.LawLemmas.{pictures_tell_moves}
 use Rattle.settle_core.specs.declared.game.Ply.{Ply}
 use Rattle.settle_core.specs.declared.game.Seen.{Seen}
 use Rattle.settle_core.specs.declared.game.Seen.TheVariants.{Same, Moved, Sign, Replaced, Waits}
 use Rattle.settle_core.specs.Entries.{Entry, entry_of}
 use Rattle.settle_core.specs.Settling.{Settles, Played, reached}
-use Rattle.settle_core.specs.Folding.{Score, Folds, Replaces, SeenAs, moves_of, played, score_after}
+use Rattle.settle_core.specs.Folding.{Score, Folds, Replaces, SeenAs, moves_of, played}
 use Rattle.settle_core.proofs.Once.{folds_played, replies_replace_nothing, signs_settle_nothing}
 use Rattle.settle_core.proofs.Stages.{valid_reached}
 use Rattle.unseen_pairs.specs.declared.pair.Pair.{Pair}
 use Rattle.unseen_pairs.specs.declared.pair.Recovery.{Recovery}
-use Rattle.unseen_pairs.specs.declared.pair.Told.{Told}
-use Rattle.unseen_pairs.specs.declared.pair.Told.TheVariants.{Shown, Recovered}
-use Rattle.unseen_pairs.specs.Pairs.{Confirms, Explains, ExplainsAt, GoesOn, IsAfterTwo, IsInstead, begins, ends, root}
+use Rattle.unseen_pairs.specs.declared.pair.Told.TheVariants.{Recovered}
+use Rattle.unseen_pairs.specs.Pairs.{Confirms, Explains, GoesOn, IsInstead, ends, root}
 use Rattle.unseen_pairs.specs.Recovering.{recovered, score_told}
 
 -- the picture after a legal move settles it

@@ -1,10 +1,8 @@
 -- What a recoverer tells, from what its settler tells.
-use Rattle.std.proofs.Common.{◌≡◌, ◌≢◌, ℕ, ◌<◌, ◌↔◌, Bool, true, false, inl, inr, List, [], ◌∷◌, Option, Some, None, drop, Result, Ok, Err, IfOk, refl, sym, ap, subst, ◌∙◌, arith}
+use Rattle.std.proofs.Common.{◌≡◌, ◌≢◌, ℕ, ◌<◌, Bool, true, false, List, [], ◌∷◌, Result, Ok, Err, IfOk, refl, sym, ap, subst, ◌∙◌, arith}
 use Rattle.std.specs.Str.{bytes_eq}
 use Rattle.std.proofs.lemmas.Bool.{cond-true, cond-false}
 use Rattle.std.proofs.lemmas.Slice.Eq.{bytes_eq-Decides}
-use Rattle.std.specs.declared.alloc.AllocError.{AllocError}
-use Rattle.dgt_frame.specs.declared.time.Reading.{Reading}
 use Rattle.chess_rules.specs.declared.chess_move.Move.{Move}
 use Rattle.chess_rules.specs.declared.parts.Parts.{Parts}
 use Rattle.chess_rules.specs.After.{after}
@@ -12,7 +10,6 @@ use Rattle.chess_rules.specs.Legal.{Legal}
 use Rattle.chess_rules.specs.Valid.{Valid}
 use Rattle.chess_rules.specs.Picture.{picture}
 use Rattle.chess_rules.proofs.LawLemmas.{moves_stay_valid}
-use Rattle.settle_core.specs.declared.game.Outcome.{Outcome}
 use Rattle.settle_core.specs.declared.game.Seen.{Seen}
 use Rattle.settle_core.specs.declared.game.Seen.TheVariants.{Same, Moved, Sign, Replaced, Waits}
 use Rattle.settle_core.specs.Entries.{Entry, entry_of, deduplicated, last_picture, repeats}
@@ -23,15 +20,13 @@ use Rattle.settle_core.proofs.Apart.{no_sign_valid}
 use Rattle.settle_core.proofs.Once.{folds_once, folds_played}
 use Rattle.settle_core.proofs.Pieces.{picture_moves}
 use Rattle.settle_core.proofs.Stages.{differ_false, valid_reached}
-use Rattle.unseen_pairs.specs.declared.pair.Pair.{Pair}
 use Rattle.unseen_pairs.specs.declared.pair.Recovery.{Recovery}
-use Rattle.unseen_pairs.specs.declared.pair.Told.{Told}
 use Rattle.unseen_pairs.specs.declared.pair.Told.TheVariants.{Shown, Recovered}
 use Rattle.unseen_pairs.specs.declared.confirming.Candidate.{Candidate}
 use Rattle.unseen_pairs.specs.declared.confirming.Confirmed.{Confirmed}
 use Rattle.unseen_pairs.specs.Pairs.{Confirms, Explains, GoesOn, IsInstead, begins, ends, root}
 use Rattle.unseen_pairs.specs.Recovering.{FoldsRecovering, TellsAs, score_told, waiting_after}
-use Rattle.unseen_pairs.specs.Recoverer.{Desk, HasTold, IsWaiting, ReturnsTold, StandsForRecovered, TellsNew, written_after}
+use Rattle.unseen_pairs.specs.Recoverer.{Desk, HasTold, IsWaiting, StandsForRecovered, TellsNew}
 use Rattle.unseen_pairs.specs.Candidates.{IsOnlyOne, ListsCandidates}
 use Rattle.unseen_pairs.proofs.Choosing.{recovery_of, one_confirmed, confirmed_one}
 use Rattle.unseen_pairs.proofs.Putting.{put_in_folds, settles_own}

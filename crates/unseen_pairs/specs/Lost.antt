@@ -1,5 +1,5 @@
 -- Which pairs can explain a picture, and how far they are listed. Private definitions: the public contracts do not cite them.
-use Rattle.std.specs.Prelude.{◌≡◌, ◌≢◌, ◌<◌, ◌⊎◌, ◌↔◌, ℕ, List, Contains, slice_index, slice_index_or}
+use Rattle.std.specs.Prelude.{◌≡◌, ◌≢◌, ◌<◌, ◌⊎◌, ℕ, List, Contains, slice_index, slice_index_or}
 use Rattle.chess_rules.specs.declared.pieces.Side.{Side}
 use Rattle.chess_rules.specs.declared.pieces.Kind.{Kind}
 use Rattle.chess_rules.specs.declared.chess_move.Move.{Move}

@@ -1,6 +1,5 @@
 -- Two plies of which no picture was whole.
-use Rattle.std.specs.Prelude.{◌≡◌, ◌≢◌, ◌<◌, ℕ, Bool, true, false, List, [], ◌∷◌, Option, Some, drop, slice_get, if◌then◌else◌}
-use Rattle.dgt_frame.specs.declared.time.Reading.{Reading}
+use Rattle.std.specs.Prelude.{◌≡◌, ◌≢◌, ◌<◌, ℕ, Bool, true, List, [], ◌∷◌, Some, drop, slice_get, if◌then◌else◌}
 use Rattle.chess_rules.specs.declared.chess_move.Move.{Move}
 use Rattle.chess_rules.specs.declared.parts.Parts.{Parts}
 use Rattle.chess_rules.specs.After.{after}
@@ -9,7 +8,7 @@ use Rattle.chess_rules.specs.Picture.{picture}
 use Rattle.settle_core.specs.Settling.{Settles, reached}
 use Rattle.settle_core.specs.Entries.{Entry}
 use Rattle.settle_core.specs.declared.game.Seen.{Seen}
-use Rattle.settle_core.specs.declared.game.Seen.TheVariants.{Same, Moved, Sign, Replaced, Waits}
+use Rattle.settle_core.specs.declared.game.Seen.TheVariants.{Moved, Sign}
 use Rattle.settle_core.specs.Sign.{IsSign}
 use Rattle.unseen_pairs.specs.declared.pair.Pair.{Pair}
 use Rattle.unseen_pairs.specs.declared.pair.Recovery.{Recovery}

@@ -1,4 +1,4 @@
-use Rattle.std.proofs.Common.{◌+◌, ◌≡◌, Option, Some, None, IfSome, sym, subst}
+use Rattle.std.proofs.Common.{◌+◌, Option, IfSome, sym, subst}
 use Rattle.settle_core.specs.declared.game.Seen.{Seen}
 use Rattle.unseen_pairs.specs.declared.confirming.Confirmed.{Confirmed}
 use Rattle.unseen_pairs.specs.Pairs.{GoesOn}

@@ -1,5 +1,4 @@
-use Rattle.std.proofs.Common.{IsTrue, ◌<◌, ℕ, arith}
-use Rattle.unseen_pairs.specs.Lost.{Loses, LosesAt}
+use Rattle.std.proofs.Common.{arith}
 use Rattle.unseen_pairs.proofs.explaining.loses.Goals as goal
 
 pub returns : goal.returns

@@ -1,7 +1,7 @@
-use Rattle.std.proofs.Common.{refl, sym, ap, subst, ◌∙◌, ◌≡◌, ◌≤◌, ◌<◌, length, arith, List, ℕ}
+use Rattle.std.proofs.Common.{sym, subst, ◌≡◌, ◌≤◌, arith, List, ℕ}
 use Rattle.chess_rules.specs.declared.chess_move.Move.{Move}
 use Rattle.chess_rules.specs.Moves.{ListsLegal}
-use Rattle.unseen_pairs.proofs.Adding.{lists_none, lists_more, lists_all, legal_at}
+use Rattle.unseen_pairs.proofs.Adding.{lists_more, lists_all, legal_at}
 use Rattle.unseen_pairs.proofs.explaining.pairs_that_explain.Goals as goal
 
 pub push_pairs_with-requires-clause-first : goal.push_pairs_with-requires-clause-first

@@ -1,4 +1,4 @@
-use Rattle.std.proofs.Common.{refl, sym, ap, ◌∙◌}
+use Rattle.std.proofs.Common.{sym, ap, ◌∙◌}
 use Rattle.chess_rules.specs.declared.chess_move.Move.{Move}
 use Rattle.chess_rules.specs.After.{after}
 use Rattle.chess_rules.specs.Picture.{picture}

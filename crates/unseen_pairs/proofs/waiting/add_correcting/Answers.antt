@@ -1,4 +1,4 @@
-use Rattle.std.proofs.Common.{◌≡◌, sym, ◌∙◌}
+use Rattle.std.proofs.Common.{sym, ◌∙◌}
 use Rattle.unseen_pairs.proofs.waiting.add_correcting.Goals as goal
 
 pub returns-in_default-clause-last : goal.returns-in_default-clause-last

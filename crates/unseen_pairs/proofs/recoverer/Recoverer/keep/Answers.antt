@@ -1,4 +1,4 @@
-use Rattle.std.proofs.Common.{◌≡◌, ◌≢◌, ◌∷◌, true, false, List, refl, sym, ap, subst, ◌∙◌}
+use Rattle.std.proofs.Common.{◌≡◌, ◌≢◌, ◌∷◌, true, false, List, sym, ap, subst, ◌∙◌}
 use Rattle.std.proofs.lemmas.Bool.{both_ways}
 use Rattle.chess_rules.specs.declared.parts.Parts.{Parts}
 use Rattle.chess_rules.specs.Valid.{Valid}
@@ -11,7 +11,7 @@ use Rattle.settle_core.specs.Folding.{moves_of}
 use Rattle.unseen_pairs.specs.declared.confirming.Candidate.{Candidate}
 use Rattle.unseen_pairs.specs.declared.confirming.Confirmed.{Confirmed}
 use Rattle.unseen_pairs.specs.Candidates.{AreAdded, AreAged, IsOnlyOne}
-use Rattle.unseen_pairs.specs.Recoverer.{Desk, HasTold, IsWaiting}
+use Rattle.unseen_pairs.specs.Recoverer.{Desk, IsWaiting}
 use Rattle.unseen_pairs.proofs.Aging.{lists_next}
 use Rattle.unseen_pairs.proofs.Telling.{own_told, other_told}
 use Rattle.unseen_pairs.proofs.recoverer.Recoverer.keep.Goals as goal

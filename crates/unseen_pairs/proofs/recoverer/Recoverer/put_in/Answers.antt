@@ -1,11 +1,9 @@
-use Rattle.std.proofs.Common.{◌≡◌, ◌∷◌, List, Option, refl, sym, ap, subst, ◌∙◌}
+use Rattle.std.proofs.Common.{◌∷◌, List, Option, sym, subst, ◌∙◌}
 use Rattle.dgt_frame.specs.declared.time.Reading.{Reading}
-use Rattle.chess_rules.specs.declared.parts.Parts.{Parts}
 use Rattle.chess_rules.specs.Valid.{Valid}
 use Rattle.chess_rules.specs.Picture.{picture}
 use Rattle.settle_core.specs.Entries.{Entry, entry_of}
-use Rattle.settle_core.specs.Settler.{Sheet, StandsFor}
-use Rattle.unseen_pairs.specs.declared.pair.Recovery.{Recovery}
+use Rattle.settle_core.specs.Settler.{StandsFor}
 use Rattle.unseen_pairs.specs.declared.pair.Told.TheVariants.{Recovered}
 use Rattle.unseen_pairs.specs.Candidates.{IsOnlyOne}
 use Rattle.unseen_pairs.specs.Recoverer.{Desk, HasTold, IsWaiting}

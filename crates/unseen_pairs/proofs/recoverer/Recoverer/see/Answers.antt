@@ -1,12 +1,11 @@
-use Rattle.std.proofs.Common.{◌≡◌, ◌∷◌, List, Option, IfOk, refl, sym, ap, subst, ◌∙◌}
+use Rattle.std.proofs.Common.{◌∷◌, Option, sym, subst, ◌∙◌}
 use Rattle.dgt_frame.specs.declared.time.Reading.{Reading}
 use Rattle.chess_rules.specs.Valid.{Valid}
-use Rattle.settle_core.specs.declared.game.Seen.{Seen}
 use Rattle.settle_core.specs.Entries.{Entry, entry_of}
 use Rattle.settle_core.specs.Settler.{ReturnsSeen, StandsFor}
 use Rattle.unseen_pairs.specs.declared.pair.Told.{Told}
 use Rattle.unseen_pairs.specs.Recoverer.{Desk, HasTold, IsWaiting, ReturnsTold, StandsForRecovered, written_after}
-use Rattle.unseen_pairs.proofs.Telling.{map_ok, same_told, shown_told, to_wait}
+use Rattle.unseen_pairs.proofs.Telling.{map_ok, shown_told, to_wait}
 use Rattle.unseen_pairs.proofs.recoverer.Recoverer.see.Goals as goal
 
 pub returns-in-Waits-clause-stands : goal.returns-in-Waits-clause-stands

@@ -1,4 +1,4 @@
-use Rattle.std.proofs.Common.{◌≡◌, List, Option, IfNone, ap, subst, ◌∙◌}
+use Rattle.std.proofs.Common.{List, Option, IfNone, ap, subst, ◌∙◌}
 use Rattle.unseen_pairs.specs.declared.confirming.Candidate.{Candidate}
 use Rattle.unseen_pairs.specs.declared.confirming.Confirmed.{Confirmed}
 use Rattle.unseen_pairs.specs.Candidates.{IsOnlyOne}
