@@ -1,7 +1,7 @@
 //! The clocks that the plies of a pair keep.
 ghost use Rattle.std.specs.Prelude.{All, ◌<◌};
 
-use crate::games::{changed, has_moves};
+use crate::games::{changed, has_moves, show};
 use chess_rules::{Position, Square};
 use dgt_frame::{First, Hms, read_time};
 use settle_core::Settler;
@@ -42,13 +42,13 @@ fn with_updates(picture: &[u8; 64], updates: &[(u8, u8)]) -> [u8; 64]
 }
 
 /// Shows the three pictures, and no other.
-fn show(alloc: Global, recoverer: &mut Recoverer) -> Result<(), AllocError> {
+fn show_three(alloc: Global, recoverer: &mut Recoverer) -> Result<(), AllocError> {
     let mut picture = Position::initial().picture();
     let mut reading = None;
     for (data, updates) in &SHOWN {
         picture = with_updates(&picture, updates);
         reading = read_time(data, First::White, reading);
-        recoverer.see(alloc, &picture, reading)?;
+        show(alloc, recoverer, &picture, reading)?;
     }
     Ok(())
 }
@@ -78,7 +78,7 @@ fn has_clocks(settler: &Settler, clocks: &[Clock]) -> bool {
 /// Whether e4 and e5 have the clocks of the picture that shows both, and Nf3 that of its own.
 fn pair_keeps_its_reading(alloc: Global) -> Result<bool, AllocError> {
     let mut recoverer = Recoverer::new(alloc, Position::initial());
-    show(alloc, &mut recoverer)?;
+    show_three(alloc, &mut recoverer)?;
     let settler = recoverer.settler();
     Ok(
         has_moves(settler, &[(52, 36), (12, 28), (62, 45)])

@@ -3,10 +3,11 @@ ghost use Rattle.std.specs.Prelude.{All, ◌<◌};
 
 use crate::answers::{Answer, WAITS, Way, answer_of, way_of};
 use chess_rules::{Position, Square};
-use settle_core::{Outcome, Settler};
+use dgt_frame::Reading;
+use settle_core::{Outcome, Seen, Settler};
 use std::alloc::{AllocError, Global};
 use std::process::Abort;
-use unseen_pairs::Recoverer;
+use unseen_pairs::{Recoverer, Told};
 
 /// The picture with this code on one square.
 pub fn changed(picture: &[u8; 64], at: Square, code: u8) -> [u8; 64]
@@ -43,6 +44,21 @@ pub enum Unlike {
     Sign,
 }
 
+/// Shows a picture at a reading: what is returned.
+pub fn show(
+    alloc: Global,
+    recoverer: &mut Recoverer,
+    picture: &[u8; 64],
+    reading: Option<Reading>,
+) -> Result<Answer, AllocError>
+    requires { All (λ code. code < 16) picture.now }
+{
+    match recoverer.see(alloc, picture, reading)? {
+        Told::Shown(Seen::Waits) => Ok(WAITS),
+        told => Ok(answer_of(&told)),
+    }
+}
+
 /// Shows the update with these numbers, and changes the picture by it; nothing is returned where the numbers are those of no
 /// square or no code.
 fn update(
@@ -58,8 +74,7 @@ fn update(
     match Square::new(field) {
         Some(at) if code < 16 => {
             *picture = changed(picture, at, code);
-            let told = recoverer.see(alloc, picture, None)?;
-            Ok(Some(answer_of(&told)))
+            Ok(Some(show(alloc, recoverer, picture, None)?))
         }
         _ => Ok(None),
     }
@@ -73,8 +88,7 @@ fn play(
     game: &Game<'_>,
 ) -> Result<Option<Unlike>, AllocError> {
     let mut picture = start.picture();
-    let first = recoverer.see(alloc, &picture, None)?;
-    if answer_of(&first) != WAITS {
+    if show(alloc, recoverer, &picture, None)? != WAITS {
         return Ok(Some(Unlike::Start));
     }
     for (i, (field, code)) in game.updates.iter().enumerate() {

@@ -1,7 +1,7 @@
 //! How long a pair waits for what confirms it.
 ghost use Rattle.std.specs.Prelude.{All, ◌<◌};
 
-use crate::games::has_moves;
+use crate::games::{has_moves, show};
 use chess_rules::Position;
 use std::alloc::{AllocError, Global};
 use unseen_pairs::Recoverer;
@@ -37,12 +37,12 @@ fn in_hand(b1: u8) -> [u8; 64]
 /// these three plies.
 fn is_recovered_after(alloc: Global, count: u16) -> Result<bool, AllocError> {
     let mut recoverer = Recoverer::new(alloc, Position::initial());
-    recoverer.see(alloc, &after_two(3, 0), None)?;
+    show(alloc, &mut recoverer, &after_two(3, 0), None)?;
     for i in 0..count {
         let b1 = if i % 2 == 0 { 0 } else { 3 };
-        recoverer.see(alloc, &in_hand(b1), None)?;
+        show(alloc, &mut recoverer, &in_hand(b1), None)?;
     }
-    recoverer.see(alloc, &after_two(0, 3), None)?;
+    show(alloc, &mut recoverer, &after_two(0, 3), None)?;
     Ok(has_moves(recoverer.settler(), &[(52, 36), (12, 28), (62, 45)]))
 }
 
