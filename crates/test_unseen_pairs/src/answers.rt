@@ -2,7 +2,7 @@
 
 use chess_rules::Move;
 use settle_core::{Outcome, Seen};
-use unseen_pairs::{Recovery, Told};
+use unseen_pairs::Recovery;
 
 /// The squares of a move, from and to.
 pub type Way = (u8, u8);
@@ -33,7 +33,8 @@ pub fn way_of(m: &Move) -> Way {
     (m.from.number(), m.to.number())
 }
 
-fn shown_of(seen: &Seen) -> Shown {
+/// The numbers of what shows by itself.
+pub fn shown_of(seen: &Seen) -> Shown {
     match seen {
         Seen::Same => Shown::Same,
         Seen::Moved(m) => Shown::Moved(way_of(m)),
@@ -43,19 +44,12 @@ fn shown_of(seen: &Seen) -> Shown {
     }
 }
 
-fn recovered_of(r: &Recovery) -> Answer {
+/// The numbers of a pair that is recovered.
+pub fn recovered_of(r: &Recovery) -> Answer {
     Answer::Recovered(
         r.pair.corrects,
         way_of(&r.pair.first),
         way_of(&r.pair.second),
         shown_of(&r.sequel),
     )
-}
-
-/// The numbers of an answer.
-pub fn answer_of(told: &Told) -> Answer {
-    match told {
-        Told::Shown(seen) => Answer::Shown(shown_of(seen)),
-        Told::Recovered(r) => recovered_of(r),
-    }
 }

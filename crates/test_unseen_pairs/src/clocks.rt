@@ -44,10 +44,9 @@ fn with_updates(picture: &[u8; 64], updates: &[(u8, u8)]) -> [u8; 64]
 /// Shows the three pictures, and no other.
 fn show_three(alloc: Global, recoverer: &mut Recoverer) -> Result<(), AllocError> {
     let mut picture = Position::initial().picture();
-    let mut reading = None;
-    for (data, updates) in &SHOWN {
+    for (data, updates) in SHOWN.iter() {
         picture = with_updates(&picture, updates);
-        reading = read_time(data, First::White, reading);
+        let reading = read_time(data, First::White, None);
         show(alloc, recoverer, &picture, reading)?;
     }
     Ok(())

@@ -1,10 +1,10 @@
 //! Games as updates, shown to a recoverer.
 ghost use Rattle.std.specs.Prelude.{All, ◌<◌};
 
-use crate::answers::{Answer, WAITS, Way, answer_of, way_of};
+use crate::answers::{Answer, WAITS, Way, recovered_of, shown_of, way_of};
 use chess_rules::{Position, Square};
 use dgt_frame::Reading;
-use settle_core::{Outcome, Seen, Settler};
+use settle_core::{Outcome, Settler};
 use std::alloc::{AllocError, Global};
 use std::process::Abort;
 use unseen_pairs::{Recoverer, Told};
@@ -54,8 +54,8 @@ pub fn show(
     requires { All (λ code. code < 16) picture.now }
 {
     match recoverer.see(alloc, picture, reading)? {
-        Told::Shown(Seen::Waits) => Ok(WAITS),
-        told => Ok(answer_of(&told)),
+        Told::Shown(seen) => Ok(Answer::Shown(shown_of(&seen))),
+        Told::Recovered(recovery) => Ok(recovered_of(&recovery)),
     }
 }
 
