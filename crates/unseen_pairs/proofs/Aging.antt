@@ -1,0 +1,340 @@
+-- The candidates after one more entry.
+use Rattle.std.proofs.Common.{◌≡◌, ◌≢◌, ◌↔◌, ℕ, zero, suc, ◌<◌, ◌≤◌, ◌+◌, Bool, true, false, inl, inr, List, [], ◌∷◌, ◌++◌, Option, Some, Contains, length, slice_index_or, refl, sym, ap, subst, ◌∙◌, arith, add-one}
+use Rattle.std.proofs.lemmas.Bool.{cases_Bool, cases_eq}
+use Rattle.std.proofs.lemmas.List.{get_or_default}
+use Rattle.std.proofs.lemmas.List.Elements.{Contains-append_left, Contains-push, Contains-push_cases}
+use Rattle.dgt_frame.specs.declared.time.Reading.{Reading}
+use Rattle.chess_rules.specs.declared.chess_move.Move.{Move}
+use Rattle.chess_rules.specs.declared.parts.Parts.{Parts}
+use Rattle.chess_rules.specs.After.{after}
+use Rattle.chess_rules.specs.Valid.{Valid}
+use Rattle.chess_rules.specs.Legal.{Legal}
+use Rattle.chess_rules.specs.Picture.{picture}
+use Rattle.settle_core.specs.declared.game.Seen.TheVariants.{Waits}
+use Rattle.settle_core.specs.Entries.{Entry}
+use Rattle.settle_core.specs.Settling.{Played, reached}
+use Rattle.settle_core.specs.declared.game.Ply.{Ply}
+use Rattle.settle_core.specs.Folding.{SeenAs, moves_of}
+use Rattle.settle_core.proofs.Stages.{valid_reached}
+use Rattle.unseen_pairs.specs.declared.pair.Pair.{Pair}
+use Rattle.unseen_pairs.specs.declared.pair.TwoPlies.{TwoPlies}
+use Rattle.unseen_pairs.specs.declared.confirming.Candidate.{Candidate}
+use Rattle.unseen_pairs.specs.Pairs.{Explains, ExplainsAt, IsAfterTwo, IsInstead, begins, ends, root}
+use Rattle.unseen_pairs.specs.Candidates.{AddedBelow, AgedBelow, AreAdded, AreAged, IsCandidate, IsNew, ListsCandidates, aged}
+use Rattle.unseen_pairs.proofs.Putting.{settles_own}
+
+-- the first candidates, and one more
+pub aged_none : (old : List Candidate) → AgedBelow old 0 []
+aged_none old = record {
+  sound = λ c h. absurd (let low : h.0 < 0 = h.1 in let n : ⊥ = omega arith in n);
+  whole = λ b k low. absurd (let n : ⊥ = omega arith in n);
+}
+
+pub aged_more :
+    (old : List Candidate) (n : ℕ) (now new : List Candidate) (c : Candidate)
+    → n < length old
+    → c ≡ slice_index_or old n c
+    → c.age < 255
+    → new ≡ now ++ aged c ∷ []
+    → AgedBelow old n now
+    → AgedBelow old (n + 1) new
+aged_more old n now new c low is young add h =
+    let In : Candidate → List Candidate → Type 0 = λ x xs. Contains xs x in
+    record {
+      sound = λ x k.
+          elim (Contains-push_cases now (aged c) x (subst (In x) add k)) [
+            | inl before ↦ h.sound x before
+            | inr e ↦ (c, (n, low, sym is), young, sym e)
+          ];
+      whole = λ b k below at less.
+          elim (cases_eq k n) [
+            | inr ne ↦ subst (In (aged b)) (sym add) (Contains-append_left now (aged c ∷ []) (aged b) (h.whole b k (omega arith) at less))
+            | inl e ↦
+                let q : b ≡ c = sym at ∙ ap (λ j. slice_index_or old j b) e ∙ get_or_default old n b c low ∙ sym is in
+                subst (In (aged b)) (sym add) (subst (λ (z : Candidate). Contains (now ++ aged c ∷ []) (aged z)) (sym q) (Contains-push now (aged c)))
+          ];
+    }
+
+pub aged_skip :
+    (old : List Candidate) (n : ℕ) (now : List Candidate) (c : Candidate)
+    → n < length old
+    → c ≡ slice_index_or old n c
+    → 255 ≤ c.age
+    → AgedBelow old n now
+    → AgedBelow old (n + 1) now
+aged_skip old n now c low is full h = record {
+  sound = h.sound;
+  whole = λ b k below at less.
+      elim (cases_eq k n) [
+        | inr ne ↦ h.whole b k (omega arith) at less
+        | inl e ↦
+            let q : b ≡ c = sym at ∙ ap (λ j. slice_index_or old j b) e ∙ get_or_default old n b c low ∙ sym is in
+            let same : b.age ≡ c.age = ap (λ (z : Candidate). z.age) q in
+            absurd (let f : ⊥ = omega arith in f)
+      ];
+}
+
+pub aged_all : (old : List Candidate) (n : ℕ) (new : List Candidate) → n ≡ length old → AgedBelow old n new → AreAged old new
+aged_all old n new end h = record {
+  sound = h.sound;
+  whole = λ b k less. h.whole b k.0 (rw end k.1) k.2 less;
+}
+
+-- the first pairs, and one more
+pub added_none : (corrects : Bool) (p : Parts) (reading : Option Reading) (xs : List TwoPlies) (old : List Candidate) → AddedBelow corrects p reading xs 0 old old
+added_none corrects p reading xs old = record {
+  sound = λ c h. inl h;
+  keeps = λ c h. h;
+  whole = λ x k low. absurd (let n : ⊥ = omega arith in n);
+}
+
+pub added_more :
+    (corrects : Bool) (p : Parts) (reading : Option Reading) (xs : List TwoPlies) (n : ℕ) (old now new : List Candidate) (x : TwoPlies) (c : Candidate)
+    → n < length xs
+    → x ≡ slice_index_or xs n x
+    → IsNew corrects p reading x c
+    → new ≡ now ++ c ∷ []
+    → AddedBelow corrects p reading xs n old now
+    → AddedBelow corrects p reading xs (n + 1) old new
+added_more corrects p reading xs n old now new x c low is one add h =
+    let In : Candidate → List Candidate → Type 0 = λ d ds. Contains ds d in
+    record {
+      sound = λ d k.
+          elim (Contains-push_cases now c d (subst (In d) add k)) [
+            | inl before ↦ h.sound d before
+            | inr e ↦ inr (x, (n, low, sym is), subst (λ (z : Candidate). IsNew corrects p reading x z) e one)
+          ];
+      keeps = λ d k. subst (In d) (sym add) (Contains-append_left now (c ∷ []) d (h.keeps d k));
+      whole = λ y k below at.
+          elim (cases_eq k n) [
+            | inr ne ↦
+                let found = h.whole y k (omega arith) at in
+                (found.0, subst (In found.0) (sym add) (Contains-append_left now (c ∷ []) found.0 found.1), found.2)
+            | inl e ↦
+                let q : y ≡ x = sym at ∙ ap (λ j. slice_index_or xs j y) e ∙ get_or_default xs n y x low ∙ sym is in
+                (c, subst (In c) (sym add) (Contains-push now c), subst (λ (z : TwoPlies). IsNew corrects p reading z c) (sym q) one)
+          ];
+    }
+
+pub added_all :
+    (corrects : Bool) (p : Parts) (seen : List ℕ) (reading : Option Reading) (xs : List TwoPlies) (n : ℕ) (old new : List Candidate)
+    → n ≡ length xs
+    → ((x : TwoPlies) → Contains xs x ↔ IsAfterTwo p seen x.first x.second)
+    → AddedBelow corrects p reading xs n old new
+    → AreAdded corrects p seen reading old new
+added_all corrects p seen reading xs n old new end lists h = record {
+  sound = λ c k.
+      elim (h.sound c k) [
+        | inl before ↦ inl before
+        | inr x ↦ inr (x.0, let each = lists x.0 in each.0 x.1, x.2)
+      ];
+  keeps = h.keeps;
+  whole = λ x two.
+      let each = lists x in
+      let at : Contains xs x = each.1 two in
+      h.whole x at.0 (rw end at.1) at.2;
+}
+
+-- a candidate, one entry later
+is_aged :
+    (start : Parts) (moves : List Move) (waiting : List Entry) (entry : Entry) (c : Candidate)
+    → c.age < 255 → IsCandidate start moves waiting c → IsCandidate start moves (entry ∷ waiting) (aged c)
+is_aged start moves waiting entry c young h = record {
+  entry = h.entry;
+  at = record { low = omega arith; waits = rw add-one (h.at).waits; explains = (h.at).explains };
+  reading_is = h.reading_is;
+  before_is = h.before_is;
+  middle_is = h.middle_is;
+  after_is = h.after_is;
+}
+
+pair_is : (pair : Pair) (corrects : Bool) (m n : Move) → pair.corrects ≡ corrects → pair.first ≡ m → pair.second ≡ n
+    → pair ≡ record { corrects = corrects; first = m; second = n }
+pair_is pair corrects m n a b c =
+    ap (λ (x : Bool). record pair { corrects = x }) a
+    ∙ ap (λ (x : Move). record pair { corrects = corrects; first = x }) b
+    ∙ ap (λ (x : Move). record pair { corrects = corrects; first = m; second = x }) c
+
+-- one that is new
+is_new :
+    (start : Parts) (moves : List Move) (waiting : List Entry) (entry : Entry) (corrects : Bool) (x : TwoPlies) (c : Candidate)
+    → IsAfterTwo (reached start (root corrects moves)) entry.picture x.first x.second
+    → (corrects ≡ true → IsInstead moves x.first)
+    → IsNew corrects (reached start (root corrects moves)) entry.reading x c
+    → IsCandidate start moves (entry ∷ waiting) c
+is_new start moves waiting entry corrects x c two instead h =
+    let pair : Pair = record { corrects = corrects; first = x.first; second = x.second } in
+    let q : c.pair ≡ pair = pair_is c.pair corrects x.first x.second h.corrects_is h.first_is h.second_is in
+    let at : ExplainsAt start moves (entry ∷ waiting) pair 0 entry = record {
+      low = omega arith;
+      waits = refl;
+      explains = record { after_two = two; instead = instead };
+    } in
+    record {
+      entry = entry;
+      at = subst (λ n. ExplainsAt start moves (entry ∷ waiting) c.pair n entry) (sym h.age_is) (subst (λ (z : Pair). ExplainsAt start moves (entry ∷ waiting) z 0 entry) (sym q) at);
+      reading_is = h.reading_is;
+      before_is = h.before_is ∙ ap (λ (z : Pair). begins start moves z) (sym q);
+      middle_is = h.middle_is ∙ ap (λ (z : Pair). after (begins start moves z) z.first) (sym q);
+      after_is = h.after_is ∙ ap (λ (z : Pair). ends start moves z) (sym q);
+    }
+
+-- Where a picture waits, no pair with the last move in it explains it: the second ply alone would be settled.
+another :
+    (start : Parts) (last : Move) (earlier : List Move) (seen : List ℕ) (m n : Move)
+    → Valid start
+    → Played start (last ∷ earlier)
+    → SeenAs start (last ∷ earlier) seen Waits
+    → IsAfterTwo (reached start earlier) seen m n
+    → m ≢ last
+another start last earlier seen m n v played waits two e =
+    let p : Parts = reached start (last ∷ earlier) in
+    let same : after (reached start earlier) m ≡ p = ap (after (reached start earlier)) e in
+    let l : Legal p n = subst (λ (q : Parts). Legal q n) same two.second in
+    let shows : seen ≡ picture (after p n) = two.shows ∙ ap (λ (q : Parts). picture (after q n)) same in
+    let own = settles_own p n (valid_reached start (last ∷ earlier) v played) l in
+    waits.0 n (record { legal = l; shows = shows; alone = λ k a b. own.alone k a (sym shows ∙ b) })
+
+old_one :
+    (start : Parts) (moves : List Move) (waiting : List Entry) (entry : Entry) (old kept : List Candidate) (c : Candidate)
+    → ListsCandidates start moves waiting old
+    → AreAged old kept
+    → Contains kept c
+    → IsCandidate start moves (entry ∷ waiting) c
+old_one start moves waiting entry old kept c lists are k =
+    let b = are.sound c k in
+    subst (λ (z : Candidate). IsCandidate start moves (entry ∷ waiting) z) (sym b.3) (is_aged start moves waiting entry b.0 b.2 (lists.each b.0 b.1))
+
+one_of :
+    (start : Parts) (moves : List Move) (waiting : List Entry) (entry : Entry) (old kept one : List Candidate) (c : Candidate)
+    → ListsCandidates start moves waiting old
+    → AreAged old kept
+    → AreAdded false (reached start moves) entry.picture entry.reading kept one
+    → Contains one c
+    → IsCandidate start moves (entry ∷ waiting) c
+one_of start moves waiting entry old kept one c lists are add k =
+    elim (add.sound c k) [
+      | inl before ↦ old_one start moves waiting entry old kept c lists are before
+      | inr x ↦ is_new start moves waiting entry false x.0 c x.1 (λ e. absurd (let f : ⊥ = cc in f)) x.2
+    ]
+
+-- an entry before is explained by one that was kept
+kept_one :
+    (start : Parts) (moves : List Move) (waiting : List Entry) (entry : Entry) (old kept : List Candidate) (pair : Pair) (k : ℕ) (other : Entry)
+    → ListsCandidates start moves waiting old
+    → AreAged old kept
+    → ExplainsAt start moves (entry ∷ waiting) pair (suc k) other
+    → (c : Candidate) × Contains kept c × (c.pair ≡ pair) × (c.age ≡ suc k)
+kept_one start moves waiting entry old kept pair k other lists are at =
+    let low : suc k < 256 = at.low in
+    let b = lists.whole pair k other (record { low = omega arith; waits = at.waits; explains = at.explains }) in
+    let age : (b.0).age ≡ k = b.3 in
+    (aged b.0, are.whole b.0 b.1 (omega arith), b.2, omega arith)
+
+new_one :
+    (corrects : Bool) (p : Parts) (reading : Option Reading) (x : TwoPlies) (pair : Pair) (c : Candidate)
+    → pair.corrects ≡ corrects → x.first ≡ pair.first → x.second ≡ pair.second → IsNew corrects p reading x c → c.pair ≡ pair
+new_one corrects p reading x pair c a b d h =
+    pair_is c.pair corrects pair.first pair.second h.corrects_is (h.first_is ∙ b) (h.second_is ∙ d)
+    ∙ sym (pair_is pair corrects pair.first pair.second a refl refl)
+
+same_entry : (entry other : Entry) → Some entry ≡ Some other → entry ≡ other
+same_entry entry other e = cc
+
+-- the entry itself is explained by one that is new
+new_whole :
+    (corrects : Bool) (start : Parts) (moves : List Move) (waiting : List Entry) (entry : Entry) (old new : List Candidate) (pair : Pair) (other : Entry)
+    → pair.corrects ≡ corrects
+    → AreAdded corrects (reached start (root corrects moves)) entry.picture entry.reading old new
+    → ExplainsAt start moves (entry ∷ waiting) pair 0 other
+    → (c : Candidate) × Contains new c × (c.pair ≡ pair) × (c.age ≡ 0)
+new_whole corrects start moves waiting entry old new pair other is add at =
+    let e : entry ≡ other = same_entry entry other at.waits in
+    let x : TwoPlies = record { first = pair.first; second = pair.second } in
+    let given : Explains start moves other.picture pair = at.explains in
+    let two : IsAfterTwo (reached start (root corrects moves)) entry.picture pair.first pair.second =
+    subst (λ (seen : List ℕ). IsAfterTwo (reached start (root corrects moves)) seen pair.first pair.second) (sym (ap (λ (z : Entry). z.picture) e))
+    (subst (λ (b : Bool). IsAfterTwo (reached start (root b moves)) other.picture pair.first pair.second) is given.after_two) in
+    let found = add.whole x two in
+    (found.0, found.1, new_one corrects (reached start (root corrects moves)) entry.reading x pair found.0 is refl refl found.2, (found.2).age_is)
+
+whole_at :
+    (start : Parts) (moves : List Move) (waiting : List Entry) (entry : Entry) (old kept last : List Candidate) (pair : Pair) (place : ℕ) (other : Entry)
+    → ListsCandidates start moves waiting old
+    → AreAged old kept
+    → ((c : Candidate) → Contains kept c → Contains last c)
+    → (ExplainsAt start moves (entry ∷ waiting) pair 0 other → (c : Candidate) × Contains last c × (c.pair ≡ pair) × (c.age ≡ 0))
+    → ExplainsAt start moves (entry ∷ waiting) pair place other
+    → (c : Candidate) × Contains last c × (c.pair ≡ pair) × (c.age ≡ place)
+whole_at start moves waiting entry old kept last pair zero other lists are keeps new at = new at
+whole_at start moves waiting entry old kept last pair (suc k) other lists are keeps new at =
+    let c = kept_one start moves waiting entry old kept pair k other lists are at in
+    (c.0, keeps c.0 c.1, c.2, c.3)
+
+-- Where no move was made, the candidates after one more entry.
+pub lists_first :
+    (start : Parts) (waiting : List Entry) (entry : Entry) (old kept one : List Candidate)
+    → ListsCandidates start [] waiting old
+    → AreAged old kept
+    → AreAdded false start entry.picture entry.reading kept one
+    → ListsCandidates start [] (entry ∷ waiting) one
+lists_first start waiting entry old kept one lists are add = record {
+  each = λ c k. one_of start [] waiting entry old kept one c lists are add k;
+  whole = λ pair place other at.
+      elim (cases_Bool pair.corrects) [
+        | inl is ↦ absurd ((at.explains).instead is)
+        | inr is ↦
+            whole_at start [] waiting entry old kept one pair place other lists are add.keeps
+            (λ h. new_whole false start [] waiting entry kept one pair other is add h) at
+      ];
+}
+
+-- Where moves were made.
+pub lists_more :
+    (start : Parts) (last : Move) (earlier : List Move) (waiting : List Entry) (entry : Entry) (old kept one two : List Candidate)
+    → Valid start
+    → Played start (last ∷ earlier)
+    → SeenAs start (last ∷ earlier) entry.picture Waits
+    → ListsCandidates start (last ∷ earlier) waiting old
+    → AreAged old kept
+    → AreAdded false (reached start (last ∷ earlier)) entry.picture entry.reading kept one
+    → AreAdded true (reached start earlier) entry.picture entry.reading one two
+    → ListsCandidates start (last ∷ earlier) (entry ∷ waiting) two
+lists_more start last earlier waiting entry old kept one two v played waits lists are add more =
+    let moves : List Move = last ∷ earlier in
+    record {
+      each = λ c k.
+          elim (more.sound c k) [
+            | inl before ↦ one_of start moves waiting entry old kept one c lists are add before
+            | inr x ↦
+                is_new start moves waiting entry true x.0 c x.1
+                (λ e. another start last earlier entry.picture (x.0).first (x.0).second v played waits x.1) x.2
+          ];
+      whole = λ pair place other at.
+          whole_at start moves waiting entry old kept two pair place other lists are (λ c k. more.keeps c (add.keeps c k))
+          (λ h.
+          elim (cases_Bool pair.corrects) [
+            | inl is ↦ new_whole true start moves waiting entry one two pair other is more h
+            | inr is ↦
+                let found = new_whole false start moves waiting entry kept one pair other is add h in
+                (found.0, more.keeps found.0 found.1, found.2, found.3)
+          ]) at;
+    }
+
+-- The candidates after one more entry, whether moves were made or not.
+pub lists_next :
+    (start : Parts) (plies : List Ply) (waiting : List Entry) (entry : Entry) (old kept one two : List Candidate)
+    → Valid start
+    → Played start (moves_of plies)
+    → SeenAs start (moves_of plies) entry.picture Waits
+    → ListsCandidates start (moves_of plies) waiting old
+    → AreAged old kept
+    → AreAdded false (reached start (moves_of plies)) entry.picture entry.reading kept one
+    → ((ply : Ply) (earlier : List Ply) → plies ≡ ply ∷ earlier → AreAdded true (reached start (moves_of earlier)) entry.picture entry.reading one two)
+    → (plies ≡ [] → two ≡ one)
+    → ListsCandidates start (moves_of plies) (entry ∷ waiting) two
+lists_next start [] waiting entry old kept one two v played waits lists are add more none =
+    let C : List Candidate → Type 0 = λ cs. ListsCandidates start [] (entry ∷ waiting) cs in
+    subst C (sym (none refl)) (lists_first start waiting entry old kept one lists are add)
+lists_next start (ply ∷ earlier) waiting entry old kept one two v played waits lists are add more none =
+    lists_more start ply.mv (moves_of earlier) waiting entry old kept one two v played waits lists are add (more ply earlier refl)

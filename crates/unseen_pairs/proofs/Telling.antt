@@ -1,0 +1,319 @@
+-- What a recoverer tells, from what its settler tells.
+use Rattle.std.proofs.Common.{◌≡◌, ◌≢◌, ℕ, ◌<◌, Bool, true, false, List, [], ◌∷◌, Result, Ok, Err, IfOk, refl, sym, ap, subst, ◌∙◌, arith}
+use Rattle.std.specs.Str.{bytes_eq}
+use Rattle.std.proofs.lemmas.Bool.{cond-true, cond-false}
+use Rattle.std.proofs.lemmas.Slice.Eq.{bytes_eq-Decides}
+use Rattle.chess_rules.specs.declared.chess_move.Move.{Move}
+use Rattle.chess_rules.specs.declared.parts.Parts.{Parts}
+use Rattle.chess_rules.specs.After.{after}
+use Rattle.chess_rules.specs.Legal.{Legal}
+use Rattle.chess_rules.specs.Valid.{Valid}
+use Rattle.chess_rules.specs.Picture.{picture}
+use Rattle.chess_rules.proofs.LawLemmas.{moves_stay_valid}
+use Rattle.settle_core.specs.declared.game.Seen.{Seen}
+use Rattle.settle_core.specs.declared.game.Seen.TheVariants.{Same, Moved, Sign, Replaced, Waits}
+use Rattle.settle_core.specs.Entries.{Entry, entry_of, deduplicated, last_picture, repeats}
+use Rattle.settle_core.specs.Settler.{ReturnsNewSeen, ReturnsSeen, Sheet, StandsFor}
+use Rattle.settle_core.specs.Settling.{Played, reached}
+use Rattle.settle_core.specs.Folding.{Score, Folds, SeenAs, moves_of, score_after}
+use Rattle.settle_core.proofs.Apart.{no_sign_valid}
+use Rattle.settle_core.proofs.Once.{folds_once, folds_played}
+use Rattle.settle_core.proofs.Pieces.{picture_moves}
+use Rattle.settle_core.proofs.Stages.{differ_false, valid_reached}
+use Rattle.unseen_pairs.specs.declared.pair.Recovery.{Recovery}
+use Rattle.unseen_pairs.specs.declared.pair.Told.TheVariants.{Shown, Recovered}
+use Rattle.unseen_pairs.specs.declared.confirming.Candidate.{Candidate}
+use Rattle.unseen_pairs.specs.declared.confirming.Confirmed.{Confirmed}
+use Rattle.unseen_pairs.specs.Pairs.{Confirms, Explains, GoesOn, IsInstead, begins, ends, root}
+use Rattle.unseen_pairs.specs.Recovering.{FoldsRecovering, TellsAs, score_told, waiting_after}
+use Rattle.unseen_pairs.specs.Recoverer.{Desk, HasTold, IsWaiting, StandsForRecovered, TellsNew}
+use Rattle.unseen_pairs.specs.Candidates.{IsOnlyOne, ListsCandidates}
+use Rattle.unseen_pairs.proofs.Choosing.{recovery_of, one_confirmed, confirmed_one}
+use Rattle.unseen_pairs.proofs.Putting.{put_in_folds, settles_own}
+
+-- nothing waits after a move or a sign
+pub no_candidates : (start : Parts) (moves : List Move) → ListsCandidates start moves [] []
+no_candidates start moves = record {
+  each = λ c k. absurd (let low : k.0 < 0 = k.1 in let n : ⊥ = omega arith in n);
+  whole = λ pair place entry at. absurd (let n : ⊥ = cc (at.waits) in n);
+}
+
+repeats_as : (seen : List ℕ) (written past : List Entry) → last_picture written ≡ last_picture past → repeats seen written ≡ repeats seen past
+repeats_as seen [] [] e = refl
+repeats_as seen [] (b ∷ past) e = absurd (let n : ⊥ = cc in n)
+repeats_as seen (a ∷ written) [] e = absurd (let n : ⊥ = cc in n)
+repeats_as seen (a ∷ written) (b ∷ past) e = let same : a.picture ≡ b.picture = cc in ap (bytes_eq seen) same
+
+once_more : (entry : Entry) (past : List Entry) → repeats entry.picture past ≡ true → deduplicated (entry ∷ past) ≡ deduplicated past
+once_more entry past e = cond-true (repeats entry.picture past) (deduplicated past) (entry ∷ deduplicated past) e
+
+one_new : (entry : Entry) (past : List Entry) → repeats entry.picture past ≡ false → deduplicated (entry ∷ past) ≡ entry ∷ deduplicated past
+one_new entry past e = cond-false (repeats entry.picture past) (deduplicated past) (entry ∷ deduplicated past) e
+
+-- what a settler showed that was given one new entry
+shown_step :
+    (old new : Sheet) (start : Parts) (written : List Entry) (entry : Entry) (a : Seen)
+    → Valid start
+    → StandsFor old start written
+    → StandsFor new start (entry ∷ written)
+    → ReturnsNewSeen start written entry.picture a
+    → SeenAs start (moves_of old.score.plies) entry.picture a × new.score ≡ score_after start old.score entry.reading a
+shown_step old new start written entry a v st after h =
+    let same : (h.1).0 ≡ old.score = folds_once start (deduplicated written) (h.1).0 old.score v (h.1).1 st.folds in
+    let S : Score → Type 0 = λ s. SeenAs start (moves_of s.plies) entry.picture a in
+    let seen : SeenAs start (moves_of old.score.plies) entry.picture a = subst S same (h.1).2 in
+    let F : List Entry → Type 0 = λ es. Folds start es new.score in (
+      seen,
+      folds_once start (entry ∷ deduplicated written) new.score (score_after start old.score entry.reading a) v
+          (subst F (one_new entry written h.0) after.folds) (old.score, a, st.folds, seen, refl),
+    )
+
+-- A move or a sign is told, and nothing waits.
+shown_new :
+    (old new : Desk) (start : Parts) (past written : List Entry) (entry : Entry) (a : Seen)
+    → Valid start
+    → (st : StandsForRecovered old start past written)
+    → StandsFor new.settler start (entry ∷ written)
+    → new.candidates ≡ []
+    → (a ≢ Waits)
+    → waiting_after start (moves_of old.settler.score.plies) st.waiting entry (Shown a) ≡ []
+    → ReturnsNewSeen start written entry.picture a
+    → StandsForRecovered new start (entry ∷ past) (entry ∷ written) × TellsNew start past entry.picture (Shown a)
+shown_new old new start past written entry a v st after none ne empty h =
+    let step = shown_step old.settler new.settler start written entry a v st.settles after h in
+    let fresh : repeats entry.picture past ≡ false = sym (repeats_as entry.picture written past st.last) ∙ h.0 in
+    let tells : TellsAs start (moves_of old.settler.score.plies) st.waiting entry.picture (Shown a) = (step.0, λ e. absurd (ne e)) in
+    let F : List Entry → Type 0 = λ es. FoldsRecovering start es new.settler.score [] in
+    let C : List Candidate → Type 0 = λ cs. ListsCandidates start (moves_of new.settler.score.plies) [] cs in (
+      record {
+        settles = after;
+        last = refl;
+        waiting = [];
+        folds = subst F (sym (one_new entry past fresh)) (old.settler.score, st.waiting, Shown a, st.folds, tells, step.1, sym empty);
+        candidates = subst C (sym none) (no_candidates start (moves_of new.settler.score.plies));
+      },
+      (fresh, (old.settler.score, st.waiting, st.folds, tells)),
+    )
+
+pub shown_told :
+    (old new : Desk) (start : Parts) (past written : List Entry) (entry : Entry) (a : Seen)
+    → Valid start
+    → StandsForRecovered old start past written
+    → StandsFor new.settler start (entry ∷ written)
+    → new.candidates ≡ []
+    → a ≢ Same
+    → a ≢ Waits
+    → ReturnsSeen start written entry.picture a
+    → HasTold new start past written entry (Shown a)
+shown_told old new start past written entry Same v st after none no_same no_waits h = absurd (no_same refl)
+shown_told old new start past written entry Waits v st after none no_same no_waits h = absurd (no_waits refl)
+shown_told old new start past written entry (Moved m) v st after none no_same no_waits h =
+    let both = shown_new old new start past written entry (Moved m) v st after none no_waits refl h in
+    record { stands = both.0; answer = both.1 }
+shown_told old new start past written entry (Sign outcome) v st after none no_same no_waits h =
+    let both = shown_new old new start past written entry (Sign outcome) v st after none no_waits refl h in
+    record { stands = both.0; answer = both.1 }
+shown_told old new start past written entry (Replaced m) v st after none no_same no_waits h =
+    let both = shown_new old new start past written entry (Replaced m) v st after none no_waits refl h in
+    record { stands = both.0; answer = both.1 }
+
+-- The last picture again changes nothing.
+pub same_told :
+    (old : Desk) (new : Sheet) (start : Parts) (past written : List Entry) (entry : Entry)
+    → Valid start
+    → StandsForRecovered old start past written
+    → StandsFor new start (entry ∷ written)
+    → ReturnsSeen start written entry.picture Same
+    → HasTold (record { settler = new; candidates = old.candidates }) start past written entry (Shown Same)
+same_told old new start past written entry v st after h =
+    let again : repeats entry.picture past ≡ true = sym (repeats_as entry.picture written past st.last) ∙ h in
+    let F : List Entry → Type 0 = λ es. Folds start es new.score in
+    let same : old.settler.score ≡ new.score = folds_once start (deduplicated written) old.settler.score new.score v (st.settles).folds (subst F (once_more entry written h) after.folds) in
+    let R : List Entry → Type 0 = λ es. FoldsRecovering start es new.score st.waiting in
+    let Q : Score → Type 0 = λ s. FoldsRecovering start (deduplicated past) s st.waiting in
+    let C : Score → Type 0 = λ s. ListsCandidates start (moves_of s.plies) st.waiting old.candidates in
+    record {
+      stands = record {
+        settles = after;
+        last = refl;
+        waiting = st.waiting;
+        folds = subst R (sym (once_more entry past again)) (subst Q same st.folds);
+        candidates = subst C same st.candidates;
+      };
+      answer = again;
+    }
+
+-- A picture that shows nothing by itself is to wait.
+pub to_wait :
+    (old : Desk) (new : Sheet) (start : Parts) (past written : List Entry) (entry : Entry)
+    → Valid start
+    → StandsForRecovered old start past written
+    → StandsFor new start (entry ∷ written)
+    → ReturnsSeen start written entry.picture Waits
+    → IsWaiting (record { settler = new; candidates = old.candidates }) start past written entry
+to_wait old new start past written entry v st after h =
+    let step = shown_step old.settler new start written entry Waits v st.settles after h in
+    let same : old.settler.score ≡ new.score = sym step.1 in
+    let F : Score → Type 0 = λ s. Folds start (deduplicated written) s in
+    let S : Score → Type 0 = λ s. SeenAs start (moves_of s.plies) entry.picture Waits in
+    let Q : Score → Type 0 = λ s. FoldsRecovering start (deduplicated past) s st.waiting in
+    let C : Score → Type 0 = λ s. ListsCandidates start (moves_of s.plies) st.waiting old.candidates in
+    record {
+      settles = after;
+      folded = subst F same (st.settles).folds;
+      new = sym (repeats_as entry.picture written past st.last) ∙ h.0;
+      same = h.0;
+      waits = subst S same step.0;
+      waiting = st.waiting;
+      folds = subst Q same st.folds;
+      candidates = subst C same st.candidates;
+    }
+
+-- The picture waits, and the candidates are brought to it.
+kept_told :
+    (desk : Desk) (candidates : List Candidate) (start : Parts) (past written : List Entry) (entry : Entry) (w : IsWaiting desk start past written entry)
+    → ((one : Confirmed) → ¬ IsOnlyOne desk.candidates entry.picture one)
+    → ListsCandidates start (moves_of desk.settler.score.plies) (waiting_after start (moves_of desk.settler.score.plies) w.waiting entry (Shown Waits)) candidates
+    → HasTold (record { settler = desk.settler; candidates = candidates }) start past written entry (Shown Waits)
+kept_told desk candidates start past written entry w none lists =
+    let moves = moves_of desk.settler.score.plies in
+    let tells : TellsAs start moves w.waiting entry.picture (Shown Waits) = (
+      w.waits,
+      λ e r h.
+          let one = confirmed_one start moves w.waiting desk.candidates entry.picture r w.candidates h in
+          none one.0 one.1,
+    ) in
+    let next : List Entry = waiting_after start moves w.waiting entry (Shown Waits) in
+    let F : List Entry → Type 0 = λ es. FoldsRecovering start es desk.settler.score next in
+    record {
+      stands = record {
+        settles = w.settles;
+        last = refl;
+        waiting = next;
+        folds = subst F (sym (one_new entry past w.new)) (desk.settler.score, w.waiting, Shown Waits, w.folds, tells, refl, refl);
+        candidates = lists;
+      };
+      answer = (w.new, (desk.settler.score, w.waiting, w.folds, tells));
+    }
+
+-- It is the position's own.
+pub own_told :
+    (desk : Desk) (candidates : List Candidate) (start : Parts) (past written : List Entry) (entry : Entry)
+    → IsWaiting desk start past written entry
+    → ((one : Confirmed) → ¬ IsOnlyOne desk.candidates entry.picture one)
+    → entry.picture ≡ picture (reached start (moves_of desk.settler.score.plies))
+    → candidates ≡ []
+    → HasTold (record { settler = desk.settler; candidates = candidates }) start past written entry (Shown Waits)
+own_told desk candidates start past written entry w none own empty =
+    let moves = moves_of desk.settler.score.plies in
+    let test : bytes_eq entry.picture (picture (reached start moves)) ≡ true = let d = bytes_eq-Decides entry.picture (picture (reached start moves)) in d.1 own in
+    let next : waiting_after start moves w.waiting entry (Shown Waits) ≡ [] = cond-true (bytes_eq entry.picture (picture (reached start moves))) [] (entry ∷ w.waiting) test in
+    let L : List Entry → Type 0 = λ es. ListsCandidates start moves es candidates in
+    let C : List Candidate → Type 0 = λ cs. ListsCandidates start moves [] cs in
+    kept_told desk candidates start past written entry w none (subst L (sym next) (subst C (sym empty) (no_candidates start moves)))
+
+-- It is another one.
+pub other_told :
+    (desk : Desk) (candidates : List Candidate) (start : Parts) (past written : List Entry) (entry : Entry) (w : IsWaiting desk start past written entry)
+    → ((one : Confirmed) → ¬ IsOnlyOne desk.candidates entry.picture one)
+    → entry.picture ≢ picture (reached start (moves_of desk.settler.score.plies))
+    → ListsCandidates start (moves_of desk.settler.score.plies) (entry ∷ w.waiting) candidates
+    → HasTold (record { settler = desk.settler; candidates = candidates }) start past written entry (Shown Waits)
+other_told desk candidates start past written entry w none other lists =
+    let moves = moves_of desk.settler.score.plies in
+    let next : waiting_after start moves w.waiting entry (Shown Waits) ≡ entry ∷ w.waiting =
+    cond-false (bytes_eq entry.picture (picture (reached start moves))) [] (entry ∷ w.waiting) (differ_false _ _ other) in
+    let L : List Entry → Type 0 = λ es. ListsCandidates start moves es candidates in
+    kept_told desk candidates start past written entry w none (subst L (sym next) lists)
+
+-- The pictures that are put in are new.
+valid_root : (corrects : Bool) (start : Parts) (moves : List Move) → Valid start → Played start moves → Valid (reached start (root corrects moves))
+valid_root false start moves v h = valid_reached start moves v h
+valid_root true start [] v h = v
+valid_root true start (last ∷ earlier) v h = valid_reached start earlier v h.1
+
+middle_new :
+    (corrects : Bool) (start : Parts) (moves : List Move) (seen : List ℕ) (m : Move)
+    → Valid start
+    → Played start moves
+    → SeenAs start moves seen Waits
+    → Legal (reached start (root corrects moves)) m
+    → (corrects ≡ true → IsInstead moves m)
+    → picture (after (reached start (root corrects moves)) m) ≢ seen
+middle_new false start moves seen m v h waits l instead e =
+    let own = settles_own (reached start moves) m (valid_reached start moves v h) l in
+    waits.0 m (record { legal = l; shows = sym e; alone = λ k a b. own.alone k a (e ∙ b) })
+middle_new true start [] seen m v h waits l instead e = absurd (instead refl)
+middle_new true start (last ∷ earlier) seen m v h waits l instead e =
+    let own = settles_own (reached start earlier) m (valid_reached start earlier v h.1) l in
+    waits.2 m (record { legal = l; shows = sym e; alone = λ k a b. own.alone k a (e ∙ b) }, instead refl)
+
+goes_elsewhere : (p : Parts) (seen : List ℕ) (a : Seen) → Valid p → GoesOn p seen a → seen ≢ picture p
+goes_elsewhere p seen (Moved m) v h e = picture_moves p m v h.legal (sym h.shows ∙ e)
+goes_elsewhere p seen (Sign outcome) v h e = no_sign_valid p seen v e p outcome h
+goes_elsewhere p seen (Replaced m) v h e = h
+goes_elsewhere p seen Waits v h e = h
+goes_elsewhere p seen Same v h e = h
+
+-- The pair is told, and its pictures were put in.
+pub put_in_told :
+    (desk new : Desk) (start : Parts) (past written : List Entry) (entry : Entry) (one : Confirmed)
+    → Valid start
+    → IsWaiting desk start past written entry
+    → IsOnlyOne desk.candidates entry.picture one
+    → StandsFor new.settler start
+    (entry
+    ∷ entry_of (picture one.candidate.after) one.candidate.reading
+    ∷ entry_of (picture one.candidate.middle) one.candidate.reading
+    ∷ entry ∷ written)
+    → new.candidates ≡ []
+    → HasTold new start past written entry (Recovered (recovery_of one))
+put_in_told desk new start past written entry one v w only st none =
+    let r : Recovery = recovery_of one in
+    let before : Score = desk.settler.score in
+    let moves = moves_of before.plies in
+    let conf : Confirms start moves w.waiting entry.picture r = one_confirmed start moves w.waiting desk.candidates entry.picture one w.candidates only in
+    let e : Explains start moves (conf.entry).picture r.pair = (conf.explains).explains in
+    let played : Played start moves = folds_played start (deduplicated written) before w.folded in
+    let p : Parts = begins start moves r.pair in
+    let u : Valid p = valid_root r.pair.corrects start moves v played in
+    let um : Valid (after p r.pair.first) = moves_stay_valid p r.pair.first u (e.after_two).first in
+    let ue : Valid (ends start moves r.pair) = moves_stay_valid (after p r.pair.first) r.pair.second um (e.after_two).second in
+    let first : Entry = entry_of (picture r.middle) r.reading in
+    let second : Entry = entry_of (picture r.after) r.reading in
+    let one_differs : picture r.middle ≢ entry.picture = λ q.
+    middle_new r.pair.corrects start moves entry.picture r.pair.first v played w.waits (e.after_two).first e.instead (ap picture (sym conf.middle_is) ∙ q) in
+    let two_differs : picture r.after ≢ picture r.middle = λ q.
+    picture_moves (after p r.pair.first) r.pair.second um (e.after_two).second (ap picture (sym conf.after_is) ∙ q ∙ ap picture conf.middle_is) in
+    let three_differs : entry.picture ≢ picture r.after = λ q.
+    goes_elsewhere (ends start moves r.pair) entry.picture r.sequel ue conf.goes_on (q ∙ ap picture conf.after_is) in
+    let d0 = one_new entry written w.same in
+    let d1 : deduplicated (first ∷ entry ∷ written) ≡ first ∷ entry ∷ deduplicated written =
+    one_new first (entry ∷ written) (differ_false _ _ one_differs) ∙ ap (λ es. first ∷ es) d0 in
+    let d2 : deduplicated (second ∷ first ∷ entry ∷ written) ≡ second ∷ first ∷ entry ∷ deduplicated written =
+    one_new second (first ∷ entry ∷ written) (differ_false _ _ two_differs) ∙ ap (λ es. second ∷ es) d1 in
+    let d3 : deduplicated (entry ∷ second ∷ first ∷ entry ∷ written) ≡ entry ∷ second ∷ first ∷ entry ∷ deduplicated written =
+    one_new entry (second ∷ first ∷ entry ∷ written) (differ_false _ _ three_differs) ∙ ap (λ es. entry ∷ es) d2 in
+    let F : List Entry → Type 0 = λ es. Folds start es before in
+    let N : List Entry → Type 0 = λ es. Folds start es new.settler.score in
+    let folds : Folds start (entry ∷ deduplicated written) before = subst F d0 (w.settles).folds in
+    let put = put_in_folds start (entry ∷ deduplicated written) before w.waiting entry.picture entry.reading r v folds conf in
+    let score : new.settler.score ≡ score_told start before entry.reading (Recovered r) =
+    folds_once start (entry ∷ second ∷ first ∷ entry ∷ deduplicated written) new.settler.score (score_told start before entry.reading (Recovered r)) v (subst N d3 st.folds) put in
+    let tells : TellsAs start moves w.waiting entry.picture (Recovered r) = (w.waits, conf) in
+    let R : List Entry → Type 0 = λ es. FoldsRecovering start es new.settler.score [] in
+    let C : List Candidate → Type 0 = λ cs. ListsCandidates start (moves_of new.settler.score.plies) [] cs in
+    record {
+      stands = record {
+        settles = st;
+        last = refl;
+        waiting = [];
+        folds = subst R (sym (one_new entry past w.new)) (before, w.waiting, Recovered r, w.folds, tells, score, refl);
+        candidates = subst C (sym none) (no_candidates start (moves_of new.settler.score.plies));
+      };
+      answer = (w.new, (before, w.waiting, w.folds, tells));
+    }
+
+pub map_ok : {X E : Type 0} (P Q : X → Type 0) (r : Result X E) → ((x : X) → P x → Q x) → IfOk r P → IfOk r Q
+map_ok P Q (Ok x) f h = f x h
+map_ok P Q (Err e) f h = tt

@@ -1,0 +1,38 @@
+use Rattle.std.proofs.Common.{◌∷◌, List, Option, sym, subst, ◌∙◌}
+use Rattle.dgt_frame.specs.declared.time.Reading.{Reading}
+use Rattle.chess_rules.specs.Valid.{Valid}
+use Rattle.chess_rules.specs.Picture.{picture}
+use Rattle.settle_core.specs.Entries.{Entry, entry_of}
+use Rattle.settle_core.specs.Settler.{StandsFor}
+use Rattle.unseen_pairs.specs.declared.pair.Told.TheVariants.{Recovered}
+use Rattle.unseen_pairs.specs.Candidates.{IsOnlyOne}
+use Rattle.unseen_pairs.specs.Recoverer.{Desk, HasTold, IsWaiting}
+use Rattle.unseen_pairs.proofs.Choosing.{recovery_of}
+use Rattle.unseen_pairs.proofs.Telling.{put_in_told}
+use Rattle.unseen_pairs.proofs.recoverer.Recoverer.put_in.Goals as goal
+
+pub returns : goal.returns
+returns c = λ start past written w only.
+    let seen = c.args.picture.now in
+    let clock = c.args.clock.now in
+    let one = c.args.one.now in
+    let found = one.candidate in
+    let entry : Entry = entry_of seen clock in
+    let old : Desk = record { settler = c.self.inside.settler; candidates = c.self.inside.candidates.items } in
+    let new : Desk = record { settler = c.see-3.new.self; candidates = c.clear.new.self.items } in
+    let W : Desk → Type 0 = λ (d : Desk). IsWaiting d start past written entry × IsOnlyOne d.candidates seen one in
+    let both : W old = subst W (sym c.self.view_is) (w, only) in
+    let here : IsWaiting old start past written entry = both.0 in
+    let valid : Valid start = subst Valid (c.start.ensures ∙ (here.settles).start_is) c.parts.ensures.valid in
+    let s1 = c.in_ok-see.ensures.stands start (entry ∷ written) here.settles in
+    let s2 = c.in_ok-see-2.ensures.stands start _ s1 in
+    let s3 = c.in_ok-see-3.ensures.stands start _ s2 in
+    let A : List _ → Option Reading → List _ → Option Reading → Option Reading → Type 0 = λ a x b y z.
+    StandsFor c.see-3.new.self start (entry_of seen z ∷ entry_of b y ∷ entry_of a x ∷ entry ∷ written) in
+    let t1 = subst (λ a. A a c.copy.result c.picture-2.result c.copy-2.result c.copy-3.result) c.picture.ensures.shown s3 in
+    let t2 = subst (λ x. A (picture found.middle) x c.picture-2.result c.copy-2.result c.copy-3.result) c.copy.ensures t1 in
+    let t3 = subst (λ b. A (picture found.middle) found.reading b c.copy-2.result c.copy-3.result) c.picture-2.ensures.shown t2 in
+    let t4 = subst (λ y. A (picture found.middle) found.reading (picture found.after) y c.copy-3.result) c.copy-2.ensures t3 in
+    let t5 = subst (λ z. A (picture found.middle) found.reading (picture found.after) found.reading z) c.copy-3.ensures t4 in
+    let R : Option Reading → Type 0 = λ reading. HasTold new start past written entry (Recovered (record (recovery_of one) { reading = reading })) in
+    subst R (sym c.copy-4.ensures) (put_in_told old new start past written entry one valid here both.1 t5 c.clear.ensures.items)

@@ -1,0 +1,88 @@
+-- The pairs that explain what waits, as they are kept. Private definitions.
+use Rattle.std.specs.Prelude.{◌≡◌, ◌<◌, ◌≤◌, ◌+◌, ◌⊎◌, ℕ, Bool, List, Contains, Option, Some, None, slice_index_or}
+use Rattle.dgt_frame.specs.declared.time.Reading.{Reading}
+use Rattle.chess_rules.specs.declared.chess_move.Move.{Move}
+use Rattle.chess_rules.specs.declared.parts.Parts.{Parts}
+use Rattle.chess_rules.specs.After.{after}
+use Rattle.settle_core.specs.Entries.{Entry}
+use Rattle.settle_core.specs.declared.game.Seen.{Seen}
+use Rattle.unseen_pairs.specs.declared.pair.Pair.{Pair}
+use Rattle.unseen_pairs.specs.declared.pair.TwoPlies.{TwoPlies}
+use Rattle.unseen_pairs.specs.declared.confirming.Candidate.{Candidate}
+use Rattle.unseen_pairs.specs.declared.confirming.Confirmed.{Confirmed}
+use Rattle.unseen_pairs.specs.Pairs.{ExplainsAt, GoesOn, IsAfterTwo, begins, ends}
+
+-- The picture goes on from this candidate, the oldest one of its pair, and from those of no other pair.
+pub record IsOnlyOne (candidates : List Candidate) (seen : List ℕ) (one : Confirmed) : Type 0 where
+  pub listed : Contains candidates one.candidate
+  pub goes_on : GoesOn one.candidate.after seen one.sequel
+  pub alone : (c : Candidate) (a : Seen) → Contains candidates c → GoesOn c.after seen a → c.pair ≡ one.candidate.pair
+  pub oldest : (c : Candidate) (a : Seen) → Contains candidates c → GoesOn c.after seen a → c.age ≤ one.candidate.age
+
+-- the same for the first n of them, where one goes on; or none does
+abbrev pub FoundBelow : List Candidate → List ℕ → ℕ → Option Confirmed → Type 0
+FoundBelow candidates seen n None =
+    (c : Candidate) (a : Seen) (k : ℕ) → k < n → slice_index_or candidates k c ≡ c → ¬ GoesOn c.after seen a
+FoundBelow candidates seen n (Some one) =
+    Contains candidates one.candidate × GoesOn one.candidate.after seen one.sequel
+    × ((c : Candidate) (a : Seen) (k : ℕ) → k < n → slice_index_or candidates k c ≡ c → GoesOn c.after seen a
+    → (c.pair ≡ one.candidate.pair) × (c.age ≤ one.candidate.age))
+
+-- the older of two
+pub record IsOlder (a b found : Confirmed) : Type 0 where
+  pub one : (found ≡ a) ⊎ (found ≡ b)
+  pub first : a.candidate.age ≤ found.candidate.age
+  pub second : b.candidate.age ≤ found.candidate.age
+
+-- The candidate's pair explains the entry that waits at the place that is its age: after one more entry it is one older.
+pub record IsCandidate (start : Parts) (moves : List Move) (waiting : List Entry) (c : Candidate) : Type 0 where
+  pub entry : Entry
+  pub at : ExplainsAt start moves waiting c.pair c.age entry
+  pub reading_is : c.reading ≡ entry.reading
+  pub before_is : c.before ≡ begins start moves c.pair
+  pub middle_is : c.middle ≡ after (begins start moves c.pair) c.pair.first
+  pub after_is : c.after ≡ ends start moves c.pair
+
+-- The candidates are the pairs that explain one of the last 256 entries that wait, for each such entry.
+pub record ListsCandidates (start : Parts) (moves : List Move) (waiting : List Entry) (candidates : List Candidate) : Type 0 where
+  pub each : (c : Candidate) → Contains candidates c → IsCandidate start moves waiting c
+  pub whole : (pair : Pair) (place : ℕ) (entry : Entry) → ExplainsAt start moves waiting pair place entry
+      → (c : Candidate) × Contains candidates c × (c.pair ≡ pair) × (c.age ≡ place)
+
+-- the candidate after one more entry
+abbrev pub aged : Candidate → Candidate
+aged c = record c { age = c.age + 1 }
+
+-- The first n of these candidates were kept, one entry older, but for those that were as old as can be.
+pub record AgedBelow (old : List Candidate) (n : ℕ) (new : List Candidate) : Type 0 where
+  pub sound : (c : Candidate) → Contains new c → (b : Candidate) × Contains old b × (b.age < 255) × (c ≡ aged b)
+  pub whole : (b : Candidate) (k : ℕ) → k < n → slice_index_or old k b ≡ b → b.age < 255 → Contains new (aged b)
+
+pub record AreAged (old new : List Candidate) : Type 0 where
+  pub sound : (c : Candidate) → Contains new c → (b : Candidate) × Contains old b × (b.age < 255) × (c ≡ aged b)
+  pub whole : (b : Candidate) → Contains old b → b.age < 255 → Contains new (aged b)
+
+-- the candidate of two plies from this position
+pub record IsNew (corrects : Bool) (p : Parts) (reading : Option Reading) (x : TwoPlies) (c : Candidate) : Type 0 where
+  pub corrects_is : c.pair.corrects ≡ corrects
+  pub first_is : c.pair.first ≡ x.first
+  pub second_is : c.pair.second ≡ x.second
+  pub before_is : c.before ≡ p
+  pub middle_is : c.middle ≡ after p x.first
+  pub after_is : c.after ≡ after (after p x.first) x.second
+  pub reading_is : c.reading ≡ reading
+  pub age_is : c.age ≡ 0
+
+-- Those of the first n of these were put to the others.
+pub record AddedBelow (corrects : Bool) (p : Parts) (reading : Option Reading) (xs : List TwoPlies) (n : ℕ) (old new : List Candidate) : Type 0 where
+  pub sound : (c : Candidate) → Contains new c
+      → Contains old c ⊎ ((x : TwoPlies) × Contains xs x × IsNew corrects p reading x c)
+  pub keeps : (c : Candidate) → Contains old c → Contains new c
+  pub whole : (x : TwoPlies) (k : ℕ) → k < n → slice_index_or xs k x ≡ x → (c : Candidate) × Contains new c × IsNew corrects p reading x c
+
+-- Those of the pairs from this position that explain the picture were put to the others.
+pub record AreAdded (corrects : Bool) (p : Parts) (seen : List ℕ) (reading : Option Reading) (old new : List Candidate) : Type 0 where
+  pub sound : (c : Candidate) → Contains new c
+      → Contains old c ⊎ ((x : TwoPlies) × IsAfterTwo p seen x.first x.second × IsNew corrects p reading x c)
+  pub keeps : (c : Candidate) → Contains old c → Contains new c
+  pub whole : (x : TwoPlies) → IsAfterTwo p seen x.first x.second → (c : Candidate) × Contains new c × IsNew corrects p reading x c

@@ -1,0 +1,5 @@
+pub mod Pairs
+pub mod Recovering
+pub mod Lost
+pub mod Candidates
+pub mod Recoverer

@@ -1,0 +1,69 @@
+-- Two plies of which no picture was whole.
+use Rattle.std.specs.Prelude.{◌≡◌, ◌≢◌, ◌<◌, ℕ, Bool, true, List, [], ◌∷◌, Some, drop, slice_get, if◌then◌else◌}
+use Rattle.chess_rules.specs.declared.chess_move.Move.{Move}
+use Rattle.chess_rules.specs.declared.parts.Parts.{Parts}
+use Rattle.chess_rules.specs.After.{after}
+use Rattle.chess_rules.specs.Legal.{Legal}
+use Rattle.chess_rules.specs.Picture.{picture}
+use Rattle.settle_core.specs.Settling.{Settles, reached}
+use Rattle.settle_core.specs.Entries.{Entry}
+use Rattle.settle_core.specs.declared.game.Seen.{Seen}
+use Rattle.settle_core.specs.declared.game.Seen.TheVariants.{Moved, Sign}
+use Rattle.settle_core.specs.Sign.{IsSign}
+use Rattle.unseen_pairs.specs.declared.pair.Pair.{Pair}
+use Rattle.unseen_pairs.specs.declared.pair.Recovery.{Recovery}
+
+-- The picture is that after two legal plies.
+pub record IsAfterTwo (p : Parts) (seen : List ℕ) (m n : Move) : Type 0 where
+  pub first : Legal p m
+  pub second : Legal (after p m) n
+  pub shows : seen ≡ picture (after (after p m) n)
+
+-- what stands before a pair: all of this, of which the latest comes first; where it corrects, all but the last one
+abbrev pub root : {A : Type 0} → Bool → List A → List A
+root corrects list = if corrects then drop 1 list else list
+
+-- the positions in which the pair begins, and to which it leads
+abbrev pub begins : Parts → List Move → Pair → Parts
+begins start moves pair = reached start (root pair.corrects moves)
+
+abbrev pub ends : Parts → List Move → Pair → Parts
+ends start moves pair = after (after (begins start moves pair) pair.first) pair.second
+
+-- There is a last move, and this is another one.
+abbrev pub IsInstead : List Move → Move → Type 0
+IsInstead [] m = ⊥
+IsInstead (last ∷ earlier) m = m ≢ last
+
+-- The pair explains the picture after these moves: two legal plies in the position reached, or, where it corrects, another
+-- move in the place of the last one and a reply to it.
+pub record Explains (start : Parts) (moves : List Move) (seen : List ℕ) (pair : Pair) : Type 0 where
+  pub after_two : IsAfterTwo (begins start moves pair) seen pair.first pair.second
+  pub instead : pair.corrects ≡ true → IsInstead moves pair.first
+
+-- Of the last 256 of these entries, of which the latest comes first, the pair explains the one at this place.
+pub record ExplainsAt (start : Parts) (moves : List Move) (waiting : List Entry) (pair : Pair) (place : ℕ) (entry : Entry) : Type 0 where
+  pub low : place < 256
+  pub waits : slice_get waiting place ≡ Some entry
+  pub explains : Explains start moves entry.picture pair
+
+-- The picture goes on from this position: by a move, or by a sign.
+abbrev pub GoesOn : Parts → List ℕ → Seen → Type 0
+GoesOn p seen (Moved m) = Settles p seen m
+GoesOn p seen (Sign outcome) = IsSign p seen outcome
+GoesOn p seen _ = ⊥
+
+-- The picture confirms this pair, and no other: the pair explains an entry that waits, of which the first in time has this
+-- reading, and the picture goes on from the position after both plies; it goes on from no other pair that explains one that waits.
+pub record Confirms (start : Parts) (moves : List Move) (waiting : List Entry) (seen : List ℕ) (r : Recovery) : Type 0 where
+  pub place : ℕ
+  pub entry : Entry
+  pub explains : ExplainsAt start moves waiting r.pair place entry
+  pub first : (earlier : ℕ) (other : Entry) → place < earlier → ¬ ExplainsAt start moves waiting r.pair earlier other
+  pub reading_is : r.reading ≡ entry.reading
+  pub before_is : r.before ≡ begins start moves r.pair
+  pub middle_is : r.middle ≡ after (begins start moves r.pair) r.pair.first
+  pub after_is : r.after ≡ ends start moves r.pair
+  pub goes_on : GoesOn (ends start moves r.pair) seen r.sequel
+  pub alone : (pair : Pair) (k : ℕ) (other : Entry) (a : Seen)
+      → ExplainsAt start moves waiting pair k other → GoesOn (ends start moves pair) seen a → pair ≡ r.pair

@@ -1,0 +1,67 @@
+-- What a recoverer stands for.
+use Rattle.std.specs.Prelude.{◌≡◌, ℕ, true, false, List, ◌∷◌}
+use Rattle.chess_rules.specs.declared.parts.Parts.{Parts}
+use Rattle.chess_rules.specs.Picture.{picture}
+use Rattle.settle_core.specs.Entries.{Entry, entry_of, last_picture, repeats, deduplicated}
+use Rattle.settle_core.specs.Settler.{Sheet, StandsFor}
+use Rattle.settle_core.specs.Folding.{Score, Folds, SeenAs, moves_of}
+use Rattle.settle_core.specs.declared.game.Seen.TheVariants.{Same, Moved, Sign, Replaced, Waits}
+use Rattle.unseen_pairs.specs.declared.confirming.Candidate.{Candidate}
+use Rattle.unseen_pairs.specs.declared.pair.Told.{Told}
+use Rattle.unseen_pairs.specs.declared.pair.Told.TheVariants.{Shown, Recovered}
+use Rattle.unseen_pairs.specs.Recovering.{FoldsRecovering, TellsAs}
+use Rattle.unseen_pairs.specs.Candidates.{ListsCandidates}
+
+-- What is seen of a recoverer: its settler, and the candidates.
+pub record Desk : Type 0 where
+  pub settler : Sheet
+  pub candidates : List Candidate
+
+-- From this start the recoverer was given the first entries, the latest first, and the second ones are those with what was put
+-- in. Its settler stands for these; its score is what the first ones give where unseen pairs are recovered; and its candidates
+-- explain those that wait.
+pub record StandsForRecovered (desk : Desk) (start : Parts) (past written : List Entry) : Type 0 where
+  pub settles : StandsFor desk.settler start written
+  pub last : last_picture written ≡ last_picture past
+  pub waiting : List Entry
+  pub folds : FoldsRecovering start (deduplicated past) desk.settler.score waiting
+  pub candidates : ListsCandidates start (moves_of desk.settler.score.plies) waiting desk.candidates
+
+-- The entries with what was put in, after one more: where a pair was recovered, the pictures after each of its plies, at the
+-- reading of the entry that it explains, and then the entry again.
+abbrev pub written_after : Entry → Told → List Entry → List Entry
+written_after entry (Shown answer) written = entry ∷ written
+written_after entry (Recovered r) written =
+    entry ∷ entry_of (picture r.after) r.reading ∷ entry_of (picture r.middle) r.reading ∷ entry ∷ written
+
+-- what a picture that is not the last one tells after these entries
+abbrev pub TellsNew : Parts → List Entry → List ℕ → Told → Type 0
+TellsNew start past seen told = (repeats seen past ≡ false)
+    × ((score : Score) × (waiting : List Entry) × FoldsRecovering start (deduplicated past) score waiting
+    × TellsAs start (moves_of score.plies) waiting seen told)
+
+-- the result for a picture after these entries
+abbrev pub ReturnsTold : Parts → List Entry → List ℕ → Told → Type 0
+ReturnsTold start past seen (Shown Same) = repeats seen past ≡ true
+ReturnsTold start past seen (Shown (Moved m)) = TellsNew start past seen (Shown (Moved m))
+ReturnsTold start past seen (Shown (Sign outcome)) = TellsNew start past seen (Shown (Sign outcome))
+ReturnsTold start past seen (Shown (Replaced m)) = TellsNew start past seen (Shown (Replaced m))
+ReturnsTold start past seen (Shown Waits) = TellsNew start past seen (Shown Waits)
+ReturnsTold start past seen (Recovered r) = TellsNew start past seen (Recovered r)
+
+-- After these entries, and those with what was put in, this new one shows nothing by itself, and the settler has seen it
+-- (private).
+pub record IsWaiting (desk : Desk) (start : Parts) (past written : List Entry) (entry : Entry) : Type 0 where
+  pub settles : StandsFor desk.settler start (entry ∷ written)
+  pub folded : Folds start (deduplicated written) desk.settler.score
+  pub new : repeats entry.picture past ≡ false
+  pub same : repeats entry.picture written ≡ false
+  pub waits : SeenAs start (moves_of desk.settler.score.plies) entry.picture Waits
+  pub waiting : List Entry
+  pub folds : FoldsRecovering start (deduplicated past) desk.settler.score waiting
+  pub candidates : ListsCandidates start (moves_of desk.settler.score.plies) waiting desk.candidates
+
+-- the recoverer after it, with what it told (private)
+pub record HasTold (desk : Desk) (start : Parts) (past written : List Entry) (entry : Entry) (told : Told) : Type 0 where
+  pub stands : StandsForRecovered desk start (entry ∷ past) (written_after entry told written)
+  pub answer : ReturnsTold start past entry.picture told

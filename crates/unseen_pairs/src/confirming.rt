@@ -1,0 +1,119 @@
+// Which pair a picture confirms.
+ghost use Rattle.std.specs.Prelude.{◌≡◌, ◌<◌, ◌↔◌, [], ℕ, List, All, IfOk, IfSome, IfNone, IsTrue};
+ghost use Rattle.chess_rules.specs.declared.parts.Parts.{Parts as PartsOf};
+ghost use Rattle.settle_core.specs.declared.game.Seen.{Seen as SeenOf};
+ghost use Rattle.settle_core.specs.Folding.{SeenAs};
+ghost use Rattle.unseen_pairs.specs.Pairs.{GoesOn};
+ghost use Rattle.unseen_pairs.specs.declared.confirming.Confirmed.{Confirmed as ConfirmedOf};
+ghost use Rattle.unseen_pairs.specs.Candidates.{IsOlder, IsOnlyOne};
+
+use crate::pair::Pair;
+use chess_rules::Position;
+use dgt_frame::Reading;
+use settle_core::{Seen, Settler};
+use std::alloc::{AllocError, Global};
+
+/// A pair that explains a picture that waits.
+#[derive(Clone, Copy, Debug)]
+pub struct Candidate {
+    pub pair: Pair,
+    /// The position in which the pair begins.
+    pub before: Position,
+    /// The position after its first ply.
+    pub middle: Position,
+    /// The position after both.
+    pub after: Position,
+    /// The clocks' reading of that picture.
+    pub reading: Option<Reading>,
+    /// How many pictures have come to wait after that one.
+    pub age: u8,
+}
+
+/// The one candidate that a picture confirms, and what goes on from it.
+#[derive(Clone, Copy, Debug)]
+pub struct Confirmed {
+    pub candidate: Candidate,
+    pub sequel: Seen,
+}
+
+/// What the picture shows where no move was made.
+fn shown_alone(alloc: Global, p: &Position, picture: &[u8; 64]) -> Result<Seen, AllocError>
+    requires { All (λ code. code < 16) picture.now }
+    ensures { IfOk result (SeenAs p.now [] picture.now) }
+{
+    let mut settler = Settler::new(alloc, *p);
+    settler.see(picture, None)
+}
+
+/// What of this goes on from the position.
+fn going_on(seen: Seen) -> Option<Seen>
+    ensures some { (p : PartsOf) (picture : List ℕ) → SeenAs p [] picture seen → IfSome result (GoesOn p picture) }
+    ensures none { (p : PartsOf) (picture : List ℕ) → SeenAs p [] picture seen → IfNone result ((a : SeenOf) → ¬ GoesOn p picture a) }
+{
+    match seen {
+        Seen::Moved(m) => Some(Seen::Moved(m)),
+        Seen::Sign(outcome) => Some(Seen::Sign(outcome)),
+        Seen::Replaced(_) => None,
+        Seen::Same => None,
+        Seen::Waits => None,
+    }
+}
+
+/// What goes on from the position, if anything: the move that the picture settles there, or the sign over it.
+fn sequel(alloc: Global, p: &Position, picture: &[u8; 64]) -> Result<Option<Seen>, AllocError>
+    requires { All (λ code. code < 16) picture.now }
+    ensures some { IfOk result (λ found. IfSome found (GoesOn p.now picture.now)) }
+    ensures none { IfOk result (λ found. IfNone found ((a : SeenOf) → ¬ GoesOn p.now picture.now a)) }
+{
+    let seen = shown_alone(alloc, p, picture)?;
+    Ok(going_on(seen))
+}
+
+fn is_same(a: &Pair, b: &Pair) -> bool
+    ensures { IsTrue result ↔ (a.now ≡ b.now) }
+{
+    *a == *b
+}
+
+/// The older of two.
+fn older(a: &Confirmed, b: &Confirmed) -> Confirmed
+    ensures { IsOlder a.now b.now result }
+{
+    if a.candidate.age < b.candidate.age {
+        *b
+    } else {
+        *a
+    }
+}
+
+/// The oldest candidate of the one pair from which the picture goes on, if there is exactly one such pair.
+pub fn only_one(
+    alloc: Global,
+    candidates: &[Candidate],
+    picture: &[u8; 64],
+) -> Result<Option<Confirmed>, AllocError>
+    requires { All (λ code. code < 16) picture.now }
+    ensures some { IfOk result (λ found. IfSome found (IsOnlyOne candidates.now picture.now)) }
+    ensures none { IfOk result (λ found. IfNone found ((one : ConfirmedOf) → ¬ IsOnlyOne candidates.now picture.now one)) }
+{
+    let mut found = None;
+    for candidate in candidates {
+        let Some(sequel) = sequel(alloc, &candidate.after, picture)? else {
+            continue;
+        };
+        let one = Confirmed {
+            candidate: *candidate,
+            sequel,
+        };
+        found = match found {
+            None => Some(one),
+            Some(before) => {
+                if !is_same(&before.candidate.pair, &candidate.pair) {
+                    return Ok(None);
+                }
+                Some(older(&before, &one))
+            }
+        };
+    }
+    Ok(found)
+}

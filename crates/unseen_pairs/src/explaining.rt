@@ -1,0 +1,161 @@
+// The pairs of plies that explain a picture.
+ghost use Rattle.std.specs.Prelude.{◌≡◌, ◌<◌, ◌↔◌, ℕ, List, Contains, IfOk, OnOk, IsTrue, slice_index};
+ghost use Rattle.chess_rules.specs.declared.chess_move.Move.{Move as MoveOf};
+ghost use Rattle.chess_rules.specs.declared.parts.Parts.{Parts as PartsOf};
+ghost use Rattle.chess_rules.specs.After.{after};
+ghost use Rattle.chess_rules.specs.Board.{other as other_side};
+ghost use Rattle.chess_rules.specs.Picture.{picture};
+ghost use Rattle.chess_rules.specs.Legal.{Legal};
+ghost use Rattle.unseen_pairs.specs.declared.pair.TwoPlies.{TwoPlies as TwoPliesOf};
+ghost use Rattle.unseen_pairs.specs.Pairs.{IsAfterTwo};
+ghost use Rattle.unseen_pairs.specs.Lost.{Loses, LosesAt, AddsPairs, AddsReply};
+
+use crate::pair::TwoPlies;
+use chess_rules::{Move, Position, Side, kind_on};
+use std::alloc::{AllocError, Global};
+
+/// A copy, since a move by value is given away.
+fn copy(m: &Move) -> Move
+    ensures { result ≡ m.now }
+{
+    *m
+}
+
+fn other(side: Side) -> Side
+    ensures { result ≡ other_side side }
+{
+    match side {
+        Side::White => Side::Black,
+        Side::Black => Side::White,
+    }
+}
+
+/// Whether a piece of this side stands on the square and the picture shows something else there.
+fn loses_at(p: &Position, before: &[u8; 64], seen: &[u8; 64], side: Side, square: u8) -> bool
+    requires low { square < 64 }
+    requires before { before.now ≡ picture p.now }
+    ensures { IsTrue result ↔ LosesAt p.now seen.now side square }
+{
+    // The position is valid.
+    let parts = p.parts();
+    let Some(_) = kind_on(&parts.board, side, square) else {
+        return false;
+    };
+    before[square as usize] != seen[square as usize]
+}
+
+/// Whether the picture shows something else where a piece of this side stands.
+fn loses(p: &Position, before: &[u8; 64], seen: &[u8; 64], side: Side) -> bool
+    requires { before.now ≡ picture p.now }
+    ensures { IsTrue result ↔ Loses p.now seen.now side }
+{
+    for square in 0..64u8 {
+        if loses_at(p, before, seen, side, square) {
+            return true;
+        }
+    }
+    false
+}
+
+/// Whether each side has left a square: without that, no pair explains the picture.
+fn may_hide_two(p: &Position, seen: &[u8; 64]) -> bool
+    ensures { (m n : MoveOf) → IsAfterTwo p.now seen.now m n → IsTrue result }
+{
+    // The position is valid.
+    let side = p.parts().side;
+    let before = p.picture();
+    if !loses(p, &before, seen, side) {
+        return false;
+    }
+    loses(p, &before, seen, other(side))
+}
+
+/// Whether the move's own square is as it was: then it is neither ply of a pair.
+fn stays(before: &[u8; 64], seen: &[u8; 64], m: &Move) -> bool
+    ensures { IsTrue result ↔ (slice_index before.now m.now.from ≡ slice_index seen.now m.now.from) }
+{
+    let from = m.from.number() as usize;
+    before[from] == seen[from]
+}
+
+/// Adds the pair where the second ply gives the picture.
+fn push_reply(
+    pairs: &mut Vec<TwoPlies>,
+    middle: &Position,
+    before: &[u8; 64],
+    seen: &[u8; 64],
+    first: &Move,
+    second: &Move,
+) -> Result<(), AllocError>
+    requires second { Legal middle.now second.now }
+    requires before { before.now ≡ picture middle.now }
+    ensures { OnOk result (AddsReply middle.now seen.now first.now second.now pairs.old.items pairs.new.items) }
+{
+    if stays(before, seen, second) {
+        // The position is valid.
+        middle.parts();
+        return Ok(());
+    }
+    let after = middle.play(copy(second)).picture();
+    if is_same(&after, seen) {
+        pairs.push(TwoPlies {
+            first: copy(first),
+            second: copy(second),
+        })?;
+    }
+    Ok(())
+}
+
+/// Whether two pictures are one.
+fn is_same(a: &[u8; 64], b: &[u8; 64]) -> bool
+    ensures { IsTrue result ↔ (a.now ≡ b.now) }
+{
+    *a == *b
+}
+
+/// Adds the pairs with this first ply that explain the picture.
+fn push_pairs_with(
+    alloc: Global,
+    pairs: &mut Vec<TwoPlies>,
+    p: &Position,
+    before: &[u8; 64],
+    seen: &[u8; 64],
+    first: &Move,
+) -> Result<(), AllocError>
+    requires first { Legal p.now first.now }
+    requires before { before.now ≡ picture p.now }
+    ensures { OnOk result (AddsPairs p.now seen.now first.now pairs.old.items pairs.new.items) }
+{
+    if stays(before, seen, first) {
+        // The position is valid.
+        p.parts();
+        return Ok(());
+    }
+    let middle = p.play(copy(first));
+    let between = middle.picture();
+    let replies = middle.legal_moves(alloc)?;
+    for reply in replies.as_slice() {
+        push_reply(pairs, &middle, &between, seen, first, reply)?;
+    }
+    Ok(())
+}
+
+/// The pairs of plies that give the picture from this position.
+pub fn pairs_that_explain(
+    alloc: Global,
+    p: &Position,
+    seen: &[u8; 64],
+) -> Result<Vec<TwoPlies>, AllocError>
+    ensures { IfOk result (λ pairs. (x : TwoPliesOf) → Contains pairs.items x ↔ IsAfterTwo p.now seen.now x.first x.second) }
+{
+    let mut pairs = Vec::new(alloc);
+    if !may_hide_two(p, seen) {
+        return Ok(pairs);
+    }
+    let before = p.picture();
+    let moves = p.legal_moves(alloc)?;
+    for first in moves.as_slice() {
+        push_pairs_with(alloc, &mut pairs, p, &before, seen, first)?;
+    }
+    Ok(pairs)
+}

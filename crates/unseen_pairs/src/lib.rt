@@ -1,0 +1,11 @@
+//! Unseen pairs: two plies of which no picture was whole, and the next move, or the kings, that confirm them.
+#![tactic(auto)]
+
+mod confirming;
+mod explaining;
+mod pair;
+mod recoverer;
+mod waiting;
+
+pub use pair::{Pair, Recovery, Told};
+pub use recoverer::Recoverer;

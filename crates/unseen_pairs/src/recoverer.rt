@@ -1,0 +1,167 @@
+// The recoverer: it takes pictures, and keeps the line that they show, with the pairs that no picture showed ply by ply.
+ghost use Rattle.std.specs.Prelude.{◌≡◌, ◌<◌, ◌↔◌, ℕ, List, [], ◌∷◌, All, IfOk, OnOk, IsTrue};
+ghost use Rattle.chess_rules.specs.declared.parts.Parts.{Parts as PartsOf};
+ghost use Rattle.settle_core.specs.Entries.{Entry, entry_of};
+ghost use Rattle.unseen_pairs.specs.declared.confirming.Confirmed.{Confirmed as ConfirmedOf};
+ghost use Rattle.unseen_pairs.specs.Candidates.{IsOnlyOne};
+ghost use Rattle.unseen_pairs.specs.Recoverer.{HasTold, IsWaiting, ReturnsTold, StandsForRecovered, written_after};
+
+use crate::confirming::{Candidate, Confirmed, only_one};
+use crate::pair::{Recovery, Told};
+use crate::waiting::{add_correcting, add_pairs, all_aged, copy};
+use chess_rules::Position;
+use dgt_frame::Reading;
+use settle_core::{Seen, Settler};
+use std::alloc::{AllocError, Global};
+use std::marker::Model;
+
+/// Settles pictures as a settler does, and recovers pairs of plies of which no picture was whole.
+#[derive(Debug, Drop)]
+pub struct Recoverer {
+    settler: Settler,
+    candidates: Vec<Candidate>,
+}
+
+impl Model for Recoverer {
+    ghost use Rattle.unseen_pairs.specs.Recoverer.{Desk};
+
+    ghost Value = { Desk };
+
+    ghost view = { λ r. record { settler = r.settler; candidates = r.candidates.items } };
+}
+
+fn is_same(a: &[u8; 64], b: &[u8; 64]) -> bool
+    ensures { IsTrue result ↔ (a.now ≡ b.now) }
+{
+    *a == *b
+}
+
+impl Recoverer {
+    /// A recoverer that has seen no picture. Takes no memory.
+    pub fn new(alloc: Global, start: Position) -> Recoverer
+        ensures { StandsForRecovered result start [] [] }
+    {
+        Recoverer {
+            settler: Settler::new(alloc, start),
+            candidates: Vec::new(alloc),
+        }
+    }
+
+    /// Takes a picture, 64 codes of at most 15 by square number, with the clocks' reading at which it was seen.
+    ///
+    /// # Errors
+    ///
+    /// Where there was no memory; then it must not be used any more.
+    pub fn see(
+        &mut self,
+        alloc: Global,
+        picture: &[u8; 64],
+        clock: Option<Reading>,
+    ) -> Result<Told, AllocError>
+        requires { All (λ code. code < 16) picture.now }
+        ensures stands { (start : PartsOf) (past written : List Entry) → StandsForRecovered self.old start past written
+            → IfOk result (λ told. StandsForRecovered self.new start (entry_of picture.now clock ∷ past)
+            (written_after (entry_of picture.now clock) told written)) }
+        ensures answer { (start : PartsOf) (past written : List Entry) → StandsForRecovered self.old start past written
+            → IfOk result (ReturnsTold start past picture.now) }
+    {
+        // The start is valid.
+        self.settler.start().parts();
+        match self.settler.see(picture, copy(&clock))? {
+            Seen::Same => Ok(Told::Shown(Seen::Same)),
+            Seen::Waits => self.wait(alloc, picture, &clock),
+            seen => {
+                self.candidates.clear();
+                Ok(Told::Shown(seen))
+            }
+        }
+    }
+
+    /// The last picture shows nothing by itself: it may confirm a pair, or wait.
+    fn wait(
+        &mut self,
+        alloc: Global,
+        picture: &[u8; 64],
+        clock: &Option<Reading>,
+    ) -> Result<Told, AllocError>
+        requires { All (λ code. code < 16) picture.now }
+        ensures { (start : PartsOf) (past written : List Entry) → IsWaiting self.old start past written (entry_of picture.now clock.now)
+            → IfOk result (HasTold self.new start past written (entry_of picture.now clock.now)) }
+    {
+        let found = only_one(alloc, &self.candidates, picture)?;
+        if let Some(one) = found {
+            return self.put_in(&one, picture, clock);
+        }
+        self.keep(alloc, picture, clock)?;
+        Ok(Told::Shown(Seen::Waits))
+    }
+
+    /// Shows the settler what was not seen: the pictures after each of the pair's plies, and then the last one again.
+    fn put_in(
+        &mut self,
+        one: &Confirmed,
+        picture: &[u8; 64],
+        clock: &Option<Reading>,
+    ) -> Result<Told, AllocError>
+        requires { All (λ code. code < 16) picture.now }
+        ensures { (start : PartsOf) (past written : List Entry) → IsWaiting self.old start past written (entry_of picture.now clock.now)
+            → IsOnlyOne self.old.candidates picture.now one.now
+            → IfOk result (HasTold self.new start past written (entry_of picture.now clock.now)) }
+    {
+        // The start is valid.
+        self.settler.start().parts();
+        let found = &one.candidate;
+        self.settler
+            .see(&found.middle.picture(), copy(&found.reading))?;
+        self.settler
+            .see(&found.after.picture(), copy(&found.reading))?;
+        self.settler.see(picture, copy(clock))?;
+        self.candidates.clear();
+        Ok(Told::Recovered(Recovery {
+            pair: found.pair,
+            before: found.before,
+            middle: found.middle,
+            after: found.after,
+            reading: copy(&found.reading),
+            sequel: one.sequel,
+        }))
+    }
+
+    /// The last picture waits, unless it is that of the position.
+    fn keep(
+        &mut self,
+        alloc: Global,
+        picture: &[u8; 64],
+        clock: &Option<Reading>,
+    ) -> Result<(), AllocError>
+        ensures { (start : PartsOf) (past written : List Entry) → IsWaiting self.old start past written (entry_of picture.now clock.now)
+            → ((one : ConfirmedOf) → ¬ IsOnlyOne self.old.candidates picture.now one)
+            → OnOk result (HasTold self.new start past written (entry_of picture.now clock.now) (Told.Shown Seen.Waits)) }
+    {
+        if is_same(picture, &self.settler.position().picture()) {
+            self.candidates.clear();
+            return Ok(());
+        }
+        // The start is valid.
+        self.settler.start().parts();
+        let mut candidates = all_aged(alloc, &self.candidates)?;
+        add_pairs(
+            alloc,
+            &mut candidates,
+            false,
+            self.settler.position(),
+            picture,
+            clock,
+        )?;
+        add_correcting(alloc, &mut candidates, &self.settler, picture, clock)?;
+        self.candidates = candidates;
+        Ok(())
+    }
+
+    /// The settler, which has seen all that was seen and put in.
+    pub fn settler(&self) -> &Settler
+        ensures { result.now ≡ self.now.settler }
+    {
+        &self.settler
+    }
+}

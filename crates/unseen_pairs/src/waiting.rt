@@ -1,0 +1,108 @@
+// The candidates of the entries that wait.
+ghost use Rattle.std.specs.Prelude.{◌≡◌, ◌<◌, ◌∷◌, [], true, List, IfOk, OnOk};
+ghost use Rattle.chess_rules.specs.After.{after};
+ghost use Rattle.chess_rules.specs.Legal.{Legal};
+ghost use Rattle.settle_core.specs.declared.game.Ply.{Ply as PlyOf};
+ghost use Rattle.settle_core.specs.Folding.{moves_of};
+ghost use Rattle.settle_core.specs.Settling.{reached};
+ghost use Rattle.unseen_pairs.specs.Candidates.{AreAdded, AreAged, IsNew};
+
+use crate::confirming::Candidate;
+use crate::explaining::pairs_that_explain;
+use crate::pair::{Pair, TwoPlies};
+use chess_rules::{Move, Position};
+use dgt_frame::Reading;
+use settle_core::Settler;
+use std::alloc::{AllocError, Global};
+
+/// A copy, since a reading by value is given away.
+pub fn copy(reading: &Option<Reading>) -> Option<Reading>
+    ensures { result ≡ reading.now }
+{
+    *reading
+}
+
+fn copy_move(m: &Move) -> Move
+    ensures { result ≡ m.now }
+{
+    *m
+}
+
+/// The candidates after one more entry: those that are as old as can be are left out.
+pub fn all_aged(alloc: Global, candidates: &[Candidate]) -> Result<Vec<Candidate>, AllocError>
+    ensures { IfOk result (λ aged. AreAged candidates.now aged.items) }
+{
+    let mut aged = Vec::new(alloc);
+    for candidate in candidates {
+        if candidate.age < 255 {
+            aged.push(Candidate {
+                age: candidate.age + 1,
+                ..*candidate
+            })?;
+        }
+    }
+    Ok(aged)
+}
+
+/// The candidate of two plies from a position.
+fn candidate_of(
+    corrects: bool,
+    p: &Position,
+    two: &TwoPlies,
+    reading: &Option<Reading>,
+) -> Candidate
+    requires first { Legal p.now two.now.first }
+    requires second { Legal (after p.now two.now.first) two.now.second }
+    ensures { IsNew corrects p.now reading.now two.now result }
+{
+    let middle = p.play(copy_move(&two.first));
+    let after = middle.play(copy_move(&two.second));
+    Candidate {
+        pair: Pair {
+            corrects,
+            first: copy_move(&two.first),
+            second: copy_move(&two.second),
+        },
+        before: *p,
+        middle,
+        after,
+        reading: copy(reading),
+        age: 0,
+    }
+}
+
+/// Adds the pairs from a position that explain the picture.
+pub fn add_pairs(
+    alloc: Global,
+    candidates: &mut Vec<Candidate>,
+    corrects: bool,
+    p: &Position,
+    picture: &[u8; 64],
+    reading: &Option<Reading>,
+) -> Result<(), AllocError>
+    ensures { OnOk result (AreAdded corrects p.now picture.now reading.now candidates.old.items candidates.new.items) }
+{
+    let pairs = pairs_that_explain(alloc, p, picture)?;
+    for two in pairs.as_slice() {
+        candidates.push(candidate_of(corrects, p, two, reading))?;
+    }
+    Ok(())
+}
+
+/// Adds those from the position before the settler's last ply.
+pub fn add_correcting(
+    alloc: Global,
+    candidates: &mut Vec<Candidate>,
+    settler: &Settler,
+    picture: &[u8; 64],
+    reading: &Option<Reading>,
+) -> Result<(), AllocError>
+    ensures last { (ply : PlyOf) (earlier : List PlyOf) → settler.now.score.plies ≡ ply ∷ earlier
+        → OnOk result (AreAdded true (reached settler.now.start (moves_of earlier)) picture.now reading.now candidates.old.items candidates.new.items) }
+    ensures none { settler.now.score.plies ≡ [] → OnOk result (candidates.new.items ≡ candidates.old.items) }
+{
+    let Some((before, _)) = settler.last_ply() else {
+        return Ok(());
+    };
+    add_pairs(alloc, candidates, true, &before, picture, reading)
+}
