@@ -31,6 +31,7 @@ class Asking:
     """
 
     silent: bool = False
+    dump: bytes = b""  # the last whole dump since the connection
     _frames: Frames = field(default_factory=Frames)
     _open_line: bool = False
     _wanted: bool = False  # at a fault, or a start, that no whole dump has followed
@@ -40,7 +41,6 @@ class Asking:
     _asked_at: float = -math.inf
     _asked_open: bool = False
     _unanswered: int = 0  # requests since the last whole dump
-    _picture: bytes = b""  # the last whole dump since the connection
     _updated: bool = False  # by a whole update since then
 
     def connected(self, now: float) -> None:
@@ -49,7 +49,7 @@ class Asking:
         self._open_line = self._wanted = self._start = True
         self._asked_open = False
         self._asked_at, self._dump_at, self._byte_at = -math.inf, now, now
-        self._unanswered, self._picture = 0, b""
+        self._unanswered, self.dump = 0, b""
 
     def disconnected(self) -> None:
         """The line is gone: there is nobody to ask. Whether a board was silent isn't known then."""
@@ -69,9 +69,9 @@ class Asking:
 
     def _take_dump(self, now: float) -> None:
         """A whole dump has come: it settles all that came before it."""
-        if self._picture and self._frames.whole != self._picture and not self._updated:
+        if self.dump and self._frames.whole != self.dump and not self._updated:
             self._start = True
-        self._picture, self._updated = self._frames.whole, False
+        self.dump, self._updated = self._frames.whole, False
         self._wanted = self._asked_open = self.silent = False
         self._dump_at, self._unanswered = now, 0
 

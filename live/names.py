@@ -1,7 +1,7 @@
 """Names and dates as they are typed, turned into what a PGN text takes.
 
-A tag's value has at most 100 characters, each a printable one of ASCII; a date is `2024.05.31`, with `?` for digits that aren't
-known.
+A tag's value has at most 100 characters, each a printable one of ASCII. A date is `2024.05.31`, with `?` for each digit that
+isn't known.
 """
 
 from __future__ import annotations

@@ -102,6 +102,11 @@ def dump(picture: Picture, rotated: bool) -> bytes:
     return bytes((DUMP_ID, size // 128, size % 128)) + bytes(reversed(picture) if rotated else picture)
 
 
+def picture_of_dump(frame: bytes, rotated: bool) -> Picture:
+    """The picture that a whole dump shows."""
+    return tuple(reversed(frame[HEADER:]) if rotated else frame[HEADER:])
+
+
 def picture_of_placement(text: str) -> Picture:
     """The picture of a FEN, of its first field, or of a line of `pictures`. ValueError where the text is none of them."""
     codes: List[int] = []

@@ -11,6 +11,7 @@ import select
 import sys
 import time
 import tty
+from typing import Iterable, List
 
 SEND_DUMP, SEND_UPDATES = 0x42, 0x4B
 DUMP, UPDATE, TIME = 0x86, 0x8E, 0x8D
@@ -20,32 +21,33 @@ BACK_RANK = [2, 3, 4, 6, 5, 4, 3, 2]
 INITIAL = [BLACK + kind for kind in BACK_RANK] + [BLACK + PAWN] * 8 + [EMPTY] * 32 + [PAWN] * 8 + BACK_RANK
 
 
-def field(square):
+def field(square: str) -> int:
     """The number of a square: a8 is 0, h1 is 63."""
     return "abcdefgh".index(square[0]) + 8 * (8 - int(square[1]))
 
 
-def frame(identifier, data):
-    size = 3 + len(data)
-    return bytes([identifier, size >> 7, size & 0x7F, *data])
+def frame(identifier: int, data: Iterable[int]) -> bytes:
+    codes = bytes(data)
+    size = 3 + len(codes)
+    return bytes([identifier, size >> 7, size & 0x7F]) + codes
 
 
 class Board:
     """A board with a clock. `line` is an open device."""
 
-    def __init__(self, line, pause=0, cut=0):
+    def __init__(self, line: int, pause: float = 0, cut: int = 0) -> None:
         self.line = line
-        self.codes = list(INITIAL)
+        self.codes: List[int] = list(INITIAL)
         self.pause = pause
         self.cut = cut
         self.updates = 0
         self.asked_for_updates = False
 
-    def send(self, bytes_sent):
+    def send(self, bytes_sent: bytes) -> None:
         while bytes_sent:
             bytes_sent = bytes_sent[os.write(self.line, bytes_sent) :]
 
-    def listen(self, seconds):
+    def listen(self, seconds: float) -> None:
         """Answers what is asked within so many seconds."""
         until = time.monotonic() + seconds
         while (left := until - time.monotonic()) > 0:
@@ -53,7 +55,7 @@ class Board:
                 return
             self.answer(os.read(self.line, 64))
 
-    def answer(self, commands):
+    def answer(self, commands: bytes) -> None:
         for command in commands:
             print(f"board: asked {command:02X}", file=sys.stderr)
             if command == SEND_DUMP:
@@ -61,7 +63,7 @@ class Board:
             elif command == SEND_UPDATES:
                 self.asked_for_updates = True
 
-    def show(self, number, code):
+    def show(self, number: int, code: int) -> None:
         """A square changes. One update, if it was asked for, is cut off after its header."""
         self.codes[number] = code
         self.updates += 1
@@ -69,13 +71,13 @@ class Board:
         self.send(whole[:3] if self.updates == self.cut else whole)
         self.listen(self.pause)
 
-    def carry(self, origin, target, code):
+    def carry(self, origin: int, target: int, code: int) -> None:
         if self.codes[target] != EMPTY:
             self.show(target, EMPTY)
         self.show(origin, EMPTY)
         self.show(target, code)
 
-    def play(self, move):
+    def play(self, move: str) -> None:
         origin, target = field(move[:2]), field(move[2:4])
         code = self.codes[origin]
         side = BLACK if code > BLACK else 0
@@ -88,22 +90,22 @@ class Board:
             rook = origin + 3 if steps > 0 else origin - 4
             self.carry(rook, origin + steps // 2, self.codes[rook])
 
-    def clock(self, white, black):
+    def clock(self, white: int, black: int) -> None:
         """Both times in seconds."""
         groups = [f"{n:02}" for t in (white, black) for n in (t // 3600, t // 60 % 60, t % 60)]
         self.send(frame(TIME, [*(int(digits, 16) for digits in groups), 0]))
 
 
-def main():
-    words = argparse.ArgumentParser(description=__doc__)
-    words.add_argument("device")
-    words.add_argument("--make", action="store_true", help="makes the device, and removes it at the end")
-    words.add_argument("moves", nargs="*")
-    words.add_argument("--pause", type=float, default=0.05, help="seconds after each update")
-    words.add_argument("--cut", type=int, default=0, help="the number of the update that is cut off")
-    words.add_argument("--clock", type=int, default=0, help="seconds on each clock; each ply takes seven")
-    words.add_argument("--stay", type=float, default=0.5, help="seconds before it hangs up")
-    words = words.parse_intermixed_args()
+def main() -> None:
+    parser = argparse.ArgumentParser(description=__doc__)
+    parser.add_argument("device")
+    parser.add_argument("--make", action="store_true", help="makes the device, and removes it at the end")
+    parser.add_argument("moves", nargs="*")
+    parser.add_argument("--pause", type=float, default=0.05, help="seconds after each update")
+    parser.add_argument("--cut", type=int, default=0, help="the number of the update that is cut off")
+    parser.add_argument("--clock", type=int, default=0, help="seconds on each clock; each ply takes seven")
+    parser.add_argument("--stay", type=float, default=0.5, help="seconds before it hangs up")
+    words = parser.parse_intermixed_args()
 
     if words.make:
         line, slave = os.openpty()

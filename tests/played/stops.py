@@ -1,75 +1,81 @@
-"""What a recording has where it is stopped, and how it goes on: signals, kills, power cuts, cables."""
+"""What a recording has where it is stopped by signals and power cuts, and how it goes on."""
 
 import contextlib
 import os
-import shutil
+import pathlib
 import signal
 import time
 
-from played.games import whole_game
+from played import words
+from played.boards import DUMP, INITIAL, field, frame
+from played.recorder import Live, Terminal
 from played.stage import (
-    Board,
-    Live,
     RUY,
     RUY_TEXT,
+    a_board,
     begin_game,
     begun,
     bytes_of,
+    ended,
     go_on,
-    lives,
+    holds_within,
+    kill,
     movetext,
-    processes,
+    rest,
     run,
     same,
-    shell,
+    stop,
     until,
     until_game,
+    until_line,
 )
-from play_board import DUMP, field, frame
+
+SIGNALS = (signal.SIGINT, signal.SIGTERM, signal.SIGHUP)
 
 
-def signals(folder):
+def signals(folder: pathlib.Path) -> None:
     """INT, TERM and HUP in mid-game: the game so far, status 0. TERM just as it begins: a game without moves, status 0."""
-    for number in (signal.SIGINT, signal.SIGTERM, signal.SIGHUP):
+    for number in SIGNALS:
         place = folder / number.name
         place.mkdir()
-        board = Board(place)
+        board = a_board(place)
         live = Live(board.device, place / "game")
         begun(live)
         for move in RUY:
             board.play(move)
-        live.until_line("move 3. Bb5")
-        same(live.stop(number), 0)
+        until_line(live, "3. Bb5")
+        same(stop(live, number), 0)
         same(movetext(live.name), RUY_TEXT)
         same(live.complaint(), "")
-    for number in range(8):
-        place = folder / str(number)
+    for at in range(8):
+        place = folder / str(at)
         place.mkdir()
-        live = Live(Board(place).device, place / "game")
+        live = Live(a_board(place).device, place / "game")
         until((place / "game.pgn").exists, "the first text", 0)
-        same(live.stop(signal.SIGTERM), 0)
+        same(stop(live, signal.SIGTERM), 0)
         same(live.complaint(), "")
 
 
-def group_signal(folder):
-    """INT, TERM and HUP to all processes at once, as by a terminal or a service's end; many of them."""
-    for number in (signal.SIGINT, signal.SIGTERM, signal.SIGHUP):
-        place = folder / number.name
+def group_signal(folder: pathlib.Path) -> None:
+    """INT, TERM and HUP to all processes at once, as by a terminal or a service's end; many of them, and all three mixed."""
+    for name, numbers in (*((number.name, [number] * 5) for number in SIGNALS), ("mixed", [*SIGNALS] * 10)):
+        place = folder / name
         place.mkdir()
-        board = Board(place)
+        board = a_board(place)
         live = Live(board.device, place / "game")
         begun(live)
         for move in RUY:
             board.play(move)
-        for _ in range(5):
-            with contextlib.suppress(ProcessLookupError):
-                os.killpg(live.process.pid, number)
-            time.sleep(0.02)
-        same(live.ended(), 0)
+        until(lambda: len(bytes_of(live.name + ".dgt")) >= 67 + 50, "what was played")
+        for number in numbers:
+            live.send_all(number)
+            time.sleep(0.02 if name != "mixed" else 0.002)
+        same(ended(live), 0)
         same(bytes_of(live.name + ".pgn"), run("record", given=bytes_of(live.name + ".dgt")).stdout)
+        same(movetext(live.name), RUY_TEXT)
 
 
-def killed_in_frame(folder):
+def killed_in_frame(folder: pathlib.Path) -> None:
     """KILL of all processes after a part of a frame, of each length; its rest is lost, or comes to the next session."""
     for length in range(1, 5):
         for rest_comes in (False, True):
@@ -80,9 +86,10 @@ def killed_in_frame(folder):
             board.codes[field("f3")] = 3
             whole = board.update(field("f3"))
             kept = len(bytes_of(live.name + ".dgt"))
+            # A dump may come in between, where the recorder has just asked for one.
             board.send(whole[:length])
             until(lambda: len(bytes_of(live.name + ".dgt")) >= kept + length, "a part of a frame")
-            live.kill()
+            kill(live)
             if rest_comes:
                 board.send(whole[length:])
             again = go_on(board, live)
@@ -90,231 +97,265 @@ def killed_in_frame(folder):
             board.play("b8c6")
             board.play("f1b5")
             until_game(live.name, RUY_TEXT)
-            same(again.stop(), 0)
+            same(stop(again), 0)
     for length in (1, 2, 3, 40, 66):
         place = folder / f"dump{length}"
         place.mkdir()
-        board = Board(place)
-        board.silent = True
+        board = a_board(place)
+        board.deaf = True
         live = Live(board.device, place / "game", "--white", "Anna")
         until(lambda: b"B" in board.asked, "a request for a dump")
         board.send(frame(DUMP, board.codes)[:length])
         until(lambda: len(bytes_of(live.name + ".dgt")) == length, "a part of a dump")
-        live.kill()
-        board.silent = False
+        kill(live)
+        board.deaf = False
         again = go_on(board, live)
         for move in RUY:
             board.play(move)
         until_game(live.name, RUY_TEXT)
         assert b'[White "Anna"]' in bytes_of(live.name + ".pgn")
-        same(again.stop(), 0)
+        same(stop(again), 0)
 
 
-def killed_in_move(folder):
+def killed_in_move(folder: pathlib.Path) -> None:
     """KILL of all processes within a move; the move is ended while nothing listens. Then the same with main alone killed."""
     for alone in (False, True):
         place = folder / str(alone)
         place.mkdir()
         board, live = begin_game(place)
+        kept = len(bytes_of(live.name + ".dgt"))
         board.lift("g1")
-        live.until_line("differs g1")
+        until(lambda: len(bytes_of(live.name + ".dgt")) >= kept + 5, "the lift")
         if alone:
+            live.was_killed = True
             live.process.kill()
-            live.ended()
+            ended(live)
         else:
-            live.kill()
+            kill(live)
         board.put("f3", 3)
         again = go_on(board, live)
         until_game(live.name, "1. e4 e5 2. Nf3 *")
         board.play("b8c6")
         board.play("f1b5")
         until_game(live.name, RUY_TEXT)
-        same(again.stop(), 0)
+        same(stop(again), 0)
 
 
-def kill_part(place, number):
-    """KILL of one of its processes alone, and INT at once. It answers how many processes there were."""
-    place.mkdir()
-    board, live = begin_game(place)
-    parts = processes(live.process.pid)
-    live.was_killed = True
-    with contextlib.suppress(ProcessLookupError):
-        os.kill(parts[number], signal.SIGKILL)
-    with contextlib.suppress(ProcessLookupError):
-        os.kill(live.process.pid, signal.SIGINT)
-    assert live.ended() in (-signal.SIGKILL, 0, 3), live.complaint()
-    same(movetext(live.name), "1. e4 e5 *")
-    board.pull()
-    board.plug()
-    again = go_on(board, live)
-    for move in RUY[2:]:
-        board.play(move)
-    until_game(live.name, RUY_TEXT)
-    same(again.stop(), 0)
-    return len(parts)
-
-
-def killed_in_part(folder):
-    """KILL of each of its processes alone: what was played is kept, all of it ends, and it goes on when started again."""
-    number, count = 0, 1
-    while number < count:
-        # The last two are a timer and its sleep, which may have ended.
-        count = max(count, kill_part(folder / str(number), number) - 2)
-        number += 1
-    assert count > 8, count
-
-
-def with_bash(folder):
-    """The same where bash is sh: a whole game, and KILL of five of its processes, each alone."""
-    if not shutil.which("bash"):
-        print("   there is no bash here", flush=True)
-        return
-    with shell("bash", "--posix"):
-        whole_game(folder)
-        for number in range(3, 8):
-            kill_part(folder / str(number), number)
-
-
-def power_cut(folder):
+def power_cut(folder: pathlib.Path) -> None:
     """The end of NAME.dgt is cut off at each byte back to the end of the last ply but one."""
     board, live = begin_game(folder)
+    # The capture of the last ply alone is of known bytes: whatever dumps were asked for are in front of it.
+    rest(0.3)
+    kill(live)
+    whole = bytes_of(live.name + ".dgt")
+    last = len(whole)
+    board.asked_for_updates = False
     board.clock(600, 600)
     board.play("g1f3")
-    until_game(live.name, "1. e4 e5 2. Nf3 {[%clk 0:10:00]} *")
-    live.kill()
-    whole = bytes_of(live.name + ".dgt")
+    whole += bytes([0x8D, 0, 10, 0, 0x10, 0, 0, 0x10, 0, 0])
+    whole += bytes([0x8E, 0, 5, field("g1"), 0]) + bytes([0x8E, 0, 5, field("f3"), 3])
     codes = board.codes
     board.pull()
-    last = 67 + 4 * 5
-    assert len(whole) >= last + 20
     cuts = list(range(last, len(whole)))
-    for front in range(0, len(cuts), 6):
-        lives = []
-        for cut in cuts[front : front + 6]:
+    same(len(cuts), 20)
+    for front in range(0, len(cuts), 7):
+        cases = []
+        for cut in cuts[front : front + 7]:
             place = folder / str(cut)
             place.mkdir()
             (place / "game.dgt").write_bytes(whole[:cut])
             (place / "game.options").write_bytes(b"")
-            here = Board(place, codes)
-            lives.append((cut, here, Live(here.device, place / "game")))
-        for cut, here, one in lives:
+            here = a_board(place, codes)
+            cases.append((cut, here, Live(here.device, place / "game")))
+        for cut, here, one in cases:
             until(lambda: "2. Nf3" in movetext(one.name), f"the ply that was cut at byte {cut}")
-        for cut, here, one in lives:
+        for cut, here, one in cases:
             here.play("b8c6")
             here.play("f1b5")
-        for cut, here, one in lives:
+        for cut, here, one in cases:
             # The time is ten bytes long: where it is whole it is Nf3's, and no other has come since.
             clock = " {[%clk 0:10:00]}" if cut >= last + 10 else ""
             black = " 2... Nc6" if clock else " Nc6"
             until_game(one.name, f"1. e4 e5 2. Nf3{clock}{black}{clock} 3. Bb5{clock} *")
-            same(one.stop(), 0)
+            same(stop(one), 0)
 
 
-def cable(folder):
+def cable(folder: pathlib.Path) -> None:
     """The cable is pulled in mid-move and plugged in again, twice; then pulled with --once: status 3."""
     board, live = begin_game(folder)
     board.lift("g1")
-    live.until_line("differs g1")
     board.pull()
-    live.until_line("is waited for")
+    until_line(live, words.UNPLUGGED)
     board.put("f3", 3)
     board.plug()
     until_game(live.name, "1. e4 e5 2. Nf3 *")
     board.play("b8c6")
     until_game(live.name, "1. e4 e5 2. Nf3 Nc6 *")
     board.pull()
-    live.until_line("is waited for", 2)
+    until_line(live, words.UNPLUGGED, 2)
     board.plug()
-    live.until_line("is there\n", 2)
+    until_line(live, words.BACK, 2)
     board.play("f1b5")
     until_game(live.name, RUY_TEXT)
     board.pull()
-    live.until_line("is waited for", 3)
-    same(live.stop(), 0)
+    until_line(live, words.UNPLUGGED, 3)
+    same(stop(live), 0)
     board.plug()
     once = go_on(board, live, "--once")
     board.play("a7a6")
     until_game(live.name, "1. e4 e5 2. Nf3 Nc6 3. Bb5 a6 *")
     board.pull()
-    same(once.ended(), 3)
-    assert "has gone away" in once.complaint(), once.complaint()
+    same(ended(once), 3)
+    assert words.GONE_AWAY in once.complaint(), once.complaint()
     same(movetext(live.name), "1. e4 e5 2. Nf3 Nc6 3. Bb5 a6 *")
 
 
-def pulled_at_once(folder):
+def pulled_at_once(folder: pathlib.Path) -> None:
     """30 boards are pulled just as they are recorded again, and plugged in: each goes on."""
     rooms = []
     for number in range(30):
         place = folder / str(number)
         place.mkdir()
-        board = Board(place)
+        board = a_board(place)
         rooms.append((board, Live(board.device, place / "game")))
     for board, live in rooms:
         begun(live)
         board.pull()
     for board, live in rooms:
-        live.until_line("is waited for")
+        until_line(live, words.UNPLUGGED)
         board.plug()
     for board, live in rooms:
-        live.until_line("is there\n")
+        until_line(live, words.BACK)
         board.pull()
         board.plug()
         board.play("e2e4")
     for _, live in rooms:
         until_game(live.name, "1. e4 *")
-        live.process.send_signal(signal.SIGINT)
+        live.send(signal.SIGINT)
     for _, live in rooms:
-        same(live.ended(), 0)
+        same(ended(live), 0)
 
 
-def silent(folder):
+def held(folder: pathlib.Path) -> None:
+    """STOP and CONT of each process while a game is played, and of all: nothing is lost. One that is stopped for ever holds up
+    no end."""
+    place = folder / "each"
+    place.mkdir()
+    board, live = begin_game(place)
+    processes = 1 + len(live.children())
+    moves, text = ["g1f3", "b8c6", "f1b5", "a7a6", "b5a4", "g8f6"], ["Nf3", "Nc6", "Bb5", "a6", "Ba4", "Nf6"]
+    same(processes <= 3, True)
+    game = "1. e4 e5"
+    for number, (move, san) in enumerate(zip(moves, text)):
+        chosen = [live.process.pid, *live.children()]
+        chosen = [chosen[number % len(chosen)]] if number < 4 else chosen
+        for process in chosen:
+            os.kill(process, signal.SIGSTOP)
+        board.play(move)
+        rest(1.2)
+        for process in chosen:
+            with contextlib.suppress(ProcessLookupError):
+                os.kill(process, signal.SIGCONT)
+        game += f" {2 + number // 2}. {san}" if number % 2 == 0 else f" {san}"
+        until_game(live.name, f"{game} *")
+    same(stop(live), 0)
+
+    place = folder / "for_ever"
+    place.mkdir()
+    board, live = begin_game(place)
+    for process in live.children():
+        os.kill(process, signal.SIGSTOP)
+    for move in RUY[2:]:
+        board.play(move)
+    until(lambda: len(bytes_of(live.name + ".dgt")) >= 67 + 50, "what was played")
+    rest(0.5)
+    live.send(signal.SIGINT)
+    assert holds_within(lambda: not live.runs, 30), "it doesn't end"
+    same(ended(live), 0)
+    same(movetext(live.name), RUY_TEXT)
+
+
+def silent(folder: pathlib.Path) -> None:
     """No board answers: it says so once, and what to look at, and asks again. The same where a game goes on, and --once."""
-    board = Board(folder)
-    board.silent = True
+    board = a_board(folder)
+    board.deaf = True
     live = Live(board.device, folder / "game", "--once")
-    live.until_line("no board answers on")
+    until_line(live, words.SILENT)
     same(bytes_of(live.name + ".dgt"), b"")
-    board.silent = False
+    rest(1)
+    board.deaf = False
     begun(live)
     assert board.asked.count(b"BK") > 1, board.asked
-    for part in ("cable", "power", "right device", "another program"):
-        assert part in live.lines(), live.lines()
+    for part in words.SILENT_ADVICE:
+        assert part in live.lines(), f"{part} in\n{live.lines()}"
     for move in RUY[:2]:
         board.play(move)
     until_game(live.name, "1. e4 e5 *")
-    asked = board.asked
-    same(live.lines().count("no board answers on"), 1)
-    same(live.stop(), 0)
+    same(live.lines().count(words.SILENT), 1)
+    same(stop(live), 0)
 
-    board.silent = True
+    board.deaf = True
+    board.asked_for_updates = False
     again = Live(board.device, live.name)
-    again.until_line("no board answers on")
-    assert again.lines().index("move 1... e5") < again.lines().index("no board"), again.lines()
+    until_line(again, words.SILENT)
+    assert again.lines().index("1... e5") < again.lines().index(words.SILENT), again.lines()
     board.pull()
-    again.until_line("is waited for")
-    board.silent = False
+    until_line(again, words.UNPLUGGED)
+    board.deaf = False
     board.plug()
+    until(lambda: board.asked_for_updates, "a request for updates")
     for move in RUY[2:]:
-        until(lambda: board.asked.endswith(b"BK") and len(board.asked) > len(asked), "a request")
         board.play(move)
     until_game(live.name, RUY_TEXT)
-    same(again.stop(), 0)
+    same(stop(again), 0)
 
 
-def closed_terminal(folder):
-    """Nobody reads what is said, or the terminal has gone: it records all the same."""
+def closed_terminal(folder: pathlib.Path) -> None:
+    """Nobody reads what is said, or the terminal has gone: it records all the same. A terminal that goes away sends HUP."""
     for unread in (True, False):
         place = folder / str(unread)
         place.mkdir()
-        board = Board(place)
+        board = a_board(place)
         live = Live(board.device, place / "game", unread=unread)
-        if not unread:
+        if unread:
+            live.told.hold(True)
+        else:
             live.told.hang_up()
             live.wrong.hang_up()
         until(lambda: len(bytes_of(live.name + ".dgt")) >= 67, "a dump")
         for move in RUY:
             board.play(move)
         until_game(live.name, RUY_TEXT)
-        same(live.stop(signal.SIGTERM), 0)
         if unread:
-            live.until_line("move 3. Bb5\nrest 0\n")
+            live.told.hold(False)
+            until_line(live, "3. Bb5")
+        same(stop(live, signal.SIGTERM), 0)
+
+    place = folder / "terminal"
+    place.mkdir()
+    board, live = begin_game(place, terminal=True)
+    assert isinstance(live.told, Terminal)
+    board.play("g1f3")
+    until(lambda: len(bytes_of(live.name + ".dgt")) >= 67 + 30, "what was played")
+    live.told.hang_up()
+    assert ended(live) in (0, -signal.SIGHUP), live.process.returncode
+    same(movetext(live.name), "1. e4 e5 2. Nf3 *")
+
+
+def typed_signals(folder: pathlib.Path) -> None:
+    """Ctrl-C, typed once and many times over, in a terminal: the game so far, status 0."""
+    for times in (1, 20):
+        place = folder / str(times)
+        place.mkdir()
+        board = a_board(place, INITIAL)
+        live = Live(board.device, place / "game", terminal=True)
+        begun(live)
+        for move in RUY:
+            board.play(move)
+        until_game(live.name, RUY_TEXT)
+        for _ in range(times):
+            with contextlib.suppress(OSError):
+                os.write(live.told.end, b"\x03")
+            rest(0.005)
+        same(ended(live), 0)
+        same(movetext(live.name), RUY_TEXT)

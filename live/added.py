@@ -1,0 +1,166 @@
+"""What an arbiter adds to a game: a result, or moves that no picture showed.
+
+Both become bytes in the capture, as if the board had shown them: dumps, and then one stray byte. So the game is still what the
+program makes of the capture. The stray byte is a fault, after which no update counts up to the next dump: what was added may
+have cut a frame of the board's, and need not be what stands on the board. A dump is to be asked for at once.
+"""
+
+from __future__ import annotations
+
+import re
+from dataclasses import dataclass
+from typing import Dict, List, Optional, Sequence, Tuple, Union
+
+from live.protocol import LETTERS, SQUARES, Picture, dump, picture_of_placement
+
+WHITE_WINS, BLACK_WINS, DRAW = "1-0", "0-1", "1/2-1/2"
+WAYS = "Type a result (1-0, 0-1, 1/2-1/2), or moves as Nf3 Nc6, or q"
+
+EMPTY = 0
+WHITE_KING, BLACK_KING = LETTERS.index("K"), LETTERS.index("k")
+KINGS = (WHITE_KING, BLACK_KING)
+D4, E4, D5, E5 = (SQUARES.index(square) for square in ("d4", "e4", "d5", "e5"))
+CENTRE = (D4, E4, D5, E5)
+LIGHT = (E4, D5)
+SHOWN_ON = {WHITE_WINS: (E4, D5), BLACK_WINS: (D4, E5), DRAW: (E4, E5)}  # White's king, Black's king
+STRAY = b"\x00"
+
+SPELT: Dict[str, str] = {"1/2": DRAW, "½-½": DRAW, "½": DRAW, "=": DRAW, "1/2-½": DRAW, "½-1/2": DRAW}
+MOVE = re.compile(r"(?:[KQRBN]?[a-h]?[1-8]?x?[a-h][1-8](?:=[QRBN])?|O-O(?:-O)?)[+#]?", re.ASCII)
+NUMBER = re.compile(r"\d{1,4}\.+", re.ASCII)
+LONGEST = 7
+
+
+class Refused(Exception):
+    """What was typed isn't done. Its text says why, and what to type."""
+
+
+@dataclass(frozen=True)
+class Result:
+    """The game ends with this result."""
+
+    outcome: str
+
+
+@dataclass(frozen=True)
+class Moves:
+    """Moves in SAN, in their order. That they are legal is for the program to say."""
+
+    words: Tuple[str, ...]
+
+
+@dataclass(frozen=True)
+class Quit:
+    """The recording is to end."""
+
+
+@dataclass(frozen=True)
+class Nothing:
+    """An empty line."""
+
+
+Typed = Union[Result, Moves, Quit, Nothing]
+
+
+def read_words(text: str) -> Typed:
+    """What was typed in one line. Refused where it is none of these, and where it is two of them."""
+    words = text.replace("–", "-").replace("—", "-").split()
+    if not words:
+        return Nothing()
+    if words in (["q"], ["quit"]):
+        return Quit()
+    outcome = _outcome("".join(words))
+    if outcome:
+        return Result(outcome)
+    if _outcome(words[-1]):
+        raise Refused(f"moves and a result in one line. Type the moves, and then {_outcome(words[-1])} in a line of its own")
+    moves = [_move(word) for word in words]
+    if not any(moves):
+        raise Refused(f"{_shown(text)}: no move. {WAYS}")
+    return Moves(tuple(move for move in moves if move))
+
+
+def _outcome(word: str) -> Optional[str]:
+    """The result that is spelt so: 1-0, 1:0, 1/2, ½ .."""
+    word = SPELT.get(word.replace(":", "-"), word.replace(":", "-"))
+    return word if word in SHOWN_ON else None
+
+
+def _move(word: str) -> str:
+    """The move of a word; nothing where the word is only its number."""
+    numbered = NUMBER.match(word)
+    move = (word[numbered.end() :] if numbered else word).rstrip("!?")
+    if numbered and not move:
+        return ""
+    if move.startswith("0-0"):
+        move = move.replace("0", "O")
+    promoted = re.fullmatch(r"(.*[18])([QRBN][+#]?)", move, re.ASCII)
+    if promoted:
+        move = "=".join(promoted.groups())
+    if len(move) > LONGEST or not MOVE.fullmatch(move):
+        raise Refused(f"{_shown(word)}: neither a move nor a result. {WAYS}")
+    return move
+
+
+def _shown(text: str) -> str:
+    """The beginning of a text, where it can be printed."""
+    shown = "".join(letter if letter.isprintable() else "?" for letter in text.strip())
+    return shown if len(shown) <= 20 else shown[:20] + ".."
+
+
+def spellings(move: str) -> Tuple[str, ...]:
+    """The move as it was typed, and with another mark at its end: a check may be left out, or be seen where none is."""
+    bare = move.rstrip("+#")
+    return (move, *(spelt for spelt in (bare, bare + "+", bare + "#") if spelt != move))
+
+
+def check_result(legal_moves: Sequence[str]) -> None:
+    """Refused where the game's position has no legal move: mate or stalemate is its result, whatever is shown."""
+    if not legal_moves:
+        raise Refused("the game has ended on the board, by mate or stalemate: that is its result. Nothing was added")
+
+
+def dumps_of_moves(fens: Sequence[str], rotated: bool) -> bytes:
+    """Shows the positions after the moves, one after the other.
+
+    Each is one legal move from the one before it, and the first from the game's position; so each is settled as that move.
+    """
+    return b"".join(dump(picture_of_placement(fen), rotated) for fen in fens) + STRAY
+
+
+def dumps_of_result(outcome: str, game_fen: str, board: Optional[Picture], rotated: bool) -> bytes:
+    """Shows the kings in the centre over the game's position, and then the board as it stood last, where that is known.
+
+    The sign stands then: the board's last picture settles no move of the game's position, else it would have been played.
+    """
+    pictures: List[Picture] = [sign_of_result(outcome, picture_of_placement(game_fen))]
+    if board is not None:
+        pictures.append(board)
+    return b"".join(dump(picture, rotated) for picture in pictures) + STRAY
+
+
+def sign_of_result(outcome: str, position: Picture) -> Picture:
+    """The position with its kings taken off and set into the centre; what stands under them is covered.
+
+    Both on light squares for 1-0, both on dark ones for 0-1, one on each for a draw.
+    """
+    shown = [EMPTY if code in KINGS else code for code in position]
+    for code, square in zip(KINGS, SHOWN_ON[outcome]):
+        shown[square] = code
+    return tuple(shown)
+
+
+def outcome_of_sign(picture: Picture, position: Picture) -> Optional[str]:
+    """The result that a picture shows over a position, if it is a sign over it.
+
+    It is one where each king stands once in the centre and nowhere else, and each square outside the centre shows what the
+    position has, or nothing where the position has a king.
+    """
+    kings = [square for square in CENTRE if picture[square] in KINGS]
+    if sorted(picture[square] for square in kings) != list(KINGS):
+        return None
+    for square, (shown, has) in enumerate(zip(picture, position)):
+        if square not in CENTRE and shown != (EMPTY if has in KINGS else has):
+            return None
+    light = sum(square in LIGHT for square in kings)
+    return (BLACK_WINS, DRAW, WHITE_WINS)[light]

@@ -1,0 +1,101 @@
+"""How one call of dgt_live speaks to the one that records a game: a socket whose name is made of the capture's place on the disk.
+
+It has no file, so nothing of it is left by a power cut; and only the same user, and the administrator, are heard.
+"""
+
+from __future__ import annotations
+
+import contextlib
+import os
+import pathlib
+import socket
+import struct
+from typing import Callable, Dict, Optional, Tuple
+
+from live.loop import Loop
+
+LONGEST = 4096
+PATIENCE = 10.0  # seconds that an answer may take
+
+Answer = Tuple[int, str]  # a status, and what is said with it
+
+
+def address(capture: int) -> bytes:
+    """The name of the socket for an open capture."""
+    at = os.fstat(capture)
+    return f"\0dgt_live-{at.st_dev:x}-{at.st_ino:x}".encode()
+
+
+class Control:
+    """Listens for what is to be added to a game that is being recorded."""
+
+    def __init__(self, loop: Loop, capture: int, asked: Callable[[str], Answer]) -> None:
+        self._loop, self._asked = loop, asked
+        self._calls: Dict[int, socket.socket] = {}
+        self._socket: Optional[socket.socket] = socket.socket(socket.AF_UNIX, socket.SOCK_SEQPACKET)
+        self._socket.setblocking(False)
+        try:
+            self._socket.bind(address(capture))
+            self._socket.listen(8)
+        except OSError:
+            # No such sockets here: what is typed in the terminal is heard all the same.
+            self._socket.close()
+            self._socket = None
+            return
+        loop.watch(self._socket.fileno(), self._called)
+
+    def _called(self) -> None:
+        assert self._socket
+        try:
+            call, _ = self._socket.accept()
+        except OSError:
+            return
+        _, user, _ = struct.unpack("3i", call.getsockopt(socket.SOL_SOCKET, socket.SO_PEERCRED, struct.calcsize("3i")))
+        if user not in (0, os.getuid()) or len(self._calls) >= 8:
+            call.close()
+            return
+        call.setblocking(False)
+        number = call.fileno()
+        self._calls[number] = call
+        self._loop.watch(number, lambda: self._hear(number))
+        self._loop.after(PATIENCE, lambda: self._hang_up(number, call))
+
+    def _hear(self, number: int) -> None:
+        call = self._calls[number]
+        try:
+            words = call.recv(LONGEST).decode("utf-8", "replace")
+            if words:
+                status, text = self._asked(words)
+                call.send(bytes([status]) + text.encode("utf-8", "replace")[:LONGEST])
+        except BlockingIOError:
+            return
+        except OSError:
+            pass
+        self._hang_up(number, call)
+
+    def _hang_up(self, number: int, call: socket.socket) -> None:
+        if self._calls.get(number) is call:
+            self._loop.forget(number)
+            del self._calls[number]
+            call.close()
+
+    def close(self) -> None:
+        for number, call in list(self._calls.items()):
+            self._hang_up(number, call)
+        if self._socket:
+            self._loop.forget(self._socket.fileno())
+            self._socket.close()
+            self._socket = None
+
+
+def ask(capture: pathlib.Path, words: str) -> Optional[Answer]:
+    """What the call that records this game answers, or None where none does."""
+    with contextlib.suppress(OSError), open(capture, "rb") as file:
+        with socket.socket(socket.AF_UNIX, socket.SOCK_SEQPACKET) as call:
+            call.settimeout(PATIENCE)
+            call.connect(address(file.fileno()))
+            call.send(words.encode("utf-8", "replace")[: LONGEST - 1])
+            answer = call.recv(LONGEST + 1)
+            if answer:
+                return answer[0], answer[1:].decode("utf-8", "replace")
+    return None

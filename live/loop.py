@@ -1,0 +1,149 @@
+"""One loop for all boards: file descriptors that are ready, times that have come, signals that end it."""
+
+from __future__ import annotations
+
+import heapq
+import itertools
+import os
+import selectors
+import signal
+import socket
+import time
+from dataclasses import dataclass, field
+from typing import Callable, List, Optional, Tuple
+
+Callback = Callable[[], None]
+ENDING = (signal.SIGINT, signal.SIGTERM, signal.SIGHUP)
+
+
+@dataclass
+class Watch:
+    """What is to be called where a file descriptor can be read, or written."""
+
+    readable: Optional[Callback]
+    writable: Optional[Callback]
+
+    def events(self) -> int:
+        return (selectors.EVENT_READ if self.readable else 0) | (selectors.EVENT_WRITE if self.writable else 0)
+
+
+@dataclass(order=True)
+class Timer:
+    """A call at a time, which may be taken back."""
+
+    when: float
+    number: int
+    callback: Callback = field(compare=False)
+    cancelled: bool = field(default=False, compare=False)
+
+    def cancel(self) -> None:
+        self.cancelled = True
+
+
+class Loop:
+    """Calls what is ready, one after the other, until it is stopped. Nothing that it calls may wait for long."""
+
+    def __init__(self) -> None:
+        self._selector = selectors.DefaultSelector()
+        self._timers: List[Timer] = []
+        self._numbers = itertools.count()
+        self._stopped = False
+
+    @staticmethod
+    def now() -> float:
+        """The time of all timers, which never goes back."""
+        return time.monotonic()
+
+    def watch(self, number: int, readable: Optional[Callback] = None, writable: Optional[Callback] = None) -> None:
+        """From here on this is what is called for the file descriptor; nothing where both are None."""
+        watch = Watch(readable, writable)
+        if number not in self._selector.get_map():
+            if watch.events():
+                self._selector.register(number, watch.events(), watch)
+        elif watch.events():
+            self._selector.modify(number, watch.events(), watch)
+        else:
+            self._selector.unregister(number)
+
+    def forget(self, number: int) -> None:
+        """To be called before the file descriptor is closed."""
+        self.watch(number)
+
+    def after(self, seconds: float, callback: Callback) -> Timer:
+        """Calls it once, so many seconds from now."""
+        timer = Timer(self.now() + seconds, next(self._numbers), callback)
+        heapq.heappush(self._timers, timer)
+        return timer
+
+    def stop(self) -> None:
+        """The loop ends after the call that is under way."""
+        self._stopped = True
+
+    def run(self) -> None:
+        """Until it is stopped."""
+        self._stopped = False
+        while not self._stopped:
+            for watch, number, events in self._ready():
+                for event, callback in ((selectors.EVENT_READ, watch.readable), (selectors.EVENT_WRITE, watch.writable)):
+                    # A call before this one may have closed it, or watched it for something else.
+                    key = self._selector.get_map().get(number)
+                    if events & event and callback and key is not None and key.data is watch and not self._stopped:
+                        callback()
+            self._call_timers()
+
+    def _ready(self) -> List[Tuple[Watch, int, int]]:
+        while self._timers and self._timers[0].cancelled:
+            heapq.heappop(self._timers)
+        wait = max(0.0, self._timers[0].when - self.now()) if self._timers else None
+        return [(key.data, key.fd, events) for key, events in self._selector.select(wait)]
+
+    def _call_timers(self) -> None:
+        now = self.now()
+        while self._timers and self._timers[0].when <= now and not self._stopped:
+            timer = heapq.heappop(self._timers)
+            if not timer.cancelled:
+                timer.callback()
+
+
+class Signals:
+    """INT, TERM and HUP call one function, in the loop. HUP that the caller has this process ignore stays ignored, as `nohup`
+    wants it; INT is heard all the same, which a shell's background ignores. What a terminal sends to stop a process is ignored: a recorder that is stopped
+    hears no board."""
+
+    def __init__(self) -> None:
+        self._woken, wakes = socket.socketpair()
+        self._woken.setblocking(False)
+        wakes.setblocking(False)
+        self._wakes = wakes
+        self.came = False
+        signal.set_wakeup_fd(wakes.fileno(), warn_on_full_buffer=False)
+        for number in ENDING:
+            if number != signal.SIGHUP or signal.getsignal(number) != signal.SIG_IGN:
+                signal.signal(number, self._note)
+        for number in (signal.SIGTSTP, signal.SIGTTIN, signal.SIGTTOU, signal.SIGPIPE):
+            signal.signal(number, signal.SIG_IGN)
+
+    def _note(self, number: int, _frame: object) -> None:
+        self.came = True
+
+    def tell(self, loop: Loop, ends: Callback) -> None:
+        """From here on each signal calls this, one that has come already too."""
+
+        def woken() -> None:
+            try:
+                while self._woken.recv(4096):
+                    pass
+            except BlockingIOError:
+                pass
+            if self.came:
+                ends()
+
+        loop.watch(self._woken.fileno(), woken)
+        if self.came:
+            loop.after(0, ends)
+
+
+def close(number: Optional[int]) -> None:
+    """Closes a file descriptor, if it is one."""
+    if number is not None:
+        os.close(number)

@@ -1,0 +1,219 @@
+"""The door of dgt_live: what a command line asks for, and how it ends."""
+
+from __future__ import annotations
+
+import pathlib
+import sys
+from typing import Callable, Dict, List, Sequence
+
+from live import added, control, files, names, options, serial_line
+from live.adding import add_to_closed
+from live.files import Capture, Paths, text_of
+from live.loop import Loop, Signals
+from live.making import make_now
+from live.options import Call, Options
+from live.program import Program
+from live.refused import DONE, FAILED, REFUSED, Refused
+from live.screen import Screen
+from live.series import Player, last_number, numbered
+from live.terminal import Terminal, Typed
+
+HELP = """\
+usage: dgt_live [--series] [--once] [--linger SECONDS] DEVICE NAME [OPTION..]
+       dgt_live --add WORDS NAME        dgt_live --devices
+
+Records the DGT board at DEVICE, tells the game line by line, and keeps
+  NAME.dgt   what the board sent
+  NAME.pgn   the game so far: a whole PGN text at any time, to be copied
+Ctrl-C ends it, and so does a result: by mate, stalemate, kings in the centre.
+Started again with the same NAME it goes on with the game. While it records,
+type 1-0, 0-1 or 1/2-1/2 to end the game so, or moves that it missed: Nf3 Nc6.
+
+  --series           NAME-1, NAME-2, ..: the next once pieces are set up again
+  --once             a board that is unplugged ends it, and isn't waited for
+  --linger SECONDS   a result that has stood so long ends it (without it, 10)
+OPTION says how the board lies, how the game begins, and what its tags say:
+  --rotated          Black has the connector on the left
+  --first SIDE       whose time comes first, white (without it) or black
+  --fen TEXT         the position at the start
+  --event, --site, --date, --round, --white, --black, each with TEXT
+
+Set up the pieces, and then:
+  dgt_live /dev/ttyUSB0 game --white Anna --black Ben --date 31.05.2024
+"""
+TURNS: Dict[str, Callable[[str], str]] = {
+    "--event": names.ascii_name,
+    "--site": names.ascii_name,
+    "--round": names.ascii_name,
+    "--white": names.ascii_name,
+    "--black": names.ascii_name,
+    "--date": names.pgn_date,
+}
+PRINTED = 2.0  # seconds that a slow terminal has for the last lines
+
+
+def turned(given: Options) -> Options:
+    """With names and dates as PGN takes them."""
+
+    def turn(option: str) -> Callable[[str], str]:
+        def of_value(value: str) -> str:
+            try:
+                return TURNS[option](value)
+            except names.Unreadable as error:
+                raise Refused(REFUSED, f"{option} {error}") from None
+
+        return of_value
+
+    return given.turned({option: turn(option) for option in TURNS})
+
+
+def changes(given: Options, kept: Options) -> List[str]:
+    """What is told of values that were turned."""
+    pairs = zip(given.pairs(), kept.pairs())
+    return [f"{option} {old} is written as {new}" for (option, old), (_, new) in pairs if old != new]
+
+
+def refuse_options(program: Program, given: Options) -> None:
+    """Refused where the program refuses them."""
+    answer = program.run("record", *given.words)
+    if answer.returncode != 0:
+        error = answer.stderr.decode("utf-8", "replace").strip()
+        raise Refused(answer.returncode, f"the options are refused: {options.SEE_HELP}", error)
+
+
+def plies(program: Program, capture: Capture, kept: Options) -> int:
+    """How many plies the game has."""
+    report = program.run("record", *kept.words, given=capture.bytes()).stderr.rpartition(b"moves ")[2]
+    return int(report.split(b",")[0] or b"0")
+
+
+def options_of(program: Program, paths: Paths, capture: Capture, given: Options) -> Options:
+    """Those that were kept; or those that were given, where the game has none yet, or has no ply."""
+    kept = files.kept_options(paths) if capture.size else None
+    if kept is None or (given.words and not given.same_as(kept) and plies(program, capture, kept) == 0):
+        files.keep_options(paths, given)
+        return given
+    if given.words and not given.same_as(kept):
+        raise Refused(
+            REFUSED,
+            f"{paths.name} was begun with other options: give none to go on, or choose another NAME. They were",
+            " ".join(kept.words),
+        )
+    return kept
+
+
+def open_to_record(call: Call, paths: Paths) -> Capture:
+    """The capture of a game that can go on."""
+    capture = files.open_game(paths)
+    if not call.series:
+        if files.end_mark(paths) is not None:
+            raise Refused(
+                REFUSED,
+                f"{paths.name} is over: choose another NAME. To add to it: dgt_live --add 1-0 {paths.name}.",
+                f"To go on with it all the same, remove {paths.end}",
+            )
+        if capture.at_limit:
+            raise Refused(REFUSED, f"{paths.capture} has 64 MiB, and none may have more: choose another NAME")
+    return capture
+
+
+def record(call: Call, program: Program, signals: Signals) -> int:
+    """Records a game, or a series of them."""
+    typed = Options(call.words)
+    typed.refuse_breaks()
+    given = turned(typed)
+    refuse_options(program, given)
+    paths = numbered(call.name, last_number(call.name)) if call.series else Paths(call.name)
+    begun = paths.capture.is_file() and paths.capture.stat().st_size > 0
+    serial_line.check(call.device, may_wait=begun)
+    capture = open_to_record(call, paths)
+    kept = options_of(program, paths, capture, given)
+    try:
+        make_now(program, paths, capture, kept, files.end_mark(paths))
+    except OSError as error:
+        raise Refused(FAILED, f"{paths.pgn} can't be written ({text_of(error)}): is the disk full?") from None
+
+    loop = Loop()
+    terminal = Terminal(loop)
+    screen = Screen(terminal)
+    for change in changes(typed, given):
+        screen.say(change)
+    player = Player(loop, program, screen, call, paths, capture, kept, loop.stop)
+    signals.tell(loop, player.end)
+    reader = Typed(loop, player.typed)
+    loop.run()
+    reader.close()
+    if player.refused is None:
+        terminal.line(f"dgt_live: what was played is in {player.paths.pgn}")
+    terminal.end(PRINTED)
+    if player.refused:
+        raise player.refused
+    return DONE
+
+
+def add(call: Call, program: Program) -> int:
+    """Adds to a game that is recorded, or to one that is over."""
+    paths = Paths(call.name)
+    words = call.added or ""
+    if not paths.capture.is_file():
+        raise Refused(REFUSED, f"there is no {paths.capture}: which game is meant?")
+    answer = control.ask(paths.capture, words)
+    if answer is None:
+        capture = files.open_game(paths)
+        try:
+            capture, what = add_to_closed(
+                program, paths, capture, files.kept_options(paths) or Options(), added.read_words(words)
+            )
+        except added.Refused as refused:
+            answer = REFUSED, f"refused: {words}: {refused}"
+        except OSError as error:
+            answer = FAILED, f"{paths.name} can't be written ({text_of(error)}): is the disk full?"
+        else:
+            answer = DONE, f"added to {paths.name}: {what}"
+            screen = Screen(None)
+            screen.keep(files.Log(paths.log))
+            screen.note(f"added by hand: {what}")
+        capture.close()
+    status, text = answer
+    if status != DONE:
+        raise Refused(status, text)
+    print(f"dgt_live: {text}")
+    return DONE
+
+
+def list_devices() -> int:
+    """Prints each device, and the name that its cable keeps."""
+    found = serial_line.devices()
+    for device, name in found:
+        print(f"{device}  {name}" if name else device)
+    if not found:
+        print("dgt_live: no board is plugged in: there is no /dev/ttyUSB* and no /dev/ttyACM*")
+    return DONE
+
+
+def main(arguments: Sequence[str], here: pathlib.Path) -> int:
+    """What the arguments ask for; the status. All that was said is printed then."""
+    signals = Signals()
+    status, complaint = DONE, ""
+    try:
+        status = call(options.parse(arguments), here, signals)
+    except Refused as refused:
+        status, complaint = refused.status, refused.text()
+    try:
+        sys.stdout.flush()
+        sys.stderr.write(complaint)
+        sys.stderr.flush()
+    except OSError:
+        pass  # nobody reads it any more
+    return status
+
+
+def call(asked: Call, here: pathlib.Path, signals: Signals) -> int:
+    """What the call asks for."""
+    if asked.help:
+        print(HELP, end="")
+        return DONE
+    if asked.devices:
+        return list_devices()
+    program = Program.find(here)
+    return record(asked, program, signals) if asked.added is None else add(asked, program)

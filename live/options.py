@@ -1,0 +1,155 @@
+"""The command line of dgt_live: what is asked, and the options of a game as they are kept beside it."""
+
+from __future__ import annotations
+
+from dataclasses import dataclass
+from typing import Callable, Dict, Iterable, List, Optional, Sequence, Tuple
+
+from live.refused import ARGUMENTS, REFUSED, Refused
+
+BOARD = ("--first", "--fen")
+TAGS = ("--event", "--site", "--date", "--round", "--white", "--black")
+VALUED = BOARD + TAGS
+SEE_HELP = "see dgt_live --help"
+LINGER = 10
+Pair = Tuple[str, Optional[str]]  # an option and its value
+
+
+@dataclass(frozen=True)
+class Call:
+    """A command line. `words` are the options of the game, as they were typed."""
+
+    device: str = ""
+    name: str = ""
+    words: Tuple[str, ...] = ()
+    series: bool = False
+    once: bool = False
+    linger: int = LINGER
+    help: bool = False
+    devices: bool = False
+    added: Optional[str] = None
+
+
+def parse(arguments: Sequence[str]) -> Call:
+    """What the arguments ask for. Refused with status 2 where they ask for nothing that there is."""
+    left = list(arguments)
+    plain: List[str] = []
+    words: List[str] = []
+    flags = {"--series": False, "--once": False, "--devices": False}
+    linger, added = str(LINGER), None
+    while left:
+        word = left.pop(0)
+        option, equals, value = word.partition("=")
+        if word in ("--help", "-h"):
+            return Call(help=True)
+        if word in flags:
+            flags[word] = True
+        elif word == "--rotated":
+            words.append(word)
+        elif option in VALUED:
+            words.append(word)
+            if not equals:
+                words.append(_value(word, left))
+        elif option == "--linger":
+            linger = value if equals else _value(word, left)
+        elif option == "--add":
+            added = value if equals else _value(word, left)
+        elif word.startswith("-") and len(word) > 1:
+            raise Refused(ARGUMENTS, f"there is no option {word}: {SEE_HELP}")
+        else:
+            plain.append(word)
+    if not (linger.isascii() and linger.isdigit()):
+        raise Refused(ARGUMENTS, f"--linger wants a number of seconds, and not '{linger}'")
+    if flags["--devices"] and not plain:
+        return Call(devices=True)
+    wanted = 1 if added is not None else 2
+    if len(plain) > wanted:
+        raise Refused(ARGUMENTS, f"{plain[wanted]} is one argument too many: {SEE_HELP}")
+    if len(plain) < wanted or not plain[-1]:
+        what = "the NAME of a game is wanted after --add" if added is not None else "a DEVICE and a NAME are wanted"
+        raise Refused(ARGUMENTS, f"{what}: {SEE_HELP}")
+    if added is not None and (words or flags["--series"]):
+        raise Refused(ARGUMENTS, f"--add takes no other option than its own: {SEE_HELP}")
+    return Call(
+        device=plain[0] if wanted == 2 else "",
+        name=plain[-1],
+        words=tuple(words),
+        series=flags["--series"],
+        once=flags["--once"],
+        linger=min(int(linger), 10**6),
+        added=added,
+    )
+
+
+def _value(option: str, left: List[str]) -> str:
+    if not left:
+        raise Refused(ARGUMENTS, f"{option} wants a value: {SEE_HELP}")
+    return left.pop(0)
+
+
+@dataclass(frozen=True)
+class Options:
+    """How the board lies, how the game begins, and what its tags say: the words that the program is given."""
+
+    words: Tuple[str, ...] = ()
+
+    def pairs(self) -> List[Pair]:
+        """Each option with its value, if it has one."""
+        pairs: List[Pair] = []
+        left = list(self.words)
+        while left:
+            option, equals, value = left.pop(0).partition("=")
+            if equals:
+                pairs.append((option, value))
+            else:
+                pairs.append((option, left.pop(0) if option in VALUED and left else None))
+        return pairs
+
+    def value(self, wanted: str) -> Optional[str]:
+        """The value of an option, or None where it isn't given."""
+        return next((value for option, value in self.pairs() if option == wanted), None)
+
+    @property
+    def rotated(self) -> bool:
+        return any(option == "--rotated" for option, _ in self.pairs())
+
+    @property
+    def fen(self) -> Optional[str]:
+        return self.value("--fen")
+
+    def of_board(self) -> Tuple[str, ...]:
+        """Without the tags, which `follow` doesn't know."""
+        return _words((option, value) for option, value in self.pairs() if option not in TAGS)
+
+    def turned(self, turns: Dict[str, Callable[[str], str]]) -> Options:
+        """With the value of each of these options turned into what PGN takes."""
+        words: List[str] = []
+        for option, value in self.pairs():
+            words.extend(_words([(option, value if value is None or option not in turns else turns[option](value))]))
+        return Options(tuple(words))
+
+    def text(self) -> str:
+        """As they are kept in NAME.options: a word a line."""
+        return "".join(word + "\n" for word in self.words)
+
+    @staticmethod
+    def of_text(text: str) -> Options:
+        """As they were kept."""
+        return Options(tuple(text.split("\n")[:-1]))
+
+    def same_as(self, other: Options) -> bool:
+        """Whether they say the same; `--first=black` says what `--first black` does."""
+        return self.pairs() == other.pairs()
+
+    def refuse_breaks(self) -> None:
+        """A word that is broken in two lines couldn't be read again."""
+        for word in self.words:
+            if "\n" in word:
+                raise Refused(REFUSED, f"an option has a line break in it: {word!r}")
+
+
+def _words(pairs: Iterable[Pair]) -> Tuple[str, ...]:
+    words: List[str] = []
+    for option, value in pairs:
+        words.extend([option] if value is None else [option, value])
+    return tuple(words)

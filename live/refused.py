@@ -1,0 +1,23 @@
+"""What ends a call before its time, with what to do about it."""
+
+from __future__ import annotations
+
+# The statuses of dgt_live.
+DONE = 0
+REFUSED = 1
+ARGUMENTS = 2
+FAILED = 3
+NO_PROGRAM = 70
+
+
+class Refused(Exception):
+    """A complaint for standard error, in lines, and the status that goes with it."""
+
+    def __init__(self, status: int, message: str, *more: str) -> None:
+        super().__init__(message)
+        self.status = status
+        self.lines = (message, *more)
+
+    def text(self) -> str:
+        """As it is printed."""
+        return "".join(("  " if number else "dgt_live: ") + line + "\n" for number, line in enumerate(self.lines))

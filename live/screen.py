@@ -1,0 +1,103 @@
+"""What is told of a game, with the time of day: to the screen and to NAME.log."""
+
+from __future__ import annotations
+
+import datetime
+from dataclasses import dataclass
+from typing import Callable, Optional
+
+from live.files import Log
+from live.terminal import Terminal
+
+INDENT = " " * 10
+NO_TIME = "--:--:--"
+PROMPT = "  > "
+LASTS = 10.0  # seconds between two writings of a state that only lasts
+Clock = Callable[[], datetime.datetime]
+
+
+@dataclass(frozen=True)
+class Told:
+    """A line of `follow`: the offset of the byte at which it came, what it tells, and the words after that."""
+
+    offset: int
+    kind: str
+    words: str
+
+    @staticmethod
+    def of_line(line: str) -> Optional[Told]:
+        """None for the last line, `rest N`."""
+        offset, _, rest = line.partition(" ")
+        kind, _, words = rest.partition(" ")
+        return Told(int(offset), kind, words) if offset.isdigit() else None
+
+    @property
+    def san(self) -> str:
+        """The move of a `move` or a `correction`."""
+        return self.words.split(" ")[1]
+
+    def text(self) -> str:
+        """As it is shown: `12. Nf3  1:12:07`, `correction 12. Nf3  1:12:07`, `result 1-0`, `fault cut`."""
+        if self.kind in ("move", "correction"):
+            number, san, *clock = self.words.split(" ")
+            move = "  ".join([f"{number} {san}", *clock])
+            return move if self.kind == "move" else f"correction {move}"
+        return f"{self.kind} {self.words}".rstrip()
+
+
+class Screen:
+    """Lines with the time of day, and the state of the board."""
+
+    def __init__(self, terminal: Optional[Terminal], clock: Clock = datetime.datetime.now) -> None:
+        self._terminal, self._clock = terminal, clock
+        self._log: Optional[Log] = None
+        self._news: object = None
+        self._last = ""  # the text of the last line
+        self._state_at = datetime.datetime.min
+
+    def keep(self, log: Optional[Log]) -> None:
+        """From here on the lines are kept in this log."""
+        if self._log:
+            self._log.close()
+        self._log = log
+
+    def say(self, text: str, *more: str) -> None:
+        """A line, and those that belong to it."""
+        now = self._clock()
+        self._last = text
+        self._print(f"{now:%H:%M:%S}  {text}")
+        self._write(now, text)
+        for line in more:
+            self._print(INDENT + line)
+            self._write(now, line)
+
+    def old(self, text: str) -> None:
+        """A line of what was played before this call: nobody knows when."""
+        self._print(f"{NO_TIME}  {text}")
+
+    def note(self, text: str) -> None:
+        """A line for the log alone."""
+        self._write(self._clock(), text)
+
+    def state(self, text: str, news: object) -> None:
+        """How the board stands, and what makes that another state than before: on a terminal the last line, elsewhere a line for
+        each other state."""
+        now = self._clock()
+        is_news, self._news = news != self._news, news
+        if is_news and text != self._last:
+            self._write(now, text)
+        if self._terminal and self._terminal.in_place:
+            # It lasts: what is typed below isn't disturbed each second.
+            if is_news or abs((now - self._state_at).total_seconds()) >= LASTS:
+                self._state_at = now
+                self._terminal.state(f"{now:%H:%M:%S}  {text}{PROMPT}")
+        elif is_news and text != self._last:
+            self._print(f"{now:%H:%M:%S}  {text}")
+
+    def _print(self, line: str) -> None:
+        if self._terminal:
+            self._terminal.line(line)
+
+    def _write(self, now: datetime.datetime, text: str) -> None:
+        if self._log:
+            self._log.write(f"{now:%Y-%m-%d %H:%M:%S}", text)

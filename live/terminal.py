@@ -1,0 +1,180 @@
+"""What is printed, and what is typed. A terminal that is stopped, or a reader that is slow, holds up nothing."""
+
+from __future__ import annotations
+
+import os
+import select
+import stat
+import time
+from typing import Callable, List, Optional
+
+from live.loop import Loop
+
+WAITING = 64 * 1024  # bytes that may wait to be printed; lines past that are dropped
+WIDEST = 79
+PAUSE = 1.0  # seconds, where a terminal can't be read just now
+ERASE = b"\r\x1b[K"
+
+
+class Terminal:
+    """Standard output: lines, and on a terminal below them one line that is rewritten in place."""
+
+    def __init__(self, loop: Loop, number: int = 1) -> None:
+        self._loop = loop
+        self._number: Optional[int] = None
+        self._waiting = bytearray()
+        self._dropped = 0
+        self._state = ""
+        self._shown = ""
+        self._stuck = False
+        try:
+            mode = os.fstat(number).st_mode
+        except OSError:
+            self.in_place = False
+            return
+        self._file = stat.S_ISREG(mode)
+        self.in_place = os.isatty(number) and os.environ.get("TERM", "dumb") != "dumb"
+        self._number = number if self._file else _opened_again(number)
+
+    def line(self, text: str) -> None:
+        """Prints a line, above the state."""
+        line = text.encode("utf-8", "backslashreplace") + b"\n"
+        if len(self._waiting) + len(line) > WAITING:
+            self._dropped += 1
+            return
+        self._erase()
+        self._waiting += line
+        self._show_state()
+        self._write()
+
+    def state(self, text: str) -> None:
+        """The line below all others, where there is one."""
+        if self.in_place and text != self._state:
+            self._state = text
+            if len(self._waiting) < WAITING - 4 * WIDEST:
+                self._erase()
+                self._show_state()
+                self._write()
+
+    def _erase(self) -> None:
+        if self._shown:
+            self._waiting += ERASE
+            self._shown = ""
+
+    def _show_state(self) -> None:
+        if self.in_place and self._state:
+            self._shown = self._state[: self._width() - 1]
+            self._waiting += self._shown.encode("utf-8", "backslashreplace")
+
+    def _width(self) -> int:
+        try:
+            return max(20, os.get_terminal_size(self._number or 0).columns)
+        except OSError:
+            return WIDEST + 1
+
+    def _write(self) -> None:
+        if self._number is None:
+            self._waiting.clear()
+            return
+        try:
+            while self._waiting:
+                count = os.write(self._number, self._waiting)
+                del self._waiting[:count]
+        except BlockingIOError:
+            if not self._stuck:
+                self._stuck = True
+                self._loop.watch(self._number, None, self._writable)
+            return
+        except OSError:
+            # Nobody reads it any more, or its disk is full.
+            self._waiting.clear()
+            if not self._file:
+                self.close()
+            return
+        if self._stuck:
+            self._stuck = False
+            self._loop.forget(self._number)
+        if self._dropped:
+            dropped, self._dropped = self._dropped, 0
+            self.line(f"          {dropped} lines were dropped here: the terminal was stopped; NAME.log has them")
+
+    def _writable(self) -> None:
+        self._write()
+
+    def end(self, seconds: float) -> None:
+        """The state line is left as it stands. What can't be printed within so many seconds is dropped."""
+        if self._shown:
+            self._waiting += b"\n"
+            self._shown = self._state = ""
+        ends = time.monotonic() + seconds
+        self._write()
+        while self._waiting and self._number is not None and time.monotonic() < ends:
+            select.select([], [self._number], [], ends - time.monotonic())
+            self._write()
+
+    def close(self) -> None:
+        if self._number is not None:
+            if self._stuck:
+                self._loop.forget(self._number)
+                self._stuck = False
+            if self._number > 2:
+                os.close(self._number)
+            self._number = None
+
+
+def _opened_again(number: int) -> int:
+    """The same terminal or pipe under a number of its own, so that nobody else's use of it is made non-blocking."""
+    try:
+        return os.open(f"/proc/self/fd/{number}", os.O_WRONLY | os.O_NONBLOCK | os.O_NOCTTY)
+    except OSError:
+        copy = os.dup(number)
+        os.set_blocking(copy, False)
+        return copy
+
+
+class Typed:
+    """Standard input: a call for each line that is typed. Its end means that nothing more is typed."""
+
+    def __init__(self, loop: Loop, heard: Callable[[str], None], number: int = 0) -> None:
+        self._loop, self._heard = loop, heard
+        self._number: Optional[int] = None
+        self._text = b""
+        try:
+            mode = os.fstat(number).st_mode
+        except OSError:
+            return
+        if stat.S_ISREG(mode) or not (os.isatty(number) or stat.S_ISFIFO(mode) or stat.S_ISSOCK(mode)):
+            return
+        self._number = number
+        self._watch()
+
+    def _watch(self) -> None:
+        if self._number is not None:
+            self._loop.watch(self._number, self._readable)
+
+    def _readable(self) -> None:
+        assert self._number is not None
+        try:
+            part = os.read(self._number, 4096)
+        except BlockingIOError:
+            return
+        except OSError:
+            # A terminal that belongs to another group of processes just now.
+            self._loop.forget(self._number)
+            self._loop.after(PAUSE, self._watch)
+            return
+        if not part:
+            self._loop.forget(self._number)
+            self._number = None
+            return
+        lines: List[bytes]
+        *lines, self._text = (self._text + part).split(b"\n")
+        self._text = self._text[-4096:]
+        for line in lines:
+            self._heard(line.decode("utf-8", "replace").strip())
+
+    def close(self) -> None:
+        """Nothing is heard from here on."""
+        if self._number is not None:
+            self._loop.forget(self._number)
+            self._number = None

@@ -1,0 +1,179 @@
+"""What an arbiter adds: results and moves, typed while it records, or by a command."""
+
+import pathlib
+import subprocess
+
+from played import words
+from played.boards import DUMP, UPDATE, field, frame
+from played.recorder import LIVE, Live
+from played.stage import (
+    RUY,
+    RUY_TEXT,
+    a_board,
+    begin_game,
+    begun,
+    bytes_of,
+    check,
+    ended,
+    go_on,
+    kill,
+    movetext,
+    rest,
+    run,
+    same,
+    stop,
+    until,
+    until_game,
+    until_line,
+)
+
+
+def typed_results(folder: pathlib.Path) -> None:
+    """Each result, typed through a pipe and in a terminal, with a hand in the air and a frame that is unfinished."""
+    for number, (result, rotated) in enumerate([("1-0", False), ("0-1", True), ("1/2-1/2", False), ("1/2-1/2", True)]):
+        place = folder / str(number)
+        place.mkdir()
+        board = a_board(place, rotated=rotated)
+        terminal = number % 2 == 0
+        options = ["--rotated"] if rotated else []
+        live = Live(board.device, place / "game", "--linger", "1", *options, terminal=terminal, typed=not terminal)
+        begun(live)
+        for move in RUY:
+            board.play(move)
+        until_game(live.name, RUY_TEXT)
+        board.lift("a7")
+        if number >= 2:
+            board.send(bytes([UPDATE, 0, 5, 3]))
+            rest(0.05)
+        live.type(result)
+        until_game(live.name, RUY_TEXT.replace("*", result))
+        until_line(live, f"{words.RESULT}{result}")
+        same(ended(live), 0)
+        same(movetext(live.name), RUY_TEXT.replace("*", result))
+        text = run("record", *options, given=bytes_of(live.name + ".dgt")).stdout
+        same(text, bytes_of(live.name + ".pgn"))
+        assert result in (place / "game.log").read_text()
+
+
+def typed_moves(folder: pathlib.Path) -> None:
+    """Two moves were played that no picture showed: typed, they stand, and the game goes on from the board as it is."""
+    board = a_board(folder)
+    live = Live(board.device, folder / "game", typed=True)
+    begun(live)
+    board.play("e2e4")
+    board.play("e7e5")
+    until_game(live.name, "1. e4 e5 *")
+    board.pull()
+    until_line(live, words.UNPLUGGED)
+    for move in ("g1f3", "b8c6"):
+        board.play(move)
+    board.plug()
+    until(lambda: board.asked_for_updates, "a request for updates")
+    rest(1)
+    same(movetext(live.name), "1. e4 e5 *")
+    live.type("Nf3 Nc6")
+    until_game(live.name, "1. e4 e5 2. Nf3 Nc6 *")
+    board.play("f1b5")
+    until_game(live.name, RUY_TEXT)
+    same(stop(live), 0)
+    same(run("record", given=bytes_of(live.name + ".dgt")).stdout, bytes_of(live.name + ".pgn"))
+    assert "Nc6" in (folder / "game.log").read_text()
+
+
+def typed_nonsense(folder: pathlib.Path) -> None:
+    """What isn't understood, and moves that aren't legal, are refused with what was typed, and change nothing."""
+    board, live = begin_game(folder, typed=True)
+    for text, part in (("hello", "hello"), ("Nf6", "Nf6"), ("Nf3 Qxf7", "Qxf7"), ("2-0", "2-0"), ("0-0", "0-0"), ("K" * 300, "K")):
+        said = len(live.lines())
+        live.type(text)
+        until(lambda: part in live.lines()[said:], f"a word on {text}")
+    kept = check(bytes_of(live.name + ".pgn"))
+    same(kept, "moves 2, result *")
+    for text in ("", "   ", "\x00\x01", "é", "王 1-0 王"):
+        live.type(text)
+    rest(1)
+    board.play("g1f3")
+    until_game(live.name, "1. e4 e5 2. Nf3 *")
+    assert "Traceback" not in live.lines() + live.complaint(), live.lines() + live.complaint()
+    live.type("q")
+    same(ended(live), 0)
+
+
+def typed_after_mate(folder: pathlib.Path) -> None:
+    """After mate a typed result is refused with a word, since it would change nothing."""
+    board = a_board(folder)
+    live = Live(board.device, folder / "game", "--linger", "8", typed=True)
+    begun(live)
+    for move in ["f2f3", "e7e5", "g2g4", "d8h4"]:
+        board.play(move)
+    until_line(live, f"{words.RESULT}0-1")
+    said = len(live.lines())
+    live.type("1-0")
+    until(lambda: len(live.lines()) > said, "a word on it")
+    same(ended(live), 0)
+    same(movetext(live.name), "1. f3 e5 2. g4 Qh4# 0-1")
+
+
+def add(folder: pathlib.Path, text: str, name: object) -> "subprocess.CompletedProcess[bytes]":
+    return subprocess.run([LIVE, "--add", text, str(name)], cwd=folder, stdout=subprocess.PIPE, stderr=subprocess.PIPE)
+
+
+def added_by_command(folder: pathlib.Path) -> None:
+    """--add on a game that is over: moves, then a result; what is refused leaves every byte as it was."""
+    board, live = begin_game(folder)
+    same(stop(live), 0)
+    capture = bytes_of(live.name + ".dgt")
+    for text in ("Nf6", "Nf3 Qxf7", "2-0", "", "hello"):
+        answer = add(folder, text, live.name)
+        assert answer.returncode in (1, 2) and answer.stderr, (text, answer)
+        assert b"Traceback" not in answer.stderr, answer.stderr.decode()
+        same(bytes_of(live.name + ".dgt"), capture)
+    answer = add(folder, "Nf3 Nc6", live.name)
+    same((answer.returncode, movetext(live.name)), (0, "1. e4 e5 2. Nf3 Nc6 *"))
+    answer = add(folder, "0-1", live.name)
+    same((answer.returncode, movetext(live.name)), (0, "1. e4 e5 2. Nf3 Nc6 0-1"))
+    same(bytes_of(live.name + ".dgt")[: len(capture)], capture)
+    same(run("record", given=bytes_of(live.name + ".dgt")).stdout, bytes_of(live.name + ".pgn"))
+    log = (folder / "game.log").read_text()
+    assert "Nf3 Nc6" in log and "0-1" in log, log
+    answer = add(folder, "1-0", folder / "none")
+    assert answer.returncode in (1, 2, 3) and not (folder / "none.dgt").exists(), answer
+
+
+def added_while_recorded(folder: pathlib.Path) -> None:
+    """--add on a game that is being recorded: it is taken up, and the game goes on with it."""
+    board, live = begin_game(folder)
+    board.pull()
+    until_line(live, words.UNPLUGGED)
+    for move in ("g1f3", "b8c6"):
+        board.play(move)
+    board.plug()
+    until(lambda: board.asked_for_updates, "a request for updates")
+    process = subprocess.Popen([LIVE, "--add", "Nf3 Nc6", live.name], stdout=subprocess.PIPE, stderr=subprocess.STDOUT)
+    until(lambda: process.poll() is not None, "the end of --add")
+    assert process.stdout is not None
+    same((process.returncode, process.stdout.read().count(b"Traceback")), (0, 0))
+    until_game(live.name, "1. e4 e5 2. Nf3 Nc6 *")
+    board.play("f1b5")
+    until_game(live.name, RUY_TEXT)
+    same(stop(live), 0)
+
+
+def added_and_killed(folder: pathlib.Path) -> None:
+    """KILL of all just as a result or a move is typed: the game has it, or hasn't, and goes on when it is started again."""
+    for number, text in enumerate(["Nf3 Nc6", "1-0"] * 4):
+        place = folder / str(number)
+        place.mkdir()
+        board, live = begin_game(place, typed=True)
+        live.type(text)
+        rest(0.01 * number)
+        kill(live)
+        game = run("record", given=bytes_of(live.name + ".dgt")).stdout
+        assert check(game) in ("moves 2, result *", "moves 3, result *", "moves 4, result *", "moves 2, result 1-0"), game
+        if b"*" in game and text == "1-0":
+            again = go_on(board, live)
+            board.play("g1f3")
+            until(lambda: "2. Nf3" in movetext(live.name), "the move after")
+            same(stop(again), 0)
+    same(frame(DUMP, [0] * 64)[:3], b"\x86\x00\x43")
+    same(field("h1"), 63)

@@ -1,0 +1,149 @@
+"""Plays cases, each in a process of its own, some of them at once, and counts them."""
+
+import dataclasses
+import os
+import pathlib
+import signal
+import subprocess
+import sys
+import tempfile
+import time
+import traceback
+from typing import Callable, Dict, List, Sequence
+
+from played.recorder import Live
+from played.stage import LIMIT, PROGRAM, Skipped, Stage
+
+Case = Callable[[pathlib.Path], None]
+PASSED, FAILED, SKIPPED = 0, 1, 3
+
+
+def out_of_time(*_: object) -> None:
+    raise TimeoutError(f"{LIMIT} s are over")
+
+
+def clear() -> None:
+    """Ends what a case has left."""
+    for live in Live.all:
+        live.end()
+    for board in Stage.boards:
+        board.end()
+    Live.all.clear()
+    Stage.boards.clear()
+
+
+def play(case: Case) -> int:
+    """Plays one case here, and tells the outcome in a line."""
+    signal.signal(signal.SIGTERM, lambda *_: sys.exit(143))
+    signal.signal(signal.SIGALRM, out_of_time)
+    start = time.monotonic()
+    Stage.ends = start + LIMIT
+    status, outcome = PASSED, "passed"
+    with tempfile.TemporaryDirectory(prefix="dgt_live.") as folder:
+        room = pathlib.Path(folder) / "room"
+        place = pathlib.Path(folder) / "case"
+        room.mkdir()
+        place.mkdir()
+        Live.scratch_folder = room
+        signal.alarm(LIMIT + 5)
+        try:
+            case(place)
+        except Skipped as skipped:
+            status, outcome = SKIPPED, f"skipped, {skipped}:"
+        except Exception:
+            traceback.print_exc(file=sys.stdout)
+            status, outcome = FAILED, "FAILED"
+        finally:
+            signal.alarm(0)
+            clear()
+    print(f"{outcome} {case.__name__}, {time.monotonic() - start:.1f} s: {case.__doc__}", flush=True)
+    return status
+
+
+@dataclasses.dataclass
+class Playing:
+    """A case that is being played in a process of its own."""
+
+    name: str
+    output: pathlib.Path
+    process: "subprocess.Popen[bytes]"
+    ends: float
+
+    @property
+    def is_over(self) -> bool:
+        if self.process.poll() is None and time.monotonic() > self.ends:
+            self.process.kill()
+        return self.process.poll() is not None
+
+
+def begin(script: str, name: str, folder: pathlib.Path) -> Playing:
+    output = folder / name
+    with open(output, "wb") as kept:
+        process = subprocess.Popen([sys.executable, script, "--alone", name], stdout=kept, stderr=subprocess.STDOUT)
+    return Playing(name, output, process, time.monotonic() + LIMIT + 30)
+
+
+def play_all(script: str, names: Sequence[str], at_once: int) -> Dict[int, int]:
+    """How many there are of each outcome. Each case's lines are printed as it ends."""
+    outcomes = {PASSED: 0, FAILED: 0, SKIPPED: 0}
+    waiting = list(names)
+    playing: List[Playing] = []
+    with tempfile.TemporaryDirectory(prefix="dgt_live.") as place:
+        try:
+            while waiting or playing:
+                while waiting and len(playing) < at_once:
+                    playing.append(begin(script, waiting.pop(0), pathlib.Path(place)))
+                for one in [one for one in playing if one.is_over]:
+                    playing.remove(one)
+                    status = one.process.returncode
+                    outcomes[status if status in outcomes else FAILED] += 1
+                    sys.stdout.write(one.output.read_text(errors="replace"))
+                    if status not in outcomes:
+                        print(f"FAILED {one.name}: its process ended with status {status}")
+                    sys.stdout.flush()
+                time.sleep(0.02)
+        finally:
+            for one in playing:
+                one.process.terminate()
+            for one in playing:
+                one.process.wait()
+    return outcomes
+
+
+def count(outcomes: Dict[int, int]) -> str:
+    """The last line, which tests/run reads."""
+    skipped = f", {outcomes[SKIPPED]} skipped" if outcomes[SKIPPED] else ""
+    return f"{outcomes[PASSED]} passed, {outcomes[FAILED]} failed{skipped}"
+
+
+def lacks() -> bool:
+    """Whether what all cases need is lacking, and says what."""
+    if subprocess.run([PROGRAM, "--help"], stdin=subprocess.DEVNULL, stdout=subprocess.DEVNULL).returncode:
+        print("bin/dgt_replay doesn't run, and is what all cases need")
+        return True
+    try:
+        for number in os.openpty():
+            os.close(number)
+    except OSError as error:
+        print(f"there is no pseudo-terminal here, and each case plays on one: {error}")
+        return True
+    return False
+
+
+def main(script: str, cases: Sequence[Case], arguments: Sequence[str]) -> int:
+    """`--alone NAME` plays one here; `--at-once N`, and names of cases, else all."""
+    named = {case.__name__: case for case in cases}
+    if list(arguments[:1]) == ["--alone"]:
+        return play(named[arguments[1]])
+    wanted = list(arguments)
+    at_once = 6
+    if wanted[:1] == ["--at-once"]:
+        at_once, wanted = int(wanted[1]), wanted[2:]
+    if unknown := [name for name in wanted if name not in named]:
+        print(f"there is no case {', '.join(unknown)}; there are {', '.join(named)}")
+        return 2
+    signal.signal(signal.SIGTERM, lambda *_: sys.exit(143))
+    names = wanted or list(named)
+    outcomes = {PASSED: 0, FAILED: len(names), SKIPPED: 0} if lacks() else play_all(script, names, at_once)
+    print(count(outcomes))
+    return int(outcomes[FAILED] > 0)

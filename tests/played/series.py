@@ -1,0 +1,192 @@
+"""Games in a row on one board: how one ends and the next begins."""
+
+import pathlib
+from typing import Sequence
+
+from played import words
+from played.boards import BLACK, KING, Board, field
+from played.recorder import Live
+from played.stage import (
+    a_board,
+    begun,
+    bytes_of,
+    kill,
+    movetext,
+    rest,
+    run,
+    same,
+    stop,
+    until,
+    until_game,
+    until_line,
+)
+
+
+def play(board: Board, moves: Sequence[str], pause: float = 0.0) -> None:
+    for move in moves:
+        board.play(move)
+        rest(pause)
+
+
+def come_home(board: Board, pause: float = 0.02, kings_first: bool = False) -> None:
+    """The pieces are set up again in random order."""
+    for _ in board.homecoming(kings_first):
+        rest(pause)
+
+
+def series(folder: pathlib.Path) -> None:
+    """Three games in a row; the pieces are set up with the kings first, or last; killed between two and within one."""
+    board = a_board(folder)
+    live = Live(board.device, folder / "round", "--series", "--linger", "1")
+    begun(live)
+    board.play("e2e4")
+    board.kings_in_centre("e4", "d5")
+    until_line(live, f"round-2 {words.BEGINS}")
+    same(movetext(folder / "round-1"), "1. e4 1-0")
+    board.set_up(last=(KING, BLACK + KING))
+    until(lambda: (folder / "round-2.pgn").exists(), "the second game")
+    until(lambda: len(bytes_of(folder / "round-2.dgt")) >= 67, "a dump")
+    board.play("d2d4")
+    until_game(folder / "round-2", "1. d4 *")
+    kill(live)
+    live = Live(board.device, folder / "round", "--series", "--linger", "1")
+    board.play("d7d5")
+    until_game(folder / "round-2", "1. d4 d5 *")
+    board.kings_in_centre("d4", "e5")
+    until_line(live, f"round-3 {words.BEGINS}")
+    kill(live)
+    live = Live(board.device, folder / "round", "--series", "--linger", "1")
+    until_line(live, f"round-3 {words.BEGINS}")
+    board.set_up(last=[code for code in range(13) if code not in (KING, BLACK + KING)])
+    until(lambda: len(bytes_of(folder / "round-3.dgt")) >= 67, "a dump")
+    for move in ["f2f3", "e7e5", "g2g4", "d8h4"]:
+        board.play(move)
+    until_line(live, f"round-4 {words.BEGINS}")
+    same(stop(live), 0)
+    same(movetext(folder / "round-1"), "1. e4 1-0")
+    same(movetext(folder / "round-2"), "1. d4 d5 0-1")
+    same(movetext(folder / "round-3"), "1. f3 e5 2. g4 Qh4# 0-1")
+    assert not (folder / "round-4.dgt").exists()
+
+
+def first_move_squares(folder: pathlib.Path) -> None:
+    """The last piece that is put home is White's, from a square of a first move: Nf3, e4, a4. The next game is recorded, with
+    a first move that is made at once."""
+    board = a_board(folder)
+    live = Live(board.device, folder / "round", "--series", "--linger", "1")
+    begun(live)
+    for number, (move, san) in enumerate([("g1f3", "Nf3"), ("e2e4", "e4"), ("a2a4", "a4")], 1):
+        until(lambda: len(bytes_of(folder / f"round-{number}.dgt")) >= 67, f"game {number}")
+        play(board, [move, "g8f6"])
+        until_game(folder / f"round-{number}", f"1. {san} Nf6 *")
+        board.kings_in_centre("d4", "e5")
+        until_line(live, f"round-{number + 1} {words.BEGINS}")
+        # The kings and the knight of f6 go home, and then the piece of the first move.
+        for square in ("d4", "e5", "f6"):
+            board.lift(square)
+        for square, code in (("e1", KING), ("e8", BLACK + KING), ("g8", BLACK + 3)):
+            board.put(square, code)
+        rest(1.5)
+        code = board.codes[field(move[2:])]
+        board.lift(move[2:])
+        rest(0.1)
+        board.put(move[:2], code)
+    board.play("c2c4")
+    until_game(folder / "round-4", "1. c4 *")
+    same(stop(live), 0)
+    for number, san in enumerate(["Nf3", "e4", "a4"], 1):
+        same(movetext(folder / f"round-{number}"), f"1. {san} Nf6 0-1")
+
+
+def random_set_ups(folder: pathlib.Path) -> None:
+    """Six games, the pieces set up in random order in between, the kings first or not: each game is recorded."""
+    board = a_board(folder, seed=27)
+    live = Live(board.device, folder / "round", "--series", "--linger", "0")
+    begun(live)
+    openings = [["e2e4", "c7c5"], ["d2d4", "g8f6"], ["g1f3", "d7d5"], ["c2c4", "e7e5"], ["b1c3", "d7d5"], ["e2e4", "e7e6"]]
+    texts = ["1. e4 c5", "1. d4 Nf6", "1. Nf3 d5", "1. c4 e5", "1. Nc3 d5", "1. e4 e6"]
+    for number, (moves, text) in enumerate(zip(openings, texts), 1):
+        until(lambda: (folder / f"round-{number}.pgn").exists(), f"game {number}")
+        until(lambda: len(bytes_of(folder / f"round-{number}.dgt")) >= 67, "a dump")
+        play(board, moves)
+        until_game(folder / f"round-{number}", f"{text} *")
+        board.kings_in_centre("e4", "e5")
+        until_line(live, f"round-{number + 1} {words.BEGINS}")
+        come_home(board, kings_first=number % 2 == 0)
+    until(lambda: (folder / "round-7.pgn").exists(), "the game after the last")
+    same(stop(live), 0)
+    for number, text in enumerate(texts, 1):
+        same(movetext(folder / f"round-{number}"), f"{text} 1/2-1/2")
+
+
+def resigned(folder: pathlib.Path) -> None:
+    """A game is resigned without the kings, and the pieces are set up again: it ends where the set-up began, and the next game
+    is recorded. A first move that is taken back is no set-up."""
+    board = a_board(folder, seed=3)
+    live = Live(board.device, folder / "round", "--series", "--linger", "1", "--white", "Anna")
+    begun(live)
+    board.play("e2e4")
+    rest(1.5)
+    play(board, ["e4e2"])
+    rest(1.5)
+    assert not (folder / "round-2.dgt").exists(), "1. e4 taken back is no set-up"
+    moves = ["e2e4", "e7e5", "g1f3", "b8c6", "f1b5", "a7a6", "b5a4", "g8f6"]
+    text = "1. e4 e5 2. Nf3 Nc6 3. Bb5 a6 4. Ba4 Nf6 *"
+    play(board, moves, 0.1)
+    until_game(folder / "round-1", text)
+    rest(4)
+    come_home(board, 0.1)
+    until(lambda: (folder / "round-2.dgt").exists(), "the second game")
+    until(lambda: len(bytes_of(folder / "round-2.dgt")) >= 67, "a dump")
+    play(board, ["d2d4", "d7d5", "c2c4"])
+    until_game(folder / "round-2", "1. d4 d5 2. c4 *")
+    same(movetext(folder / "round-1"), text)
+    ends = int(bytes_of(folder / "round-1.end").split()[0])
+    capture = bytes_of(folder / "round-1.dgt")
+    assert 0 < ends <= len(capture), (ends, len(capture))
+    game = run("record", "--white", "Anna", given=capture[:ends]).stdout
+    same(game, bytes_of(folder / "round-1.pgn"))
+    same(stop(live), 0)
+    same(movetext(folder / "round-1"), text)
+    # Started again it goes on with the second game, and the first stays as it is.
+    again = Live(board.device, folder / "round", "--series", "--linger", "1")
+    until(lambda: again.says("2. c4"), "the lines of the second game")
+    board.play("e7e6")
+    until_game(folder / "round-2", "1. d4 d5 2. c4 e6 *")
+    same(movetext(folder / "round-1"), text)
+    same(stop(again), 0)
+
+
+def three_games(folder: pathlib.Path) -> None:
+    """A series as a club plays it: a game with a cut cable and a typed result; one that is resigned; one by the kings."""
+    board = a_board(folder, seed=11)
+    live = Live(board.device, folder / "blitz", "--series", "--linger", "1", typed=True)
+    begun(live)
+    play(board, ["e2e4", "e7e5"])
+    until_game(folder / "blitz-1", "1. e4 e5 *")
+    board.pull()
+    until_line(live, words.UNPLUGGED)
+    board.play("g1f3")
+    board.plug()
+    until_game(folder / "blitz-1", "1. e4 e5 2. Nf3 *")
+    until(lambda: board.asked_for_updates, "a request for updates")
+    play(board, ["b8c6"])
+    until_game(folder / "blitz-1", "1. e4 e5 2. Nf3 Nc6 *")
+    live.type("1-0")
+    until_game(folder / "blitz-1", "1. e4 e5 2. Nf3 Nc6 1-0")
+    until_line(live, f"blitz-2 {words.BEGINS}")
+    come_home(board)
+    until(lambda: len(bytes_of(folder / "blitz-2.dgt")) >= 67, "the second game")
+    moves = ["d2d4", "d7d5", "c2c4", "e7e6", "b1c3", "g8f6"]
+    play(board, moves, 0.05)
+    until_game(folder / "blitz-2", "1. d4 d5 2. c4 e6 3. Nc3 Nf6 *")
+    rest(4)
+    come_home(board, 0.1)
+    until(lambda: len(bytes_of(folder / "blitz-3.dgt")) >= 67, "the third game")
+    play(board, ["f2f3", "e7e5"])
+    until_game(folder / "blitz-3", "1. f3 e5 *")
+    board.kings_in_centre("d4", "e5")
+    until_line(live, f"blitz-4 {words.BEGINS}")
+    same(stop(live), 0)
+    texts = ["1. e4 e5 2. Nf3 Nc6 1-0", "1. d4 d5 2. c4 e6 3. Nc3 Nf6 *", "1. f3 e5 0-1"]
+    same([movetext(folder / f"blitz-{number}") for number in (1, 2, 3)], texts)
