@@ -90,6 +90,11 @@ class Page:
     def url(self) -> str:
         return f"http://{self._server.address.text}/"
 
+    @property
+    def readers(self) -> int:
+        """How many connections there are."""
+        return len(self._server.readers)
+
     def now(self) -> float:
         """The time of day, as it went on since the page is there."""
         return self._loop.now() + self.offset
