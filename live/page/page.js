@@ -118,13 +118,25 @@ function announce(board, before) {
 
 function showTitle() {
   const alarms = stream.list().filter((board) => board.alarm).map((board) => board.number);
-  const some = alarms.length === 1 ? 'Board' : 'Boards';
-  at('alarms').hidden = alarms.length === 0;
-  say(at('alarms'), alarms.length === 0 ? '' : `${some} ${alarms.slice(0, 6).join(', ')}${alarms.length > 6 ? ' ..' : ''}: look there`);
+  showAlarms(alarms);
   const name = stream.event || 'Chess, live';
   const title = open === null ? name : `Board ${open}, ${name}`;
   const whole = alarms.length > 0 ? `(!) ${title}` : title;
   if (document.title !== whole) document.title = whole;
+}
+
+/** The boards to which somebody must go, each as a link. */
+function showAlarms(numbers) {
+  const place = at('alarms');
+  if (place.dataset.numbers === numbers.join()) return;
+  place.dataset.numbers = numbers.join();
+  place.hidden = numbers.length === 0;
+  place.replaceChildren(numbers.length === 1 ? 'Look at board' : 'Look at boards');
+  for (const number of numbers) {
+    const link = element('a', '', String(number));
+    link.href = `#${number}`;
+    place.append(' ', link);
+  }
 }
 
 function connected(isThere) {

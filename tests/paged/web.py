@@ -44,6 +44,7 @@ class Site:
 
     def __init__(self, address="0", **limits):
         self._call = [sys.executable, str(HOST), address, json.dumps(limits)]
+        self._event = "Round 1"
 
     def __enter__(self):
         self.process = subprocess.Popen(self._call, stdin=subprocess.PIPE, stdout=subprocess.PIPE, text=True)
@@ -57,9 +58,10 @@ class Site:
         self.process.wait(PATIENCE)
         self.process.stdout.close()
 
-    def show(self, *boards, event="Round 1", **more):
+    def show(self, *boards, event=None, **more):
         """Shows these boards beside those that it has. For how many milliseconds its loop was held up since the last time."""
-        self.process.stdin.write(json.dumps({"event": event, "boards": boards, **more}) + "\n")
+        self._event = event or self._event
+        self.process.stdin.write(json.dumps({"event": self._event, "boards": boards, **more}) + "\n")
         self.process.stdin.flush()
         line = self.process.stdout.readline()
         assert not line.startswith("TROUBLE"), line
