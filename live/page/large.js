@@ -40,8 +40,8 @@ export class Large {
   /** Shows this board from here on, at its last move. */
   open(board) {
     this.ply = null;
-    this.show(board);
     this.root.hidden = false;
+    this.show(board);
   }
 
   close() {
@@ -98,6 +98,7 @@ export class Large {
     const time = since === null || !state ? '' : `, ${lasting(this.now() - since)}`;
     say(at('state'), state + time);
     at('state').classList.toggle('alarm', alarm);
+    at('play').classList.toggle('alarm', alarm);
   }
 
   showSeats(fen, live) {
@@ -183,7 +184,7 @@ export class Large {
     if (ply === 0) list.scrollTop = 0;
     else if (this.made[ply - 1]) {
       const { place } = this.made[ply - 1];
-      const top = place.offsetTop - list.offsetTop;
+      const top = place.offsetTop; // in the list
       if (top < list.scrollTop) list.scrollTop = top;
       const bottom = top + place.offsetHeight - list.clientHeight;
       if (bottom > list.scrollTop) list.scrollTop = bottom;

@@ -186,6 +186,12 @@ def one_board(site, page):
     for width, height in ((400, 860), (860, 400), (1920, 1080), (320, 600)):
         page.tab.look(width, height)
         page.says(f"{width} px: nothing to the side", "document.documentElement.scrollWidth <= innerWidth", True)
+    site.show(a_board(1, 7))
+    page.tab.look(860, 200)
+    page.tab.open(site.url + "#1")
+    page.reads("again, in a low window", "#at", "4. O-O")
+    list_end = "moves.scrollTop + moves.clientHeight >= moves.scrollHeight - 8 && moves.scrollHeight > moves.clientHeight"
+    page.says("the last move is in sight", f"(() => {{ const moves = document.getElementById('moves'); return {list_end}; }})()", True)
     light = page.tab.value("getComputedStyle(document.documentElement).backgroundColor")
     page.tab.look(400, 860, dark=True)
     page.says("dark", f"getComputedStyle(document.documentElement).backgroundColor !== '{light}'", True)
