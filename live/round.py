@@ -5,7 +5,7 @@ from __future__ import annotations
 import datetime
 import os
 import pathlib
-from typing import Dict, List, Optional, Tuple
+from typing import Callable, Dict, List, Optional, Tuple
 
 from live import files
 from live.files import text_of
@@ -57,8 +57,7 @@ class Round:
         self._pgn_trouble = ""
         self._ending = False
         self._left = 0
-        self.page: object = None
-        self.on_change = lambda: None
+        self.on_change: Callable[[], None] = lambda: None
         self._was_terminal = os.isatty(0)
         self._read_first()
         self._typed = Typed(loop, self.typed)

@@ -2,26 +2,18 @@
 
 from __future__ import annotations
 
-from typing import Dict, List, Optional, Protocol, Sequence, Tuple
+from typing import Dict, List, Optional, Sequence, Tuple
 
 from live.address import Address
 from live.loop import Loop, Timer
 from live.page import Page
 from live.program import Program
+from live.round import Round
 from live.row import Row, clocks_of
 from live.screen import Told
 from live.view import BoardView, Ply, RoundView
 
 GATHERED = 0.05  # seconds in which changes are shown at once
-
-
-class Shows(Protocol):
-    """What has rows that change."""
-
-    rows: Dict[int, Row]
-
-    def listen(self, changed: "object") -> None:
-        """To be told of each change."""
 
 
 class Positions:
@@ -57,8 +49,7 @@ def plies_view(plies: Sequence[Told]) -> Tuple[Ply, ...]:
 class RoundPage:
     """Shows the rows of a round to browsers."""
 
-    def __init__(self, loop: Loop, program: Program, address: Optional[Address], event: str) -> None:
-        assert address
+    def __init__(self, loop: Loop, program: Program, address: Address, event: str) -> None:
         self._loop, self._program, self._event = loop, program, event
         self._page = Page(loop, address)
         self._rows: Dict[int, Row] = {}
@@ -69,10 +60,10 @@ class RoundPage:
     def url(self) -> str:
         return self._page.url
 
-    def shows(self, games: "object") -> None:
+    def shows(self, games: Round) -> None:
         """From here on the rows of this round are shown."""
-        self._rows = games.rows  # type: ignore[attr-defined]
-        games.on_change = self.changed  # type: ignore[attr-defined]
+        self._rows = games.rows
+        games.on_change = self.changed
         self.changed()
 
     def changed(self) -> None:
