@@ -58,11 +58,12 @@ class Reader:
         self._ends = True
         self._thread.join()
         assert self.texts, f"nobody saw {self.path}"
+        games: Set[bytes] = set()
         for text_seen in self.texts:
-            games = games_of(text_seen)
-            assert len(games) <= boards and text_seen.endswith(b"\n"), text_seen
-            for game in games:
-                assert check(game) is not None, game
+            assert len(games_of(text_seen)) <= boards and text_seen.endswith(b"\n"), text_seen
+            games.update(games_of(text_seen))
+        for game in games:
+            assert check(game) is not None, game
 
 
 def games_of(round_text: bytes) -> List[bytes]:
