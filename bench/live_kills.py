@@ -8,6 +8,7 @@ kills has its own seed, 1000 and up, so that a batch that fails is played again 
 import collections
 import pathlib
 import re
+import signal
 import subprocess
 import sys
 import tempfile
@@ -49,6 +50,7 @@ def batch(seed: int) -> int:
 
 
 def main() -> int:
+    signal.signal(signal.SIGTERM, lambda *_: sys.exit(143))
     if sys.argv[1:2] == ["--batch"]:
         return batch(int(sys.argv[2]))
     kills = int(sys.argv[1]) if len(sys.argv) > 1 else 1000
@@ -59,21 +61,25 @@ def main() -> int:
     failed: List[int] = []
     start = time.monotonic()
     restarts = 0
-    while seeds or playing:
-        while seeds and len(playing) < at_once:
-            seed = seeds.pop(0)
-            words = [sys.executable, __file__, "--batch", str(seed)]
-            playing.append((seed, subprocess.Popen(words, stdout=subprocess.PIPE, stderr=subprocess.PIPE)))
-        time.sleep(0.1)
-        for seed, process in [one for one in playing if one[1].poll() is not None]:
-            playing.remove((seed, process))
-            told, wrong = (text.decode() for text in process.communicate())
-            for count, kind in re.findall(r"(?m)^killed (\d+) (.*)$", told):
-                killed[kind] += int(count)
-            restarts += sum(map(int, re.findall(r"(?m)^started again (\d+)$", told)))
-            if process.returncode:
-                failed.append(seed)
-                print(f"batch {seed} failed:\n{told}{wrong}", flush=True)
+    try:
+        while seeds or playing:
+            while seeds and len(playing) < at_once:
+                seed = seeds.pop(0)
+                words = [sys.executable, __file__, "--batch", str(seed)]
+                playing.append((seed, subprocess.Popen(words, stdout=subprocess.PIPE, stderr=subprocess.PIPE)))
+            time.sleep(0.1)
+            for seed, process in [one for one in playing if one[1].poll() is not None]:
+                playing.remove((seed, process))
+                told, wrong = (text.decode() for text in process.communicate())
+                for count, kind in re.findall(r"(?m)^killed (\d+) (.*)$", told):
+                    killed[kind] += int(count)
+                restarts += sum(map(int, re.findall(r"(?m)^started again (\d+)$", told)))
+                if process.returncode:
+                    failed.append(seed)
+                    print(f"batch {seed} failed:\n{told}{wrong}", flush=True)
+    finally:
+        for _, process in playing:
+            process.terminate()
     for kind, count in sorted(killed.items()):
         print(f"{count:6} {kind}")
     print(f"{sum(killed.values())} kills in {time.monotonic() - start:.0f} s, started again {restarts} times")

@@ -18,7 +18,7 @@ import hashlib
 import pathlib
 import secrets
 import time
-from typing import Callable, Dict, List, Optional
+from typing import Callable, Dict, List, Optional, Tuple
 
 from live.address import Address
 from live.loop import Loop, Timer
@@ -42,14 +42,14 @@ JSON = "application/json"
 
 
 class Shown:
-    """A board as readers have it from one change on, and the change before it."""
+    """A board as readers have it from one change on."""
 
-    def __init__(self, board: BoardView, change: int, offset: float, before: Optional[Shown]) -> None:
+    def __init__(self, board: BoardView, change: int, page: Page, before: Optional[Shown]) -> None:
         self.board, self.change = board, change
         self._before = before.board if before else None
-        self._changed_before = before.change if before else 0
-        self._offset = offset
-        self._whole = self._news = b""
+        self._identifier = f"{page.epoch}-{change}"
+        self._offset = page.offset
+        self._whole = b""
 
     @property
     def whole(self) -> bytes:
@@ -58,13 +58,11 @@ class Shown:
             self._whole = board_text(self.board, self._offset)
         return self._whole
 
-    def since(self, change: Optional[int]) -> bytes:
-        """What is new in it for a page that has it as it was from this change on."""
-        if self._before is None or change != self._changed_before:
-            return self.whole
-        if not self._news:
-            self._news = board_text(self.board, self._offset, self._before)
-        return self._news
+    def event(self, is_news: bool) -> bytes:
+        """The event with all of it, or with what is new to those who had it before this change."""
+        if not is_news or self._before is None:
+            return event("board", self.whole, self._identifier)
+        return event("board", board_text(self.board, self._offset, self._before), self._identifier)
 
 
 class Page:
@@ -74,8 +72,9 @@ class Page:
         self._loop = loop
         self.offset = time.time() - loop.now()
         self.epoch = secrets.token_hex(4)  # an event of another call of the recorder is none of ours
-        self.change = 0
         self.header = b""
+        self._change = self._change_before = 0  # the last change of the last publication, and of the one before it
+        self._news: Optional[bytes] = None  # what is new to those who have seen the one before it
         self._boards: Dict[int, Shown] = {}  # by number, in the order of their changes
         self._round = RoundView("")
         self._next: Optional[RoundView] = None
@@ -118,19 +117,38 @@ class Page:
     def _publish(self, state: RoundView) -> None:
         self._next, self._round = None, state
         numbers = [board.number for board in state.boards]
-        self.header = json_text({"event": state.event, "numbers": numbers})
+        header = json_text({"event": state.event, "numbers": numbers})
+        self.header = self.header if header == self.header else header
         self._made.clear()
+        self._change_before, self._news = self._change, None
         for gone in set(self._boards) - set(numbers):
             del self._boards[gone]
         for board in state.boards:
             before = self._boards.get(board.number)
             if before is None or before.board is not board and before.board != board:
-                self.change += 1
+                self._change += 1
                 self._boards.pop(board.number, None)
-                self._boards[board.number] = Shown(board, self.change, self.offset, before)
+                self._boards[board.number] = Shown(board, self._change, self, before)
 
-    def newer(self, seen: int) -> List[Shown]:
-        """The boards that have changed since this change, the oldest first."""
+    def since(self, seen: int) -> Tuple[bytes, int]:
+        """The next events for a reader who has seen all up to this change, and the change up to which they go."""
+        if seen == self._change_before:
+            if self._news is None:
+                self._news = b"".join(shown.event(True) for shown in self._newer(seen))
+            if len(self._news) <= PART:
+                return self._news, self._change
+        parts: List[bytes] = []
+        size = 0
+        for shown in self._newer(seen):
+            parts.append(shown.event(False))
+            size += len(parts[-1])
+            seen = shown.change
+            if size >= PART:
+                break
+        return b"".join(parts), seen
+
+    def _newer(self, seen: int) -> List[Shown]:
+        """The boards that have changed after this change, in the order of their changes."""
         newer: List[Shown] = []
         for shown in reversed(list(self._boards.values())):
             if shown.change <= seen:
@@ -165,7 +183,7 @@ class Page:
             return None
         epoch, _, seen = last.partition("-")
         known = epoch == self.epoch and seen.isascii() and seen.isdigit() and len(seen) < 16
-        return Events(self, int(seen) if known and int(seen) <= self.change else 0)
+        return Events(self, int(seen) if known and int(seen) <= self._change else 0)
 
     def close(self) -> None:
         """Ends all connections."""
@@ -179,32 +197,23 @@ class Events:
 
     def __init__(self, page: Page, seen: int) -> None:
         self._page, self._seen = page, seen
-        self._has: Dict[int, int] = {}  # the change of each board that was sent here
         self._header = b""
         self._beats_at = 0.0
 
     def more(self) -> bytes:
         """The next events."""
         now = self._page.now()
-        parts: List[bytes] = []
+        first = b""
         if now >= self._beats_at:
             if not self._header:
-                parts.append(b"retry: %d\n" % RETRY)
-            parts.append(event("beat", json_text({"now": round(now, 1)})))
+                first = b"retry: %d\n" % RETRY
+            first += event("beat", json_text({"now": round(now, 1)}))
             self._beats_at = now + BEAT
-        if self._header != self._page.header:
+        if self._header is not self._page.header:
             self._header = self._page.header
-            parts.append(event("round", self._header))
-        size = 0
-        for shown in self._page.newer(self._seen):
-            number = shown.board.number
-            part = event("board", shown.since(self._has.get(number)), f"{self._page.epoch}-{shown.change}")
-            self._seen = self._has[number] = shown.change
-            parts.append(part)
-            size += len(part)
-            if size >= PART:
-                break
-        return b"".join(parts)
+            first += event("round", self._header)
+        boards, self._seen = self._page.since(self._seen)
+        return first + boards if first else boards
 
 
 def event(kind: str, data: bytes, identifier: str = "") -> bytes:

@@ -37,7 +37,8 @@ class Board(play_board.Board):
         self.device = str(device or folder / "board")
         self.rotated = rotated
         self.codes = list(codes or self.codes)
-        self.random = random.Random(seed)
+        self.random = random.Random(seed)  # for the line
+        self.hands = random.Random(seed)
         self.cable: Optional[pathlib.Path] = None
         self.slave = -1
         self.on = True
@@ -207,7 +208,7 @@ class Board(play_board.Board):
     def homecoming(self, kings_first: bool = False) -> Iterator[None]:
         """Brings the pieces home one by one in random order, each from where it stands, else from the box; one step a round."""
         homes = [number for number in range(64) if INITIAL[number] != EMPTY]
-        self.random.shuffle(homes)
+        self.hands.shuffle(homes)
         if kings_first:
             homes.sort(key=lambda number: INITIAL[number] not in (KING, BLACK + KING))
         for home in homes:
@@ -219,7 +220,7 @@ class Board(play_board.Board):
                 yield
             abroad = [number for number in range(64) if self.codes[number] == code and INITIAL[number] != code]
             if abroad:
-                self.show(self.random.choice(abroad), EMPTY)
+                self.show(self.hands.choice(abroad), EMPTY)
                 yield
             self.show(home, code)
             yield
