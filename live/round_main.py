@@ -138,7 +138,8 @@ def play(asked: Asked, program: Program, signals: Signals) -> Tuple[int, List[st
     page = RoundPage(loop, program, asked.page, given.value("--event") or file.stem) if asked.page else None
     games = Round(loop, program, file, folder, call, title or file.stem)
     if page:
-        page.shows(games)
+        games.on_change = page.changed
+        page.shows(lambda: [games.rows[number] for number in sorted(games.rows)])
         games.say(f"the round is shown at {page.url}")
     signals.tell(loop, games.end, games.hung_up)
     loop.run()

@@ -1,19 +1,66 @@
-"""The page of a round: what its rows show, as values for the page."""
+"""The page of a round or of a single board: what is recorded, as values for the page."""
 
 from __future__ import annotations
 
-from typing import Dict, List, Optional, Sequence, Tuple
+from typing import Callable, Dict, Iterable, List, Optional, Protocol, Sequence, Tuple
 
 from live.address import Address
 from live.loop import Loop, Timer
 from live.page import Page
+from live.options import Options
 from live.program import Program
-from live.round import Round
-from live.row import Row, clocks_of
 from live.screen import Told
 from live.view import BoardView, Ply, RoundView
 
 GATHERED = 0.05  # seconds in which changes are shown at once
+
+
+class Game(Protocol):
+    """What the page asks of a board and its game."""
+
+    options: Options
+
+    @property
+    def pgn(self) -> bytes:
+        """Its text."""
+
+    @property
+    def result(self) -> str:
+        """Its result."""
+
+    @property
+    def number(self) -> int:
+        """That of its board."""
+
+    @property
+    def name(self) -> str:
+        """What its files are called."""
+
+    @property
+    def plies(self) -> List[Told]:
+        """Its moves, as they were told."""
+
+    @property
+    def differing(self) -> Tuple[str, ...]:
+        """The squares that differ."""
+
+    def standing(self) -> Tuple[str, Optional[float], bool]:
+        """How it stands in words, since when, and whether somebody must look at it."""
+
+    def player_name(self, option: str) -> str:
+        """The name behind `--white` or `--black`."""
+
+
+def clocks_of(plies: Sequence[Told]) -> Tuple[str, str]:
+    """White's and Black's, each after its last move."""
+    white = black = ""
+    for ply in plies:
+        number, _, *clock = ply.words.split(" ")
+        if clock and number.endswith("..."):
+            black = clock[0]
+        elif clock:
+            white = clock[0]
+    return white, black
 
 
 class Positions:
@@ -47,12 +94,12 @@ def plies_view(plies: Sequence[Told]) -> Tuple[Ply, ...]:
 
 
 class RoundPage:
-    """Shows the rows of a round to browsers."""
+    """Shows games to browsers."""
 
     def __init__(self, loop: Loop, program: Program, address: Address, event: str) -> None:
         self._loop, self._program, self._event = loop, program, event
         self._page = Page(loop, address)
-        self._rows: Dict[int, Row] = {}
+        self._games: Callable[[], Iterable[Game]] = tuple
         self._positions: Dict[int, Positions] = {}
         self._timer: Optional[Timer] = None
 
@@ -60,10 +107,9 @@ class RoundPage:
     def url(self) -> str:
         return self._page.url
 
-    def shows(self, games: Round) -> None:
-        """From here on the rows of this round are shown."""
-        self._rows = games.rows
-        games.on_change = self.changed
+    def shows(self, games: Callable[[], Iterable[Game]]) -> None:
+        """From here on these games are shown, in their order. `changed` is to be called where one is another than before."""
+        self._games = games
         self.changed()
 
     def changed(self) -> None:
@@ -72,26 +118,26 @@ class RoundPage:
 
     def _show(self) -> None:
         self._timer = None
-        self._page.show(RoundView(self._event, tuple(self._view(self._rows[number]) for number in sorted(self._rows))))
+        self._page.show(RoundView(self._event, tuple(self._view(game) for game in self._games())))
 
-    def _view(self, row: Row) -> BoardView:
-        words, since, alarm = row.standing()
-        plies = row.plies
-        positions = self._positions.setdefault(row.number, Positions(self._program))
+    def _view(self, game: Game) -> BoardView:
+        words, since, alarm = game.standing()
+        plies = game.plies
+        positions = self._positions.setdefault(game.number, Positions(self._program))
         return BoardView(
-            number=row.number,
-            name=row.pairing.file_name,
-            white=row.player_name("--white"),
-            black=row.player_name("--black"),
-            result=row.result,
+            number=game.number,
+            name=game.name,
+            white=game.player_name("--white"),
+            black=game.player_name("--black"),
+            result=game.result,
             state=words,
             since=since,
             alarm=alarm,
-            differing=row.differing,
+            differing=game.differing,
             clocks=clocks_of(plies),
             moves=plies_view(plies),
-            positions=positions.of(row.options.fen, [ply.san for ply in plies]),
-            pgn=row.pgn,
+            positions=positions.of(game.options.fen, [ply.san for ply in plies]),
+            pgn=game.pgn,
         )
 
     def close(self) -> None:

@@ -3,13 +3,13 @@
 from __future__ import annotations
 
 import dataclasses
-import re
 from typing import Callable, List, Optional, Tuple
 
 from live import added, files, serial_line
 from live.adding import add_to_closed
 from live.control import Answer
 from live.files import Capture, Log, Paths, text_of
+from live.live_page import result_of
 from live.loop import Loop, Timer
 from live.main import options_of, refuse_options, turned
 from live.making import make_now
@@ -17,6 +17,7 @@ from live.options import Call, Options
 from live.pairings import Pairing
 from live.program import Program, lines_of
 from live.refused import DONE, FAILED, REFUSED, Refused
+from live.round_page import clocks_of
 from live.screen import Screen, Told
 from live.series import Player, is_over, printable, reason_of
 from live.state import Kind, State
@@ -24,7 +25,6 @@ from live.table import RowView
 from live.terminal import Terminal
 
 PAUSES = (2.0, 5.0, 10.0, 20.0, 40.0, 60.0)  # seconds between tries to record a board
-RESULT = re.compile(rb'^\[Result "([^"]*)"\]$', re.MULTILINE)
 
 
 class RowScreen(Screen):
@@ -60,18 +60,6 @@ def plies_of(program: Program, options: Options, sent: bytes) -> List[Told]:
         if told and told.kind in ("move", "correction"):
             plies.append(told)
     return plies
-
-
-def clocks_of(plies: List[Told]) -> Tuple[str, str]:
-    """White's and Black's, each after its last move."""
-    white = black = ""
-    for ply in plies:
-        number, _, *clock = ply.words.split(" ")
-        if clock and number.endswith("..."):
-            black = clock[0]
-        elif clock:
-            white = clock[0]
-    return white, black
 
 
 class Row:
@@ -111,6 +99,11 @@ class Row:
     @property
     def number(self) -> int:
         return self.pairing.board
+
+    @property
+    def name(self) -> str:
+        """What its files are called."""
+        return self.pairing.file_name
 
     @property
     def paths(self) -> Paths:
@@ -291,8 +284,7 @@ class Row:
             self.pgn = files.existing(self.paths.pgn)
         except OSError:
             return
-        found = RESULT.search(self.pgn)
-        self.result = found.group(1).decode("ascii", "replace") if found else "*"
+        self.result = result_of(self.pgn)
 
     @property
     def plies(self) -> List[Told]:

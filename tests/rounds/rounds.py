@@ -3,6 +3,7 @@
 import json
 import os
 import pathlib
+import re
 import signal
 import socket
 import urllib.request
@@ -237,8 +238,8 @@ def on_a_terminal(folder: pathlib.Path) -> None:
     live.type("3 1-0")
     until_line(live, "3: added to")
     until_line(live, "over 1-0")
-    too_wide = [line for line in live.lines().splitlines() if len(line) > 80]
-    same(too_wide, [])
+    lines = re.split(r"\x1b\[\d+;1H|\x1b8|\r|\n", live.told.read().replace("\x1b[H\x1b[2J", "\n"))
+    same([line for line in lines if len(words.plain(line)) > 79], [])
     live.type("q")
     same(ended(live), 0)
 
