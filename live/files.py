@@ -105,13 +105,13 @@ class Capture:
         self.trouble = ""
 
     @staticmethod
-    def open(path: pathlib.Path) -> Capture:
+    def open(path: pathlib.Path, patience: float = LOCK_PATIENCE) -> Capture:
         """Refused where it can't be written, or where another process records it."""
         try:
             number = os.open(path, os.O_RDWR | os.O_APPEND | os.O_CREAT, 0o666)
         except OSError as error:
             raise Refused(FAILED, f"{path} can't be written ({text_of(error)}): choose another NAME") from None
-        ends = time.monotonic() + LOCK_PATIENCE
+        ends = time.monotonic() + patience
         while True:
             try:
                 fcntl.flock(number, fcntl.LOCK_EX | fcntl.LOCK_NB)
@@ -221,7 +221,7 @@ def mark_end(paths: Paths, size: int) -> None:
     put_in_place(paths.end, b"%d\n" % size)
 
 
-def open_game(paths: Paths) -> Capture:
+def open_game(paths: Paths, patience: float = LOCK_PATIENCE) -> Capture:
     """The capture of a game, new or old."""
     if not paths.folder.is_dir():
         raise Refused(FAILED, f"there is no folder {paths.folder}: make it, or choose another NAME")
@@ -230,7 +230,7 @@ def open_game(paths: Paths) -> Capture:
             raise Refused(REFUSED, f"{paths.pgn} is there without {paths.capture}: choose another NAME, or move it away")
     except OSError as error:
         raise Refused(FAILED, f"{paths.capture} can't be written ({text_of(error)}): choose another NAME") from None
-    return Capture.open(paths.capture)
+    return Capture.open(paths.capture, patience)
 
 
 def kept_options(paths: Paths) -> Optional[Options]:

@@ -115,7 +115,7 @@ class Signals:
         self._woken.setblocking(False)
         wakes.setblocking(False)
         self._wakes = wakes
-        self.came = False
+        self.came = self.hung_up = False
         signal.set_wakeup_fd(wakes.fileno(), warn_on_full_buffer=False)
         for number in ENDING:
             if number != signal.SIGHUP or signal.getsignal(number) != signal.SIG_IGN:
@@ -124,10 +124,21 @@ class Signals:
             signal.signal(number, signal.SIG_IGN)
 
     def _note(self, number: int, _frame: object) -> None:
-        self.came = True
+        if number == signal.SIGHUP:
+            self.hung_up = True
+        else:
+            self.came = True
 
-    def tell(self, loop: Loop, ends: Callback) -> None:
-        """From here on each signal calls this, one that has come already too."""
+    def tell(self, loop: Loop, ends: Callback, hangs_up: Optional[Callback] = None) -> None:
+        """From here on each signal calls this, one that has come already too; HUP another function, where there is one."""
+
+        def heard() -> None:
+            hung_up, self.hung_up = self.hung_up, False
+            if self.came or (hung_up and hangs_up is None):
+                self.came = True
+                ends()
+            elif hung_up and hangs_up:
+                hangs_up()
 
         def woken() -> None:
             try:
@@ -135,12 +146,11 @@ class Signals:
                     pass
             except BlockingIOError:
                 pass
-            if self.came:
-                ends()
+            heard()
 
         loop.watch(self._woken.fileno(), woken)
-        if self.came:
-            loop.after(0, ends)
+        if self.came or self.hung_up:
+            loop.after(0, heard)
 
 
 def close(number: Optional[int]) -> None:

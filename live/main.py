@@ -9,12 +9,15 @@ from typing import Callable, Dict, List, Sequence
 
 from live import added, control, files, names, options, serial_line
 from live.adding import add_to_closed
+from live.address import read_address
 from live.files import Capture, Paths, text_of
+from live.live_page import LiveGame, PageScreen
 from live.loop import Loop, Signals
 from live.making import make_now
 from live.options import Call, Options
 from live.program import Program
 from live.refused import DONE, FAILED, REFUSED, Refused
+from live.round_page import RoundPage
 from live.screen import Screen
 from live.series import Player, last_number, numbered
 from live.terminal import Terminal, Typed, open_standard_streams
@@ -33,6 +36,7 @@ type 1-0, 0-1 or 1/2-1/2 to end the game so, or moves that it missed: Nf3 Nc6.
   --series           NAME-1, NAME-2, ..: the next once pieces are set up again
   --once             a board that is unplugged ends it, and isn't waited for
   --linger SECONDS   a result that has stood so long ends it (without it, 10)
+  --page [ADDRESS:]PORT   show it to browsers, as --page 8000
 OPTION says how the board lies, how the game begins, and what its tags say:
   --rotated          Black has the connector on the left
   --first SIDE       whose time comes first, white (without it) or black
@@ -125,6 +129,8 @@ def record(call: Call, program: Program, signals: Signals) -> int:
     given = turned(typed)
     refuse_options(program, given)
     paths = numbered(call.name, last_number(call.name)) if call.series else Paths(call.name)
+    loop = Loop()
+    page = RoundPage(loop, program, read_address(call.page), os.path.basename(call.name)) if call.page is not None else None
     serial_line.check(call.device, may_wait=files.size_of(paths.capture) > 0)
     capture = open_to_record(call, paths)
     kept = options_of(program, paths, capture, given)
@@ -133,16 +139,21 @@ def record(call: Call, program: Program, signals: Signals) -> int:
     except OSError as error:
         raise Refused(FAILED, f"{paths.pgn} can't be written ({text_of(error)}): is the disk full?") from None
 
-    loop = Loop()
     terminal = Terminal(loop)
-    screen = Screen(terminal)
+    screen = PageScreen(terminal)
     for change in changes(typed, given):
         screen.say(change)
     player = Player(loop, program, screen, call, paths, capture, kept, loop.stop)
+    if page:
+        screen.on_change = page.changed
+        page.shows(lambda: [LiveGame(loop, player, kept)])
+        screen.say(f"the game is shown at {page.url}")
     signals.tell(loop, player.end)
     reader = Typed(loop, player.typed)
     loop.run()
     reader.close()
+    if page:
+        page.close()
     terminal.clear()
     if player.refused is None:
         terminal.line(f"dgt_live: what was played is in {player.paths.pgn}")

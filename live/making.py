@@ -39,10 +39,11 @@ class Maker:
         capture: Capture,
         options: Options,
         trouble: Callable[[str], None],
+        placed: Callable[[], None] = lambda: None,
     ) -> None:
         self._loop, self._program, self._paths, self._capture = loop, program, paths, capture
         self._words = ["record", *options.words]
-        self._trouble = trouble
+        self._trouble, self._placed = trouble, placed
         self._new = new_of(paths.pgn)
         self._child: Optional[subprocess.Popen[bytes]] = None
         self._report = -1
@@ -126,6 +127,7 @@ class Maker:
         if not trouble:
             self.full = self._failing = False
             self.made = self._covers
+            self._placed()
             if self._wanted:
                 self._start()
             elif self._idle:

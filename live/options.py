@@ -28,6 +28,7 @@ class Call:
     help: bool = False
     devices: bool = False
     added: Optional[str] = None
+    page: Optional[str] = None
 
 
 def parse(arguments: Sequence[str]) -> Call:
@@ -36,7 +37,7 @@ def parse(arguments: Sequence[str]) -> Call:
     plain: List[str] = []
     words: List[str] = []
     flags = {"--series": False, "--once": False, "--devices": False}
-    linger, added = str(LINGER), None
+    linger, added, page = str(LINGER), None, None
     while left:
         word = left.pop(0)
         option, equals, value = word.partition("=")
@@ -52,6 +53,8 @@ def parse(arguments: Sequence[str]) -> Call:
                 words.append(_value(word, left))
         elif option == "--linger":
             linger = value if equals else _value(word, left)
+        elif option == "--page":
+            page = value if equals else _value(word, left)
         elif option == "--add":
             added = value if equals else _value(word, left)
         elif word.startswith("-") and len(word) > 1:
@@ -78,6 +81,7 @@ def parse(arguments: Sequence[str]) -> Call:
         once=flags["--once"],
         linger=min(int(linger), 10**6),
         added=added,
+        page=page,
     )
 
 

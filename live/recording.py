@@ -83,7 +83,7 @@ class Recording:
         self._linger, self._series = linger, series
         self._over, self._anew, self._asks = over, anew, asks
         self.end: Optional[int] = None  # how many bytes are the game's, where not all are
-        self.moves: List[str] = []
+        self.plies: List[Told] = []
         self._has_agreed = False  # whether the board has stood as the game says
         self._result = "*"
         self._typed = ""  # the result that an arbiter has typed
@@ -103,13 +103,18 @@ class Recording:
         self._ends: Optional[Timer] = None
         self._watchdog: Optional[Timer] = None
         self.standing = Standing(loop, screen, self._start)
-        self._maker = Maker(loop, program, paths, capture, options, self._pgn_trouble)
+        self._maker = Maker(loop, program, paths, capture, options, self._pgn_trouble, screen.made)
         self._disk = Disk(screen, self.standing, capture, lambda: self._maker.full)
         self._follow = Listing(
             loop, program, ["follow", *options.of_board()], capture, self._heard, screen.say, broken
         )
         self._pictures = Listing(loop, program, pictures_words(options), capture, self._saw, screen.say, broken)
         self._tick = loop.after(TICK, self._each_second)
+
+    @property
+    def moves(self) -> List[str]:
+        """The moves of the game."""
+        return [ply.san for ply in self.plies]
 
     def came(self, sent: bytes) -> None:
         """The board has sent this, or somebody has added it."""
@@ -155,14 +160,11 @@ class Recording:
 
     def _hear_change(self, told: Told) -> None:
         if told.kind == "correction":
-            self.moves.pop()
+            self.plies.pop()
         if told.kind != "result":
-            self.moves.append(told.san)
+            self.plies.append(told)
         self._changed_at = told.offset
-        if told.offset >= self._old:
-            self._screen.say(told.text())
-        else:
-            self._screen.old(told.text())
+        self._screen.told(told, is_old=told.offset < self._old)
         if told.offset >= self._maker.made:
             self._maker.want()
         if told.kind == "result":

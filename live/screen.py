@@ -76,6 +76,16 @@ class Screen:
         """A line of what was played before this call: nobody knows when."""
         self._print(f"{NO_TIME}  {text}")
 
+    def told(self, told: Told, is_old: bool) -> None:
+        """A move, a correction or a result, of this call or from before it."""
+        if is_old:
+            self.old(told.text())
+        else:
+            self.say(told.text())
+
+    def made(self) -> None:
+        """NAME.pgn was made anew. Others may want to know that."""
+
     def note(self, text: str) -> None:
         """A line for the log alone."""
         self._write(self._clock(), text)

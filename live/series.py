@@ -3,7 +3,7 @@
 from __future__ import annotations
 
 import os
-from typing import Callable, Optional
+from typing import Callable, List, Optional
 
 from live import added, files
 from live.adding import add_to_closed
@@ -16,8 +16,9 @@ from live.options import Call, Options
 from live.program import Program
 from live.recording import Reason, Recording
 from live.refused import DONE, FAILED, REFUSED, Refused
-from live.screen import Screen
+from live.screen import Screen, Told
 from live.setting_up import SettingUp
+from live.standing import Standing
 
 
 def numbered(name: str, number: int) -> Paths:
@@ -74,6 +75,7 @@ class Player:
         self.refused: Optional[Refused] = None
         self._before: Optional[Paths] = None  # the game before this one, of this call
         self._recording: Optional[Recording] = None
+        self._plies: List[Told] = []
         self._setting_up: Optional[SettingUp] = None
         self._control: Optional[Control] = None
         self._unplugged = self._silent = False
@@ -113,6 +115,7 @@ class Player:
             self._broken,
             self._board.added,
         )
+        self._plies = self._recording.plies
         self._tell_line(self._recording)
 
     def _game_over(self, reason: Reason) -> None:
@@ -219,6 +222,28 @@ class Player:
         self._capture = capture
         self._open()
         self._record()
+
+    # What others see of it.
+
+    @property
+    def plies(self) -> List[Told]:
+        """The moves of the game, as they were told; those of the last one while none is recorded."""
+        return self._plies
+
+    @property
+    def standing(self) -> Optional[Standing]:
+        """How the board stands; None where it has ended."""
+        game = self._recording or self._setting_up
+        return game.standing if game else None
+
+    def add(self, text: str) -> Answer:
+        """Adds what was typed; an answer, and the status that goes with it."""
+        return self._add(text, None, sure=True, may_quit=False)
+
+    def release(self) -> None:
+        """To be called when all of it has ended, where the process goes on."""
+        self._capture.close()
+        self._screen.keep(None)
 
     # What its line does.
 

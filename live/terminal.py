@@ -43,7 +43,7 @@ class Terminal:
             return
         self._file = stat.S_ISREG(mode)
         self.in_place = os.isatty(number) and os.environ.get("TERM", "dumb") != "dumb"
-        self._number = number if self._file else _opened_again(number)
+        self._number = number if self._file else opened_again(number)
 
     def line(self, text: str) -> None:
         """Prints a line, above the state."""
@@ -135,7 +135,7 @@ class Terminal:
             self._number = None
 
 
-def _opened_again(number: int) -> int:
+def opened_again(number: int) -> int:
     """The same terminal or pipe under a number of its own, so that nobody else's use of it is made non-blocking."""
     try:
         return os.open(f"/proc/self/fd/{number}", os.O_WRONLY | os.O_NONBLOCK | os.O_NOCTTY)

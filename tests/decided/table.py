@@ -37,5 +37,6 @@ def run(tables):
             traceback.print_exc()
         passed, failed = (counts[key] - before[key] for key in ("passed", "failed"))
         print(f"{table.__module__.split('.')[-1]}.{table.__name__}: {passed} passed, {failed} failed")
-    print(f"{counts['passed']} passed, {counts['failed']} failed")
+    skipped = f", {counts['skipped']} skipped" if counts.get("skipped") else ""
+    print(f"{counts['passed']} passed, {counts['failed']} failed{skipped}")
     return 1 if counts["failed"] else 0

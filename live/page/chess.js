@@ -1,0 +1,91 @@
+// What a FEN and a move in SAN say, as far as a page needs it. It knows no rule of the game.
+
+export const FILES = 'abcdefgh';
+const NAMES = { K: 'king', Q: 'queen', R: 'rook', B: 'bishop', N: 'knight', P: 'pawn' };
+
+/** The 64 squares of a FEN from a8 to h1: 'wK', 'bP', or '' for an empty one. */
+export function squaresOf(fen) {
+  const squares = [];
+  for (const letter of fen.split(' ')[0]) {
+    if (letter >= '1' && letter <= '8') {
+      for (let count = Number(letter); count > 0; count -= 1) squares.push('');
+    } else if (NAMES[letter.toUpperCase()]) {
+      squares.push((letter === letter.toUpperCase() ? 'w' : 'b') + letter.toUpperCase());
+    }
+  }
+  while (squares.length < 64) squares.push('');
+  return squares.slice(0, 64);
+}
+
+/** The name of a square by its number: a8 is 0, h1 is 63. */
+export function squareName(number) {
+  return FILES[number % 8] + (8 - Math.floor(number / 8));
+}
+
+/** Who is to move: 'w' or 'b'. */
+export function toMove(fen) {
+  return fen && fen.split(' ')[1] === 'b' ? 'b' : 'w';
+}
+
+/** Where the piece that was moved stood and stands. Of a castling it is the king's move. */
+export function movedSquares(before, after) {
+  const one = squaresOf(before);
+  const other = squaresOf(after);
+  const side = toMove(before);
+  const left = [];
+  const reached = [];
+  for (let number = 0; number < 64; number += 1) {
+    if (one[number] !== other[number]) {
+      if (one[number][0] === side) left.push(number);
+      if (other[number][0] === side) reached.push(number);
+    }
+  }
+  const king = (squares) => (number) => squares[number][1] === 'K';
+  const from = left.find(king(one));
+  const to = reached.find(king(other));
+  return { from: from === undefined ? left[0] : from, to: to === undefined ? reached[0] : to };
+}
+
+/** The number of a ply as a score has it: { number: 12, side: 'w' }. `start` is the FEN before the first ply. */
+export function numbered(start, ply) {
+  const first = start ? Number(start.split(' ')[5]) || 1 : 1;
+  const plies = ply + (toMove(start) === 'b' ? 1 : 0);
+  return { number: first + Math.floor(plies / 2), side: plies % 2 === 0 ? 'w' : 'b' };
+}
+
+/** A ply with its number: '12. Nf3', '12... Nc6'. */
+export function withNumber(start, ply, san) {
+  const { number, side } = numbered(start, ply);
+  return `${number}.${side === 'w' ? '' : '..'} ${san}`;
+}
+
+/** A move as it is said: 'knight f3', 'pawn e4 takes d5, check'. */
+export function spoken(san) {
+  const end = san.endsWith('#') ? ', mate' : san.endsWith('+') ? ', check' : '';
+  const move = san.replace(/[+#]$/, '');
+  if (move === 'O-O') return `castles on the king's side${end}`;
+  if (move === 'O-O-O') return `castles on the queen's side${end}`;
+  const match = /^([KQRBN]?)([a-h]?[1-8]?)(x?)([a-h][1-8])(?:=([QRBN]))?$/.exec(move);
+  if (!match) return san;
+  const [, piece, from, takes, to, becomes] = match;
+  const words = [NAMES[piece || 'P'], from, takes ? 'takes' : '', to, becomes ? `becomes a ${NAMES[becomes]}` : ''];
+  return words.filter((word) => word).join(' ') + end;
+}
+
+/** A piece in words: 'white knight'. */
+export function pieceName(piece) {
+  return piece ? `${piece[0] === 'w' ? 'white' : 'black'} ${NAMES[piece[1]]}` : '';
+}
+
+/** A result as it is printed: '1–0', '½–½'. Nothing where the game goes on. */
+export function printedResult(result) {
+  return result === '*' ? '' : result.replace(/1\/2/g, '½').replace('-', '–');
+}
+
+/** So long, in words. */
+export function lasting(seconds) {
+  const whole = Math.max(0, Math.floor(seconds));
+  if (whole < 120) return `${whole} s`;
+  if (whole < 7200) return `${Math.floor(whole / 60)} min`;
+  return `${Math.floor(whole / 3600)} h ${String(Math.floor(whole / 60) % 60).padStart(2, '0')} min`;
+}

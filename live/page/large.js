@@ -1,0 +1,193 @@
+// One board, large, with its moves, through which a reader steps while the game goes on.
+
+import { lasting, numbered, printedResult, spoken, toMove, withNumber } from './chess.js';
+import { Table, element, positionOf, say } from './diagram.js';
+
+const at = (name) => document.getElementById(name);
+
+export class Large {
+  constructor(now) {
+    this.now = now;
+    this.root = at('large');
+    this.table = new Table(at('diagram'));
+    this.moves = at('moves');
+    this.board = null;
+    this.ply = null; // the ply that is shown, or null where the game is followed
+    this.turned = false;
+    this.made = []; // the moves that are listed, with their elements
+    at('first').addEventListener('click', () => this.go(0));
+    at('previous').addEventListener('click', () => this.step(-1));
+    at('next').addEventListener('click', () => this.step(1));
+    at('last').addEventListener('click', () => this.go(Infinity));
+    at('live').addEventListener('click', () => this.go(Infinity));
+    at('turn').addEventListener('click', () => this.turn());
+    this.moves.addEventListener('click', (event) => {
+      const button = event.target.closest('button');
+      if (button) this.go(Number(button.dataset.ply));
+    });
+    this.keys = {
+      ArrowLeft: () => this.step(-1),
+      ArrowRight: () => this.step(1),
+      ArrowUp: () => this.step(-1),
+      ArrowDown: () => this.step(1),
+      Home: () => this.go(0),
+      End: () => this.go(Infinity),
+      l: () => this.go(Infinity),
+      t: () => this.turn(),
+    };
+  }
+
+  /** Shows this board from here on, at its last move. */
+  open(board) {
+    this.ply = null;
+    this.root.hidden = false;
+    this.show(board);
+  }
+
+  close() {
+    this.board = null;
+    this.root.hidden = true;
+  }
+
+  /** Whether the key means something here. */
+  press(key) {
+    const call = this.keys[key.length === 1 ? key.toLowerCase() : key];
+    if (call) call();
+    return Boolean(call);
+  }
+
+  step(by) {
+    this.go((this.ply === null ? this.board.moves.length : this.ply) + by);
+  }
+
+  /** Shows the position after this ply; the last one is followed. */
+  go(ply) {
+    const count = this.board.moves.length;
+    this.ply = ply >= count ? null : Math.max(0, ply);
+    this.show(this.board);
+  }
+
+  turn() {
+    this.turned = !this.turned;
+    this.table.turn(this.turned);
+    this.show(this.board);
+  }
+
+  show(board) {
+    this.board = board;
+    const count = board.moves.length;
+    if (this.ply !== null && this.ply >= count) this.ply = null;
+    const live = this.ply === null;
+    const ply = live ? count : this.ply;
+    const position = positionOf(board, ply, live);
+    say(at('title'), `Board ${board.number}`);
+    this.showState();
+    this.showSeats(position.fen, live);
+    const last = ply > 0 ? withNumber(board.positions[0], ply - 1, board.moves[ply - 1].san) : 'the start';
+    this.table.show(position, `Board ${board.number}, ${live ? 'now' : 'after'}: ${last}`);
+    this.showPlace(last, live, count - ply);
+    this.listMoves();
+    this.markMove(ply);
+    at('own').href = board.pgn;
+    at('live').setAttribute('aria-pressed', String(live));
+    at('turn').setAttribute('aria-pressed', String(this.turned));
+  }
+
+  showState() {
+    const { state, since, alarm } = this.board;
+    const time = since === null || !state ? '' : `, ${lasting(this.now() - since)}`;
+    say(at('state'), state + time);
+    at('state').classList.toggle('alarm', alarm);
+    at('play').classList.toggle('alarm', alarm);
+  }
+
+  showSeats(fen, live) {
+    const { board } = this;
+    const mover = board.result === '*' && live ? toMove(fen) : '';
+    for (const [side, index, name] of [['w', 0, 'White'], ['b', 1, 'Black']]) {
+      const place = at((side === 'w') === this.turned ? 'upper' : 'lower');
+      const player = element('span', `player ${side}`);
+      player.append(element('span', 'unseen', `${name}: `), board[name.toLowerCase()] || name);
+      const clock = element('span', 'clock', live ? board.clocks[index] : this.clockOf(index));
+      place.replaceChildren(player, clock);
+      place.classList.toggle('moves', mover === side);
+    }
+  }
+
+  /** The clock of a player after the ply that is shown: 0 is White's, 1 is Black's. */
+  clockOf(index) {
+    for (let ply = this.ply - 1; ply >= 0; ply -= 1) {
+      const { side } = numbered(this.board.positions[0], ply);
+      if ((side === 'w') === (index === 0)) return this.board.moves[ply].clock;
+    }
+    return '';
+  }
+
+  showPlace(last, live, behind) {
+    const result = live ? printedResult(this.board.result) : '';
+    const where = live ? '' : ` (${behind} ${behind === 1 ? 'move' : 'moves'} back)`;
+    say(at('at'), [last + where, result].filter((part) => part).join('   '));
+  }
+
+  /** The list has the moves that it had, as far as they are the same. */
+  listMoves() {
+    const { moves, positions } = this.board;
+    const start = positions[0] || '';
+    let same = 0;
+    const is = (made, move) => made.san === move.san && made.clock === move.clock && made.kind === move.kind;
+    while (same < this.made.length && same < moves.length && is(this.made[same].move, moves[same])) same += 1;
+    if (this.start !== start || this.listed !== this.board.number) same = 0;
+    this.start = start;
+    this.listed = this.board.number;
+    for (const { place } of this.made.splice(same)) {
+      const row = place.parentNode;
+      place.remove();
+      if (!row.querySelector('button')) row.remove();
+    }
+    for (let ply = same; ply < moves.length; ply += 1) this.made.push(this.listMove(ply, moves[ply], start));
+  }
+
+  listMove(ply, move, start) {
+    const { number, side } = numbered(start, ply);
+    let row = this.moves.lastElementChild;
+    if (side === 'w' || !row || ply === 0) {
+      row = this.moves.appendChild(element('li'));
+      row.value = number;
+      const label = row.appendChild(element('span', 'number', `${number}.`));
+      label.setAttribute('aria-hidden', 'true');
+      if (side === 'b') row.appendChild(element('span', 'gap', '..'));
+    }
+    const place = row.appendChild(element('button', move.kind === 'correction' ? 'corrected' : ''));
+    place.type = 'button';
+    place.tabIndex = -1;
+    place.dataset.ply = String(ply + 1);
+    place.append(element('span', 'san', move.san), element('span', 'time', move.clock));
+    const words = [`${number}, ${side === 'w' ? 'White' : 'Black'}: ${spoken(move.san)}`, move.clock];
+    if (move.kind === 'correction') {
+      words.push('corrected');
+      place.title = 'This move was corrected';
+    }
+    place.setAttribute('aria-label', words.filter((word) => word).join(', '));
+    return { move, place };
+  }
+
+  markMove(ply) {
+    this.made.forEach(({ place }, index) => {
+      const here = index === ply - 1;
+      if ((place.getAttribute('aria-current') === 'true') !== here) {
+        if (here) place.setAttribute('aria-current', 'true');
+        else place.removeAttribute('aria-current');
+        place.tabIndex = here ? 0 : -1;
+      }
+    });
+    const list = this.moves;
+    if (ply === 0) list.scrollTop = 0;
+    else if (this.made[ply - 1]) {
+      const { place } = this.made[ply - 1];
+      const top = place.offsetTop; // in the list
+      if (top < list.scrollTop) list.scrollTop = top;
+      const bottom = top + place.offsetHeight - list.clientHeight;
+      if (bottom > list.scrollTop) list.scrollTop = bottom;
+    }
+  }
+}

@@ -1,0 +1,281 @@
+"""A round: all its boards, the file that names them, what is typed, and round.pgn."""
+
+from __future__ import annotations
+
+import datetime
+import os
+import pathlib
+from typing import Callable, Dict, List, Optional, Tuple
+
+from live import files
+from live.files import text_of
+from live.loop import Loop, Timer
+from live.options import Call
+from live.painter import Painter
+from live.pairings import Pairing, Pairings, Wrong, read_pairings
+from live.program import Program
+from live.refused import DONE, FAILED, REFUSED, Refused
+from live.row import Row
+from live.series import printable
+from live.table import RowView, screen
+from live.terminal import Terminal, Typed
+from live.view import round_pgn
+
+WAYS = "type 3 1-0, 3 Nf3 Nc6, 3 (how board 3 stands), r (read the file again) or q (end)"
+DRAWS_EACH = 0.1  # seconds
+TICK = 1.0
+AGAIN = 1.0  # seconds, where round.pgn couldn't be written
+GATHERED = 0.02  # seconds in which changes go into one round.pgn
+
+
+def same_device(device: str) -> str:
+    """What a device is, by whatever name."""
+    return os.path.realpath(device)
+
+
+class Round:
+    """All boards of a round in one loop. `stopped` when all have ended."""
+
+    def __init__(
+        self, loop: Loop, program: Program, file: pathlib.Path, folder: pathlib.Path, call: Call, title: str
+    ) -> None:
+        self._loop, self._program, self._file, self._folder, self._call = loop, program, file, folder, call
+        self._title = title
+        self.pgn = folder / "round.pgn"
+        self.rows: Dict[int, Row] = {}
+        self._wrong: List[Wrong] = []
+        self._messages: List[str] = []
+        self._painter: Optional[Painter] = None
+        self._terminal: Optional[Terminal] = None
+        if os.isatty(1) and os.environ.get("TERM", "dumb") != "dumb":
+            self._painter = Painter(loop)
+        else:
+            self._terminal = Terminal(loop)
+        self._draws: Optional[Timer] = None
+        self._writes: Optional[Timer] = None
+        self._written: Optional[bytes] = None
+        self._pgn_trouble = ""
+        self._ending = False
+        self._left = 0
+        self.on_change: Callable[[], None] = lambda: None
+        self._was_terminal = os.isatty(0)
+        self._read_first()
+        self._typed = Typed(loop, self.typed)
+        self._tick = loop.after(TICK, self._each_second)
+
+    # The file.
+
+    def _read_first(self) -> None:
+        try:
+            read = read_pairings(self._file.read_bytes())
+        except OSError as error:
+            raise Refused(FAILED, f"{self._file} can't be read ({text_of(error)})") from None
+        except Refused as refused:
+            raise Refused(REFUSED, f"{self._file}: {refused.lines[0]}") from None
+        if not read.boards and not read.wrong:
+            raise Refused(REFUSED, f"{self._file} names no board: each line after the first is one")
+        self._take(read)
+
+    def read_again(self) -> str:
+        """Reads the file again. Where it can't be read nothing changes."""
+        try:
+            read = read_pairings(self._file.read_bytes())
+        except OSError as error:
+            return f"refused: {self._file} can't be read ({text_of(error)}): nothing is changed"
+        except Refused as refused:
+            return f"refused: {self._file}: {refused.lines[0]}: nothing is changed"
+        if not read.boards:
+            return f"refused: {self._file} has no line that is right: nothing is changed"
+        self._take(read)
+        wrong = f", {len(read.wrong)} lines are wrong" if len(read.wrong) > 1 else ", 1 line is wrong" if read.wrong else ""
+        return f"{self._file} is read again: {len(read.boards)} boards{wrong}"
+
+    def _take(self, read: Pairings) -> None:
+        for remark in read.remarks:
+            self.say(remark)
+        boards, self._wrong = self._without_twice(read)
+        for wrong in self._wrong:
+            self.say(f"line {wrong.line} of {self._file.name} is wrong: {wrong.why}")
+        named = {pairing.board for pairing in boards} | {wrong.board for wrong in self._wrong}
+        for wrong in self._wrong:
+            row = self.rows.get(wrong.board or 0)
+            if row and wrong.board not in {pairing.board for pairing in boards}:
+                row.wrong = f"{wrong.line} is wrong: {wrong.why}; the game goes on as it was begun"
+        for number in sorted(set(self.rows) - {number for number in named if number}):
+            # A line whose number can't be read may be this one's.
+            if None in named:
+                self.say(f"{number}: no line names it; as a line without a number stands there, it goes on")
+            else:
+                self.say(f"{number}: no line names it any more: it ends, and its game stays in {self.rows[number].paths.pgn}")
+                self.rows.pop(number).end(self._changed)
+        for pairing in boards:
+            if pairing.board in self.rows:
+                self.rows[pairing.board].take(pairing)
+            else:
+                self.rows[pairing.board] = self._new_row(pairing)
+                self.rows[pairing.board].begin()
+        self._remade()
+        self._changed()
+
+    def _without_twice(self, read: Pairings) -> Tuple[List[Pairing], List[Wrong]]:
+        """Without lines whose device is another line's under another name."""
+        found: Dict[str, Pairing] = {}
+        boards, wrong = [], list(read.wrong)
+        for pairing in read.boards:
+            other = found.setdefault(same_device(pairing.device), pairing)
+            if other is pairing:
+                boards.append(pairing)
+            else:
+                why = f"{pairing.device} is the device of board {other.board}, line {other.line}"
+                wrong.append(Wrong(pairing.line, pairing.board, why))
+        return boards, sorted(wrong, key=lambda line: line.line)
+
+    def _new_row(self, pairing: Pairing) -> Row:
+        return Row(
+            self._loop,
+            self._program,
+            str(self._folder),
+            self._call.words,
+            self._call.linger,
+            pairing,
+            self._terminal,
+            self._changed,
+            self._remade,
+            self.say,
+        )
+
+    # round.pgn.
+
+    def _remade(self) -> None:
+        if self._writes is None:
+            self._writes = self._loop.after(GATHERED, self._write)
+
+    def _write(self) -> None:
+        self._writes = None
+        text = round_pgn(self.rows[number].pgn for number in sorted(self.rows))
+        if text == self._written:
+            return
+        try:
+            files.put_in_place(self.pgn, text)
+            self._written = text
+            if self._pgn_trouble:
+                self.say(f"{self.pgn} is written again")
+            self._pgn_trouble = ""
+        except OSError as error:
+            if not self._pgn_trouble:
+                self._pgn_trouble = text_of(error)
+                self.say(f"DISK FULL: {self.pgn} can't be written ({self._pgn_trouble}); it is tried again each second")
+            self._writes = self._loop.after(AGAIN, self._write)
+
+    # The screen.
+
+    def say(self, text: str) -> None:
+        """A line for whoever looks at the screen."""
+        now = datetime.datetime.now()
+        line = f"{now:%H:%M:%S}  {text}"
+        self._messages = [*self._messages[-9:], line]
+        if self._terminal:
+            self._terminal.line(line)
+        self._changed()
+
+    def views(self) -> List[RowView]:
+        """The rows, and behind them the lines that belong to none."""
+        rows = [self.rows[number].view() for number in sorted(self.rows)]
+        for wrong in self._wrong:
+            if wrong.board not in self.rows:
+                rows.append(RowView(wrong.board, state=f"line {wrong.line} is wrong: {wrong.why}", alarm=True))
+            elif not self.rows[wrong.board].wrong:
+                rows.append(RowView(None, state=f"line {wrong.line} is wrong: {wrong.why}", alarm=True))
+        return rows
+
+    def _changed(self) -> None:
+        self.on_change()
+        if self._painter and self._draws is None and not self._ending:
+            self._draws = self._loop.after(DRAWS_EACH, self._draw)
+
+    def _draw(self) -> None:
+        self._draws = None
+        if self._painter:
+            columns, lines = self._painter.size()
+            title = f"{datetime.datetime.now():%H:%M:%S}  {self._title}"
+            self._painter.draw(
+                screen(title, self.views(), self._messages, self._loop.now(), lines, max(40, min(columns, 80)))
+            )
+
+    def _each_second(self) -> None:
+        self._tick = self._loop.after(TICK, self._each_second)
+        if self._painter and self._draws is None:
+            self._draw()
+
+    # What is typed.
+
+    def typed(self, text: str) -> None:
+        """A line of the terminal."""
+        if self._painter:
+            self._painter.forget()
+        words = text.split()
+        if not words:
+            pass
+        elif words[0].lower() in ("q", "quit", "exit"):
+            self.end()
+            return
+        elif words[0].lower() == "r" and len(words) == 1:
+            self.say(self.read_again())
+        elif words[0].isascii() and words[0].isdigit():
+            self.say(self._of_board(int(words[0]), words[1:]))
+        else:
+            self.say(f"refused: {printable(text)}: {WAYS}")
+        self._changed()
+
+    def _of_board(self, number: int, words: List[str]) -> str:
+        row = self.rows.get(number)
+        if row is None:
+            return f"refused: there is no board {number}: {WAYS}"
+        if not words:
+            return f"{number}: {row.standing()[0]}; {row.pairing.device}, {row.paths.capture}"
+        status, answer = row.add(" ".join(words))
+        return f"{number}: {answer}" if status == DONE else f"{number} {answer}"
+
+    # How it ends.
+
+    def hung_up(self) -> None:
+        """HUP: the file is read again; but where the terminal is gone, all ends."""
+        if self._was_terminal and not os.isatty(0):
+            self.end()
+        else:
+            self.say(self.read_again())
+
+    def end(self) -> None:
+        """Ends all boards in order. A second call changes nothing."""
+        if self._ending:
+            return
+        self._ending = True
+        self._left = len(self.rows)
+        for row in list(self.rows.values()):
+            row.end(self._one_ended)
+        if not self.rows:
+            self._loop.after(0, self._loop.stop)
+
+    def _one_ended(self) -> None:
+        self._left -= 1
+        if self._left == 0:
+            self._loop.after(0, self._loop.stop)
+
+    def close(self) -> Tuple[int, List[str]]:
+        """When the loop has stopped: the last round.pgn, and the last lines. A status and complaints."""
+        self._typed.close()
+        complaints = [f"board {number}: {row.trouble}" for number, row in sorted(self.rows.items()) if row.trouble]
+        if self._writes:
+            self._writes.cancel()
+        self._write()
+        if self._written is None or self._pgn_trouble:
+            complaints.append(f"{self.pgn} can't be written ({self._pgn_trouble}): is the disk full?")
+        last = f"dgt_round: what was played is in {self.pgn}"
+        if self._painter:
+            self._draw()
+            self._painter.end([last])
+            self._painter.close()
+        elif self._terminal:
+            self._terminal.line(last)
+            self._terminal.end(2.0)
+        return (FAILED if complaints else DONE), complaints

@@ -1,0 +1,104 @@
+"""What a page shows, as values, and their texts: JSON for the page, PGN for a broadcast."""
+
+from __future__ import annotations
+
+import json
+from dataclasses import dataclass
+from typing import Dict, Iterable, Optional, Sequence, Tuple
+
+
+@dataclass(frozen=True)
+class Ply:
+    """A ply of the game: its SAN, the clock of its player after it, and whether it was told as a correction."""
+
+    san: str
+    clock: str = ""
+    kind: str = "move"  # or "correction"
+
+
+@dataclass(frozen=True)
+class BoardView:
+    """A board and its game.
+
+    `positions` are FENs: of the start and after each ply, as far as they are known. `state` is in words, without a time;
+    `since` is when it began, as `Loop.now` tells it. The clocks are White's and Black's, empty where none is known.
+    """
+
+    number: int
+    name: str
+    white: str = ""
+    black: str = ""
+    result: str = "*"
+    state: str = ""
+    since: Optional[float] = None
+    alarm: bool = False
+    differing: Tuple[str, ...] = ()
+    clocks: Tuple[str, str] = ("", "")
+    moves: Tuple[Ply, ...] = ()
+    positions: Tuple[str, ...] = ()
+    pgn: bytes = b""
+
+
+@dataclass(frozen=True)
+class RoundView:
+    """All boards, in the order in which they are shown. Each has a number of its own."""
+
+    event: str
+    boards: Tuple[BoardView, ...] = ()
+
+
+def pgn_path(number: int) -> str:
+    """Where the PGN of a board's game is fetched."""
+    return f"/{number:02}.pgn"
+
+
+def board_text(board: BoardView, offset: float, before: Optional[BoardView] = None) -> bytes:
+    """A board in JSON. `offset` turns the time of the loop into seconds since 1970.
+
+    With `before`, which the page has, the moves and positions that are the same are left out, and `kept` counts them.
+    """
+    moves = _same(before.moves, board.moves) if before else 0
+    positions = _same(before.positions, board.positions) if before else 0
+    values: Dict[str, object] = {
+        "number": board.number,
+        "name": board.name,
+        "white": board.white,
+        "black": board.black,
+        "result": board.result,
+        "state": board.state,
+        "since": None if board.since is None else round(board.since + offset, 1),
+        "alarm": board.alarm,
+        "differing": board.differing,
+        "clocks": board.clocks,
+        "pgn": pgn_path(board.number),
+        "moves": [{"san": ply.san, "clock": ply.clock, "kind": ply.kind} for ply in board.moves[moves:]],
+        "positions": board.positions[positions:],
+    }
+    if before:
+        values["kept"] = {"moves": moves, "positions": positions}
+    return json_text(values)
+
+
+def json_text(value: object) -> bytes:
+    """JSON in one line of ASCII."""
+    return json.dumps(value, separators=(",", ":")).encode("ascii")
+
+
+def _same(one: Sequence[object], other: Sequence[object]) -> int:
+    """How many of the first ones are the same in both."""
+    count = 0
+    for here, there in zip(one, other):
+        if here != there:
+            break
+        count += 1
+    return count
+
+
+def round_text(event: str, boards: Iterable[bytes]) -> bytes:
+    """The round in JSON, of the texts of its boards."""
+    return b'{"event":' + json_text(event) + b',"boards":[' + b",\n".join(boards) + b"]}\n"
+
+
+def round_pgn(games: Iterable[bytes]) -> bytes:
+    """The games one after the other, with an empty line between them; a board without a game is left out."""
+    return b"".join(game.rstrip(b"\n") + b"\n\n" for game in games if game)

@@ -1,0 +1,221 @@
+"""The page in a browser without a screen: it follows the games, is read by keys alone, and asks nobody else for anything."""
+
+import time
+
+from decided.table import counts, same
+
+from paged.devtools import Shared, browser_path
+from paged.web import MOVES, Site, a_board
+
+SECOND = 1.0  # in which a move must be on the page
+NAME = "</title><img src=x onerror=alert(1)><b>Jörg & \"Ann\" 'O</b>"
+
+
+class Page:
+    """A page in a tab, read as its readers read it."""
+
+    def __init__(self, tab):
+        self.tab = tab
+
+    def text(self, where):
+        return f"(document.querySelector({where!r}) || {{textContent: 'nothing'}}).textContent"
+
+    def reads(self, name, where, expected, seconds=20.0):
+        same(name, self.tab.until(self.text(where), expected, seconds), expected)
+
+    def says(self, name, expression, expected, seconds=20.0):
+        same(name, self.tab.until(expression, expected, seconds), expected)
+
+    def square(self, number, kind, tile=None):
+        """Whether a square of a diagram has this class. a8 is 0."""
+        where = f".tile[href='#{tile}'] i" if tile else "#diagram .square"
+        return f"document.querySelectorAll({where!r})[{number}].classList.contains({kind!r})"
+
+
+def skipped(name):
+    """Whether there is no browser; it is counted and said."""
+    if browser_path() is None:
+        counts["skipped"] = counts.get("skipped", 0) + 1
+        print(f"SKIPPED {name}: there is no browser here; apt-get install chromium")
+    return browser_path() is None
+
+
+def with_page(*boards, **more):
+    """Calls it with a site that shows these boards, in a browser."""
+
+    def takes(case):
+        def table():
+            if skipped(case.__name__):
+                return
+            with Site() as site:
+                site.show(*boards, **more)
+                page = Page(Shared.tab())
+                page.tab.look(1280, 720)
+                page.tab.open(site.url)
+                page.reads("the page is there", "#line", "Live")
+                case(site, page)
+                same("nothing on the console", page.tab.printed(), [])
+                asked = page.tab.requests()
+                same("asked of this machine alone", [url for url in asked if not url.startswith(site.url)], [])
+                same("and all that it needs", {site.url, f"{site.url}page.js", f"{site.url}events"} <= set(asked), True)
+                page.tab.close()
+
+        table.__name__, table.__module__ = case.__name__, case.__module__
+        return table
+
+    return takes
+
+
+@with_page(a_board(1, 2), a_board(2, 0), event=NAME)
+def followed(site, page):
+    tile = ".tile[href='#1'] "
+    page.reads("event", "h1", NAME)
+    page.says("title", "document.title", NAME)
+    page.reads("last move", tile + ".last", "1... e5")
+    page.reads("a board without a move", ".tile[href='#2'] .last", "")
+    begun = time.monotonic()
+    site.show(a_board(1, 3, alarm=True, state="WRONG: e2 a7", differing=["e2", "a7"]))
+    page.reads("a move", tile + ".last", "2. Nf3", SECOND)
+    page.says("its piece", page.square(45, "wN", 1), True, SECOND)
+    page.reads("its clock", tile + ".seat .w + .clock", "1:29:41", SECOND)
+    print(f"  on the page after {1000 * (time.monotonic() - begun):.0f} ms")
+    page.says("where it came from", page.square(62, "from", 1), True)
+    page.says("where it went", page.square(45, "to", 1), True)
+    page.says("a square that differs", [page.square(number, "off", 1) for number in (8,)][0], True)
+    page.says("an alarm", "document.querySelector('.alarm .tile').getAttribute('href')", "#1")
+    page.says("in words", "document.querySelector('.alarm .state').textContent.startsWith('WRONG: e2 a7')", True)
+    page.says("that is read out", "document.getElementById('said').textContent", "Board 1: WRONG: e2 a7")
+    page.reads("and linked", "#alarms", "Look at board 1")
+    page.says("and in the title", "document.title", f"(!) {NAME}")
+    site.show(a_board(1, 2))
+    page.reads("taken back", tile + ".last", "1... e5", SECOND)
+    page.says("no alarm", "document.querySelectorAll('.alarm .tile').length", 0)
+    site.show(a_board(1, 7, result="1/2-1/2", state="result 1/2-1/2"))
+    page.says("castling: from", page.square(60, "from", 1), True, SECOND)
+    page.says("castling: to", page.square(62, "to", 1), True, SECOND)
+    page.reads("a result", tile + ".result", "½–½")
+    page.says("is read out", "document.getElementById('said').textContent", "Board 1: result ½–½")
+    site.show(a_board(3, 1), numbers=[3, 1])
+    order = "[...document.querySelectorAll('.tile')].map((tile) => tile.getAttribute('href')).join()"
+    page.says("other boards, in their order", order, "#3,#1")
+    site.show(a_board(1, 1, white=NAME, black=NAME))
+    page.reads("a name with markup", tile + ".player.w", NAME)
+    page.says("is no markup", "document.querySelectorAll('img, b, script:not([src])').length", 0)
+
+
+@with_page(*[a_board(number, 4) for number in range(1, 10)])
+def by_keys(site, page):
+    at = "document.activeElement.getAttribute('href')"
+    page.says("nine boards", "document.querySelectorAll('.tile').length", 9)
+    page.tab.press("ArrowRight")
+    page.says("an arrow goes to the first board", at, "#1")
+    page.tab.press("ArrowRight", "ArrowRight", "ArrowLeft")
+    page.says("along the row", at, "#2")
+    columns = page.tab.value("getComputedStyle(document.getElementById('boards')).gridTemplateColumns.split(' ').length")
+    page.tab.press("ArrowDown")
+    page.says("a row down", at, f"#{2 + columns}")
+    page.tab.press("ArrowUp", "Home", "End", "Home", "Tab")
+    page.says("Tab too", at, "#2")
+    page.tab.press("Enter")
+    page.reads("Enter opens it", "#title", "Board 2")
+    page.says("it has the focus", "document.activeElement.id", "large")
+    page.says("the others are away", "document.getElementById('boards').hidden", True)
+    page.reads("its last move", "#at", "2... Nc6")
+    pressed = "document.getElementById('live').getAttribute('aria-pressed')"
+    page.says("it is followed", pressed, "true")
+    page.tab.press("ArrowLeft")
+    page.reads("one back", "#at", "2. Nf3 (1 move back)")
+    page.says("its position", page.square(1, "bN"), True)
+    page.says("the move in the list", "document.querySelector('#moves [aria-current]').textContent", "Nf31:29:41")
+    page.reads("White's clock then", "#lower .clock", "1:29:41")
+    page.reads("Black's clock then", "#upper .clock", "1:29:48")
+    site.show(a_board(2, 6))
+    page.reads("it stays there while the game goes on", "#at", "2. Nf3 (3 moves back)")
+    page.tab.press("ArrowLeft", "ArrowLeft", "ArrowRight")
+    page.reads("back and forward", "#at", "1... e5 (4 moves back)")
+    page.tab.press("Home")
+    page.reads("Home", "#at", "the start (6 moves back)")
+    page.says("the start", "document.querySelectorAll('#diagram .from, #diagram .to').length", 0)
+    page.tab.press("ArrowLeft", "ArrowRight")
+    page.reads("not before the start", "#at", "1. e4 (5 moves back)")
+    page.tab.press("End")
+    page.reads("End", "#at", "3... Bc5")
+    page.says("is followed", pressed, "true")
+    site.show(a_board(2, 7))
+    page.reads("the next move", "#at", "4. O-O", SECOND)
+    page.says("is read out", "document.getElementById('said').textContent",
+              "Board 2: 4, White: castles on the king's side, clock 1:29:02")  # fmt: skip
+    page.tab.press("Home", "l")
+    page.reads("L", "#at", "4. O-O")
+    label = "document.querySelector('#diagram').getAttribute('aria-label')"
+    page.says("the board has a name", label, "Board 2, now: 4. O-O")
+    cells = "[...document.querySelectorAll('#diagram .row:nth-child(8) .square')].map((cell) => cell.textContent).join('; ')"
+    row = "a1, white rook; b1, white knight; c1, white bishop; d1, white queen; e1, empty, last move; f1, white rook; "
+    page.says("its squares are read", cells, row + "g1, white king, last move; h1, empty")
+    page.tab.press("t")
+    page.says("T turns it", "document.querySelector('#diagram .square').textContent", "h1, empty")
+    page.reads("White is above then", "#upper .player", "White: White 2")
+    page.tab.press("Escape")
+    page.says("Escape", "document.getElementById('large').hidden", True)
+    page.says("back to where it was", at, "#2")
+    page.says("the address too", "location.hash", "")
+    page.says("moves are a list", "document.querySelectorAll('ol#moves li button').length", len(MOVES))
+
+
+@with_page(a_board(1, 3, black=""))
+def one_board(site, page):
+    page.reads("it is large at once", "#title", "Board 1")
+    page.says("there are no others", "document.getElementById('back').hidden", True)
+    page.tab.press("Escape", "ArrowLeft")
+    page.reads("keys", "#at", "1... e5 (1 move back)")
+    page.tab.value("document.querySelector('#moves button').click()")
+    page.reads("a click on a move", "#at", "1. e4 (2 moves back)")
+    page.tab.value("document.getElementById('live').click()")
+    page.reads("a click on Live", "#at", "2. Nf3")
+    page.reads("without a name", "#upper .player", "Black: Black")
+    corrected = [*MOVES[:2], ["Nc3", "1:29:41", "correction"]]
+    site.show(a_board(1, 3, moves=corrected))
+    page.says("a correction", "document.querySelector('#moves .corrected').getAttribute('aria-label')",
+              "2, White: knight c3, 1:29:41, corrected")  # fmt: skip
+    black = "rnbqkbnr/pppppppp/8/8/8/8/PPPPPPPP/RNBQKBNR b KQkq - 0 12"
+    after = "rnbqkbnr/pppp1ppp/8/4p3/8/8/PPPPPPPP/RNBQKBNR w KQkq - 0 13"
+    site.show(a_board(1, 0, moves=[["e5", ""], ["d4", ""]], positions=[black, after]))
+    page.reads("Black begins, and the last position isn't known yet", "#at", "13. d4")
+    page.says("the one before is shown", page.square(28, "bP"), True)
+    page.says("the list begins with Black", "document.querySelector('#moves li').textContent", "12...e5")
+    for width, height in ((400, 860), (860, 400), (1920, 1080), (320, 600)):
+        page.tab.look(width, height)
+        page.says(f"{width} px: nothing to the side", "document.documentElement.scrollWidth <= innerWidth", True)
+    site.show(a_board(1, 7))
+    page.tab.look(860, 200)
+    page.tab.open(site.url + "#1")
+    page.reads("again, in a low window", "#at", "4. O-O")
+    list_end = "moves.scrollTop + moves.clientHeight >= moves.scrollHeight - 8 && moves.scrollHeight > moves.clientHeight"
+    page.says("the last move is in sight", f"(() => {{ const moves = document.getElementById('moves'); return {list_end}; }})()", True)
+    light = page.tab.value("getComputedStyle(document.documentElement).backgroundColor")
+    page.tab.look(400, 860, dark=True)
+    page.says("dark", f"getComputedStyle(document.documentElement).backgroundColor !== '{light}'", True)
+    page.says("what it is made of has come", "[...performance.getEntriesByType('resource')].some((one) => one.name.endsWith('pieces.svg'))",
+              True)  # fmt: skip
+
+
+def connected_again():
+    """The recorder ends, and another one begins at the same address."""
+    if skipped("connected_again"):
+        return
+    page = Page(Shared.tab())
+    with Site() as site:
+        site.show(a_board(1, 2), a_board(2, 2))
+        page.tab.open(site.url)
+        page.reads("at first", ".tile[href='#1'] .last", "1... e5")
+    page.reads("it has ended", "#line", "No connection to the recorder: trying again")
+    with Site(f"127.0.0.1:{site.address[1]}") as other:
+        other.show(a_board(1, 5), a_board(3, 1), numbers=[1, 3])
+        page.reads("another one", ".tile[href='#1'] .last", "3. Bc4")
+        page.reads("is live", "#line", "Live")
+        page.says("its boards", "document.querySelectorAll('.tile').length", 2)
+        same("no error of the page", [told for told in page.tab.printed() if "exceptionDetails" in told], [])
+    page.tab.close()
+
+
+TABLES = [followed, by_keys, one_board, connected_again]

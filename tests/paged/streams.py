@@ -1,0 +1,126 @@
+"""Server-sent events: their form, what is new in each, and what comes after a connection that was lost."""
+
+import json
+import re
+
+from decided.table import same
+
+from paged.web import Events, Site, a_board
+
+NAME = "</script><img src=x onerror=alert(1)>\n\ndata: x\r\u2028 \"'&"
+EVENT = re.compile(rb"event: (beat|round|board)\n(id: [0-9a-f]{8}-\d+\n)?data: [ -~]+\n\n")
+
+
+def state(site):
+    """What /state.json says, by the boards' numbers."""
+    return {board["number"]: board for board in json.loads(site.get("/state.json")[2])["boards"]}
+
+
+def form():
+    with Site() as site:
+        site.show(a_board(1, 2, white=NAME), a_board(2, 0), event=NAME)
+        site.until("/state.json", lambda content: b"Black 2" in content)
+        with site.line() as line:
+            line.sendall(b"GET /events HTTP/1.1\r\nHost: x\r\n\r\n")
+            came = b""
+            while came.count(b"event: board") < 2 or not came.endswith(b"\n\n"):
+                came += line.recv(65536)
+        head, _, text = came.partition(b"\r\n\r\n")
+        same("status", head.split(b"\r\n")[0], b"HTTP/1.1 200 OK")
+        same("kind", b"\r\nContent-Type: text/event-stream; charset=utf-8" in head, True)
+        same("no length", b"Content-Length" in head, False)
+        same("not kept", b"\r\nCache-Control: no-cache" in head, True)
+        same("when to try again", text.startswith(b"retry: 1000\n"), True)
+        events = text[len(b"retry: 1000\n") :]
+        same("all is events, in printable ASCII", EVENT.sub(b"", events), b"")
+        same("which", [found[0] for found in EVENT.findall(events)], [b"beat", b"round", b"board", b"board"])
+        same("HEAD", site.get("/events", method="HEAD")[2], b"")
+        reader = Events(site)
+        reader.until(lambda: len(reader.boards) == 2)
+        same("a name with markup is the same name", reader.boards[1]["white"], NAME)
+        same("as in /state.json", reader.boards, state(site))
+        reader.close()
+
+
+def news():
+    with Site(PAUSE=0.01) as site:
+        site.show(a_board(1, 5), a_board(2, 0))
+        reader = Events(site)
+        reader.until(lambda: len(reader.boards) == 2)
+        for what, board, kept, new in [
+            ("a move", a_board(1, 6), (5, 6), ["Bc5"]),
+            ("a clock", a_board(1, 6, clocks=["1:00:00", "0:59:00"]), (6, 7), []),
+            ("a correction", a_board(1, 6, moves=a_board(1, 5)["moves"] + [["Be7", "1:29:00", "correction"]]), (5, 7), ["Be7"]),
+            ("a move is taken back", a_board(1, 4), (4, 5), []),
+            ("another game", a_board(1, 1, moves=[["d4"]], positions=["x", "y"]), (0, 0), ["d4"]),
+        ]:
+            site.show(board)
+            events = reader.until(lambda board=board: reader.boards[1]["clocks"] == board["clocks"]
+                and [move["san"] for move in reader.boards[1]["moves"]] == [move[0] for move in board["moves"]])  # fmt: skip
+            boards = [data for kind, data in events if kind == "board"]
+            same(f"{what}: one board", [data["number"] for data in boards], [1])
+            same(f"{what}: what is kept", tuple(boards[-1]["kept"][name] for name in ("moves", "positions")), kept)
+            same(f"{what}: what is new", [move["san"] for move in boards[-1]["moves"]], new)
+            same(f"{what}: together", reader.boards, state(site))
+        site.show(a_board(3, 1), numbers=[3, 1])
+        events = reader.until(lambda: 3 in reader.boards)
+        same("other boards", [data["numbers"] for kind, data in events if kind == "round"], [[3, 1]])
+        reader.close()
+        site.show(numbers=[1, 2, 3])
+        reader = Events(site)
+        reader.until(lambda: len(reader.boards) == 3)
+        same("a board that was gone, and is back", reader.boards, state(site))
+        reader.close()
+
+
+def again():
+    with Site(PAUSE=0.01) as site:
+        site.show(*[a_board(number, number) for number in range(1, 6)])
+        reader = Events(site)
+        reader.until(lambda: len(reader.boards) == 5)
+        last = reader.last
+        reader.close()
+        site.show(a_board(2, 6))
+        site.show(a_board(4, 6))
+        site.until("/state.json", lambda content: content.count(b"Bc5") == 2)
+        again = Events(site, last)
+        again.until(lambda: {2, 4} <= set(again.boards))
+        same("what has changed meanwhile, whole", again.boards, {number: state(site)[number] for number in (2, 4)})
+        site.show(a_board(2, 7))
+        again.until(lambda: len(again.boards[2]["moves"]) == 7)
+        same("and it goes on from there", again.boards[2], state(site)[2])
+        same("nothing else", set(again.boards), {2, 4})
+        known = again.last
+        again.close()
+        for what, identifier in [
+            ("of another call", "00000000-3"),
+            ("from the future", known.split("-")[0] + "-999"),
+            ("of no number", known.split("-")[0] + "-x"),
+            ("of a long number", known.split("-")[0] + "-" + "9" * 1000),
+            ("no sense", "-\u00b2"),
+        ]:
+            reader = Events(site, identifier)
+            reader.until(lambda reader=reader: len(reader.boards) == 5)
+            same(f"a last event {what}: all", reader.boards, state(site))
+            reader.close()
+        with Site() as other:
+            other.show(a_board(1, 1))
+            reader = Events(other, known)
+            reader.until(lambda: 1 in reader.boards)
+            same("a recorder that was started again", reader.boards, state(other))
+            reader.close()
+
+
+def beats():
+    with Site(BEAT=0.05, SWEEP=0.02) as site:
+        reader = Events(site)
+        times = []
+        while len(times) < 4:
+            kind, data = reader.next()
+            if kind == "beat":
+                times.append(data["now"])
+        same("the time goes on", times == sorted(times), True)
+        reader.close()
+
+
+TABLES = [form, news, again, beats]

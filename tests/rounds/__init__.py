@@ -1,0 +1,1 @@
+"""Rounds of boards played against bin/dgt_round, and its pure tables; tests/round plays them."""

@@ -1,0 +1,137 @@
+"""A hall: a file of pairings, its boards, the call that records them, and a reader that reads round.pgn all the time."""
+
+import pathlib
+import re
+import threading
+import time
+from typing import Dict, List, Optional, Sequence, Set
+
+from played import TOP
+from played.boards import Board
+from played.recorder import Live
+from played.stage import a_board, bytes_of, check, movetext, until, until_line
+
+ROUND = TOP / "bin" / "dgt_round"
+GAMES = [
+    ("e2e4 e7e5 g1f3 b8c6 f1b5 a7a6 b5a4 g8f6 e1g1 f8e7", "1. e4 e5 2. Nf3 Nc6 3. Bb5 a6 4. Ba4 Nf6 5. O-O Be7 *"),
+    ("d2d4 d7d5 c2c4 e7e6 b1c3 g8f6", "1. d4 d5 2. c4 e6 3. Nc3 Nf6 *"),
+    ("e2e4 c7c5 g1f3 d7d6 d2d4 c5d4 f3d4 g8f6", "1. e4 c5 2. Nf3 d6 3. d4 cxd4 4. Nxd4 Nf6 *"),
+    ("c2c4 e7e5 b1c3 g8f6 g2g3 d7d5 c4d5 f6d5", "1. c4 e5 2. Nc3 Nf6 3. g3 d5 4. cxd5 Nxd5 *"),
+]
+
+
+def moves(number: int) -> List[str]:
+    """What is played on a board."""
+    return GAMES[number % len(GAMES)][0].split()
+
+
+def text(number: int) -> str:
+    """The movetext of that, without clocks."""
+    return GAMES[number % len(GAMES)][1]
+
+
+def plain(movetext_of_game: str) -> str:
+    """Without clocks, and without the number that stands before a black move after one."""
+    return " ".join(re.sub(r"\d+\.\.\. ", "", re.sub(r"\{[^}]*\} ?", "", movetext_of_game)).split())
+
+
+class Reader:
+    """Reads round.pgn again and again, and keeps each text that it was."""
+
+    def __init__(self, path: pathlib.Path) -> None:
+        self.path = path
+        self.texts: Set[bytes] = set()
+        self._ends = False
+        self._thread = threading.Thread(target=self._read, daemon=True)
+        self._thread.start()
+
+    def _read(self) -> None:
+        while not self._ends:
+            try:
+                self.texts.add(self.path.read_bytes())
+            except FileNotFoundError:
+                pass
+            time.sleep(0.003)
+
+    def end(self, boards: int) -> None:
+        """Each text was whole: so many games, each of which `check` passes."""
+        self._ends = True
+        self._thread.join()
+        assert self.texts, f"nobody saw {self.path}"
+        games: Set[bytes] = set()
+        for text_seen in self.texts:
+            assert len(games_of(text_seen)) <= boards and text_seen.endswith(b"\n"), text_seen
+            games.update(games_of(text_seen))
+        for game in games:
+            assert check(game) is not None, game
+
+
+def games_of(round_text: bytes) -> List[bytes]:
+    """The games of a round.pgn."""
+    parts = re.split(rb"\n\n(?=\[Event )", round_text)
+    return [part.rstrip(b"\n") + b"\n" for part in parts if part.strip()]
+
+
+class Hall:
+    """So many boards and the round that records them."""
+
+    def __init__(self, folder: pathlib.Path, count: int, clocks: Sequence[int] = ()) -> None:
+        self.folder = folder
+        self.file = folder / "round.csv"
+        self.games = folder / "games"
+        self.boards: List[Board] = []
+        self.clocks = clocks
+        self.extra: Dict[int, str] = {}  # what stands behind a line
+        for number in range(1, count + 1):
+            self.boards.append(a_board(folder, device=folder / f"board{number}", seed=number))
+        self.write()
+
+    def line(self, number: int) -> str:
+        return f"{number},{self.folder}/board{number},White {number},Black {number}{self.extra.get(number, '')}"
+
+    def write(self, *more: str, header: str = "board,device,white,black") -> None:
+        lines = [header, *[self.line(number) for number in range(1, len(self.boards) + 1)], *more]
+        self.file.write_text("\n".join(lines) + "\n", encoding="utf-8")
+
+    def record(self, *options: str, **more: object) -> Live:
+        return Live(self.file, self.games, *options, program=ROUND, **more)  # type: ignore[arg-type]
+
+    def name(self, number: int) -> str:
+        return str(self.games / f"{number:02}")
+
+    def begun(self, live: Live) -> None:
+        for number in range(1, len(self.boards) + 1):
+            until_line(live, f"{number:>3}  agrees")
+
+    def text(self, number: int) -> str:
+        return plain(movetext(self.name(number)))
+
+    def until_text(self, number: int, wanted: str) -> None:
+        until(lambda: self.text(number) == wanted, f"{wanted} on board {number}, which has {self.text(number)}", 0.01)
+
+    def play(self, begin: int = 0, end: Optional[int] = None) -> None:
+        """On all boards in turn, a ply each."""
+        longest = max(len(moves(number)) for number in range(len(self.boards)))
+        for ply in range(begin, longest if end is None else end):
+            for number, board in enumerate(self.boards):
+                played = moves(number)
+                if ply < len(played):
+                    if number in self.clocks:
+                        board.clock(5400 - ply, 5400 - ply)
+                    board.play(played[ply])
+            for number in range(len(self.boards)):
+                wanted = min(ply + 1, len(moves(number)))
+                until(
+                    lambda: check(bytes_of(self.name(number + 1) + ".pgn")) == f"moves {wanted}, result *",
+                    f"{wanted} plies on board {number + 1}, which has {self.text(number + 1)}",
+                    0.01,
+                )
+
+    def until_round(self) -> None:
+        """round.pgn has what the games have."""
+
+        def holds() -> bool:
+            games = [bytes_of(self.name(number) + ".pgn").rstrip(b"\n") + b"\n" for number in range(1, len(self.boards) + 1)]
+            return games_of(bytes_of(self.games / "round.pgn")) == games
+
+        until(holds, "all games in round.pgn", 0.02)

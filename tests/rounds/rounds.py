@@ -1,0 +1,291 @@
+"""Rounds that are played."""
+
+import json
+import os
+import pathlib
+import re
+import signal
+import socket
+import urllib.request
+
+from played import words
+from played.stage import bytes_of, check, ended, kill, refuses, same, stop, until, until_line
+from rounds.hall import Hall, Reader, games_of, moves, text
+
+
+def eight_boards(folder: pathlib.Path) -> None:
+    """Eight boards, four with clocks: each game is right, and round.pgn is whole at each moment."""
+    hall = Hall(folder, 8, clocks=(1, 3, 5, 7))
+    live = hall.record("--event", "Club", "--date", "31.05.2024", "--round", "3")
+    reader = Reader(hall.games / "round.pgn")
+    hall.begun(live)
+    hall.play()
+    for number in range(8):
+        hall.until_text(number + 1, text(number))
+    hall.until_round()
+    same(stop(live), 0)
+    hall.until_round()
+    same(len(games_of(bytes_of(hall.games / "round.pgn"))), 8)
+    reader.end(8)
+    game = bytes_of(hall.name(3) + ".pgn").decode()
+    for tag in ('[Event "Club"]', '[Date "2024.05.31"]', '[Round "3"]', '[White "White 3"]', '[Black "Black 3"]'):
+        assert tag in game, game
+    assert "what was played is in" in live.lines()
+
+
+def many_boards(folder: pathlib.Path) -> None:
+    """32 boards in one process: each game is right."""
+    hall = Hall(folder, 32)
+    live = hall.record()
+    hall.begun(live)
+    hall.play(0, 4)
+    hall.until_round()
+    same(stop(live), 0)
+
+
+def troubles(folder: pathlib.Path) -> None:
+    """Devices that aren't there or that two lines name, lines that can't be read: each is told, and other boards record."""
+    hall = Hall(folder, 2)
+    (folder / "file").write_text("no device")
+    (folder / "other").symlink_to(folder / "board1")
+    hall.write(
+        f"3,{folder}/nowhere,A,B",
+        f"4,{folder}/file,A,B",
+        f"5,{folder}/board2,A,B",
+        f"2,{folder}/nothing,A,B",
+        "x,y,z",
+        '6,"a,b,c',
+        f"7,{folder}/seven,\u0416ukov,B",
+        f"8,{folder}/other,A,B",
+        ",,,",
+        "",
+    )
+    live = hall.record()
+    hall.begun(live)
+    for part in (
+        "  3  UNPLUGGED",
+        f"  4  isn't recorded: {folder}/file is no device",
+        f"line 6 of round.csv is wrong: {folder}/board2 is the device of board 2, line 3",
+        "line 7 of round.csv is wrong: board 2 stands in line 3 already",
+        "line 8 of round.csv is wrong: 'x' is no number of a board",
+        "line 9 of round.csv is wrong: a quote isn't closed",
+        "  7  isn't recorded: --white",
+        f"line 11 of round.csv is wrong: {folder}/other is the device of board 1, line 2",
+    ):
+        until_line(live, part)
+    hall.play(0, 4)
+    hall.until_text(1, "1. e4 e5 2. Nf3 Nc6 *")
+    same(check(bytes_of(hall.games / "07.pgn")), None)
+    same(stop(live), 3)  # two boards are not recorded, and it says so last
+    assert "board 4" in live.complaint() and "board 7" in live.complaint(), live.complaint()
+
+
+def typed(folder: pathlib.Path) -> None:
+    """Results and missed moves are typed; each is answered, and nonsense too."""
+    hall = Hall(folder, 3)
+    live = hall.record(typed=True)
+    hall.begun(live)
+    hall.play(0, 2)
+    hall.boards[0].deaf = True
+    live.type("1 Nf3 Nc6")
+    hall.until_text(1, "1. e4 e5 2. Nf3 Nc6 *")
+    until_line(live, "1: added to ")
+    live.type("3 1-0")
+    hall.until_text(3, "1. e4 c5 1-0")
+    until_line(live, "3: added to ")
+    for line, answer in (
+        ("3 0-1", "3 refused"),
+        ("2 Qh5", "2 refused"),
+        ("9 1-0", "there is no board 9"),
+        ("hello", "refused: hello"),
+        ("2", "2: agrees"),
+        ("r", "is read again: 3 boards"),
+    ):
+        live.type(line)
+        until_line(live, answer)
+    hall.boards[1].play("c2c4")
+    hall.until_text(2, "1. d4 d5 2. c4 *")
+    hall.until_round()
+    live.type("q")
+    same(ended(live), 0)
+    same(hall.text(3), "1. e4 c5 1-0")
+
+
+def read_again(folder: pathlib.Path) -> None:
+    """HUP reads the file again: a name put right, another device, a new line, a line that is gone, a result, a file that is empty."""
+    hall = Hall(folder, 3)
+    live = hall.record()
+    hall.begun(live)
+    hall.boards[0].play("e2e4")
+    hall.until_text(1, "1. e4 *")
+    lines = hall.file.read_text().splitlines()
+    hall.file.write_text("")
+    live.send(signal.SIGHUP)
+    until_line(live, "nothing is changed")
+    hall.boards[1].pull()
+    hall.boards[1].device = str(folder / "elsewhere")
+    hall.boards[1].plug()
+    changed = [f"{lines[0]},result", lines[1].replace("White 1", "Anna"), f"2,{folder}/elsewhere,Ben,Black 2"]
+    hall.file.write_text("\n".join([*changed, f"4,{folder}/nowhere,A,B", ""]))
+    live.send(signal.SIGHUP)
+    until_line(live, "is read again: 3 boards")
+    until_line(live, "  1  the game has moves, and keeps what it was begun with")
+    until_line(live, "3: no line names it any more")
+    until_line(live, "  4  UNPLUGGED")
+    until(lambda: b'[White "Ben"]' in bytes_of(hall.name(2) + ".pgn"), "the name of board 2")
+    until(lambda: hall.boards[1].asked_for_updates, "a request on the other device")
+    hall.boards[1].play("d2d4")
+    hall.until_text(2, "1. d4 *")
+    assert b'[White "White 1"]' in bytes_of(hall.name(1) + ".pgn")
+    hall.boards[0].play("e7e5")
+    hall.until_text(1, "1. e4 e5 *")
+    changed[1] += ",1-0"
+    hall.file.write_text("\n".join([*changed, f"4,{folder}/nowhere,A,B", ""]))
+    live.send(signal.SIGHUP)
+    hall.until_text(1, "1. e4 e5 1-0")
+    same(len(games_of(bytes_of(hall.games / "03.pgn"))), 1)
+    same(stop(live), 0)
+
+
+def killed(folder: pathlib.Path) -> None:
+    """All is killed in mid-game, twice, and started again: each game goes on, and dgt_live goes on with one of them."""
+    hall = Hall(folder, 4, clocks=(0, 2))
+    live = hall.record()
+    reader = Reader(hall.games / "round.pgn")
+    hall.begun(live)
+    for ply in (0, 2):
+        hall.play(ply, ply + 2)
+        kill(live)
+        live = hall.record()
+        hall.begun(live)
+    hall.play(4, 6)
+    hall.until_text(2, text(1))
+    hall.until_round()
+    same(stop(live), 0)
+    reader.end(4)
+
+
+def parts_killed(folder: pathlib.Path) -> None:
+    """A child of one board is killed: it is started again, and no board loses a move."""
+    hall = Hall(folder, 3)
+    live = hall.record()
+    hall.begun(live)
+    hall.play(0, 2)
+    live.was_killed = True
+    for child in live.children()[:3]:
+        os.kill(child, signal.SIGKILL)
+    hall.play(2, 6)
+    hall.until_round()
+    same(stop(live), 0)
+
+
+def hall_troubles(folder: pathlib.Path) -> None:
+    """Cut updates on one board, another switched off and on, the cable of a third pulled: each game is right."""
+    hall = Hall(folder, 4)
+    hall.boards[0].spoiled_share = 0.1
+    live = hall.record()
+    hall.begun(live)
+    hall.play(0, 2)
+    hall.boards[1].switch_off()
+    hall.boards[2].pull()
+    until_line(live, "  3  UNPLUGGED")
+    hall.boards[3].play(moves(3)[2])
+    hall.until_text(4, "1. c4 e5 2. Nc3 *")
+    until_line(live, f"  2  {words.SILENT}")
+    hall.boards[1].switch_on()
+    hall.boards[2].plug()
+    until(lambda: all(board.asked_for_updates for board in hall.boards), "a request on each board")
+    for number in range(3):
+        hall.boards[number].play(moves(number)[2])
+    for number, wanted in ((1, "1. e4 e5 2. Nf3 *"), (2, "1. d4 d5 2. c4 *"), (3, "1. e4 c5 2. Nf3 *")):
+        hall.until_text(number, wanted)
+    hall.until_round()
+    same(stop(live), 0)
+
+
+def full_disk(folder: pathlib.Path) -> None:
+    """The disk is full for a while: the rows say so, and what was played meanwhile is written when there is room."""
+    hall = Hall(folder, 2)
+    live = hall.record()
+    hall.begun(live)
+    hall.play(0, 1)
+    live.fill_disk(20)
+    for number, board in enumerate(hall.boards):
+        board.play(moves(number)[1])
+    until_line(live, f"  1  {words.DISK_FULL}")
+    until_line(live, f"  2  {words.DISK_FULL}")
+    live.make_room()
+    hall.until_text(1, "1. e4 e5 *")
+    hall.until_text(2, "1. d4 d5 *")
+    hall.play(2, 4)
+    hall.until_round()
+    same(stop(live), 0)
+
+
+def on_a_terminal(folder: pathlib.Path) -> None:
+    """The table on a terminal of 80 columns: players, last moves, clocks and states, alarms marked; what is typed is answered."""
+    hall = Hall(folder, 3, clocks=(0,))
+    live = hall.record("--event", "Club", terminal=True, environment={"TERM": "xterm"})
+    for part in ("Club", "White        Black", "agrees", "3 boards, no alarm"):
+        until_line(live, part)
+    hall.play(0, 3)
+    until_line(live, "2. Nf3")
+    until_line(live, "1:29:5")
+    hall.boards[1].pull()
+    until_line(live, "!  2 ")
+    until_line(live, "UNPLUGGED")
+    until_line(live, "1 alarm")
+    live.type("3 1-0")
+    until_line(live, "3: added to")
+    until_line(live, "over 1-0")
+    lines = re.split(r"\x1b\[\d+;1H|\x1b8|\r|\n", live.told.read().replace("\x1b[H\x1b[2J", "\n"))
+    same([line for line in lines if len(words.plain(line)) > 79], [])
+    live.type("q")
+    same(ended(live), 0)
+
+
+def page(folder: pathlib.Path) -> None:
+    """The page has the round: its boards, their moves and positions, round.pgn, and the state."""
+    hall = Hall(folder, 2, clocks=(0,))
+    port = free_port()
+    live = hall.record("--event", "Club", "--page", str(port))
+    hall.begun(live)
+    hall.play(0, 3)
+
+    def fetch(path: str) -> bytes:
+        with urllib.request.urlopen(f"http://127.0.0.1:{port}{path}", timeout=30) as answer:
+            return bytes(answer.read())
+
+    def shown() -> bool:
+        boards = json.loads(fetch("/state.json"))["boards"]
+        return [len(board["moves"]) for board in boards] == [3, 3]
+
+    until(shown, "three plies on each board of the page", 0.05)
+    first = json.loads(fetch("/state.json"))["boards"][0]
+    same([ply["san"] for ply in first["moves"]], ["e4", "e5", "Nf3"])
+    same(first["positions"][-1].split()[0], "rnbqkbnr/pppp1ppp/8/4p3/4P3/5N2/PPPP1PPP/RNBQKB1R")
+    same((first["white"], first["black"]), ("White 1", "Black 1"))
+    until(lambda: fetch("/round.pgn") == bytes_of(hall.games / "round.pgn"), "round.pgn on the page", 0.05)
+    same(stop(live), 0)
+
+
+def free_port() -> int:
+    with socket.socket() as found:
+        found.bind(("127.0.0.1", 0))
+        return int(found.getsockname()[1])
+
+
+def refused(folder: pathlib.Path) -> None:
+    """No file, an empty one, one without a header, and a second call for the same folder: a clear word and a status."""
+    hall = Hall(folder, 1)
+    for content, part in ((b"", "is empty"), (b"1,/dev/null,A,B\n", "names no board and device")):
+        hall.file.write_bytes(content)
+        refuses(hall.record(), 1, part)
+    hall.file.unlink()
+    refuses(hall.record(), 3, "there is no")
+    refuses(hall.record("--what"), 2, "there is no option")
+    hall.write()
+    live = hall.record()
+    hall.begun(live)
+    refuses(hall.record(), 1, "another dgt_round")
+    same(stop(live), 0)

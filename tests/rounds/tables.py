@@ -1,0 +1,81 @@
+"""The pure tables of a round: reading the file of pairings, and the rows on the screen. Expected values are worked by hand."""
+
+import pathlib
+
+from live.pairings import Pairing, read_pairings
+from live.refused import Refused
+from live.table import RowView, row, screen
+from played.stage import same
+
+LINE = "1,/dev/ttyUSB0,Jörg,Ben"
+
+
+def separators(_: pathlib.Path) -> None:
+    """Each separator and encoding that spreadsheets save, quotes, empty lines, and columns in another order."""
+    wanted = (Pairing(2, 1, "/dev/ttyUSB0", "Jörg", "Ben"),)
+    header = "board,device,white,black"
+    for separator in ",;\t":
+        for ends in ("\n", "\r\n", "\r"):
+            text = ends.join([header, LINE, ""]).replace(",", separator)
+            for encoding in ("utf-8", "utf-8-sig", "latin-1", "utf-16"):
+                same(read_pairings(text.encode(encoding)).boards, wanted)
+    same(read_pairings("Device;Black;WHITE;board\n\n;;;\na;Ben;\"Bloggs; Jo\";7\n".encode()).boards,
+         (Pairing(4, 7, "a", "Bloggs; Jo", "Ben"),))  # fmt: skip
+    full = "board,device,white,black,rotated,first,fen,name,result\n2,d,A,B,yes,black,8/8 w,my game,1/2\n"
+    same(read_pairings(full.encode()).boards,
+         (Pairing(2, 2, "d", "A", "B", True, "black", "8/8 w", "my game", "1/2-1/2"),))  # fmt: skip
+    same(read_pairings(b"sep=;\nboard;device\n1;d\n").boards, (Pairing(3, 1, "d"),))
+    same(read_pairings(b"board,device,elo\n1,d,2000\n").remarks, ("the column 'elo' isn't known, and isn't used",))
+    same([pairing.board for pairing in read_pairings(b"board,device\n9,a\n10,b\n2,c\n").boards], [2, 9, 10])
+
+
+def wrong_lines(_: pathlib.Path) -> None:
+    """A line that is wrong says why, and stops no other."""
+    header = "board,device,white,black,rotated,first,name,result"
+    for line, board, part in (
+        ("x,d", None, "no number of a board"),
+        ("0,d", None, "no number of a board"),
+        ("1000,d", None, "no number of a board"),
+        (",d", None, "no number of a board"),
+        ("3", 3, "names no device"),
+        ("3,d,A,B,maybe", 3, "rotated is 'maybe'"),
+        ("3,d,A,B,,red", 3, "first is 'red'"),
+        ("3,d,A,B,,,../x", 3, "name is '../x'"),
+        ("3,d,A,B,,,,2-0", 3, "result is '2-0'"),
+        ("3,d,A,B,,,,,more", 3, "it has 9 fields, and the first line has 8"),
+        ('3,d,"A', 3, "a quote isn't closed"),
+        ("3,d,A\x00,B", 3, "can't be seen"),
+        ("1,d", 1, "board 1 stands in line 2 already"),
+        ("3,/dev/a", 3, "/dev/a is the device of board 1, line 2"),
+        ("3,d,A,B,,,01", 3, "01 is the name of the game of board 1"),
+    ):
+        read = read_pairings(f"{header}\n1,/dev/a,A,B\n{line}\n4,/dev/b,C,D\n".encode())
+        same([pairing.board for pairing in read.boards], [1, 4])
+        same([(wrong.line, wrong.board) for wrong in read.wrong], [(3, board)])
+        assert part in read.wrong[0].why, (line, read.wrong)
+
+
+def no_table(_: pathlib.Path) -> None:
+    """What is no table at all is refused with a word."""
+    for content in (b"", b"\n\n", b"1,/dev/a,A,B\n", b"board,white\n", b"board,device,board\n", b"\xff" * 100, b"x" * 2000000):
+        try:
+            read_pairings(content)
+        except Refused as refused:
+            assert refused.lines[0], content[:20]
+        else:
+            raise AssertionError(f"not refused: {content[:20]!r}")
+
+
+def rows(_: pathlib.Path) -> None:
+    """Rows of 80 columns, alarms first where not all fit."""
+    calm = RowView(1, "Anna", "Benjamin Miller", "12... Nxe5+", ("1:12:07", "0:58:11"), "agrees", 100.0)
+    same(row(calm, 140), "   1 Anna         Benjamin M.. 12... Nxe5+   1:12:07 0:58:11  agrees 40s")
+    alarm = RowView(12, "Anna", "Ben", "3. Bb5", ("", ""), "WRONG: e2 d5", 100.0, True)
+    same(row(alarm, 280), "! 12 Anna         Ben          3. Bb5                         WRONG: 3m e2 d5")
+    wrong = RowView(None, state="line 9 is wrong: a quote isn't closed", alarm=True)
+    same(row(wrong, 0), "!  ? line 9 is wrong: a quote isn't closed")
+    shown = screen("10:00:00  Club", [calm] * 30 + [alarm], ["a message"], 280, 24)
+    same(len(shown) < 24, True)
+    assert all(len(line) < 80 for line in shown), shown
+    assert shown[0].endswith("31 boards, 1 alarm") and shown[2].startswith("! 12"), shown
+    same(len(screen("t", [calm] * 8, [], 280, 24)), 2 + 8 + 1 + 3)
