@@ -69,7 +69,7 @@ class Reader:
 def games_of(round_text: bytes) -> List[bytes]:
     """The games of a round.pgn."""
     parts = re.split(rb"\n\n(?=\[Event )", round_text)
-    return [part.rstrip(b"\n") + b"\n" for part in parts if part.strip()]
+    return [part.rstrip(b"\n") + b"\n\n" for part in parts if part.strip()]
 
 
 class Hall:
