@@ -272,7 +272,6 @@ class Round:
             complaints.append(f"{self.pgn} can't be written ({self._pgn_trouble}): is the disk full?")
         last = f"dgt_round: what was played is in {self.pgn}"
         if self._painter:
-            self._draw()
             self._painter.end([last])
             self._painter.close()
         elif self._terminal:

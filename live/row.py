@@ -24,22 +24,36 @@ from live.state import Kind, State
 from live.table import RowView
 from live.terminal import Terminal
 
+UNSAID = ("records ", "added by hand")  # below a table: its rows and the answers show that
 PAUSES = (2.0, 5.0, 10.0, 20.0, 40.0, 60.0)  # seconds between tries to record a board
 
 
 class RowScreen(Screen):
     """What is told of one board: with its number to a pipe, and to whoever looks at its row."""
 
-    def __init__(self, number: int, terminal: Optional[Terminal], changed: Callable[[], None], made: Callable[[], None]) -> None:
+    def __init__(
+        self,
+        number: int,
+        terminal: Optional[Terminal],
+        changed: Callable[[], None],
+        made: Callable[[], None],
+        says: Callable[[str], None],
+    ) -> None:
         super().__init__(terminal)
-        self._number, self._changed, self._made = number, changed, made
+        self._number, self._changed, self._made, self._says = number, changed, made, says
+        self._has_table = terminal is None
+
+    def say(self, text: str, *more: str) -> None:
+        super().say(text, *more)
+        if self._has_table and not text.startswith(UNSAID):
+            self._says(f"{self._number}: {text}")
 
     def _print(self, line: str) -> None:
         super()._print(f"{line[:10]}{self._number:>3}  {line[10:]}")
 
     def told(self, told: Told, is_old: bool) -> None:
         if not is_old:
-            self.say(told.text())
+            super().say(told.text())
         self._changed()
 
     def made(self) -> None:
@@ -88,7 +102,7 @@ class Row:
         self.options = Options()
         self._plies: List[Told] = []
         self._player: Optional[Player] = None
-        self._screen = RowScreen(pairing.board, terminal, changed, self._made)
+        self._screen = RowScreen(pairing.board, terminal, changed, self._made, says)
         self._over = False
         self._tries = 0
         self._again: Optional[Timer] = None

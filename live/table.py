@@ -52,7 +52,10 @@ def row(view: RowView, now: float, width: int = WIDTH) -> str:
     parts += [view.clocks[0].rjust(7)[:7], view.clocks[1].rjust(7)[:7]]
     line = front + " ".join(parts) + "  "
     word, _, rest = view.state.partition(" ")
-    state = f"{word} {lasts}{rest}" if lasts else view.state
+    if lasts:
+        colon = ": " if word.endswith(":") else " "
+        word = word.rstrip(":")
+    state = f"{word} {lasts.strip()}{colon}{rest}".rstrip() if lasts else view.state
     room = width - 1 - len(line) - len(ends)
     return (line + fitted(state, room).rstrip() + ends).rstrip() if ends else (line + fitted(state, room)).rstrip()
 

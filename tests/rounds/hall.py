@@ -131,7 +131,7 @@ class Hall:
         """round.pgn has what the games have."""
 
         def holds() -> bool:
-            games = [bytes_of(self.name(number) + ".pgn").rstrip(b"\n") + b"\n" for number in range(1, len(self.boards) + 1)]
+            games = [bytes_of(self.name(number) + ".pgn") for number in range(1, len(self.boards) + 1)]
             return games_of(bytes_of(self.games / "round.pgn")) == games
 
         until(holds, "all games in round.pgn", 0.02)

@@ -9,6 +9,7 @@ import socket
 import urllib.request
 
 from played import words
+from played.recorder import Live
 from played.stage import bytes_of, check, ended, kill, refuses, same, stop, until, until_line
 from rounds.hall import Hall, Reader, games_of, moves, text
 
@@ -163,6 +164,17 @@ def killed(folder: pathlib.Path) -> None:
     hall.until_round()
     same(stop(live), 0)
     reader.end(4)
+    alone = Live(hall.boards[0].device, hall.name(1))
+    until_line(alone, words.AGREES)
+    hall.boards[0].play(moves(0)[6])
+    hall.until_text(1, "1. e4 e5 2. Nf3 Nc6 3. Bb5 a6 4. Ba4 *")
+    same(stop(alone), 0)
+    live = hall.record()
+    hall.begun(live)
+    hall.boards[0].play(moves(0)[7])
+    hall.until_text(1, "1. e4 e5 2. Nf3 Nc6 3. Bb5 a6 4. Ba4 Nf6 *")
+    hall.until_round()
+    same(stop(live), 0)
 
 
 def parts_killed(folder: pathlib.Path) -> None:
