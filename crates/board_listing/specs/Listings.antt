@@ -101,3 +101,5 @@ pub record ListingEnds (listing : Listing) (status : ℕ) (input input' written 
   pub known : Contains (0 ∷ 1 ∷ 3 ∷ 4 ∷ []) status
   pub bounded : ReadsWithin limit input input'
   pub whole : status ≡ 0 → (reader_failed ≡ false) × (out_failed ≡ false)
+  -- where a read has failed, the lines of all bytes before it stand: they were written before it began
+  pub read : reader_failed ≡ true → (status ≡ 3) × ListsRead listing input input' written written'

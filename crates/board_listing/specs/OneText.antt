@@ -57,3 +57,5 @@ pub record TextEnds (lines : List Timed → List ℕ) (last : ℕ → List ℕ) 
   pub known : Contains (0 ∷ 1 ∷ 3 ∷ 4 ∷ []) status
   pub bounded : ReadsWithin limit input input'
   pub whole : status ≡ 0 → (reader_failed ≡ false) × (out_failed ≡ false)
+  -- where a read has failed, the lines of all bytes before it stand: they were written before it began
+  pub read : reader_failed ≡ true → (status ≡ 3) × WritesRead lines input input' written written'

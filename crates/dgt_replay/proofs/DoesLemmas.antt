@@ -21,7 +21,7 @@ use Rattle.dgt_replay.specs.Messages.{IsTooLong, Says}
 use Rattle.dgt_replay.specs.Played.{RefusesMoves, line_limit}
 use Rattle.dgt_replay.specs.Refusals.{RefusesSetup, RefusesStart}
 use Rattle.dgt_replay.specs.Streams.{Streams}
-use Rattle.dgt_replay.proofs.EndLemmas.{ends_for_memory, none_read}
+use Rattle.dgt_replay.proofs.EndLemmas.{ends_for_memory, none_read, not_both}
 use Rattle.dgt_replay.proofs.MessageLemmas.{tells_alike, tells_memory}
 use Rattle.dgt_replay.proofs.RefusalLemmas.{refuses_alike, refuses_start_alike}
 use Rattle.dgt_replay.proofs.SetupLemmas.{meets_nothing}
@@ -32,9 +32,10 @@ pub record LacksMemory (status : ℕ) (s : Streams) : Type 0 where
   pub four : status ≡ 4
   pub untouched : Untouched s
   pub says : Says s.said s.said' s.err_failed (codes "memory\n")
+  pub reading : s.reader_failed ≡ false
 
-pub lacks_memory : (status : ℕ) (s : Streams) → Keeps s.input s.input' → (status ≡ 4) × Keeps s.written s.written' × Says s.said s.said' s.err_failed (codes "memory\n") → LacksMemory status s
-lacks_memory status s unread ended = record { four = ended.0; untouched = (unread, ended.1); says = ended.2 }
+pub lacks_memory : (status : ℕ) (s : Streams) → Keeps s.input s.input' → s.reader_failed ≡ false → (status ≡ 4) × Keeps s.written s.written' × Says s.said s.said' s.err_failed (codes "memory\n") → LacksMemory status s
+lacks_memory status s unread reading ended = record { four = ended.0; untouched = (unread, ended.1); says = ended.2; reading = reading }
 
 -- Each subcommand may end so.
 pub text_memory : (lines : List Timed → List ℕ) (last : ℕ → List ℕ) (status : ℕ) (s : Streams) → LacksMemory status s → WritesText lines last status s
@@ -49,13 +50,14 @@ text_memory lines last status s lacks =
         known = (3, omega arith, sym four);
         bounded = none_read limit s.input s.input' lacks.untouched.0;
         whole = λ e. absurd (omega arith);
+        read = λ e. not_both s.reader_failed e lacks.reading;
       };
       tells = tells_memory status IsTooLong s.said s.said' s.reader_failed s.out_failed s.err_failed four lacks.says;
     }
 
 pub lists_memory : (listing : Listing) (status : ℕ) (s : Streams) → LacksMemory status s → Lists listing status s
 lists_memory listing status s lacks = record {
-  ends = ends_for_memory listing status s.input s.input' s.written s.written' s.reader_failed s.out_failed lacks.four lacks.untouched.0 lacks.untouched.1;
+  ends = ends_for_memory listing status s.input s.input' s.written s.written' s.reader_failed s.out_failed lacks.four lacks.untouched.0 lacks.untouched.1 lacks.reading;
   tells = tells_memory status IsTooLong s.said s.said' s.reader_failed s.out_failed s.err_failed lacks.four lacks.says;
 }
 
@@ -85,6 +87,7 @@ checks_memory status s lacks =
       bounded = none_read text_limit s.input s.input' lacks.untouched.0;
       fault = λ e. absurd (omega arith);
       unread = λ e. lacks.untouched.1;
+      read = λ e. not_both s.reader_failed e lacks.reading;
       silent = λ e. lacks.untouched.1;
     }
 
@@ -108,6 +111,7 @@ plays_memory start status s lacks =
       tells = tells_memory status (RefusesMoves start s.input s.written s.written') s.said s.said' s.reader_failed s.out_failed s.err_failed four lacks.says;
       fault = λ e. absurd (omega arith);
       unread = λ e. lacks.untouched.1;
+      read = λ e. not_both s.reader_failed e lacks.reading;
       memory = λ e. lacks.untouched.1;
       bounded = none_read line_limit s.input s.input' lacks.untouched.0;
     }

@@ -48,10 +48,15 @@ none_read most None left kept = ([], tt, omega arith)
 none_read most (Some bytes) None kept = absurd kept
 none_read most (Some bytes) (Some more) kept = ([], sym kept, omega arith)
 
+-- No stream has failed and has not.
+pub not_both : {A : Type 0} (failed : Bool) → failed ≡ true → failed ≡ false → A
+not_both failed one other = absurd (let never : ⊥ = cc in never)
+
 pub ends_in_fault : (listing : Listing) (status : ℕ) (input left written after : Option (List ℕ)) (reader_failed out_failed : Bool) → status ≡ 3 → ReadsWithin limit input left
     → ((reader_failed ≡ true) × ListsRead listing input left written after) ⊎ ((out_failed ≡ true) × ListsFront listing input left written after)
+    → (reader_failed ≡ true → ListsRead listing input left written after)
     → ListingEnds listing status input left written after reader_failed out_failed
-ends_in_fault listing status input left written after reader_failed out_failed three within fault = record {
+ends_in_fault listing status input left written after reader_failed out_failed three within fault read = record {
   done = λ e. absurd (omega arith);
   long = λ e. absurd (omega arith);
   fault = λ e. fault;
@@ -59,11 +64,12 @@ ends_in_fault listing status input left written after reader_failed out_failed t
   known = (2, omega arith, sym three);
   bounded = within;
   whole = λ e. absurd (omega arith);
+  read = λ e. (three, read e);
 }
 
 pub ends_for_memory : (listing : Listing) (status : ℕ) (input left written after : Option (List ℕ)) (reader_failed out_failed : Bool) → status ≡ 4
-    → Keeps input left → Keeps written after → ListingEnds listing status input left written after reader_failed out_failed
-ends_for_memory listing status input left written after reader_failed out_failed four read wrote = record {
+    → Keeps input left → Keeps written after → reader_failed ≡ false → ListingEnds listing status input left written after reader_failed out_failed
+ends_for_memory listing status input left written after reader_failed out_failed four read wrote reading = record {
   done = λ e. absurd (omega arith);
   long = λ e. absurd (omega arith);
   fault = λ e. absurd (omega arith);
@@ -71,6 +77,7 @@ ends_for_memory listing status input left written after reader_failed out_failed
   known = (3, omega arith, sym four);
   bounded = none_read limit input left read;
   whole = λ e. absurd (omega arith);
+  read = λ e. not_both reader_failed e reading;
 }
 
 pub ends_done : (listing : Listing) (input left written so_far after : Option (List ℕ)) (reader_failed out_failed : Bool) → ListsAll listing input written so_far → Keeps so_far after → ReadsWithin limit input left
@@ -83,17 +90,21 @@ ends_done listing input left written so_far after reader_failed out_failed all k
   known = (0, omega arith, refl);
   bounded = within;
   whole = λ e. (reading, working);
+  read = λ e. not_both reader_failed e reading;
 }
 
 -- How each refusal ends.
 pub ends_refused : (listing : Listing) (error : ListError) (status : ℕ) (input left written so_far after : Option (List ℕ)) (reader_failed out_failed : Bool) → status ≡ status_of error
     → (error ≡ Read → reader_failed ≡ true) → (error ≡ Write → out_failed ≡ true) → (error ≡ Read → ListsRead listing input left written so_far) → ListsFront listing input left written so_far
-    → (error ≡ TooLong → ListsFirst listing input written so_far) → (error ≡ Memory → ListsRefused listing input left written so_far) → ReadsWithin limit input left → Keeps so_far after → ListingEnds listing status input left written after reader_failed out_failed
-ends_refused listing Read status input left written so_far after reader_failed out_failed is reading working read front long refused within kept =
+    → (error ≡ TooLong → ListsFirst listing input written so_far) → (error ≡ Memory → ListsRefused listing input left written so_far) → ReadsWithin limit input left → Keeps so_far after
+    → (reader_failed ≡ true → error ≡ Read) → ListingEnds listing status input left written after reader_failed out_failed
+ends_refused listing Read status input left written so_far after reader_failed out_failed is reading working read front long refused within kept blamed =
     ends_in_fault listing status input left written after reader_failed out_failed is within (inl (reading refl, read_kept listing input left written so_far after (read refl) kept))
-ends_refused listing Write status input left written so_far after reader_failed out_failed is reading working read front long refused within kept =
+    (λ e. read_kept listing input left written so_far after (read refl) kept)
+ends_refused listing Write status input left written so_far after reader_failed out_failed is reading working read front long refused within kept blamed =
     ends_in_fault listing status input left written after reader_failed out_failed is within (inr (working refl, front_kept listing input left written so_far after front kept))
-ends_refused listing TooLong status input left written so_far after reader_failed out_failed is reading working read front long refused within kept = record {
+    (λ e. absurd (let bad = blamed e in cc))
+ends_refused listing TooLong status input left written so_far after reader_failed out_failed is reading working read front long refused within kept blamed = record {
   done = λ e. absurd (omega arith);
   long = λ e. first_kept listing input written so_far after (long refl) kept;
   fault = λ e. absurd (omega arith);
@@ -101,8 +112,9 @@ ends_refused listing TooLong status input left written so_far after reader_faile
   known = (1, omega arith, sym is);
   bounded = within;
   whole = λ e. absurd (omega arith);
+  read = λ e. absurd (let bad = blamed e in cc);
 }
-ends_refused listing Memory status input left written so_far after reader_failed out_failed is reading working read front long refused within kept = record {
+ends_refused listing Memory status input left written so_far after reader_failed out_failed is reading working read front long refused within kept blamed = record {
   done = λ e. absurd (omega arith);
   long = λ e. absurd (omega arith);
   fault = λ e. absurd (omega arith);
@@ -110,6 +122,7 @@ ends_refused listing Memory status input left written so_far after reader_failed
   known = (3, omega arith, sym is);
   bounded = within;
   whole = λ e. absurd (omega arith);
+  read = λ e. absurd (let bad = blamed e in cc);
 }
 
 pub true_or : (a b : Bool) → b ≡ true → (a || b) ≡ true

@@ -9,3 +9,4 @@ pub mod RefusalLemmas
 pub mod SetupLemmas
 pub mod SubcommandLemmas
 pub mod TextLemmas
+pub mod WrittenLemmas

@@ -6,6 +6,8 @@ use Rattle.std.specs.Io.KnownBytes.{Appends, Keeps}
 use Rattle.dgt_frame.specs.declared.output.WriteFault.{WriteFault}
 use Rattle.board_session.specs.Recording.{AppendsPart}
 use Rattle.dgt_replay.specs.Messages.{GivesText, Says, Tells}
+use Rattle.dgt_replay.specs.declared.input.TextError.{TextError}
+use Rattle.dgt_replay.specs.declared.input.TextError.TheVariants.{Memory, Read, TooLong}
 
 -- What a write says: all, or the first bytes where the stream has failed.
 pub part_put : {T : Type 0} (r : Result T WriteFault) (said said' : Option (List ℕ)) (message : List ℕ) → OnOk r (Appends said said' message)
@@ -92,6 +94,19 @@ tells_alike status May Might said said' reader_failed out_failed err_failed alik
   fault = tells.fault;
   memory = tells.memory;
 }
+
+-- Why a text could not be read is one thing.
+pub memory_no_read : {A B : Type 0} (read : Result B TextError) → read ≡ Err Memory → read ≡ Err Read → A
+memory_no_read read one other = absurd (let bad = sym one ∙ other in cc)
+
+pub long_no_read : {A B : Type 0} (read : Result B TextError) → read ≡ Err TooLong → read ≡ Err Read → A
+long_no_read read one other = absurd (let bad = sym one ∙ other in cc)
+
+-- A read that has failed ends with this status, whatever became of the message.
+pub ends_three : (status : ℕ) (said said' : Option (List ℕ)) (out_failed err_failed : Bool) (message : List ℕ)
+    → ((status ≡ 3) × Says said said' err_failed message) ⊎ ((status ≡ 3) × (out_failed ≡ true) × Says said said' err_failed (codes "write fault\n")) → status ≡ 3
+ends_three status said said' out_failed err_failed message (inl (three, says)) = three
+ends_three status said said' out_failed err_failed message (inr (three, failed, says)) = three
 
 pub never_done : {A : Type 0} (status wanted : ℕ) (said said' : Option (List ℕ)) (out_failed err_failed : Bool) (message : List ℕ) → 0 < wanted
     → ((status ≡ wanted) × Says said said' err_failed message) ⊎ ((status ≡ 3) × (out_failed ≡ true) × Says said said' err_failed (codes "write fault\n")) → status ≡ 0 → A

@@ -151,13 +151,14 @@ pub part_none : (start : Parts) (input written written' : Option (List ℕ)) →
 part_none start input written written' kept = ([], names_none start input, ([], fen_lines start [], refl, appends_none written written' kept))
 
 -- Where nothing was written, and the status isn't 0.
-pub plays_nothing : (start : Parts) (status : ℕ) (s : Streams) → Keeps s.written s.written' → ReadsWithin line_limit s.input s.input' → status ≢ 0
+pub plays_nothing : (start : Parts) (status : ℕ) (s : Streams) → Keeps s.written s.written' → ReadsWithin line_limit s.input s.input' → status ≢ 0 → (s.reader_failed ≡ true → status ≡ 3)
     → Tells status (RefusesMoves start s.input s.written s.written') s.said s.said' s.reader_failed s.out_failed s.err_failed → Plays start status s
-plays_nothing start status s kept within undone tells = record {
+plays_nothing start status s kept within undone read tells = record {
   done = λ e. absurd (undone e);
   tells = tells;
   fault = λ e. part_none start s.input s.written s.written' kept;
   unread = λ e. kept;
+  read = read;
   memory = λ e. kept;
   bounded = within;
 }

@@ -65,6 +65,7 @@ text_ends listing lines last one status input input' written written' reader_fai
   known = ends.known;
   bounded = ends.bounded;
   whole = ends.whole;
+  read = λ e. (let blamed = ends.read e in (blamed.0, read_text listing lines last one input input' written written' blamed.1));
 }
 
 pub events_end : (status : ℕ) (input input' written written' : Option (List ℕ)) (reader_failed out_failed : Bool) → ListingEnds Events status input input' written written' reader_failed out_failed

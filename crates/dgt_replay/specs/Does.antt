@@ -64,6 +64,7 @@ pub record Checks (status : ℕ) (s : Streams) : Type 0 where
   -- a stream has failed: a first part of the line stands, and nothing where it is the reader
   pub fault : status ≡ 3 → ChecksPart s.input s.written s.written'
   pub unread : s.reader_failed ≡ true → Keeps s.written s.written'
+  pub read : s.reader_failed ≡ true → status ≡ 3
   -- nothing was written of a text that is refused, or where memory ran out
   pub silent : (status ≡ 1) ⊎ (status ≡ 4) → Keeps s.written s.written'
 
@@ -87,6 +88,7 @@ pub record Plays (start : Parts) (status : ℕ) (s : Streams) : Type 0 where
   -- a stream has failed: a first part stands, and nothing where it is the reader
   pub fault : status ≡ 3 → PlaysPart start s.input s.written s.written'
   pub unread : s.reader_failed ≡ true → Keeps s.written s.written'
+  pub read : s.reader_failed ≡ true → status ≡ 3
   pub memory : status ≡ 4 → Keeps s.written s.written'
   -- at most one byte past the limit was read
   pub bounded : ReadsWithin line_limit s.input s.input'

@@ -1,5 +1,6 @@
 pub mod Checked
 pub mod Does
+pub mod Laws
 pub mod Messages
 pub mod Played
 pub mod Printed

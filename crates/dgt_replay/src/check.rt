@@ -48,6 +48,7 @@ pub fn check<R: Read, O: Write, E: Write>(
     ensures bounded { ReadsWithin TEXT_LIMIT (R.remaining (inner_of reader.old)) (R.remaining (inner_of reader.new)) }
     ensures fault { result ≡ 3 → ChecksPart (R.remaining (inner_of reader.old)) (O.contents (inner_of out.old)) (O.contents (inner_of out.new)) }
     ensures unread { has_failed reader.new ≡ true → Keeps (O.contents (inner_of out.old)) (O.contents (inner_of out.new)) }
+    ensures blamed { has_failed reader.new ≡ true → result ≡ 3 }
     ensures silent { (result ≡ 1) ⊎ (result ≡ 4) → Keeps (O.contents (inner_of out.old)) (O.contents (inner_of out.new)) }
     ensures works { result ≡ 0 → (has_failed reader.new ≡ false) × ((has_failed out.new ≡ false) × (err.new ≡ err.old)) }
     ensures known { result ≤ 4 }

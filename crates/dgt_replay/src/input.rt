@@ -26,6 +26,7 @@ pub fn read_text<R: Read>(
     ensures bounded { ReadsWithin limit (R.remaining (inner_of reader.old)) (R.remaining (inner_of reader.new)) }
     ensures read { result ≡ Err TextError.Read → has_failed reader.new ≡ true }
     ensures works { OnOk result (has_failed reader.new ≡ false) }
+    ensures blamed { has_failed reader.new ≡ true → result ≡ Err TextError.Read }
     ensures long { result ≡ Err TextError.TooLong → IfSome (R.remaining (inner_of reader.old)) (λ bytes. limit < length bytes) }
 {
     let mut text = Vec::new(alloc);

@@ -3,6 +3,7 @@
 
 mod check;
 mod input;
+pub mod laws;
 mod messages;
 mod moves;
 mod positions;

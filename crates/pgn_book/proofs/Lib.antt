@@ -13,3 +13,4 @@ pub mod Starts
 pub mod TagsRead
 pub mod Turns
 pub mod Sectioned
+pub mod TextSizes

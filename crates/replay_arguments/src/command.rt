@@ -136,7 +136,7 @@ fn follow<'a>(alloc: Global) -> Result<Command<'a>, AllocError>
     let command = named(
         alloc,
         "follow",
-        "Prints what each message of a board on standard input makes of the game, as it comes",
+        "Prints what each message of a board on standard input makes of the game, before it reads more",
     );
     with_board(alloc, Ok(command))
 }

@@ -1,5 +1,5 @@
 -- The candidates after one more entry.
-use Rattle.std.proofs.Common.{◌≡◌, ◌≢◌, ◌↔◌, ℕ, zero, suc, ◌<◌, ◌≤◌, ◌+◌, Bool, true, false, inl, inr, List, [], ◌∷◌, ◌++◌, Option, Some, Contains, length, slice_index_or, refl, sym, ap, subst, ◌∙◌, arith, add-one}
+use Rattle.std.proofs.Common.{◌≡◌, ◌≢◌, ◌↔◌, ℕ, zero, suc, ◌<◌, ◌≤◌, ◌+◌, Bool, true, false, inl, inr, List, [], ◌∷◌, ◌++◌, Option, Some, Result, Ok, Err, OnOk, Contains, length, slice_index_or, refl, sym, ap, subst, ◌∙◌, arith, add-one}
 use Rattle.std.proofs.lemmas.Bool.{cases_Bool, cases_eq}
 use Rattle.std.proofs.lemmas.List.{get_or_default}
 use Rattle.std.proofs.lemmas.List.Elements.{Contains-append_left, Contains-push, Contains-push_cases}
@@ -20,8 +20,13 @@ use Rattle.unseen_pairs.specs.declared.pair.Pair.{Pair}
 use Rattle.unseen_pairs.specs.declared.pair.TwoPlies.{TwoPlies}
 use Rattle.unseen_pairs.specs.declared.confirming.Candidate.{Candidate}
 use Rattle.unseen_pairs.specs.Pairs.{Explains, ExplainsAt, IsAfterTwo, IsInstead, begins, ends, root}
-use Rattle.unseen_pairs.specs.Candidates.{AddedBelow, AgedBelow, AreAdded, AreAged, IsCandidate, IsNew, ListsCandidates, aged}
+use Rattle.unseen_pairs.specs.Candidates.{AddedBelow, AgedBelow, AreAdded, AreAllAdded, AreAged, IsCandidate, IsNew, ListsCandidates, aged}
+use Rattle.unseen_pairs.proofs.Losing.{correcting_loses, other_loses}
 use Rattle.unseen_pairs.proofs.Putting.{settles_own}
+use Rattle.chess_rules.specs.declared.pieces.Side.{Side}
+use Rattle.chess_rules.specs.Board.{other as other_side}
+use Rattle.settle_core.proofs.Boards.{other-other}
+use Rattle.unseen_pairs.specs.Lost.{Loses}
 
 -- the first candidates, and one more
 pub aged_none : (old : List Candidate) → AgedBelow old 0 []
@@ -338,3 +343,56 @@ lists_next start [] waiting entry old kept one two v played waits lists are add 
     subst C (sym (none refl)) (lists_first start waiting entry old kept one lists are add)
 lists_next start (ply ∷ earlier) waiting entry old kept one two v played waits lists are add more none =
     lists_more start ply.mv (moves_of earlier) waiting entry old kept one two v played waits lists are add (more ply earlier refl)
+
+-- Where no piece of the side that is not to move has left its square, no pair explains the picture.
+none_added :
+    (corrects : Bool) (p : Parts) (seen : List ℕ) (reading : Option Reading) (old : List Candidate)
+    → ((m n : Move) → ¬ IsAfterTwo p seen m n) → AreAdded corrects p seen reading old old
+none_added corrects p seen reading old never = record {
+  sound = λ c k. inl k;
+  keeps = λ c k. k;
+  whole = λ x two. absurd (never x.first x.second two);
+}
+
+none_corrects :
+    (start : Parts) (last : Move) (earlier : List Move) (seen : List ℕ) (m n : Move)
+    → Valid start
+    → Played start (last ∷ earlier)
+    → SeenAs start (last ∷ earlier) seen Waits
+    → ¬ Loses (reached start (last ∷ earlier)) seen (other_side (reached start (last ∷ earlier)).side)
+    → ¬ IsAfterTwo (reached start earlier) seen m n
+none_corrects start last earlier seen m n v played waits none two =
+    let p : Parts = reached start earlier in
+    let L : Side → Type 0 = λ (side : Side). ¬ Loses (after p last) seen side in
+    correcting_loses p last m n seen (valid_reached start earlier v played.1) played.0 two
+    (another start last earlier seen m n v played waits two) (subst L (other-other p.side) none)
+
+pub none_left :
+    (start : Parts) (plies : List Ply) (seen : List ℕ) (reading : Option Reading) (old : List Candidate)
+    → Valid start
+    → Played start (moves_of plies)
+    → SeenAs start (moves_of plies) seen Waits
+    → ¬ Loses (reached start (moves_of plies)) seen (other_side (reached start (moves_of plies)).side)
+    → AreAllAdded start plies seen reading old old
+none_left start plies seen reading old v played waits none =
+    let p : Parts = reached start (moves_of plies) in
+    let P : List Ply → Type 0 = λ ps. Played start (moves_of ps) in
+    let S : List Ply → Type 0 = λ ps. SeenAs start (moves_of ps) seen Waits in
+    let N : List Ply → Type 0 = λ ps. ¬ Loses (reached start (moves_of ps)) seen (other_side (reached start (moves_of ps)).side) in
+    record {
+      one = old;
+      next = none_added false p seen reading old (λ m n two. none (other_loses p m n seen (valid_reached start (moves_of plies) v played) two));
+      more = λ ply earlier e.
+          none_added true (reached start (moves_of earlier)) seen reading old
+          (λ m n two. none_corrects start ply.mv (moves_of earlier) seen m n v (subst P e played) (subst S e waits) (subst N e none) two);
+      none = λ e. refl;
+    }
+
+pub all_added :
+    {X E : Type 0} (r : Result X E) (start : Parts) (plies : List Ply) (seen : List ℕ) (reading : Option Reading) (old one new : List Candidate)
+    → AreAdded false (reached start (moves_of plies)) seen reading old one
+    → ((ply : Ply) (earlier : List Ply) → plies ≡ ply ∷ earlier → OnOk r (AreAdded true (reached start (moves_of earlier)) seen reading one new))
+    → (plies ≡ [] → OnOk r (new ≡ one))
+    → OnOk r (AreAllAdded start plies seen reading old new)
+all_added (Ok x) start plies seen reading old one new next more none = record { one = one; next = next; more = more; none = none }
+all_added (Err e) start plies seen reading old one new next more none = tt

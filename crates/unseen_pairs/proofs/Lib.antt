@@ -5,3 +5,5 @@ pub mod Losing
 pub mod Putting
 pub mod Sequels
 pub mod Telling
+pub mod Recovered
+pub mod Coming

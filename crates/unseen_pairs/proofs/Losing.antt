@@ -1,5 +1,5 @@
 -- Two plies take a piece of each side off its square.
-use Rattle.std.proofs.Common.{◌≡◌, ℕ, ◌<◌, inl, inr, List, None, get_or, sym, ap, subst, ◌∙◌}
+use Rattle.std.proofs.Common.{◌≡◌, ◌≢◌, ℕ, ◌<◌, inl, inr, List, None, get_or, sym, ap, subst, ◌∙◌}
 use Rattle.chess_rules.specs.declared.pieces.Side.{Side}
 use Rattle.chess_rules.specs.declared.pieces.Kind.{Kind}
 use Rattle.chess_rules.specs.declared.pieces.Kind.TheVariants.{King}
@@ -10,8 +10,8 @@ use Rattle.chess_rules.specs.After.{after}
 use Rattle.chess_rules.specs.Legal.{Legal}
 use Rattle.chess_rules.specs.Valid.{Valid}
 use Rattle.chess_rules.specs.Picture.{code, code_of_piece, picture}
-use Rattle.chess_rules.proofs.LawLemmas.{moves_move_pieces, moves_stay_valid}
-use Rattle.settle_core.proofs.Boards.{on_board, none_piece, other-other}
+use Rattle.chess_rules.proofs.LawLemmas.{moves_move_pieces, moves_stay_valid, pieces_tell_moves}
+use Rattle.settle_core.proofs.Boards.{on_board, none_piece, other-other, same_unless}
 use Rattle.settle_core.proofs.Pieces.{at_picture, on_shown, code_no_zero, theirs_stood}
 use Rattle.unseen_pairs.specs.Pairs.{IsAfterTwo}
 use Rattle.unseen_pairs.specs.Lost.{Loses}
@@ -90,3 +90,23 @@ other_loses p m n seen v two =
         gone = λ e. code_no_zero (other p.side) g.kind (sym e ∙ empty_from (after p m) n seen w two.second two.shows);
       },
     )
+
+-- Where another move than the last one and a reply explain the picture, a piece of the side of these moves is not where the last
+-- one left it: the pieces of a side tell its move.
+pub correcting_loses :
+    (p : Parts) (last m n : Move) (seen : List ℕ)
+    → Valid p → Legal p last → IsAfterTwo p seen m n → m ≢ last → ¬ ¬ Loses (after p last) seen p.side
+correcting_loses p last m n seen v l two differ none =
+    let w : Valid (after p last) = moves_stay_valid p last v l in
+    let u : Valid (after p m) = moves_stay_valid p m v two.first in
+    let t : Valid (after (after p m) n) = moves_stay_valid (after p m) n u two.second in
+    let O : Side → Kind → ℕ → Type 0 = λ side kind s. on (after p m).board s ≡ piece_of side kind in
+    differ (sym (pieces_tell_moves p last m v l two.first
+    (λ s kind g.
+    let low : s < 64 = rw (← w.squares) (on_board (after p last).board s p.side kind g) in
+    let shown : get_or seen s 0 ≡ code_of_piece p.side kind =
+    same_unless (get_or seen s 0) (code_of_piece p.side kind) (λ ne. none (s, record { low = low; kind = kind; stands = g; gone = ne })) in
+    let q : on (after (after p m) n).board s ≡ piece_of p.side kind = on_shown (after (after p m) n) seen s p.side kind (rw t.squares low) two.shows shown in
+    let S : Side → Type 0 = λ (side : Side). on (after (after p m) n).board s ≡ piece_of side kind in
+    subst (λ (side : Side). O side kind s) (other-other p.side)
+    (theirs_stood (after p m) n s kind u two.second (subst S (sym (other-other p.side)) q)))))

@@ -93,7 +93,7 @@ pair_folds start past before reading corrects m n v f l i k =
     (s, Moved n, one, settles_own (reached start (moves_of s.plies)) n (valid_reached start (moves_of s.plies) v h) k, refl)
 
 -- what goes on from a position is seen over moves that lead to it
-goes_seen : (start : Parts) (moves : List Move) (seen : List ℕ) (a : Seen) → GoesOn (reached start moves) seen a → SeenAs start moves seen a
+pub goes_seen : (start : Parts) (moves : List Move) (seen : List ℕ) (a : Seen) → GoesOn (reached start moves) seen a → SeenAs start moves seen a
 goes_seen start moves seen (Moved m) h = h
 goes_seen start moves seen (Sign outcome) h = h
 goes_seen start moves seen (Replaced m) h = absurd h

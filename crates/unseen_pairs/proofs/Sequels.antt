@@ -1,17 +1,20 @@
 -- What goes on from a position.
-use Rattle.std.proofs.Common.{◌≡◌, ℕ, ◌<◌, ◌≤◌, ◌+◌, inl, inr, List, [], Option, Some, None, Contains, length, slice_index_or, Result, Ok, Err, IfOk, sym, ap, subst, ◌∙◌, arith}
+use Rattle.std.proofs.Common.{◌≡◌, ℕ, ◌<◌, ◌≤◌, ◌+◌, inl, inr, List, [], Option, Some, None, Contains, get_or, length, slice_index_or, Result, Ok, Err, IfOk, sym, ap, subst, ◌∙◌, arith}
 use Rattle.std.proofs.lemmas.Bool.{cases_eq}
 use Rattle.std.specs.declared.alloc.AllocError.{AllocError}
 use Rattle.std.proofs.lemmas.List.{get_or_default}
 use Rattle.chess_rules.specs.declared.parts.Parts.{Parts}
 use Rattle.settle_core.specs.declared.game.Seen.{Seen}
 use Rattle.settle_core.specs.declared.game.Seen.TheVariants.{Same, Moved, Sign, Replaced, Waits}
+use Rattle.chess_rules.specs.declared.chess_move.Move.{Move}
+use Rattle.settle_core.specs.Sign.{InCentre}
+use Rattle.settle_core.specs.Settling.{Settles}
 use Rattle.settle_core.specs.Folding.{Score, SeenAs, moves_of}
 use Rattle.settle_core.specs.Settler.{ReturnsSeen, ReturnsNewSeen}
 use Rattle.unseen_pairs.specs.declared.confirming.Candidate.{Candidate}
 use Rattle.unseen_pairs.specs.declared.confirming.Confirmed.{Confirmed}
 use Rattle.unseen_pairs.specs.Pairs.{GoesOn}
-use Rattle.unseen_pairs.specs.Candidates.{FoundBelow, IsOlder, IsOnlyOne}
+use Rattle.unseen_pairs.specs.Candidates.{FoundBelow, IsOlder, IsOnlyOne, ShowsKing}
 
 new_alone : (p : Parts) (seen : List ℕ) (a : Seen) → ReturnsNewSeen p [] seen a → SeenAs p [] seen a
 new_alone p seen a h =
@@ -37,6 +40,20 @@ waits_none p seen h (Sign outcome) g = h.1 outcome g
 waits_none p seen h (Replaced m) g = g
 waits_none p seen h Waits g = g
 waits_none p seen h Same g = g
+
+-- where White's king does not stand in the centre, the picture is no sign
+no_king : (seen : List ℕ) (s : ℕ) → ¬ ShowsKing seen → InCentre s → get_or seen s 0 ≡ 5 → ⊥
+no_king seen s none (inl (inl e)) h = none (inr (inr (inr (ap (λ n. get_or seen n 0) (sym e) ∙ h))))
+no_king seen s none (inl (inr e)) h = none (inl (ap (λ n. get_or seen n 0) (sym e) ∙ h))
+no_king seen s none (inr (inl e)) h = none (inr (inr (inl (ap (λ n. get_or seen n 0) (sym e) ∙ h))))
+no_king seen s none (inr (inr e)) h = none (inr (inl (ap (λ n. get_or seen n 0) (sym e) ∙ h)))
+
+pub nothing_goes : (p : Parts) (seen : List ℕ) → ¬ ShowsKing seen → ((m : Move) → ¬ Settles p seen m) → (a : Seen) → ¬ GoesOn p seen a
+nothing_goes p seen none never (Moved m) g = never m g
+nothing_goes p seen none never (Sign outcome) g = no_king seen g.white_king none (g.white).centre (g.white).stands
+nothing_goes p seen none never (Replaced m) g = g
+nothing_goes p seen none never Waits g = g
+nothing_goes p seen none never Same g = g
 
 same_age : (a b : ℕ) → a ≡ b → a ≤ b
 same_age a b e = omega arith

@@ -227,7 +227,7 @@ other_told desk candidates start past written entry w none other lists =
     kept_told desk candidates start past written entry w none (subst L (sym next) lists)
 
 -- The pictures that are put in are new.
-valid_root : (corrects : Bool) (start : Parts) (moves : List Move) → Valid start → Played start moves → Valid (reached start (root corrects moves))
+pub valid_root : (corrects : Bool) (start : Parts) (moves : List Move) → Valid start → Played start moves → Valid (reached start (root corrects moves))
 valid_root false start moves v h = valid_reached start moves v h
 valid_root true start [] v h = v
 valid_root true start (last ∷ earlier) v h = valid_reached start earlier v h.1

@@ -1,11 +1,14 @@
 -- The pairs that explain what waits, as they are kept. Private definitions.
-use Rattle.std.specs.Prelude.{◌≡◌, ◌<◌, ◌≤◌, ◌+◌, ◌⊎◌, ℕ, Bool, List, Contains, Option, Some, None, slice_index_or}
+use Rattle.std.specs.Prelude.{◌≡◌, ◌<◌, ◌≤◌, ◌+◌, ◌⊎◌, ℕ, Bool, true, false, List, [], ◌∷◌, Contains, Option, Some, None, slice_index, slice_index_or}
 use Rattle.dgt_frame.specs.declared.time.Reading.{Reading}
 use Rattle.chess_rules.specs.declared.chess_move.Move.{Move}
 use Rattle.chess_rules.specs.declared.parts.Parts.{Parts}
 use Rattle.chess_rules.specs.After.{after}
 use Rattle.settle_core.specs.Entries.{Entry}
+use Rattle.settle_core.specs.declared.game.Ply.{Ply}
 use Rattle.settle_core.specs.declared.game.Seen.{Seen}
+use Rattle.settle_core.specs.Settling.{reached}
+use Rattle.settle_core.specs.Folding.{moves_of}
 use Rattle.unseen_pairs.specs.declared.pair.Pair.{Pair}
 use Rattle.unseen_pairs.specs.declared.pair.TwoPlies.{TwoPlies}
 use Rattle.unseen_pairs.specs.declared.confirming.Candidate.{Candidate}
@@ -86,3 +89,15 @@ pub record AreAdded (corrects : Bool) (p : Parts) (seen : List ℕ) (reading : O
       → Contains old c ⊎ ((x : TwoPlies) × IsAfterTwo p seen x.first x.second × IsNew corrects p reading x c)
   pub keeps : (c : Candidate) → Contains old c → Contains new c
   pub whole : (x : TwoPlies) → IsAfterTwo p seen x.first x.second → (c : Candidate) × Contains new c × IsNew corrects p reading x c
+
+-- Those of all pairs after these plies that explain the picture were put to the others: of those from the position reached, and
+-- of those in which another move takes the place of the last one.
+pub record AreAllAdded (start : Parts) (plies : List Ply) (seen : List ℕ) (reading : Option Reading) (old new : List Candidate) : Type 0 where
+  pub one : List Candidate
+  pub next : AreAdded false (reached start (moves_of plies)) seen reading old one
+  pub more : (ply : Ply) (earlier : List Ply) → plies ≡ ply ∷ earlier → AreAdded true (reached start (moves_of earlier)) seen reading one new
+  pub none : plies ≡ [] → new ≡ one
+
+-- The code of White's king stands in the centre.
+abbrev pub ShowsKing : List ℕ → Type 0
+ShowsKing seen = (slice_index seen 27 ≡ 5) ⊎ (slice_index seen 28 ≡ 5) ⊎ (slice_index seen 35 ≡ 5) ⊎ (slice_index seen 36 ≡ 5)

@@ -3,3 +3,4 @@ pub mod Recovering
 pub mod Lost
 pub mod Candidates
 pub mod Recoverer
+pub mod Laws

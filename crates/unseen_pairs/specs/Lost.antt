@@ -5,8 +5,7 @@ use Rattle.chess_rules.specs.declared.pieces.Kind.{Kind}
 use Rattle.chess_rules.specs.declared.chess_move.Move.{Move}
 use Rattle.chess_rules.specs.declared.parts.Parts.{Parts}
 use Rattle.chess_rules.specs.Board.{on, piece_of}
-use Rattle.chess_rules.specs.Picture.{code_of_piece, picture}
-use Rattle.chess_rules.specs.After.{after}
+use Rattle.chess_rules.specs.Picture.{code_of_piece}
 use Rattle.unseen_pairs.specs.declared.pair.TwoPlies.{TwoPlies}
 use Rattle.unseen_pairs.specs.Pairs.{IsAfterTwo}
 
@@ -30,16 +29,3 @@ pub record AddsPairs (p : Parts) (seen : List ℕ) (m : Move) (old new : List Tw
 pub record ListsPairs (p : Parts) (seen : List ℕ) (moves : List Move) (n : ℕ) (pairs : List TwoPlies) : Type 0 where
   pub sound : (x : TwoPlies) → Contains pairs x → IsAfterTwo p seen x.first x.second
   pub whole : (x : TwoPlies) (k : ℕ) → k < n → slice_index_or moves k x.first ≡ x.first → IsAfterTwo p seen x.first x.second → Contains pairs x
-
--- So are those of the first n replies as a second ply.
-pub record AddsReplies (p : Parts) (seen : List ℕ) (m : Move) (replies : List Move) (n : ℕ) (old new : List TwoPlies) : Type 0 where
-  pub sound : (x : TwoPlies) → Contains new x → Contains old x ⊎ ((x.first ≡ m) × IsAfterTwo p seen x.first x.second)
-  pub keeps : (x : TwoPlies) → Contains old x → Contains new x
-  pub whole : (x : TwoPlies) (k : ℕ) → k < n → slice_index_or replies k x.second ≡ x.second → x.first ≡ m
-      → IsAfterTwo p seen x.first x.second → Contains new x
-
--- So is the one with this second ply, if it is one.
-pub record AddsReply (middle : Parts) (seen : List ℕ) (m n : Move) (old new : List TwoPlies) : Type 0 where
-  pub sound : (x : TwoPlies) → Contains new x → Contains old x ⊎ ((x.first ≡ m) × (x.second ≡ n) × (seen ≡ picture (after middle n)))
-  pub keeps : (x : TwoPlies) → Contains old x → Contains new x
-  pub whole : (x : TwoPlies) → x.first ≡ m → x.second ≡ n → seen ≡ picture (after middle n) → Contains new x

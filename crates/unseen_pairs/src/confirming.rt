@@ -5,9 +5,10 @@ ghost use Rattle.settle_core.specs.declared.game.Seen.{Seen as SeenOf};
 ghost use Rattle.settle_core.specs.Folding.{SeenAs};
 ghost use Rattle.unseen_pairs.specs.Pairs.{GoesOn};
 ghost use Rattle.unseen_pairs.specs.declared.confirming.Confirmed.{Confirmed as ConfirmedOf};
-ghost use Rattle.unseen_pairs.specs.Candidates.{IsOlder, IsOnlyOne};
+ghost use Rattle.unseen_pairs.specs.Candidates.{IsOlder, IsOnlyOne, ShowsKing};
 
 use crate::pair::Pair;
+use crate::settled::settled_in;
 use chess_rules::Position;
 use dgt_frame::Reading;
 use settle_core::{Seen, Settler};
@@ -59,14 +60,27 @@ fn going_on(seen: Seen) -> Option<Seen>
     }
 }
 
+/// Whether the code of White's king stands in the centre: a sign has it there.
+fn shows_king(picture: &[u8; 64]) -> bool
+    ensures { IsTrue result ↔ ShowsKing picture.now }
+{
+    picture[27] == 5 || picture[28] == 5 || picture[35] == 5 || picture[36] == 5
+}
+
 /// What goes on from the position, if anything: the move that the picture settles there, or the sign over it.
 fn sequel(alloc: Global, p: &Position, picture: &[u8; 64]) -> Result<Option<Seen>, AllocError>
     requires { All (λ code. code < 16) picture.now }
     ensures some { IfOk result (λ found. IfSome found (GoesOn p.now picture.now)) }
     ensures none { IfOk result (λ found. IfNone found ((a : SeenOf) → ¬ GoesOn p.now picture.now a)) }
 {
-    let seen = shown_alone(alloc, p, picture)?;
-    Ok(going_on(seen))
+    if shows_king(picture) {
+        let seen = shown_alone(alloc, p, picture)?;
+        return Ok(going_on(seen));
+    }
+    match settled_in(p, picture) {
+        Some(m) => Ok(Some(Seen::Moved(m))),
+        None => Ok(None),
+    }
 }
 
 fn is_same(a: &Pair, b: &Pair) -> bool

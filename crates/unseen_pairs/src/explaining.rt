@@ -8,9 +8,10 @@ ghost use Rattle.chess_rules.specs.Picture.{picture};
 ghost use Rattle.chess_rules.specs.Legal.{Legal};
 ghost use Rattle.unseen_pairs.specs.declared.pair.TwoPlies.{TwoPlies as TwoPliesOf};
 ghost use Rattle.unseen_pairs.specs.Pairs.{IsAfterTwo};
-ghost use Rattle.unseen_pairs.specs.Lost.{Loses, LosesAt, AddsPairs, AddsReply};
+ghost use Rattle.unseen_pairs.specs.Lost.{Loses, LosesAt, AddsPairs};
 
 use crate::pair::TwoPlies;
+use crate::settled::settled_in;
 use chess_rules::{Move, Position, Side, kind_on};
 use std::alloc::{AllocError, Global};
 
@@ -38,10 +39,13 @@ fn loses_at(p: &Position, before: &[u8; 64], seen: &[u8; 64], side: Side, square
 {
     // The position is valid.
     let parts = p.parts();
-    let Some(_) = kind_on(&parts.board, side, square) else {
+    if before[square as usize] == seen[square as usize] {
         return false;
-    };
-    before[square as usize] != seen[square as usize]
+    }
+    match kind_on(&parts.board, side, square) {
+        Some(_) => true,
+        None => false,
+    }
 }
 
 /// Whether the picture shows something else where a piece of this side stands.
@@ -78,44 +82,8 @@ fn stays(before: &[u8; 64], seen: &[u8; 64], m: &Move) -> bool
     before[from] == seen[from]
 }
 
-/// Adds the pair where the second ply gives the picture.
-fn push_reply(
-    pairs: &mut Vec<TwoPlies>,
-    middle: &Position,
-    before: &[u8; 64],
-    seen: &[u8; 64],
-    first: &Move,
-    second: &Move,
-) -> Result<(), AllocError>
-    requires second { Legal middle.now second.now }
-    requires before { before.now ≡ picture middle.now }
-    ensures { OnOk result (AddsReply middle.now seen.now first.now second.now pairs.old.items pairs.new.items) }
-{
-    if stays(before, seen, second) {
-        // The position is valid.
-        middle.parts();
-        return Ok(());
-    }
-    let after = middle.play(copy(second)).picture();
-    if is_same(&after, seen) {
-        pairs.push(TwoPlies {
-            first: copy(first),
-            second: copy(second),
-        })?;
-    }
-    Ok(())
-}
-
-/// Whether two pictures are one.
-fn is_same(a: &[u8; 64], b: &[u8; 64]) -> bool
-    ensures { IsTrue result ↔ (a.now ≡ b.now) }
-{
-    *a == *b
-}
-
-/// Adds the pairs with this first ply that explain the picture.
-fn push_pairs_with(
-    alloc: Global,
+/// Adds the pair with this first ply that explains the picture, if any: its second ply is the one that the picture settles.
+fn push_pair_with(
     pairs: &mut Vec<TwoPlies>,
     p: &Position,
     before: &[u8; 64],
@@ -126,18 +94,29 @@ fn push_pairs_with(
     requires before { before.now ≡ picture p.now }
     ensures { OnOk result (AddsPairs p.now seen.now first.now pairs.old.items pairs.new.items) }
 {
+    // The position is valid.
+    p.parts();
     if stays(before, seen, first) {
-        // The position is valid.
-        p.parts();
         return Ok(());
     }
     let middle = p.play(copy(first));
-    let between = middle.picture();
-    let replies = middle.legal_moves(alloc)?;
-    for reply in replies.as_slice() {
-        push_reply(pairs, &middle, &between, seen, first, reply)?;
-    }
+    let Some(second) = settled_in(&middle, seen) else {
+        return Ok(());
+    };
+    pairs.push(TwoPlies {
+        first: copy(first),
+        second,
+    })?;
     Ok(())
+}
+
+/// Whether the side that is not to move has left a square: without that, no pair explains the picture, and none that corrects the
+/// last ply.
+pub fn theirs_left(p: &Position, seen: &[u8; 64]) -> bool
+    ensures { IsTrue result ↔ Loses p.now seen.now (other_side p.now.side) }
+{
+    let before = p.picture();
+    loses(p, &before, seen, other(p.parts().side))
 }
 
 /// The pairs of plies that give the picture from this position.
@@ -155,7 +134,7 @@ pub fn pairs_that_explain(
     let before = p.picture();
     let moves = p.legal_moves(alloc)?;
     for first in moves.as_slice() {
-        push_pairs_with(alloc, &mut pairs, p, &before, seen, first)?;
+        push_pair_with(&mut pairs, p, &before, seen, first)?;
     }
     Ok(pairs)
 }

@@ -3,8 +3,10 @@
 
 mod confirming;
 mod explaining;
+pub mod laws;
 mod pair;
 mod recoverer;
+mod settled;
 mod waiting;
 
 pub use pair::{Pair, Recovery, Told};

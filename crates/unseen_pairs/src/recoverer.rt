@@ -8,7 +8,7 @@ ghost use Rattle.unseen_pairs.specs.Recoverer.{HasTold, IsWaiting, ReturnsTold, 
 
 use crate::confirming::{Candidate, Confirmed, only_one};
 use crate::pair::{Recovery, Told};
-use crate::waiting::{add_correcting, add_pairs, all_aged, copy};
+use crate::waiting::{add_all, all_aged, copy};
 use chess_rules::Position;
 use dgt_frame::Reading;
 use settle_core::{Seen, Settler};
@@ -145,15 +145,7 @@ impl Recoverer {
         // The start is valid.
         self.settler.start().parts();
         let mut candidates = all_aged(alloc, &self.candidates)?;
-        add_pairs(
-            alloc,
-            &mut candidates,
-            false,
-            self.settler.position(),
-            picture,
-            clock,
-        )?;
-        add_correcting(alloc, &mut candidates, &self.settler, picture, clock)?;
+        add_all(alloc, &mut candidates, &self.settler, picture, clock)?;
         self.candidates = candidates;
         Ok(())
     }

@@ -3,12 +3,13 @@ ghost use Rattle.std.specs.Prelude.{◌≡◌, ◌<◌, ◌∷◌, [], true, Lis
 ghost use Rattle.chess_rules.specs.After.{after};
 ghost use Rattle.chess_rules.specs.Legal.{Legal};
 ghost use Rattle.settle_core.specs.declared.game.Ply.{Ply as PlyOf};
-ghost use Rattle.settle_core.specs.Folding.{moves_of};
-ghost use Rattle.settle_core.specs.Settling.{reached};
-ghost use Rattle.unseen_pairs.specs.Candidates.{AreAdded, AreAged, IsNew};
+ghost use Rattle.settle_core.specs.declared.game.Seen.{Seen as SeenOf};
+ghost use Rattle.settle_core.specs.Folding.{SeenAs, moves_of};
+ghost use Rattle.settle_core.specs.Settling.{Played, reached};
+ghost use Rattle.unseen_pairs.specs.Candidates.{AreAdded, AreAllAdded, AreAged, IsNew};
 
 use crate::confirming::Candidate;
-use crate::explaining::pairs_that_explain;
+use crate::explaining::{pairs_that_explain, theirs_left};
 use crate::pair::{Pair, TwoPlies};
 use chess_rules::{Move, Position};
 use dgt_frame::Reading;
@@ -72,7 +73,7 @@ fn candidate_of(
 }
 
 /// Adds the pairs from a position that explain the picture.
-pub fn add_pairs(
+fn add_pairs(
     alloc: Global,
     candidates: &mut Vec<Candidate>,
     corrects: bool,
@@ -90,7 +91,7 @@ pub fn add_pairs(
 }
 
 /// Adds those from the position before the settler's last ply.
-pub fn add_correcting(
+fn add_correcting(
     alloc: Global,
     candidates: &mut Vec<Candidate>,
     settler: &Settler,
@@ -105,4 +106,33 @@ pub fn add_correcting(
         return Ok(());
     };
     add_pairs(alloc, candidates, true, &before, picture, reading)
+}
+
+/// Adds all pairs that explain a picture which waits: those from the settler's position, and those from the position before its
+/// last ply.
+pub fn add_all(
+    alloc: Global,
+    candidates: &mut Vec<Candidate>,
+    settler: &Settler,
+    picture: &[u8; 64],
+    reading: &Option<Reading>,
+) -> Result<(), AllocError>
+    ensures { Played settler.now.start (moves_of settler.now.score.plies)
+        → SeenAs settler.now.start (moves_of settler.now.score.plies) picture.now SeenOf.Waits
+        → OnOk result (AreAllAdded settler.now.start settler.now.score.plies picture.now reading.now candidates.old.items candidates.new.items) }
+{
+    // The start is valid.
+    settler.start().parts();
+    if !theirs_left(settler.position(), picture) {
+        return Ok(());
+    }
+    add_pairs(
+        alloc,
+        candidates,
+        false,
+        settler.position(),
+        picture,
+        reading,
+    )?;
+    add_correcting(alloc, candidates, settler, picture, reading)
 }

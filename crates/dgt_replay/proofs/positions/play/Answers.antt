@@ -3,7 +3,7 @@ use Rattle.std.specs.Prelude.{IfSome}
 use Rattle.dgt_frame.specs.Watch.{inner_of, has_failed}
 use Rattle.dgt_replay.specs.Messages.{Tells}
 use Rattle.dgt_replay.specs.Played.{RefusesMoves}
-use Rattle.dgt_replay.proofs.MessageLemmas.{never_done, tells_alike, tells_fault, tells_memory, tells_or_fault, tells_refused}
+use Rattle.dgt_replay.proofs.MessageLemmas.{ends_three, long_no_read, memory_no_read, never_done, tells_alike, tells_fault, tells_memory, tells_or_fault, tells_refused}
 use Rattle.dgt_replay.proofs.PlayedLemmas.{all_at, part_at, plays_nothing, refuses_at}
 use Rattle.dgt_replay.proofs.positions.play.Goals as goal
 
@@ -24,6 +24,7 @@ returns-in-Ok-clause-plays g c =
           (λ message refuses. refuses_at start input written after text whole message refuses) c.play_text.ensures.tells);
       fault = λ e. part_at start input written after text whole (c.play_text.ensures.fault e);
       unread = λ e. (let bad : true ≡ false = sym e ∙ works in cc);
+      read = λ e. (let bad : true ≡ false = sym e ∙ works in cc);
       memory = c.play_text.ensures.memory;
       bounded = c.in-Ok.ensures.bounded;
     }
@@ -34,6 +35,7 @@ returns-in-Err-Memory-clause-plays g c =
     let input = g.R.Read.remaining (inner_of c.args.reader.now) in
     let May = RefusesMoves c.args.start input (g.O.Write.contents (inner_of c.args.out.now)) (g.O.Write.contents (inner_of c.refused_run.new.out)) in
     plays_nothing c.args.start c.refused_run.result _ c.refused_run.ensures.kept c.read_text.ensures.bounded (λ zero. never_done c.refused_run.result 4 _ _ _ _ _ (omega arith) ended zero)
+    (λ e. memory_no_read c.read_text.result (search rules) (c.read_text.ensures.blamed e))
     (tells_or_fault c.refused_run.result 4 May _ _ _ _ _ _ ended (λ four says. tells_memory c.refused_run.result May _ _ _ _ _ four says))
 
 pub returns-in-Err-Read-clause-plays : goal.returns-in-Err-Read-clause-plays
@@ -44,6 +46,7 @@ returns-in-Err-Read-clause-plays g c =
     let May = RefusesMoves c.args.start input (g.O.Write.contents (inner_of c.args.out.now)) (g.O.Write.contents (inner_of c.refused_run-in-Err-Read.new.out)) in
     plays_nothing c.args.start c.refused_run-in-Err-Read.result _ c.refused_run-in-Err-Read.ensures.kept c.read_text.ensures.bounded
     (λ zero. never_done c.refused_run-in-Err-Read.result 3 _ _ _ _ _ (omega arith) ended zero)
+    (λ e. ends_three c.refused_run-in-Err-Read.result _ _ _ _ _ ended)
     (tells_or_fault c.refused_run-in-Err-Read.result 3 May _ _ _ _ _ _ ended (λ three says. tells_fault c.refused_run-in-Err-Read.result May _ _ _ _ _ three (inl (failed, says))))
 
 pub returns-in-Err-TooLong-clause-plays : goal.returns-in-Err-TooLong-clause-plays
@@ -55,5 +58,6 @@ returns-in-Err-TooLong-clause-plays g c =
     let May = RefusesMoves c.args.start input (g.O.Write.contents (inner_of c.args.out.now)) (g.O.Write.contents (inner_of c.refused_run-in-Err-TooLong.new.out)) in
     plays_nothing c.args.start c.refused_run-in-Err-TooLong.result _ kept c.read_text.ensures.bounded
     (λ zero. never_done c.refused_run-in-Err-TooLong.result 1 _ _ _ _ _ (omega arith) ended zero)
+    (λ e. long_no_read c.read_text.result (search rules) (c.read_text.ensures.blamed e))
     (tells_or_fault c.refused_run-in-Err-TooLong.result 1 May _ _ _ _ _ _ ended
     (λ one says. tells_refused c.refused_run-in-Err-TooLong.result May _ _ _ _ _ (codes "input: too long\n") one (inl (long, kept, refl)) says))

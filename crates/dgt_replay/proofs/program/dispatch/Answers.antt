@@ -17,7 +17,7 @@ returns-in-Follow-clause-does g c = rw c.in-Follow.is (c.follow.ensures.lists, c
 pub returns-in-Check-clause-does : goal.returns-in-Check-clause-does
 returns-in-Check-clause-does g c =
     let ends = c.check.ensures in
-    rw c.in-Check.is (record { done = ends.passes; tells = ends.tells; bounded = ends.bounded; fault = ends.fault; unread = ends.unread; silent = ends.silent })
+    rw c.in-Check.is (record { done = ends.passes; tells = ends.tells; bounded = ends.bounded; fault = ends.fault; unread = ends.unread; read = ends.blamed; silent = ends.silent })
 
 pub returns-in-Moves-clause-does : goal.returns-in-Moves-clause-does
 returns-in-Moves-clause-does g c =

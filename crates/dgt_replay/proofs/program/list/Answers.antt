@@ -2,7 +2,7 @@ use Rattle.std.proofs.Common.{arith, ◌≡◌, ◌||◌, rules, Err, inr, sym, 
 use Rattle.std.specs.Prelude.{is_err}
 use Rattle.dgt_frame.specs.Watch.{inner_of, has_failed}
 use Rattle.board_listing.specs.declared.stream.ListError.TheVariants.{Read, Write}
-use Rattle.dgt_replay.proofs.EndLemmas.{ends_done, ends_in_fault, ends_refused, front_kept, refused_not_done, tells_refused_listing, true_or}
+use Rattle.dgt_replay.proofs.EndLemmas.{ends_done, ends_in_fault, ends_refused, front_kept, read_kept, refused_not_done, tells_refused_listing, true_or}
 use Rattle.dgt_replay.proofs.program.list.Goals as goal
 use Rattle.dgt_replay.proofs.program.list.Goals.{then-failed-via-then-failed, then-failed-via-else-failed+then-is_err}
 
@@ -20,6 +20,12 @@ returns-then-failed-clause-lists g c =
         rw w.out-is (w.flush.ensures.failed ∙ true_or _ _ (sym w.is_err.ensures.value ∙ w.if-is_err.true)),
         rw w.out-is (front_kept c.args.listing input left written so_far (g.O.Write.contents (inner_of w.flush.new.self)) c.list_stream-done.ensures.front w.flush.ensures.bytes),
       )
+    ])
+    (λ e.
+    let read = c.list_stream-done.ensures.read (c.list_stream-done.ensures.reader_blamed e).0 in
+    elim c.then-failed.branch [
+      | then-failed-via-then-failed w ↦ rw w.out-is read
+      | then-failed-via-else-failed+then-is_err w ↦ rw w.out-is (read_kept c.args.listing input left written so_far (g.O.Write.contents (inner_of w.flush.new.self)) read w.flush.ensures.bytes)
     ]) in
     record { ends = ended; tells = search rules }
 
@@ -34,7 +40,8 @@ returns-in-Err-clause-lists g c =
       ends = ends_refused c.args.listing c.in-Err.error c.refused-in-Err.result (g.R.Read.remaining (inner_of c.args.reader.now)) (g.R.Read.remaining (inner_of c.list_stream-done.new.reader))
           (g.O.Write.contents (inner_of c.args.out.now)) (g.O.Write.contents (inner_of c.list_stream-done.new.out)) (g.O.Write.contents (inner_of c.flush.new.self))
           (has_failed c.list_stream-done.new.reader) (has_failed c.flush.new.self) status reading working (λ e. done.read (is ∙ ap Err e)) done.front (λ e. done.long (is ∙ ap Err e))
-          (λ e. done.memory (is ∙ ap Err e)) done.bounded c.flush.ensures.bytes;
+          (λ e. done.memory (is ∙ ap Err e)) done.bounded c.flush.ensures.bytes
+          (λ e. (let same = sym is ∙ (done.reader_blamed e).0 in cc));
       tells = tells_refused_listing c.in-Err.error c.refused-in-Err.result _ _ _ _ _ _ status c.line.ensures c.refused-in-Err.ensures.says reading working;
     }
 

@@ -18,7 +18,7 @@ use Rattle.dgt_replay.proofs.program.run.Goals as goal
 pub returns-in-Err-clause-show : goal.returns-in-Err-clause-show
 returns-in-Err-clause-show g c is =
     let arguments = map string_bytes c.args.arguments.now in
-    text_memory event_lines rest_line _ _ (lacks_memory _ _ (Keeps-refl (g.R.Read.remaining (inner_of c.args.reader.now))) (c.refused_arguments.ensures.memory (or_refused c.in-Err.ensures.refused (show_unrefused arguments (c.without_options.ensures.shows arguments is)))))
+    text_memory event_lines rest_line _ _ (lacks_memory _ _ (Keeps-refl (g.R.Read.remaining (inner_of c.args.reader.now))) c.requires.reading (c.refused_arguments.ensures.memory (or_refused c.in-Err.ensures.refused (show_unrefused arguments (c.without_options.ensures.shows arguments is)))))
 
 pub returns-in-Ok-clause-show : goal.returns-in-Ok-clause-show
 returns-in-Ok-clause-show g c is =
@@ -28,7 +28,7 @@ returns-in-Ok-clause-show g c is =
 pub returns-in-Err-clause-pictures : goal.returns-in-Err-clause-pictures
 returns-in-Err-clause-pictures g c rotated is =
     let arguments = map string_bytes c.args.arguments.now in
-    text_memory (picture_lines rotated) no_line _ _ (lacks_memory _ _ (Keeps-refl (g.R.Read.remaining (inner_of c.args.reader.now))) (c.refused_arguments.ensures.memory (or_refused c.in-Err.ensures.refused (pictures_unrefused rotated arguments (c.without_options.ensures.pictures rotated arguments is)))))
+    text_memory (picture_lines rotated) no_line _ _ (lacks_memory _ _ (Keeps-refl (g.R.Read.remaining (inner_of c.args.reader.now))) c.requires.reading (c.refused_arguments.ensures.memory (or_refused c.in-Err.ensures.refused (pictures_unrefused rotated arguments (c.without_options.ensures.pictures rotated arguments is)))))
 
 pub returns-in-Ok-clause-pictures : goal.returns-in-Ok-clause-pictures
 returns-in-Ok-clause-pictures g c rotated is =
@@ -38,7 +38,7 @@ returns-in-Ok-clause-pictures g c rotated is =
 pub returns-in-Err-clause-record_is : goal.returns-in-Err-clause-record_is
 returns-in-Err-clause-record_is g c setup asks =
     let arguments = map string_bytes c.args.arguments.now in
-    records_memory setup _ _ (lacks_memory _ _ (Keeps-refl (g.R.Read.remaining (inner_of c.args.reader.now))) (c.refused_arguments.ensures.memory (or_refused c.in-Err.ensures.refused (record_unrefused arguments setup asks))))
+    records_memory setup _ _ (lacks_memory _ _ (Keeps-refl (g.R.Read.remaining (inner_of c.args.reader.now))) c.requires.reading (c.refused_arguments.ensures.memory (or_refused c.in-Err.ensures.refused (record_unrefused arguments setup asks))))
 
 pub returns-in-Ok-clause-record_is : goal.returns-in-Ok-clause-record_is
 returns-in-Ok-clause-record_is g c setup asks =
@@ -48,7 +48,7 @@ returns-in-Ok-clause-record_is g c setup asks =
 pub returns-in-Err-clause-record_refuses : goal.returns-in-Err-clause-record_refuses
 returns-in-Err-clause-record_refuses g c rows asks nothing =
     let arguments = map string_bytes c.args.arguments.now in
-    refuses_memory (RefusesSetup (first_of (codes "fen") rows) (λ tag. first_of (option_of tag) rows)) _ _ (lacks_memory _ _ (Keeps-refl (g.R.Read.remaining (inner_of c.args.reader.now))) (c.refused_arguments.ensures.memory (or_refused c.in-Err.ensures.refused (unrefused arguments (codes "record") rows asks))))
+    refuses_memory (RefusesSetup (first_of (codes "fen") rows) (λ tag. first_of (option_of tag) rows)) _ _ (lacks_memory _ _ (Keeps-refl (g.R.Read.remaining (inner_of c.args.reader.now))) c.requires.reading (c.refused_arguments.ensures.memory (or_refused c.in-Err.ensures.refused (unrefused arguments (codes "record") rows asks))))
 
 pub returns-in-Ok-clause-record_refuses : goal.returns-in-Ok-clause-record_refuses
 returns-in-Ok-clause-record_refuses g c rows asks nothing =
@@ -58,7 +58,7 @@ returns-in-Ok-clause-record_refuses g c rows asks nothing =
 pub returns-in-Err-clause-follow : goal.returns-in-Err-clause-follow
 returns-in-Err-clause-follow g c setting asks =
     let arguments = map string_bytes c.args.arguments.now in
-    lists_memory (Game setting.start setting.first setting.rotated) _ _ (lacks_memory _ _ (Keeps-refl (g.R.Read.remaining (inner_of c.args.reader.now))) (c.refused_arguments.ensures.memory (or_refused c.in-Err.ensures.refused (follow_unrefused arguments setting asks))))
+    lists_memory (Game setting.start setting.first setting.rotated) _ _ (lacks_memory _ _ (Keeps-refl (g.R.Read.remaining (inner_of c.args.reader.now))) c.requires.reading (c.refused_arguments.ensures.memory (or_refused c.in-Err.ensures.refused (follow_unrefused arguments setting asks))))
 
 pub returns-in-Ok-clause-follow : goal.returns-in-Ok-clause-follow
 returns-in-Ok-clause-follow g c setting asks =
@@ -68,7 +68,7 @@ returns-in-Ok-clause-follow g c setting asks =
 pub returns-in-Err-clause-follow_refuses : goal.returns-in-Err-clause-follow_refuses
 returns-in-Err-clause-follow_refuses g c rows asks none =
     let arguments = map string_bytes c.args.arguments.now in
-    refuses_memory (RefusesStart (first_of (codes "fen") rows)) _ _ (lacks_memory _ _ (Keeps-refl (g.R.Read.remaining (inner_of c.args.reader.now))) (c.refused_arguments.ensures.memory (or_refused c.in-Err.ensures.refused (unrefused arguments (codes "follow") rows asks))))
+    refuses_memory (RefusesStart (first_of (codes "fen") rows)) _ _ (lacks_memory _ _ (Keeps-refl (g.R.Read.remaining (inner_of c.args.reader.now))) c.requires.reading (c.refused_arguments.ensures.memory (or_refused c.in-Err.ensures.refused (unrefused arguments (codes "follow") rows asks))))
 
 pub returns-in-Ok-clause-follow_refuses : goal.returns-in-Ok-clause-follow_refuses
 returns-in-Ok-clause-follow_refuses g c rows asks none =
@@ -78,7 +78,7 @@ returns-in-Ok-clause-follow_refuses g c rows asks none =
 pub returns-in-Err-clause-check : goal.returns-in-Err-clause-check
 returns-in-Err-clause-check g c is =
     let arguments = map string_bytes c.args.arguments.now in
-    checks_memory _ _ (lacks_memory _ _ (Keeps-refl (g.R.Read.remaining (inner_of c.args.reader.now))) (c.refused_arguments.ensures.memory (or_refused c.in-Err.ensures.refused (check_unrefused arguments (c.without_options.ensures.checks arguments is)))))
+    checks_memory _ _ (lacks_memory _ _ (Keeps-refl (g.R.Read.remaining (inner_of c.args.reader.now))) c.requires.reading (c.refused_arguments.ensures.memory (or_refused c.in-Err.ensures.refused (check_unrefused arguments (c.without_options.ensures.checks arguments is)))))
 
 pub returns-in-Ok-clause-check : goal.returns-in-Ok-clause-check
 returns-in-Ok-clause-check g c is =
@@ -88,7 +88,7 @@ returns-in-Ok-clause-check g c is =
 pub returns-in-Err-clause-moves : goal.returns-in-Err-clause-moves
 returns-in-Err-clause-moves g c rows asks =
     let arguments = map string_bytes c.args.arguments.now in
-    prints_memory (first_of (codes "fen") rows) _ _ (lacks_memory _ _ (Keeps-refl (g.R.Read.remaining (inner_of c.args.reader.now))) (c.refused_arguments.ensures.memory (or_refused c.in-Err.ensures.refused (unrefused arguments (codes "moves") rows asks))))
+    prints_memory (first_of (codes "fen") rows) _ _ (lacks_memory _ _ (Keeps-refl (g.R.Read.remaining (inner_of c.args.reader.now))) c.requires.reading (c.refused_arguments.ensures.memory (or_refused c.in-Err.ensures.refused (unrefused arguments (codes "moves") rows asks))))
 
 pub returns-in-Ok-clause-moves : goal.returns-in-Ok-clause-moves
 returns-in-Ok-clause-moves g c rows asks =
@@ -103,7 +103,7 @@ returns-in-Ok-clause-moves_unread g c rows asks =
 pub returns-in-Err-clause-positions : goal.returns-in-Err-clause-positions
 returns-in-Err-clause-positions g c rows asks start starts =
     let arguments = map string_bytes c.args.arguments.now in
-    plays_memory start _ _ (lacks_memory _ _ (Keeps-refl (g.R.Read.remaining (inner_of c.args.reader.now))) (c.refused_arguments.ensures.memory (or_refused c.in-Err.ensures.refused (unrefused arguments (codes "positions") rows asks))))
+    plays_memory start _ _ (lacks_memory _ _ (Keeps-refl (g.R.Read.remaining (inner_of c.args.reader.now))) c.requires.reading (c.refused_arguments.ensures.memory (or_refused c.in-Err.ensures.refused (unrefused arguments (codes "positions") rows asks))))
 
 pub returns-in-Ok-clause-positions : goal.returns-in-Ok-clause-positions
 returns-in-Ok-clause-positions g c rows asks start starts =
@@ -113,7 +113,7 @@ returns-in-Ok-clause-positions g c rows asks start starts =
 pub returns-in-Err-clause-positions_refuses : goal.returns-in-Err-clause-positions_refuses
 returns-in-Err-clause-positions_refuses g c rows asks none =
     let arguments = map string_bytes c.args.arguments.now in
-    refuses_memory (RefusesStart (first_of (codes "fen") rows)) _ _ (lacks_memory _ _ (Keeps-refl (g.R.Read.remaining (inner_of c.args.reader.now))) (c.refused_arguments.ensures.memory (or_refused c.in-Err.ensures.refused (unrefused arguments (codes "positions") rows asks))))
+    refuses_memory (RefusesStart (first_of (codes "fen") rows)) _ _ (lacks_memory _ _ (Keeps-refl (g.R.Read.remaining (inner_of c.args.reader.now))) c.requires.reading (c.refused_arguments.ensures.memory (or_refused c.in-Err.ensures.refused (unrefused arguments (codes "positions") rows asks))))
 
 pub returns-in-Ok-clause-positions_refuses : goal.returns-in-Ok-clause-positions_refuses
 returns-in-Ok-clause-positions_refuses g c rows asks none =

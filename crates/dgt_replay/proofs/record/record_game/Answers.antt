@@ -22,6 +22,7 @@ returns-in-Err-clause-records g c setup meets =
       four = c.refused_setup.ensures.memory memory;
       untouched = (Keeps-refl (g.R.Read.remaining (inner_of c.args.reader.now)), Keeps-refl (g.O.Write.contents (inner_of c.args.out.now)));
       says = says_memory c.in-Err.refusal _ _ _ memory c.refused_setup.ensures.says;
+      reading = c.requires.reading;
     })
 
 pub returns-in-Err-clause-refuses : goal.returns-in-Err-clause-refuses

@@ -4,16 +4,16 @@ use Rattle.chess_rules.specs.Moves.{ListsLegal}
 use Rattle.unseen_pairs.proofs.Adding.{lists_more, lists_all, legal_at}
 use Rattle.unseen_pairs.proofs.explaining.pairs_that_explain.Goals as goal
 
-pub push_pairs_with-requires-clause-first : goal.push_pairs_with-requires-clause-first
-push_pairs_with-requires-clause-first c =
+pub push_pair_with-requires-clause-first : goal.push_pair_with-requires-clause-first
+push_pair_with-requires-clause-first c =
     let L : List Move → Type 0 = λ xs. ListsLegal c.args.p.now xs in
     legal_at c.args.p.now c.as_slice-first-items.result.now c.loop-first.first-index c.first-item.result
     (subst L (sym c.as_slice-first-items.ensures.value) c.in_ok-moves.ensures.listed) c.loop-first-test.true c.first-item.is
 
 pub loop-first-preserved : goal.loop-first-preserved
 loop-first-preserved c =
-    lists_more c.args.p.now c.args.seen.now c.first-item.result c.as_slice-first-items.result.now c.loop-first.first-index c.loop-first.pairs.items c.push_pairs_with.new.pairs.items
-    c.loop-first-test.true c.first-item.is c.loop-first.invariant c.in_ok-push_pairs_with.ensures
+    lists_more c.args.p.now c.args.seen.now c.first-item.result c.as_slice-first-items.result.now c.loop-first.first-index c.loop-first.pairs.items c.push_pair_with.new.pairs.items
+    c.loop-first-test.true c.first-item.is c.loop-first.invariant c.in_ok-push_pair_with.ensures
 
 same_end : (i n : ℕ) → i ≤ n → n ≤ i → i ≡ n
 same_end i n a b = omega arith

@@ -1,16 +1,16 @@
-use Rattle.std.proofs.Common.{◌≡◌, ◌≢◌, ◌∷◌, true, false, List, sym, ap, subst, ◌∙◌}
+use Rattle.std.proofs.Common.{◌≡◌, ◌≢◌, List, sym, ap, subst, ◌∙◌}
 use Rattle.std.proofs.lemmas.Bool.{both_ways}
 use Rattle.chess_rules.specs.declared.parts.Parts.{Parts}
 use Rattle.chess_rules.specs.Valid.{Valid}
 use Rattle.chess_rules.specs.Picture.{picture}
-use Rattle.settle_core.specs.declared.game.Ply.{Ply}
 use Rattle.settle_core.specs.Entries.{Entry, deduplicated, entry_of}
 use Rattle.settle_core.proofs.Once.{folds_played}
-use Rattle.settle_core.specs.Settling.{reached}
-use Rattle.settle_core.specs.Folding.{moves_of}
+use Rattle.settle_core.specs.declared.game.Seen.TheVariants.{Waits}
+use Rattle.settle_core.specs.Settling.{Played, reached}
+use Rattle.settle_core.specs.Folding.{SeenAs, moves_of}
 use Rattle.unseen_pairs.specs.declared.confirming.Candidate.{Candidate}
 use Rattle.unseen_pairs.specs.declared.confirming.Confirmed.{Confirmed}
-use Rattle.unseen_pairs.specs.Candidates.{AreAdded, AreAged, IsOnlyOne}
+use Rattle.unseen_pairs.specs.Candidates.{AreAllAdded, AreAged, IsOnlyOne}
 use Rattle.unseen_pairs.specs.Recoverer.{Desk, IsWaiting}
 use Rattle.unseen_pairs.proofs.Aging.{lists_next}
 use Rattle.unseen_pairs.proofs.Telling.{own_told, other_told}
@@ -46,14 +46,12 @@ returns c = λ start past written w none.
     c.picture.ensures.shown ∙ ap picture c.position.ensures.reached ∙ ap (λ (p : Parts). picture (reached p (moves_of plies))) start_is in
     let other : seen ≢ picture (reached start (moves_of plies)) = λ e. both_ways _ c.if-is_same.false (s.1 (e ∙ sym shown)) in
     let aged : AreAged old.candidates c.in_ok-candidates.candidates.items = subst (λ (cs : List Candidate). AreAged cs c.in_ok-candidates.candidates.items) c.deref.ensures.value c.in_ok-candidates.ensures in
-    let A : Parts → Type 0 = λ (p : Parts). AreAdded false p seen c.args.clock.now c.in_ok-candidates.candidates.items c.add_pairs.new.candidates.items in
-    let added : A (reached start (moves_of plies)) =
-    subst A (c.position-2.ensures.reached ∙ ap (λ (p : Parts). reached p (moves_of plies)) start_is) c.in_ok-add_pairs.ensures in
-    let last : (ply : Ply) (earlier : List Ply) → plies ≡ ply ∷ earlier
-    → AreAdded true (reached start (moves_of earlier)) seen c.args.clock.now c.add_pairs.new.candidates.items c.add_correcting.new.candidates.items =
-    λ ply earlier e. subst (λ (p : Parts). AreAdded true (reached p (moves_of earlier)) seen c.args.clock.now c.add_pairs.new.candidates.items c.add_correcting.new.candidates.items) start_is
-    (c.in_ok-add_correcting.ensures.last ply earlier e) in
     let played = folds_played start (deduplicated written) old.settler.score here.folded in
-    other_told old c.add_correcting.new.candidates.items start past written entry here both.1 other
-    (lists_next start plies here.waiting entry old.candidates c.in_ok-candidates.candidates.items c.add_pairs.new.candidates.items c.add_correcting.new.candidates.items
-    valid played here.waits here.candidates aged added last c.in_ok-add_correcting.ensures.none)
+    let P : Parts → Type 0 = λ (p : Parts). Played p (moves_of plies) in
+    let S : Parts → Type 0 = λ (p : Parts). SeenAs p (moves_of plies) seen Waits in
+    let A : Parts → Type 0 = λ (p : Parts). AreAllAdded p plies seen c.args.clock.now c.in_ok-candidates.candidates.items c.add_all.new.candidates.items in
+    let all : AreAllAdded start plies seen c.args.clock.now c.in_ok-candidates.candidates.items c.add_all.new.candidates.items =
+    subst A start_is (c.in_ok-add_all.ensures (subst P (sym start_is) played) (subst S (sym start_is) here.waits)) in
+    other_told old c.add_all.new.candidates.items start past written entry here both.1 other
+    (lists_next start plies here.waiting entry old.candidates c.in_ok-candidates.candidates.items all.one c.add_all.new.candidates.items
+    valid played here.waits here.candidates aged all.next all.more all.none)

@@ -1,0 +1,2 @@
+pub mod PutIn
+pub mod Laws

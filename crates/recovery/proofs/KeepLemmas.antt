@@ -1,0 +1,181 @@
+-- What a keeper makes of an event.
+use Rattle.std.proofs.Common.{inl, inr, ◌≡◌, ℕ, Bool, true, false, List, [], ◌∷◌, length, Option, Some, None, Result, Ok, Err, IfOk, refl, sym, ap, subst, arith, ◌∙◌}
+use Rattle.std.specs.Str.{bytes_eq}
+use Rattle.std.proofs.lemmas.Bool.{cases_Bool}
+use Rattle.std.proofs.lemmas.Slice.Eq.{bytes_eq-Decides}
+use Rattle.dgt_frame.specs.declared.events.Event.{Event}
+use Rattle.dgt_frame.specs.declared.First.{First}
+use Rattle.dgt_frame.specs.declared.Reading.{Reading}
+use Rattle.dgt_frame.specs.declared.time.First.TheVariants.{White}
+use Rattle.chess_rules.specs.declared.parts.Parts.{Parts}
+use Rattle.chess_rules.specs.Legal.{Legal}
+use Rattle.settle_core.specs.declared.game.Seen.TheVariants.{Same}
+use Rattle.settle_core.specs.Entries.{Entry, entry_of, last_picture, repeats}
+use Rattle.settle_core.specs.Settler.{StandsFor}
+use Rattle.unseen_pairs.specs.declared.pair.Recovery.{Recovery}
+use Rattle.unseen_pairs.specs.Recoverer.{Desk, StandsForRecovered}
+use Rattle.board_session.specs.Entries.{entries, entry_at, is_entry}
+use Rattle.board_session.specs.History.{picture_of, reading_at}
+use Rattle.board_session.specs.Pictures.{IsLast, pictures}
+use Rattle.board_session.specs.Settings.{Setting}
+use Rattle.board_session.specs.Session.{entries_in}
+use Rattle.board_session.specs.View.{Views}
+use Rattle.recovery.specs.declared.keeper.Keeper.{Keeper}
+use Rattle.recovery.specs.Keeping.{KeepsNext, RecoversAt, Sees}
+
+no_longer : {A : Type 0} (xs : List A) (x : A) → xs ≡ x ∷ xs → ⊥
+no_longer xs x same = omega (arith, ap length same)
+
+-- readings play no part in which picture is the last
+last_alike : (first : First) (rotated : Bool) (past : List Event) → last_picture (entries first rotated past) ≡ last_picture (entries White rotated past)
+last_alike first rotated [] = refl
+last_alike first rotated (event ∷ past) = elim (cases_Bool (is_entry event past)) [
+  | inl entered ↦ rw entered refl
+  | inr other ↦ rw other (last_alike first rotated past)
+]
+
+repeats_by : (seen : List ℕ) (a b : List Entry) → last_picture a ≡ last_picture b → repeats seen a ≡ repeats seen b
+repeats_by seen [] [] same = refl
+repeats_by seen [] (y ∷ b) same = absurd (let n : ⊥ = cc in n)
+repeats_by seen (x ∷ a) [] same = absurd (let n : ⊥ = cc in n)
+repeats_by seen (x ∷ a) (y ∷ b) same = let alike : x.picture ≡ y.picture = cc in ap (bytes_eq seen) alike
+
+repeats_alike : (seen : List ℕ) (first : First) (rotated : Bool) (past : List Event)
+    → repeats seen (entries first rotated past) ≡ repeats seen (entries White rotated past)
+repeats_alike seen first rotated past = repeats_by seen (entries first rotated past) (entries White rotated past) (last_alike first rotated past)
+
+-- An entry adds a picture unless it repeats the last one.
+pictures_more : (rotated : Bool) (past : List Event) (event : Event) → is_entry event past ≡ true
+    → repeats (picture_of rotated (event ∷ past)) (entries White rotated past) ≡ false
+    → pictures rotated (event ∷ past) ≡ picture_of rotated (event ∷ past) ∷ pictures rotated past
+pictures_more rotated past event entered new = rw (entered, new) refl
+
+pictures_same : (rotated : Bool) (past : List Event) (event : Event) → is_entry event past ≡ true
+    → repeats (picture_of rotated (event ∷ past)) (entries White rotated past) ≡ true
+    → pictures rotated (event ∷ past) ≡ pictures rotated past
+pictures_same rotated past event entered again = rw (entered, again) refl
+
+pictures_none : (rotated : Bool) (past : List Event) (event : Event) → is_entry event past ≡ false
+    → pictures rotated (event ∷ past) ≡ pictures rotated past
+pictures_none rotated past event other = rw other refl
+
+-- Where no picture was added, an entry repeats the last one.
+pub repeats_here : (first : First) (rotated : Bool) (past : List Event) (event : Event) → pictures rotated (event ∷ past) ≡ pictures rotated past
+    → is_entry event past ≡ true → repeats (picture_of rotated (event ∷ past)) (entries first rotated past) ≡ true
+repeats_here first rotated past event same entered =
+    let seen = picture_of rotated (event ∷ past) in
+    elim (cases_Bool (repeats seen (entries White rotated past))) [
+      | inl again ↦ repeats_alike seen first rotated past ∙ again
+      | inr new ↦ absurd (no_longer (pictures rotated past) seen (sym same ∙ pictures_more rotated past event entered new))
+    ]
+
+-- Where a picture was added, it is that of an entry.
+pub entry_here : (rotated : Bool) (past : List Event) (event : Event) (picture : List ℕ)
+    → pictures rotated (event ∷ past) ≡ picture ∷ pictures rotated past
+    → (is_entry event past ≡ true) × (picture ≡ picture_of rotated (event ∷ past))
+entry_here rotated past event picture more = elim (cases_Bool (is_entry event past)) [
+  | inl entered ↦
+      let seen = picture_of rotated (event ∷ past) in
+      elim (cases_Bool (repeats seen (entries White rotated past))) [
+        | inl again ↦ absurd (no_longer (pictures rotated past) picture (sym (pictures_same rotated past event entered again) ∙ more))
+        | inr new ↦ (entered, let both : picture ∷ pictures rotated past ≡ seen ∷ pictures rotated past = sym more ∙ pictures_more rotated past event entered new in cc)
+      ]
+  | inr other ↦ absurd (no_longer (pictures rotated past) picture (sym (pictures_none rotated past event other) ∙ more))
+]
+
+-- The entries with one more that repeats the last picture.
+again_settles : (desk : Desk) (start : _) (past written : List Entry) (entry : Entry) → last_picture written ≡ last_picture past
+    → repeats entry.picture past ≡ true → StandsFor desk.settler start written → StandsFor desk.settler start (entry ∷ written)
+again_settles desk start past [] entry last again stands = absurd (let n : repeats entry.picture [] ≡ true = repeats_by entry.picture [] past last ∙ again in cc)
+again_settles desk start past (before ∷ written) entry last again stands =
+    let here : repeats entry.picture (before ∷ written) ≡ true = repeats_by entry.picture (before ∷ written) past last ∙ again in
+    let d = bytes_eq-Decides entry.picture before.picture in record {
+      start_is = stands.start_is;
+      last = stands.last ∙ ap Some (sym (d.0 here));
+      folds = rw here stands.folds;
+    }
+
+pub once_more : (desk : Desk) (start : _) (past written : List Entry) (entry : Entry) → StandsForRecovered desk start past written
+    → repeats entry.picture past ≡ true → StandsForRecovered desk start (entry ∷ past) (entry ∷ written)
+once_more desk start past written entry stands again = record {
+  settles = again_settles desk start past written entry stands.last again stands.settles;
+  last = refl;
+  waiting = stands.waiting;
+  folds = rw again stands.folds;
+  candidates = stands.candidates;
+}
+
+-- An event at which the picture stays.
+pub kept_same : (new : Keeper) (setting : Setting) (past : List Event) (event : Event) (written : List Entry)
+    → Views new.view setting.rotated (event ∷ past) → new.reading ≡ reading_at setting.first (event ∷ past) → new.first ≡ setting.first → new.rotated ≡ setting.rotated
+    → StandsForRecovered new.recoverer setting.start (entries_in setting past) written
+    → pictures setting.rotated (event ∷ past) ≡ pictures setting.rotated past
+    → KeepsNext new setting past event None written
+kept_same new setting past event written views reading first rotated stands same = elim (cases_Bool (is_entry event past)) [
+  | inl entered ↦
+      let entry : Entry = entry_at setting.first setting.rotated (event ∷ past) in
+      let again = repeats_here setting.first setting.rotated past event same entered in
+      record {
+        keeps = record { view = views; reading = reading; first = first; rotated = rotated; recoverer = rw entered (once_more new.recoverer setting.start (entries_in setting past) written entry stands again) };
+        finds = λ e. (Same, again);
+      }
+  | inr other ↦ record {
+    keeps = record { view = views; reading = reading; first = first; rotated = rotated; recoverer = rw other stands };
+    finds = λ e. absurd (let n : ⊥ = cc in n);
+  }
+]
+
+kept_now : (new : Keeper) (setting : Setting) (past : List Event) (event : Event) (written : List Entry) (found : Option Recovery)
+    → Views new.view setting.rotated (event ∷ past) → new.reading ≡ reading_at setting.first (event ∷ past) → new.first ≡ setting.first → new.rotated ≡ setting.rotated
+    → is_entry event past ≡ true
+    → Sees new setting (entries_in setting past) written (entry_at setting.first setting.rotated (event ∷ past)) found
+    → KeepsNext new setting past event found written
+kept_now new setting past event written None views reading first rotated entered sees = record {
+  keeps = record { view = views; reading = reading; first = first; rotated = rotated; recoverer = rw entered sees.1 };
+  finds = λ e. (sees.0, sees.2);
+}
+kept_now new setting past event written (Some r) views reading first rotated entered sees = record {
+  keeps = record { view = views; reading = reading; first = first; rotated = rotated; recoverer = rw entered sees.0 };
+  finds = (entered, sees.1);
+}
+
+-- An event that shows another picture.
+pub kept_seen : (new : Keeper) (setting : Setting) (past : List Event) (event : Event) (picture : List ℕ) (written : List Entry) (found : Option Recovery)
+    → Views new.view setting.rotated (event ∷ past) → new.reading ≡ reading_at setting.first (event ∷ past) → new.first ≡ setting.first → new.rotated ≡ setting.rotated
+    → pictures setting.rotated (event ∷ past) ≡ picture ∷ pictures setting.rotated past
+    → Sees new setting (entries_in setting past) written (entry_of picture (reading_at setting.first (event ∷ past))) found
+    → KeepsNext new setting past event found written
+kept_seen new setting past event picture written found views reading first rotated more sees =
+    let here = entry_here setting.rotated past event picture more in
+    let S : List ℕ → Type 0 = λ p. Sees new setting (entries_in setting past) written (entry_of p (reading_at setting.first (event ∷ past))) found in
+    kept_now new setting past event written found views reading first rotated here.0 (subst S here.1 sees)
+
+pub map_ok : {T E : Type 0} (P Q : T → Type 0) (r : Result T E) → ((v : T) → P v → Q v) → IfOk r P → IfOk r Q
+map_ok P Q (Ok v) k h = k v h
+map_ok P Q (Err e) k h = tt
+
+-- The picture at an event at which a pair was recovered.
+pub picture_now : (setting : Setting) (past : List Event) (event : Event) (r : Recovery) (picture : List ℕ) → RecoversAt setting past event (Some r)
+    → IsLast picture (pictures setting.rotated (event ∷ past)) → picture ≡ picture_of setting.rotated (event ∷ past)
+picture_now setting past event r picture finds last =
+    let seen = picture_of setting.rotated (event ∷ past) in
+    let fresh : repeats seen (entries White setting.rotated past) ≡ false = sym (repeats_alike seen setting.first setting.rotated past) ∙ (finds.1).0 in
+    subst (IsLast picture) (pictures_more setting.rotated past event finds.0 fresh) last
+
+pub entry_now : (setting : Setting) (past : List Event) (picture : List ℕ) (reading : Option Reading) → picture ≡ picture_of setting.rotated past
+    → reading ≡ reading_at setting.first past → entry_of picture reading ≡ entry_at setting.first setting.rotated past
+entry_now setting past picture reading shown read =
+    ap (λ (p : List ℕ). entry_of p reading) shown ∙ ap (λ (r : Option Reading). entry_of (picture_of setting.rotated past) r) read
+
+-- Both plies of a pair that was recovered are legal where they stand.
+pub legal_found : (setting : Setting) (past : List Event) (event : Event) (r : Recovery) → RecoversAt setting past event (Some r)
+    → Legal r.before r.pair.first × Legal r.middle r.pair.second
+legal_found setting past event r finds =
+    let c = finds.1.1.3.1 in
+    let two = (c.explains).explains.after_two in (
+      subst (λ (p : Parts). Legal p r.pair.first) (sym c.before_is) two.first,
+      subst (λ (p : Parts). Legal p r.pair.second) (sym c.middle_is) two.second,
+    )
+
+pub at_some : {T E : Type 0} (P : T → Type 0) (r : Result T E) (v : T) → r ≡ Ok v → IfOk r P → P v
+at_some P r v is h = let Q : Result _ _ → Type 0 = λ x. IfOk x P in subst Q is h

@@ -1,0 +1,6 @@
+pub mod KeepLemmas
+pub mod WeaveLemmas
+pub mod FollowLemmas
+pub mod EventLemmas
+pub mod PassLemmas
+pub mod WordLemmas

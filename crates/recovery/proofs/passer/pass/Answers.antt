@@ -1,0 +1,19 @@
+use Rattle.std.proofs.Common.{◌+◌, ◌-◌, ◌++◌, refl, subst, append-nil, IfNone}
+use Rattle.dgt_frame.specs.Decoder.{TakesAll}
+use Rattle.recovery.proofs.PassLemmas.{stands_event, stands_none}
+use Rattle.recovery.proofs.passer.pass.Goals as goal
+
+pub returns-in_default-clause-none : goal.returns-in_default-clause-none
+returns-in_default-clause-none c = λ setting bytes woven text at s.
+    let chunk = c.args.bytes.now in
+    let takes : TakesAll c.args.decoder.now chunk c.push_into.new.self =
+    subst (λ found. IfNone found (TakesAll c.args.decoder.now chunk c.push_into.new.self)) c.in_default.is c.push_into.ensures.none in
+    rw (append-nil (woven ++ chunk), append-nil text)
+    (stands_none c.args.decoder.now c.push_into.new.self c.args.keeper.now setting bytes woven text chunk takes s)
+
+pub returns-in-Ok-clause-some : goal.returns-in-Ok-clause-some
+returns-in-Ok-clause-some c = λ setting bytes woven text at s.
+    stands_event c.frames_are_put_in.ensures.between c.args.decoder.now c.push_into.new.self c.args.keeper.now c.hear.new.keeper setting c.args.start
+    (c.args.start + (c.in-Some.taken - 1)) c.in-Some.taken c.pending.result c.push_into.new.event bytes woven text c.args.bytes.now
+    c.hear.new.frames.items c.hear.new.line.items c.in-Some.ensures.taken.0 c.in-Some.ensures.taken.1 refl at c.in-Some.ensures.some c.pending.ensures
+    (λ past written carries. c.in-Ok.ensures setting past written carries) s

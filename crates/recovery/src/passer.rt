@@ -1,0 +1,100 @@
+//! Bytes of a stream to what is put in among them.
+ghost use Rattle.std.specs.Prelude.{◌≡◌, ◌<◌, ◌≤◌, ◌+◌, ◌^◌, [], ℕ, List, OnOk, IfOk, IfSome, IfNone, length, take};
+ghost use Rattle.dgt_frame.specs.declared.events.Event.{Event as EventOf};
+ghost use Rattle.dgt_frame.specs.Decoder.{Decoded};
+ghost use Rattle.settle_core.specs.Entries.{Entry};
+ghost use Rattle.board_session.specs.Settings.{Setting};
+ghost use Rattle.board_session.specs.History.{IsInRange};
+ghost use Rattle.recovery.specs.Keeping.{Keeps};
+ghost use Rattle.recovery.specs.Passing.{Carries, Hears, Passes, Stands};
+ghost use Rattle.recovery.specs.Weaving.{Recovers};
+
+use crate::keeper::Keeper;
+use crate::lines::add_recovered;
+use arrayvec::ArrayVec;
+use board_listing::Lines;
+use dgt_frame::{BLANK, Decoder, Event};
+use pair_frames::MOST;
+use pair_frames::laws::frames_are_put_in;
+use std::alloc::{AllocError, Global};
+
+/// The frames that are put in behind an event.
+pub type Frames = ArrayVec<u8, MOST>;
+
+/// Gives the keeper an event, and replaces what `frames` and `line` hold by what is put in there, and its line; by nothing,
+/// where nothing is.
+pub fn hear(
+    alloc: Global,
+    keeper: &mut Keeper,
+    offset: u32,
+    event: &Event,
+    frames: &mut Frames,
+    line: &mut Lines,
+) -> Result<(), AllocError>
+    requires range { IsInRange event.now }
+    requires begun { (setting : Setting) × (past : List EventOf) × (written : List Entry) × Keeps keeper.old setting past written }
+    ensures { (setting : Setting) (past written : List EventOf) → Carries keeper.old setting past written
+        → OnOk result (Hears keeper.new setting past written offset event.now frames.new.items line.new.items) }
+{
+    frames.clear();
+    line.clear();
+    match keeper.take(alloc, event) {
+        Err(error) => Err(error),
+        Ok(None) => Ok(()),
+        Ok(Some(found)) => {
+            keeper.put_in(&found, frames);
+            add_recovered(line, offset, &found);
+            Ok(())
+        }
+    }
+}
+
+/// Gives the decoder the bytes up to the next event, and the keeper this event, and returns how many bytes these are; none, where
+/// no event comes at any of them, and then the decoder was given them all. The first has the offset `start`. What `frames` and
+/// `line` hold is replaced by what is put in behind these bytes, and its line.
+///
+/// # Errors
+///
+/// Where there was no memory; then nothing more is to be given.
+pub fn pass(
+    alloc: Global,
+    decoder: &mut Decoder,
+    keeper: &mut Keeper,
+    start: u32,
+    bytes: &[u8],
+    frames: &mut Frames,
+    line: &mut Lines,
+) -> Result<Option<usize>, AllocError>
+    requires room { start + length bytes.now < 2 ^ 32 }
+    requires begun { (setting : Setting) × (before woven text : List ℕ) × (length before ≡ start) × Stands decoder.old keeper.old setting before woven text }
+    ensures none { IfOk result (λ taken. IfNone taken (Passes decoder.old keeper.old start bytes.now decoder.new keeper.new [] [])) }
+    ensures some { IfOk result (λ taken. IfSome taken (λ count.
+        Passes decoder.old keeper.old start (take count bytes.now) decoder.new keeper.new frames.new.items line.new.items)) }
+    ensures taken { IfOk result (λ taken. IfSome taken (λ count. (0 < count) × (count ≤ length bytes.now))) }
+{
+    frames_are_put_in();
+    let mut event = BLANK;
+    let Some(taken) = decoder.push_into(bytes, &mut event) else {
+        return Ok(None);
+    };
+    // Only for its clause: the bytes taken show the events so far.
+    decoder.pending();
+    let last = start + (taken - 1) as u32;
+    match hear(alloc, keeper, last, &event, frames, line) {
+        Ok(()) => Ok(Some(taken)),
+        Err(error) => Err(error),
+    }
+}
+
+/// What stands for the bytes that the decoder and the keeper were given, and for those with what was put in.
+pub fn conclude(decoder: &Decoder, keeper: &Keeper)
+    ensures { (setting : Setting) (bytes woven text : List ℕ) → Stands decoder.now keeper.now setting bytes woven text → Recovers setting bytes woven text }
+{
+    // Only for its clause: the bytes show the events so far.
+    decoder.pending();
+}
+
+/// What stands before the first byte.
+pub fn begin(decoder: &Decoder, keeper: &Keeper)
+    ensures { (setting : Setting) → Decoded decoder.now [] [] → Keeps keeper.now setting [] [] → Stands decoder.now keeper.now setting [] [] [] }
+{}

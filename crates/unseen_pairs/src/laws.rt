@@ -1,0 +1,30 @@
+//! What holds of all games in which unseen pairs are recovered, each law as the contract of a function.
+ghost use Rattle.unseen_pairs.specs.Laws.{IsWritten, NothingConfirmed, NothingIsInvented, NothingPutIn, PliesAreLegal, RecoversOnce, WritesOnce, WrittenFolds};
+
+/// Where no pair is confirmed, entries give what they fold to without recovering, and nothing is put in.
+pub fn nothing_confirmed_nothing_put_in()
+    ensures score { NothingConfirmed }
+    ensures written { NothingPutIn }
+{}
+
+/// What entries give where unseen pairs are recovered is what those with what is put in fold to.
+pub fn written_folds()
+    ensures folds { WrittenFolds }
+    ensures written { IsWritten }
+{}
+
+/// From a valid start, a list of entries gives one score at most, and the same of them wait, and the same is put in.
+pub fn recovers_once()
+    ensures score { RecoversOnce }
+    ensures written { WritesOnce }
+{}
+
+/// Each move of such a score is legal where it stands.
+pub fn plies_are_legal()
+    ensures { PliesAreLegal }
+{}
+
+/// Nothing is invented: whatever a board shows, each ply was shown whole, or is one of a pair that was recovered.
+pub fn nothing_is_invented()
+    ensures { NothingIsInvented }
+{}

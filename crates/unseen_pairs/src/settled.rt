@@ -1,0 +1,44 @@
+// The move that a picture settles in a position.
+ghost use Rattle.std.specs.Prelude.{◌≡◌, ◌↔◌, IfSome, IfNone, IsTrue, Some};
+ghost use Rattle.chess_rules.specs.declared.chess_move.Move.{Move as MoveOf};
+ghost use Rattle.settle_core.specs.Settling.{Settles};
+
+use chess_rules::laws::pictures_tell_moves;
+use chess_rules::{Move, Position};
+use settle_core::laws::{candidate, diff_mask};
+
+/// A copy, since a move by value is given away.
+fn copy(m: &Move) -> Move
+    ensures { result ≡ m.now }
+{
+    *m
+}
+
+/// Whether the picture settles this move.
+fn settles(p: &Position, seen: &[u8; 64], m: &Move) -> bool
+    ensures { IsTrue result ↔ Settles p.now seen.now m.now }
+{
+    // The position is valid, and no other legal move gives the same picture.
+    p.parts();
+    pictures_tell_moves();
+    p.is_legal(copy(m)) && p.play(copy(m)).picture() == *seen
+}
+
+/// The one move that the squares may show on which the picture differs from the position's, if any.
+fn candidate_in(p: &Position, seen: &[u8; 64]) -> Option<Move>
+    ensures { (m : MoveOf) → Settles p.now seen.now m → result ≡ Some m }
+{
+    // The position is valid.
+    p.parts();
+    let before = p.picture();
+    candidate(&before, seen, diff_mask(&before, seen))
+}
+
+/// The move that the picture settles in the position, if any: the one candidate is tested.
+pub fn settled_in(p: &Position, seen: &[u8; 64]) -> Option<Move>
+    ensures some { IfSome result (Settles p.now seen.now) }
+    ensures none { IfNone result ((m : MoveOf) → ¬ Settles p.now seen.now m) }
+{
+    let m = candidate_in(p, seen)?;
+    if settles(p, seen, &m) { Some(m) } else { None }
+}
