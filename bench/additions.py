@@ -18,7 +18,7 @@ from concurrent.futures import ProcessPoolExecutor
 from dataclasses import dataclass
 from typing import Any, List, Optional, Tuple
 
-from hands import EMPTY, INITIAL, PROGRAM, Game, hand, movetext, moves_of, program
+from hands import EMPTY, PROGRAM, Game, hand, movetext, moves_of, program
 
 from live.added import check_result, dumps_of_moves, dumps_of_result  # noqa: E402  (hands has put its folder on the path)
 from live.protocol import Picture, dump, picture_of_placement  # noqa: E402

@@ -1,23 +1,26 @@
 #!/usr/bin/env python3
-"""Plays so many simulated boards at once, each with a recorder of its own, and measures what bench/live.sh tells.
+"""Plays so many simulated boards at once, and measures what bench/live.sh tells.
 
 `live_boards.py BOARDS MOVES PAUSE` plays MOVES moves in all, a board one each PAUSE seconds on average, at random moments, with a
-clock. For each move it takes the time from its last byte to its line, and to a NAME.pgn that has it. One line comes out:
-boards, moves, the median and the 99th of 100 of both in ms, processes, memory (PSS, MiB) and processor time (ms a second, and ms
-a move) of a board.
+clock. Each board has a dgt_live of its own; with `round` behind these words one dgt_round has all, and with `round READERS` so many
+read its page meanwhile, from another process. For each move it takes the time from its last byte to its line, and to a NAME.pgn
+that has it. One line comes out: boards, moves, the median and the 99th of 100 of both in ms, processes, memory (PSS, MiB) and
+processor time (ms a second, and ms a move) of a board.
 """
 
 import contextlib
 import dataclasses
+import multiprocessing
 import os
 import pathlib
 import random
 import selectors
 import signal
+import socket
 import sys
 import tempfile
 import time
-from typing import List, Sequence, Tuple
+from typing import Any, Dict, List, Optional, Sequence, Tuple
 
 sys.dont_write_bytecode = True
 TOP = pathlib.Path(__file__).resolve().parents[1]
@@ -42,19 +45,34 @@ def ply(number: int) -> Tuple[str, str]:
     return move, f"{number // 2 + 1}{'.' if number % 2 == 0 else '...'} {san}"
 
 
+class Said:
+    """What a recorder says, line by line as it comes."""
+
+    def __init__(self, live: Live) -> None:
+        self.live = live
+        self._text = b""
+
+    def lines(self) -> List[str]:
+        """Those that have come since the last time."""
+        self.live.told.came = b""
+        self.live.told.read()
+        *lines, self._text = (self._text + self.live.told.came).split(b"\n")
+        return [line.decode() for line in lines]
+
+
 @dataclasses.dataclass
 class Table:
-    """A board, its recorder, and the ply that is under way."""
+    """A board, where its game is kept, and the ply that is under way."""
 
     board: Board
-    live: Live
+    name: pathlib.Path
     random: random.Random
     plies: int = 0
     next_at: float = 0.0
     sent: float = 0.0
     told: bool = True
     kept: bool = True
-    read_to: int = 0
+    begun: bool = False
     file: int = 0  # the number of the NAME.pgn that was last looked at
 
     @property
@@ -70,12 +88,12 @@ class Table:
         self.told = self.kept = False
         self.next_at = now + pause * (0.5 + self.random.random())
 
-    def look_at_lines(self) -> bool:
-        """Whether the line has come just now."""
-        text = self.live.lines()
-        if self.told or ply(self.plies - 1)[1] not in text[self.read_to :]:
+    def hear(self, words: str) -> bool:
+        """A line without its time. Whether it tells the ply that is under way."""
+        self.begun = self.begun or words.startswith("agrees")
+        if self.told or not words.startswith(ply(self.plies - 1)[1]):
             return False
-        self.told, self.read_to = True, len(text)
+        self.told = True
         return True
 
     def look_at_game(self) -> bool:
@@ -83,10 +101,10 @@ class Table:
         if self.kept:
             return False
         with contextlib.suppress(FileNotFoundError):
-            number = os.stat(self.live.name + ".pgn").st_ino
+            number = os.stat(self.name).st_ino
             if number != self.file:
                 self.file = number
-                self.kept = pathlib.Path(self.live.name + ".pgn").read_text().count("[%clk") >= self.plies
+                self.kept = self.name.read_text().count("[%clk") >= self.plies
         return self.kept
 
 
@@ -108,47 +126,96 @@ def memory(process: int) -> int:
     return 0
 
 
-def used(tables: Sequence[Table]) -> float:
-    return sum(processor_time(process) for table in tables for process in processes(table.live.process.pid))
+def all_processes() -> List[int]:
+    return [process for live in Live.all for process in processes(live.process.pid)]
+
+
+def read_page(port: int, count: int, told: Any) -> None:
+    """So many read the events of a page, all that comes, and one more fetches the games each two seconds. `told` is how many
+    have had something."""
+    selector = selectors.DefaultSelector()
+    for _ in range(count):
+        line = socket.create_connection(("127.0.0.1", port))
+        line.sendall(b"GET /events HTTP/1.1\r\nHost: x\r\n\r\n")
+        line.setblocking(False)
+        selector.register(line, selectors.EVENT_READ, [])
+    poller = socket.create_connection(("127.0.0.1", port))
+    poller.setblocking(False)
+    selector.register(poller, selectors.EVENT_READ, [True])
+    asks_at = 0.0
+    while True:
+        for key, _ in selector.select(0.5):
+            if not key.fileobj.recv(1 << 20):  # type: ignore[union-attr]
+                raise SystemExit("the page has hung up on a reader")
+            if not key.data:
+                key.data.append(True)
+                told.value += 1
+        if time.monotonic() >= asks_at:
+            asks_at = time.monotonic() + 2
+            poller.sendall(b"GET /round.pgn HTTP/1.1\r\nHost: x\r\n\r\n")
 
 
 class Hall:
     """All tables, and what waits for something from them."""
 
-    def __init__(self, folder: pathlib.Path, boards: int) -> None:
+    def __init__(self, folder: pathlib.Path, boards: int, in_a_round: bool, readers: int) -> None:
         self.tables: List[Table] = []
         self.selector = selectors.DefaultSelector()
-        for number in range(boards):
+        self.said: Dict[int, Tuple[Said, Optional[Table]]] = {}
+        self.page: Optional[Tuple[int, int]] = None  # its port, and how many read it
+        for number in range(1, boards + 1):
             place = folder / f"{number:02}"
             place.mkdir()
             board = Board(place)
-            live = Live(board.device, place / "game")
-            table = Table(board, live, random.Random(number))
+            name = folder / "round" / f"{number:02}.pgn" if in_a_round else place / "game.pgn"
+            table = Table(board, name, random.Random(number))
             self.tables.append(table)
             self.selector.register(board.line, selectors.EVENT_READ, table)
-            self.selector.register(live.told.end, selectors.EVENT_READ, table)
+            if not in_a_round:
+                self.hear(Said(Live(board.device, place / "game")), table)
+        if in_a_round:
+            lines = [f"{number},{table.board.device}" for number, table in enumerate(self.tables, 1)]
+            (folder / "round.csv").write_text("\n".join(["board,device", *lines, ""]))
+            port = free_port()
+            page = ["--page", str(port)] if readers else []
+            self.hear(Said(Live(folder / "round.csv", folder / "round", *page, program=TOP / "bin" / "dgt_round")), None)
+            if readers:
+                self.page = (port, readers)
+
+    def hear(self, said: Said, table: Optional[Table]) -> None:
+        self.said[said.live.told.end] = (said, table)
+        self.selector.register(said.live.told.end, selectors.EVENT_READ, None)
 
     def turn(self, seconds: float) -> List[Table]:
-        """Boards answer, and lines are read. Those from which a line came."""
-        heard = []
+        """Boards answer, and lines are read. Those whose ply is told just now."""
+        told = []
         for key, _ in self.selector.select(seconds):
-            table: Table = key.data
-            if key.fd == table.board.line:
-                table.board.turn()
-            elif table.live.runs:
-                heard.append(table)
-            else:
-                raise SystemExit(f"a recorder has ended: {table.live.complaint()}")
-        return heard
+            if key.data:
+                key.data.board.turn()
+                continue
+            said, of_one = self.said[key.fd]
+            if not said.live.runs:
+                raise SystemExit(f"a recorder has ended: {said.live.complaint()}")
+            for line in said.lines():
+                table, words = of_one, line[10:]
+                if table is None and line[10:13].strip().isdigit():
+                    table, words = self.tables[int(line[10:13]) - 1], line[15:]
+                if table and table.hear(words):
+                    told.append(table)
+        return told
 
     def begin(self) -> None:
         over = time.monotonic() + 120
-        while not all(table.live.says("agrees") for table in self.tables):
+        while not all(table.begun for table in self.tables):
             if time.monotonic() > over:
                 raise SystemExit("not all boards are recorded")
             self.turn(0.01)
-        for table in self.tables:
-            table.read_to = len(table.live.lines())
+        if self.page:
+            port, count = self.page
+            served = multiprocessing.Value("i", 0)
+            multiprocessing.Process(target=read_page, args=(port, count, served), daemon=True).start()
+            while served.value < count:
+                self.turn(0.01)
 
     def play(self, moves: int, pause: float) -> Tuple[List[float], List[float]]:
         """Seconds from a move's last byte to its line, and to its game."""
@@ -159,20 +226,24 @@ class Hall:
             table.next_at = now + pause * table.random.random()
         played = 0
         while played < moves or any(table.waits for table in self.tables):
-            heard = self.turn(0.001 if any(table.waits for table in self.tables) else 0.005)
+            told = self.turn(0.001 if any(table.waits for table in self.tables) else 0.005)
             now = time.monotonic()
-            for table in heard:
-                if table.look_at_lines():
-                    lines.append(now - table.sent)
+            lines.extend(now - table.sent for table in told)
             for table in self.tables:
                 if table.look_at_game():
                     games.append(time.monotonic() - table.sent)
                 if table.waits and now - table.sent > LATE:
-                    raise SystemExit(f"ply {table.plies} of {table.live.name} is lost:\n{table.live.lines()[-500:]}")
+                    raise SystemExit(f"ply {table.plies} of {table.name} is lost")
                 if not table.waits and now >= table.next_at and played < moves:
                     table.play(now, pause)
                     played += 1
         return lines, games
+
+
+def free_port() -> int:
+    with socket.socket() as found:
+        found.bind(("127.0.0.1", 0))
+        return int(found.getsockname()[1])
 
 
 def of_100(seconds: Sequence[float], share: float) -> float:
@@ -182,18 +253,23 @@ def of_100(seconds: Sequence[float], share: float) -> float:
 def main() -> None:
     signal.signal(signal.SIGTERM, lambda *_: sys.exit(143))
     boards, moves, pause = int(sys.argv[1]), int(sys.argv[2]), float(sys.argv[3])
+    in_a_round, readers = sys.argv[4:5] == ["round"], int(sys.argv[5]) if sys.argv[5:] else 0
     with tempfile.TemporaryDirectory(prefix="dgt_live.") as folder:
         (pathlib.Path(folder) / "room").mkdir()
         Live.scratch_folder = pathlib.Path(folder) / "room"
         try:
-            hall = Hall(pathlib.Path(folder), boards)
+            hall = Hall(pathlib.Path(folder), boards, in_a_round, readers)
             hall.begin()
-            before, start = used(hall.tables), time.monotonic()
+            before, start = sum(map(processor_time, all_processes())), time.monotonic()
             lines, games = hall.play(moves, pause)
-            spent, passed = used(hall.tables) - before, time.monotonic() - start
-            found = [process for table in hall.tables for process in processes(table.live.process.pid)]
+            found = all_processes()
+            spent, passed = sum(map(processor_time, found)) - before, time.monotonic() - start
             mib = sum(map(memory, found)) / 1024
+            if readers and not multiprocessing.active_children():
+                raise SystemExit("the readers of the page have ended")
         finally:
+            for reader in multiprocessing.active_children():
+                reader.kill()
             for live in Live.all:
                 live.end()
     print(

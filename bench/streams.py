@@ -1,11 +1,13 @@
 #!/usr/bin/env python3
-"""Makes the streams that the benchmarks read, 48 MB each, always the same bytes: streams.py FOLDER [NAME..].
+"""Makes the streams that the benchmarks read, 48 MB each or 64 MiB, always the same bytes: streams.py FOLDER [NAME..].
 
 idle     a long game by the knights, with a time each second, and dumps and updates that change nothing
 played   a game of 2,000 moves, one each 24,000 bytes; between two moves times, dumps, and pieces that are lifted and put back
 fumbled  the same game; a piece that is lifted is shown on one to three other empty squares before it is put back
 dumps    the dump of the initial position again and again
 faults   bytes FF, each of which but the first is a fault
+promoted 64 MiB: of the pictures that wait, each second one is explained by four pairs, which nothing confirms (PROMOTED)
+lifted   64 MiB: after a move two queens of each side are in hand, and a third one comes and goes (LIFTED)
 """
 import pathlib
 import random
@@ -214,12 +216,39 @@ def idle():
     return stream + round_trip * ((SIZE - len(stream)) // len(round_trip))
 
 
+WORST = 64 * 1024 * 1024
+PROMOTED = "4k2r/6P1/8/8/8/8/P7/4K3 w - -"
+LIFTED = "k1q1q1q1/pp6/8/8/8/8/PP6/K1Q1Q1Q1 w - -"
+
+
+def toggled(fen, before, there_and_back):
+    """The dump of a position; updates; and then two more again and again."""
+    board = []
+    for letter in fen.split(" ")[0].replace("/", ""):
+        board += [0] * int(letter) if letter.isdigit() else [".PRNBKQprnbkq".index(letter)]
+    stream = HEADER + bytes(board) + b"".join(UPDATES[square][code] for square, code in before)
+    twice = b"".join(UPDATES[square][code] for square, code in there_and_back)
+    return (stream + twice * (WORST // len(twice)))[:WORST]
+
+
+def promoted():
+    """g7 promotes on g8, the rook takes it, and the pawn of a2 is lifted and put back."""
+    return toggled(PROMOTED, [(14, 0), (7, 0), (6, 8)], [(48, 0), (48, 1)])
+
+
+def lifted():
+    """1. a3, and then the queens of c1, e1, c8 and e8 are in hand; that of g1 is lifted and put back."""
+    return toggled(LIFTED, [(48, 0), (40, 1), (58, 0), (60, 0), (2, 0), (4, 0)], [(62, 0), (62, 6)])
+
+
 STREAMS = {
     "idle": idle,
     "played": lambda: hands(False),
     "fumbled": lambda: hands(True),
     "dumps": lambda: (HEADER + bytes(INITIAL)) * (SIZE // 67),
     "faults": lambda: b"\xff" * SIZE,
+    "promoted": promoted,
+    "lifted": lifted,
 }
 
 if __name__ == "__main__":

@@ -14,7 +14,8 @@ from typing import Dict, List, Optional, Sequence, Tuple, Union
 from live.protocol import LETTERS, SQUARES, Picture, dump, picture_of_placement
 
 WHITE_WINS, BLACK_WINS, DRAW = "1-0", "0-1", "1/2-1/2"
-WAYS = "Type a result (1-0, 0-1, 1/2-1/2), or moves as Nf3 Nc6, or q"
+WAYS = "Type a result (1-0, 0-1, 1/2-1/2), or moves as Nf3 Nc6"
+QUIT_TOO = ", or q to end the recording"
 
 EMPTY = 0
 WHITE_KING, BLACK_KING = LETTERS.index("K"), LETTERS.index("k")
@@ -28,7 +29,7 @@ STRAY = b"\x00"
 SPELT: Dict[str, str] = {"1/2": DRAW, "½-½": DRAW, "½": DRAW, "=": DRAW, "1/2-½": DRAW, "½-1/2": DRAW}
 MOVE = re.compile(r"(?:[KQRBN]?[a-h]?[1-8]?x?[a-h][1-8](?:=[QRBN])?|O-O(?:-O)?)[+#]?", re.ASCII)
 NUMBER = re.compile(r"\d{1,4}\.+", re.ASCII)
-LONGEST = 7
+LONGEST = 7  # characters of a move in SAN, as exd8=Q+
 
 
 class Refused(Exception):
@@ -123,9 +124,10 @@ def check_result(legal_moves: Sequence[str]) -> None:
 def dumps_of_moves(fens: Sequence[str], rotated: bool) -> bytes:
     """Shows the positions after the moves, one after the other.
 
-    Each is one legal move from the one before it, and the first from the game's position; so each is settled as that move. What
-    the board shows then, where it stands as before, changes nothing after one move or two. Three or more may lead pieces back to
-    where the board still has them, and then its picture may be another move's: the pieces are to be set as the game stands.
+    Each is one legal move from the one before it, and the first from the game's position; so each is settled as that move.
+    What the board shows then, where it stands as before, changes nothing after one move or two. Three or more may lead pieces
+    back to where the board still has them, and then its picture may be another move's: the pieces are to be set as the game
+    stands.
     """
     return b"".join(dump(picture_of_placement(fen), rotated) for fen in fens) + STRAY
 

@@ -28,7 +28,7 @@ def read_game(program: Program, options: Options, sent: bytes) -> Game:
     """By the lines of `follow`."""
     moves: List[str] = []
     result = "*"
-    for line in lines_of(program.run("follow", *options.of_board(), given=sent).stdout):
+    for line in lines_of(program.run("follow", *options.of_board(), given=program.whole(options, sent)).stdout):
         told = Told.of_line(line)
         if told and told.kind == "correction":
             moves.pop()
@@ -54,7 +54,8 @@ class Addition:
             return self._result(typed.outcome), f"the result {typed.outcome}"
         if isinstance(typed, added.Moves):
             put, moves = self._moves(typed.words)
-            return put, " ".join(moves)
+            gone = "" if self._game.result == "*" else f"; the result {self._game.result} is gone: add it again"
+            return put, " ".join(moves) + gone
         raise added.Refused(added.WAYS)
 
     def _result(self, outcome: str) -> bytes:
@@ -81,8 +82,8 @@ class Addition:
                     spelt.append(spelling)
                     break
             else:
-                after = f" after {spelt[-1]}" if spelt else ""
-                raise added.Refused(f"{word} is no legal move{after}. Nothing was added")
+                whose = _whose_move([*self._game.moves, *spelt], fens)
+                raise added.Refused(f"{word} is no legal move: {whose}. Nothing was added")
         put = added.dumps_of_moves(fens[-len(spelt) :], self._options.rotated)
         shown = protocol.dump(self._board, self._options.rotated) if self._board else b""
         if read_game(self._program, self._options, self._sent + put + shown).moves != self._game.moves + spelt:
@@ -99,7 +100,20 @@ class Addition:
         return fens, wrong
 
 
-def add_to_closed(program: Program, paths: Paths, capture: Capture, options: Options, typed: added.Typed) -> Tuple[Capture, str]:
+def _whose_move(moves: Sequence[str], fens: Sequence[str]) -> str:
+    """Who is to move after these moves, by the FENs of the start and of all positions up to there."""
+    if not fens:
+        return "the position isn't known"
+    side, _, _, _, number = fens[-1].split()[1:]
+    whose = f"{'White' if side == 'w' else 'Black'} is to move"
+    if not moves:
+        return whose
+    return f"{whose}, after {int(number) - 1}... {moves[-1]}" if side == "w" else f"{whose}, after {number}. {moves[-1]}"
+
+
+def add_to_closed(
+    program: Program, paths: Paths, capture: Capture, options: Options, typed: added.Typed
+) -> Tuple[Capture, str]:
     """Adds to a game that nobody records now, behind its last byte; what came after that stays behind it. The capture as it is
     then, open and locked, and what was added. Refused where it can't be; OSError where a file can't be written."""
     mark = end_mark(paths)

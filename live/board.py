@@ -7,10 +7,9 @@ from typing import Optional, Protocol
 
 from live.asking import Asking
 from live.loop import Loop, Timer
-from live.serial_line import Busy, SerialLine, cable_name
+from live.serial_line import BUSY_PATIENCE, Busy, SerialLine, cable_name
 
 LOOK_AGAIN = 0.5  # seconds, where the device isn't there
-BUSY_PATIENCE = 3.0  # seconds: a call that was just killed may still hold the lock
 
 
 class Hears(Protocol):

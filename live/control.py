@@ -1,4 +1,4 @@
-"""How one call of dgt_live speaks to the one that records a game: a socket whose name is made of the capture's place on the disk.
+"""How one call of dgt_live speaks to the one that records a game: a socket whose name is the capture's place on the disk.
 
 It has no file, so nothing of it is left by a power cut; and only the same user, and the administrator, are heard.
 """
@@ -14,7 +14,7 @@ from typing import Callable, Dict, Optional, Tuple
 
 from live.loop import Loop
 
-LONGEST = 4096
+LONGEST = 4096  # bytes of what is asked, and of an answer
 PATIENCE = 10.0  # seconds that an answer may take
 
 Answer = Tuple[int, str]  # a status, and what is said with it

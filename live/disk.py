@@ -44,5 +44,5 @@ class Disk:
             )
         elif not full:
             self._capture.lost = 0
-            self._screen.say(f"{self._capture.path} is written again")
+            self._screen.say("there is room again, and all is written")
         self._standing.disk(full)

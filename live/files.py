@@ -1,22 +1,23 @@
-"""The files of a game: the capture that only grows, the options, the log, the mark of the end, and what is put in place whole."""
+"""The files of a game: the capture that only grows, the options, the log, the mark of the end; what is put in place whole."""
 
 from __future__ import annotations
 
-import errno
+import contextlib
 import fcntl
 import os
 import pathlib
+import stat
 import time
 from dataclasses import dataclass
 from typing import Optional
 
 from live.options import Options
-from live.refused import FAILED, REFUSED, Refused
+from live.refused import ARGUMENTS, FAILED, REFUSED, Refused
 
 LARGEST = 64 * 1024 * 1024  # bytes of a capture: the program reads no more
 MEMORY = 1024 * 1024  # bytes that a full disk leaves in memory
 LOCK_PATIENCE = 3.0  # seconds: a call that was just killed may still hold the lock
-FULL = (errno.ENOSPC, errno.EDQUOT, errno.EFBIG)
+ENDINGS = (".before.dgt", ".dgt", ".pgn", ".options", ".log", ".end", ".")  # the last is what a shell completes to
 
 
 @dataclass(frozen=True)
@@ -195,6 +196,22 @@ class Capture:
         os.close(self.number)
 
 
+def check_name(name: str) -> None:
+    """Refused where it is a device's, or a file's of a game: a shell completes to those. A game of that name goes on."""
+    try:
+        is_device = stat.S_ISCHR(os.stat(name).st_mode)
+    except (OSError, ValueError):
+        is_device = False
+    if is_device:
+        raise Refused(ARGUMENTS, f"{name} is a device: type the DEVICE first, and then the NAME")
+    if size_of(Paths(name).capture):
+        return
+    for ending in ENDINGS:
+        game = name[: -len(ending)]
+        if name.endswith(ending) and game.strip("./"):
+            raise Refused(REFUSED, f"{name} would be a file of the game: type its NAME alone, {game}")
+
+
 def existing(path: pathlib.Path) -> bytes:
     """What the file has; nothing where there is none."""
     try:
@@ -249,18 +266,24 @@ def keep_options(paths: Paths, options: Options) -> None:
 
 
 class Log:
-    """NAME.log: a line for all that was told, with the date and the time of day. Where it can't be written the game goes on."""
+    """NAME.log: a line for all that was told, with date and time of day. Where it can't be written the game goes on."""
 
     def __init__(self, path: pathlib.Path) -> None:
+        self._path = path
         self._number: Optional[int] = None
         self._missing = 0
-        try:
-            self._number = os.open(path, os.O_WRONLY | os.O_APPEND | os.O_CREAT, 0o666)
-        except OSError:
-            pass
+        self._open()
+
+    def _open(self) -> None:
+        """Opens it, where that succeeds: else it is tried again at the next line."""
+        with contextlib.suppress(OSError):
+            self._number = os.open(self._path, os.O_WRONLY | os.O_APPEND | os.O_CREAT, 0o666)
 
     def write(self, when: str, text: str) -> None:
         if self._number is None:
+            self._open()
+        if self._number is None:
+            self._missing += 1
             return
         if self._missing:
             text = f"({self._missing} lines are missing here: the log couldn't be written)\n{when}  {text}"

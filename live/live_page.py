@@ -78,7 +78,8 @@ class LiveGame:
         if standing is None:
             return "over", None, False
         state = standing.board.state(now)
-        return dataclasses.replace(state, since=now).text(now), state.since, state.is_alarm
+        since = None if state.kind is Kind.WAITS else state.since
+        return dataclasses.replace(state, since=now).text(now), since, state.is_alarm
 
     def player_name(self, option: str) -> str:
         return self.options.value(option) or ""

@@ -2,6 +2,8 @@
 
 from __future__ import annotations
 
+import collections
+import contextlib
 import heapq
 import itertools
 import os
@@ -10,7 +12,7 @@ import signal
 import socket
 import time
 from dataclasses import dataclass, field
-from typing import Callable, List, Optional, Tuple
+from typing import Callable, Deque, List, Optional, Tuple
 
 Callback = Callable[[], None]
 ENDING = (signal.SIGINT, signal.SIGTERM, signal.SIGHUP)
@@ -48,6 +50,11 @@ class Loop:
         self._timers: List[Timer] = []
         self._numbers = itertools.count()
         self._stopped = False
+        self._soon: Deque[Callback] = collections.deque()
+        self._woken, self._wakes = socket.socketpair()
+        self._woken.setblocking(False)
+        self._wakes.setblocking(False)
+        self.watch(self._woken.fileno(), self._call_soon)
 
     @staticmethod
     def now() -> float:
@@ -74,6 +81,19 @@ class Loop:
         timer = Timer(self.now() + seconds, next(self._numbers), callback)
         heapq.heappush(self._timers, timer)
         return timer
+
+    def soon(self, callback: Callback) -> None:
+        """Calls it once, in the next turn. Any thread may ask for that."""
+        self._soon.append(callback)
+        with contextlib.suppress(BlockingIOError):  # where it is full the loop is woken all the same
+            self._wakes.send(b"\0")
+
+    def _call_soon(self) -> None:
+        with contextlib.suppress(BlockingIOError):
+            while self._woken.recv(4096):
+                pass
+        while self._soon and not self._stopped:
+            self._soon.popleft()()
 
     def stop(self) -> None:
         """The loop ends after the call that is under way."""
@@ -107,8 +127,8 @@ class Loop:
 
 class Signals:
     """INT, TERM and HUP call one function, in the loop. HUP that the caller has this process ignore stays ignored, as `nohup`
-    wants it; INT is heard all the same, which a shell's background ignores. What a terminal sends to stop a process is ignored: a recorder that is stopped
-    hears no board."""
+    wants it; INT is heard all the same, which a shell's background ignores. What a terminal sends to stop a process is
+    ignored: a recorder that is stopped hears no board."""
 
     def __init__(self) -> None:
         self._woken, wakes = socket.socketpair()

@@ -7,7 +7,7 @@ import pathlib
 import sys
 from typing import Callable, Dict, List, Sequence
 
-from live import added, control, files, names, options, serial_line
+from live import added, control, files, names, options, refusal, serial_line
 from live.adding import add_to_closed
 from live.address import read_address
 from live.files import Capture, Paths, text_of
@@ -80,31 +80,43 @@ def changes(given: Options, kept: Options) -> List[str]:
 
 def refuse_options(program: Program, given: Options) -> None:
     """Refused where the program refuses them."""
-    answer = program.run("record", *given.words)
+    if given.recover and not program.can_recover():
+        raise Refused(REFUSED, f"{options.RECOVER} isn't there yet: this dgt_replay has no `recover`. Leave it out")
+    answer = program.run("record", *given.of_record())
     if answer.returncode != 0:
-        error = answer.stderr.decode("utf-8", "replace").strip()
-        raise Refused(answer.returncode, f"the options are refused: {options.SEE_HELP}", error)
+        raise Refused(answer.returncode, refusal.reason(answer.stderr.decode("utf-8", "replace")))
 
 
 def plies(program: Program, capture: Capture, kept: Options) -> int:
     """How many plies the game has."""
-    report = program.run("record", *kept.words, given=capture.bytes()).stderr.rpartition(b"moves ")[2]
+    sent = program.whole(kept, capture.bytes())
+    report = program.run("record", *kept.of_record(), given=sent).stderr.rpartition(b"moves ")[2]
     return int(report.split(b",")[0] or b"0")
 
 
 def options_of(program: Program, paths: Paths, capture: Capture, given: Options) -> Options:
-    """Those that were kept; or those that were given, where the game has none yet, or has no ply."""
+    """Those that were kept; or those that were given, where the game has none yet, or has no ply. Whether pairs are recovered
+    may be changed at any time: the capture stays the same."""
     kept = files.kept_options(paths) if capture.size else None
-    if kept is None or (given.words and not given.same_as(kept) and plies(program, capture, kept) == 0):
-        files.keep_options(paths, given)
-        return given
-    if given.words and not given.same_as(kept):
+    wanted = given.without(options.STRICT)
+    if kept is not None:
+        game, others = Options(kept.of_record()), Options(given.of_record())
+        if not others.words or others.same_as(game):
+            wanted = kept.recovering((kept.recover or given.recover) and not given.strict)
+        elif plies(program, capture, kept) > 0:
+            raise Refused(
+                REFUSED,
+                f"{paths.name} was begun with other options: give none to go on, or choose another NAME. They were",
+                " ".join(kept.words),
+            )
+    if wanted.recover and not program.can_recover():
         raise Refused(
             REFUSED,
-            f"{paths.name} was begun with other options: give none to go on, or choose another NAME. They were",
-            " ".join(kept.words),
+            f"{paths.name} has {options.RECOVER}, and this dgt_replay has no `recover`: go on with {options.STRICT}",
         )
-    return kept
+    if wanted != kept:
+        files.keep_options(paths, wanted)
+    return wanted
 
 
 def open_to_record(call: Call, paths: Paths) -> Capture:
@@ -132,6 +144,7 @@ def record(call: Call, program: Program, signals: Signals) -> int:
     loop = Loop()
     page = RoundPage(loop, program, read_address(call.page), os.path.basename(call.name)) if call.page is not None else None
     serial_line.check(call.device, may_wait=files.size_of(paths.capture) > 0)
+    serial_line.check_free(call.device)
     capture = open_to_record(call, paths)
     kept = options_of(program, paths, capture, given)
     try:
@@ -168,7 +181,9 @@ def add(call: Call, program: Program) -> int:
     paths = Paths(call.name)
     words = call.added or ""
     if not os.path.isfile(paths.capture):
-        raise Refused(REFUSED, f"there is no {paths.capture}: which game is meant?")
+        last = numbered(call.name, last_number(call.name))
+        known = f" The last one is {last.name}" if os.path.isfile(last.capture) else ""
+        raise Refused(REFUSED, f"there is no {paths.capture}: which game is meant?{known}")
     answer = control.ask(paths.capture, words)
     if answer is None:
         capture = files.open_game(paths)
@@ -230,5 +245,6 @@ def call(asked: Call, here: pathlib.Path, signals: Signals) -> int:
         return DONE
     if asked.devices:
         return list_devices()
+    files.check_name(asked.name)
     program = Program.find(here)
     return record(asked, program, signals) if asked.added is None else add(asked, program)

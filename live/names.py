@@ -11,7 +11,7 @@ import re
 import unicodedata
 from typing import Dict, List, Match, Optional
 
-LONGEST = 100
+LONGEST = 100  # characters of a tag's value
 
 # What passports write for the letters that aren't a basic letter with a mark (the tables for Latin letters of ICAO Doc 9303),
 # and for those marked ones that they write as two letters.

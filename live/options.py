@@ -10,8 +10,10 @@ from live.refused import ARGUMENTS, REFUSED, Refused
 BOARD = ("--first", "--fen")
 TAGS = ("--event", "--site", "--date", "--round", "--white", "--black")
 VALUED = BOARD + TAGS
+RECOVER, STRICT = "--recover", "--strict"
+PLAIN = ("--rotated", RECOVER, STRICT)
 SEE_HELP = "see dgt_live --help"
-LINGER = 10
+LINGER = 10  # seconds that a result stands before it ends a game
 Pair = Tuple[str, Optional[str]]  # an option and its value
 
 
@@ -45,7 +47,7 @@ def parse(arguments: Sequence[str]) -> Call:
             return Call(help=True)
         if word in flags:
             flags[word] = True
-        elif word == "--rotated":
+        elif word in PLAIN:
             words.append(word)
         elif option in VALUED:
             words.append(word)
@@ -61,9 +63,13 @@ def parse(arguments: Sequence[str]) -> Call:
             raise Refused(ARGUMENTS, f"there is no option {word}: {SEE_HELP}")
         else:
             plain.append(word)
+    if RECOVER in words and STRICT in words:
+        raise Refused(ARGUMENTS, f"{RECOVER} and {STRICT}: only one of them can be: {SEE_HELP}")
     if not (linger.isascii() and linger.isdigit()):
         raise Refused(ARGUMENTS, f"--linger wants a number of seconds, and not '{linger}'")
-    if flags["--devices"] and not plain:
+    if flags["--devices"]:
+        if len(arguments) > 1:
+            raise Refused(ARGUMENTS, f"--devices stands alone: {SEE_HELP}")
         return Call(devices=True)
     wanted = 1 if added is not None else 2
     if len(plain) > wanted:
@@ -118,12 +124,34 @@ class Options:
         return any(option == "--rotated" for option, _ in self.pairs())
 
     @property
+    def recover(self) -> bool:
+        """Whether moves that two hands hid are recovered."""
+        return RECOVER in self.words
+
+    @property
+    def strict(self) -> bool:
+        """Whether they are recovered no longer."""
+        return STRICT in self.words
+
+    @property
     def fen(self) -> Optional[str]:
         return self.value("--fen")
 
     def of_board(self) -> Tuple[str, ...]:
         """Without the tags, which `follow` doesn't know."""
-        return _words((option, value) for option, value in self.pairs() if option not in TAGS)
+        return self.without(*TAGS, RECOVER, STRICT).words
+
+    def of_record(self) -> Tuple[str, ...]:
+        """Those that `record` knows."""
+        return self.without(RECOVER, STRICT).words
+
+    def without(self, *options: str) -> Options:
+        """All but these."""
+        return Options(_words((option, value) for option, value in self.pairs() if option not in options))
+
+    def recovering(self, recover: bool) -> Options:
+        """The same, but whether pairs are recovered."""
+        return Options((*self.of_record(), RECOVER) if recover else self.of_record())
 
     def turned(self, turns: Dict[str, Callable[[str], str]]) -> Options:
         """With the value of each of these options turned into what PGN takes."""

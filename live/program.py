@@ -1,5 +1,5 @@
-"""Calls of `dgt_replay`: at once, or as children that the loop hears. No child hears INT, TERM or HUP, and each meets the end of
-its input where this process ends, however it ends."""
+"""Calls of `dgt_replay`: at once, or as children that the loop hears. No child hears INT, TERM or HUP, and each meets the
+end of its input where this process ends, however it ends."""
 
 from __future__ import annotations
 
@@ -9,13 +9,13 @@ import pathlib
 import signal
 import subprocess
 from dataclasses import dataclass
-from typing import Callable, Iterator, List, Optional, Sequence, Tuple
+from typing import Callable, Iterator, List, Optional, Protocol, Sequence, Tuple
 
-from live.files import Capture
 from live.loop import ENDING, Loop, Timer
+from live.options import Options
 from live.refused import NO_PROGRAM, Refused
 
-CHUNK = 65536
+CHUNK = 65536  # bytes that are read or written at once
 FAILURES = 5  # of one child in a row, with nothing told in between
 FRESH = 60.0  # seconds after which earlier failures count no more
 
@@ -38,8 +38,8 @@ class Program:
 
     @staticmethod
     def find(beside: pathlib.Path) -> Program:
-        """The one in the folder of dgt_live. In the repository a script tells which one belongs to the sources; where it has to
-        build it, that is done here and not in the midst of a game."""
+        """The one in the folder of dgt_live. In the repository a script tells which one belongs to the sources; where it has
+        to build it, that is done here and not in the midst of a game."""
         finder, path = beside / "program", beside / "dgt_replay"
         if finder.exists():
             with _deaf_children():
@@ -68,10 +68,24 @@ class Program:
         return subprocess.CompletedProcess(list(words), child.returncode, output, error)
 
     def positions(self, fen: Optional[str], moves: Sequence[str]) -> Tuple[List[str], str]:
-        """The FENs of the start and of the position after each move, and what is wrong with the first move that isn't legal."""
+        """The FENs of the start and after each move, and what is wrong with the first move that isn't legal."""
         start = ["--fen", fen] if fen else []
         answer = self.run("positions", *start, given=" ".join(moves).encode())
         return lines_of(answer.stdout), answer.stderr.decode("utf-8", "replace").strip() if answer.returncode else ""
+
+    def can_recover(self) -> bool:
+        """Whether it has `recover`."""
+        return self.run("recover", "--help").returncode == 0
+
+    def whole(self, options: Options, sent: bytes) -> bytes:
+        """What a game is read from: what the board sent, and the pairs that `recover` puts in, where that is asked for. An
+        OSError comes where it can't."""
+        if not options.recover:
+            return sent
+        answer = self.run("recover", *options.of_board(), given=sent)
+        if answer.returncode != 0:
+            raise OSError(f"recover {ending_of(answer.returncode)}")
+        return answer.stdout
 
     def start(self, words: Sequence[str], stdin: int, stdout: int, stderr: int) -> subprocess.Popen[bytes]:
         """Starts it and goes on."""
@@ -79,11 +93,22 @@ class Program:
             return subprocess.Popen([self.path, *words], stdin=stdin, stdout=stdout, stderr=stderr, bufsize=0)
 
 
-class Listing:
-    """A child that lists what a capture shows from an offset on, line by line: `follow` or `pictures`.
+class Source(Protocol):
+    """Bytes of which more and more come: a capture."""
 
-    It is given what stands in the file, and no more, as fast as it takes it. Where it ends before its input has, another one is
-    started from the same offset, and lines that were heard are heard once.
+    @property
+    def size(self) -> int:
+        """How many there are."""
+
+    def read(self, offset: int, count: int) -> bytes:
+        """So many of them, or fewer, from an offset on."""
+
+
+class Reader:
+    """A child that reads a source from an offset on.
+
+    It is given what is there, and no more, as fast as it takes it. Where it ends before its input has, another one is started
+    from the same offset, and what was taken of the first is taken once.
     """
 
     def __init__(
@@ -91,16 +116,15 @@ class Listing:
         loop: Loop,
         program: Program,
         words: Sequence[str],
-        capture: Capture,
-        heard: Callable[[str], None],
+        source: Source,
         says: Callable[[str], None],
         failed: Callable[[str], None],
         start: int = 0,
+        errors: int = subprocess.DEVNULL,
     ) -> None:
         self._loop, self._program, self._words = loop, program, list(words)
-        self._capture, self._start = capture, start
-        self._heard, self._says, self._failed = heard, says, failed
-        self._lines = 0
+        self._source, self._start, self._errors = source, start, errors
+        self._says, self._failed = says, failed
         self._failures = 0
         self._failed_at = -FRESH
         self._finished: Optional[Callable[[], None]] = None
@@ -110,12 +134,11 @@ class Listing:
 
     def _begin(self) -> None:
         self._given = self._start
-        self._told = b""
-        self._skipped = 0
+        self._begins_anew()
         self._blocked = False
         self._child = None
         try:
-            self._child = self._program.start(self._words, subprocess.PIPE, subprocess.PIPE, subprocess.DEVNULL)
+            self._child = self._program.start(self._words, subprocess.PIPE, subprocess.PIPE, self._errors)
         except OSError as error:
             self._fail(f"can't be started ({error.strerror})")
             return
@@ -131,8 +154,8 @@ class Listing:
             return
         number = self._child.stdin.fileno()
         try:
-            while self._given < self._capture.size:
-                part = self._capture.read(self._given, min(CHUNK, self._capture.size - self._given))
+            while self._given < self._source.size:
+                part = self._source.read(self._given, min(CHUNK, self._source.size - self._given))
                 if not part:
                     break
                 self._given += os.write(number, part)
@@ -166,17 +189,13 @@ class Listing:
         if not part:
             self._ended()
             return
-        *lines, self._told = (self._told + part).split(b"\n")
-        child = self._child
-        for line in lines:
-            if self._skipped < self._lines:
-                self._skipped += 1
-                continue
-            self._lines += 1
-            self._skipped += 1
-            self._heard(line.decode("ascii", "replace"))
-            if self._child is not child:
-                return  # what was heard has ended this listing
+        self._takes(part)
+
+    def _begins_anew(self) -> None:
+        """A child is about to be started."""
+
+    def _takes(self, part: bytes) -> None:
+        """It has written this."""
 
     def _ended(self) -> None:
         status = self._reap()
@@ -222,6 +241,8 @@ class Listing:
         assert child and child.stdin and child.stdout
         self._loop.forget(child.stdout.fileno())
         child.stdout.close()
+        if child.stderr:
+            child.stderr.close()
         if not child.stdin.closed:
             self._loop.forget(child.stdin.fileno())
             with contextlib.suppress(OSError):
@@ -234,6 +255,42 @@ class Listing:
                 child.kill()
                 child.wait()
         return child.returncode
+
+
+class Listing(Reader):
+    """A child that lists what a source shows, line by line: `follow` or `pictures`."""
+
+    def __init__(
+        self,
+        loop: Loop,
+        program: Program,
+        words: Sequence[str],
+        source: Source,
+        heard: Callable[[str], None],
+        says: Callable[[str], None],
+        failed: Callable[[str], None],
+        start: int = 0,
+    ) -> None:
+        self._heard = heard
+        self._lines = 0
+        super().__init__(loop, program, words, source, says, failed, start)
+
+    def _begins_anew(self) -> None:
+        self._told = b""
+        self._skipped = 0
+
+    def _takes(self, part: bytes) -> None:
+        *lines, self._told = (self._told + part).split(b"\n")
+        child = self._child
+        for line in lines:
+            if self._skipped < self._lines:
+                self._skipped += 1
+                continue
+            self._lines += 1
+            self._skipped += 1
+            self._heard(line.decode("ascii", "replace"))
+            if self._child is not child:
+                return  # what was heard has ended this listing
 
 
 def ending_of(status: int) -> str:

@@ -13,7 +13,7 @@ START_REQUEST = b"BK"  # 42 4B: a board dump, then field updates, and times wher
 
 DUMP_ID, UPDATE_ID, TIME_ID = 0x86, 0x8E, 0x8D
 SIZES = {DUMP_ID: 67, UPDATE_ID: 5, TIME_ID: 10}
-HEADER = 3
+HEADER = 3  # bytes of a frame before its data
 HIGHEST_CODE, HIGHEST_FIELD = 15, 63
 
 Picture = Tuple[int, ...]  # 64 piece codes by square number: a8 is 0, h8 is 7, h1 is 63

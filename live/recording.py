@@ -3,26 +3,29 @@
 from __future__ import annotations
 
 import bisect
+import dataclasses
 import enum
-from typing import Callable, List, Optional, Sequence
+from typing import Callable, List, Optional, Sequence, Union
 
 from live import added, ending, protocol
 from live.adding import Addition
 from live.control import Answer
 from live.disk import Disk
-from live.files import Capture, Log, Paths, mark_end, text_of
+from live.files import LARGEST, Capture, Paths, mark_end, text_of
 from live.loop import Loop, Timer
 from live.making import Maker
 from live.options import Options
-from live.program import Listing, Program, lines_of
+from live.program import Listing, Program, Reader, lines_of
 from live.refused import DONE
 from live.screen import Screen, Told
 from live.setting_up import DUMP_BEGINS, TICK, pictures_words, start_placement
 from live.standing import Standing
+from live.whole import Pair, Whole
 
 PATIENCE = 5.0  # seconds that the last lines may take
-LATE = 1.0  # seconds
+LATE = 1.0  # seconds behind its time: this process was stopped meanwhile
 SETTLES = 0.2  # seconds after which both listings have told of a picture
+ROOM = 1024 * 1024  # bytes for what `recover` puts in, some 5,000 pairs: none reads more than LARGEST
 NO_PICTURE: protocol.Picture = ()
 
 
@@ -59,8 +62,8 @@ def ending_with_sign(lines: Sequence[ending.Line], size: int) -> int:
 class Recording:
     """A game on a board, from its first byte to its text.
 
-    `over` is called once, where the game has ended; `anew` where it begins only now, and what was told was a set-up; `broken` where
-    a part of it fails again and again; `asks` where something was added by hand, which the board is then asked about.
+    `over` is called once, where the game has ended; `anew` where it begins only now, and what was told was a set-up; `broken`
+    where a part of it fails again and again; `asks` where something was added by hand, which the board is then asked about.
     """
 
     def __init__(
@@ -105,8 +108,13 @@ class Recording:
         self.standing = Standing(loop, screen, self._start)
         self._maker = Maker(loop, program, paths, capture, options, self._pgn_trouble, screen.made)
         self._disk = Disk(screen, self.standing, capture, lambda: self._maker.full)
+        self._whole: Optional[Whole] = None
+        self._recovered: List[Pair] = []  # those that were told
+        if options.recover:
+            self._whole = Whole(loop, program, options, capture, self._feed_follow, screen.say, broken)
+            capture.limit = LARGEST - ROOM
         self._follow = Listing(
-            loop, program, ["follow", *options.of_board()], capture, self._heard, screen.say, broken
+            loop, program, ["follow", *options.of_board()], self._whole or capture, self._heard, screen.say, broken
         )
         self._pictures = Listing(loop, program, pictures_words(options), capture, self._saw, screen.say, broken)
         self._tick = loop.after(TICK, self._each_second)
@@ -119,19 +127,28 @@ class Recording:
     def came(self, sent: bytes) -> None:
         """The board has sent this, or somebody has added it."""
         self._disk.append(sent)
-        self._follow.feed()
-        self._pictures.feed()
+        self._feed()
         if self._capture.at_limit:
             self._end(Reason.LIMIT)
+
+    def _children(self) -> List[Union[Reader, Maker]]:
+        return [child for child in (self._whole, self._follow, self._pictures, self._maker) if child]
+
+    def _feed(self) -> None:
+        if self._whole:
+            self._whole.feed()
+        self._feed_follow()
+        self._pictures.feed()
+
+    def _feed_follow(self) -> None:
+        self._follow.feed()
 
     def _each_second(self) -> None:
         self._tick = self._loop.after(TICK, self._each_second)
         self._disk.try_again()
-        self._follow.feed()
-        self._pictures.feed()
-        self._follow.wake()
-        self._pictures.wake()
-        self._maker.wake()
+        self._feed()
+        for child in self._children():
+            child.wake()
         if self._faults:
             more = len(self._faults) - 1
             self._screen.note(self._faults[0] + (f", and {more} more" if more else ""))
@@ -145,6 +162,11 @@ class Recording:
         told = Told.of_line(line)
         if told is None:
             return
+        if self._whole:
+            place = self._whole.place(told.offset)
+            told = dataclasses.replace(told, offset=place.offset)
+            if place.pair and (self.end is None or place.offset < self.end):
+                self._tell_pair(place.pair)
         if self.end is not None and told.offset >= self.end:
             return  # the game is over
         if told.kind == "fault":
@@ -157,6 +179,16 @@ class Recording:
         if told.kind in ("move", "correction", "result"):
             self._hear_change(told)
         self.standing.show()
+
+    def _tell_pair(self, pair: Pair) -> None:
+        """Moves that no picture showed are told as such before they are told as moves."""
+        if pair in self._recovered:
+            return
+        self._recovered.append(pair)
+        if pair.offset < self._old:
+            self._screen.old(pair.text)
+        else:
+            self._screen.say(pair.text)
 
     def _hear_change(self, told: Told) -> None:
         if told.kind == "correction":
@@ -208,8 +240,8 @@ class Recording:
         self.standing.show()
 
     def _look_at_start(self) -> None:
-        """The start stands after a set-up, and `follow` has told what it makes of that. It ends a game that doesn't stand there;
-        but where the board has never stood as the game says, a move that was told was a part of the set-up."""
+        """The start stands after a set-up, and `follow` has told what it makes of that. It ends a game that doesn't stand
+        there; but where the board has never stood as the game says, a move that was told was a part of the set-up."""
         if self._is_over or not self.moves:
             return
         fens, _ = self._program.positions(self._options.fen, self.moves)
@@ -221,7 +253,10 @@ class Recording:
             self._anew()
 
     def _pgn_trouble(self, trouble: str) -> None:
-        self._screen.say(f"{self.paths.pgn} can't be written ({trouble}); {self.paths.capture} is, and it is tried again")
+        self._screen.say(
+            f"{self.paths.pgn} can't be written ({trouble}); {self.paths.capture} is. Make room:",
+            "it is tried again and again",
+        )
         self._disk.look()
 
     # What an arbiter adds.
@@ -270,7 +305,10 @@ class Recording:
         if self._marks:
             self._mark()
         self._watchdog = self._loop.after(PATIENCE, self._lines_are_told)
-        self._follow.finish(self._lines_are_told)
+        if self._whole:
+            self._whole.finish(lambda: self._follow.finish(self._lines_are_told))
+        else:
+            self._follow.finish(self._lines_are_told)
 
     def _mark(self) -> None:
         try:
@@ -283,6 +321,11 @@ class Recording:
             self._watchdog.cancel()
             self._watchdog = None
         self._follow.close()
+        if self._whole:
+            self._whole.close()
+        if self._recovered:
+            pairs = "; ".join(pair.text.replace("recovered ", "") for pair in self._recovered)
+            self._screen.say(f"recovered in {self.paths.pgn}, look whether they were played: {pairs}")
         if self._typed not in ("", self._result):
             self._screen.say(f"LOOK at {self.paths.pgn}: its result should be {self._typed}, and isn't")
         self._maker.limit = self.end
@@ -299,6 +342,5 @@ class Recording:
             if timer:
                 timer.cancel()
         self.standing.close()
-        self._follow.close()
-        self._pictures.close()
-        self._maker.close()
+        for child in self._children():
+            child.close()

@@ -8,6 +8,7 @@ import pathlib
 from typing import Callable, Dict, List, Optional, Tuple
 
 from live import files
+from live.beside import Worker
 from live.files import text_of
 from live.loop import Loop, Timer
 from live.options import Call
@@ -26,11 +27,22 @@ DRAWS_EACH = 0.1  # seconds
 TICK = 1.0
 AGAIN = 1.0  # seconds, where round.pgn couldn't be written
 GATHERED = 0.02  # seconds in which changes go into one round.pgn
+SHARE = 10  # times as long as the last one took to be written: the disk is for the games first
+LONGEST = 1.0  # seconds
 
 
 def same_device(device: str) -> str:
     """What a device is, by whatever name."""
     return os.path.realpath(device)
+
+
+def written(path: pathlib.Path, text: bytes) -> str:
+    """Writes it, and tells what went wrong, if anything did."""
+    try:
+        files.put_in_place(path, text)
+        return ""
+    except OSError as error:
+        return text_of(error)
 
 
 class Round:
@@ -54,6 +66,9 @@ class Round:
         self._draws: Optional[Timer] = None
         self._writes: Optional[Timer] = None
         self._written: Optional[bytes] = None
+        self._gathered = GATHERED
+        self._worker = Worker(loop)
+        self._writing = False
         self._pgn_trouble = ""
         self._ending = False
         self._left = 0
@@ -147,25 +162,41 @@ class Round:
     # round.pgn.
 
     def _remade(self) -> None:
-        if self._writes is None:
-            self._writes = self._loop.after(GATHERED, self._write)
+        if self._writes is None and not self._writing:
+            self._writes = self._loop.after(self._gathered, self._write)
+
+    def _text(self) -> bytes:
+        return round_pgn(self.rows[number].pgn for number in sorted(self.rows))
 
     def _write(self) -> None:
+        """Has it written beside the loop."""
         self._writes = None
-        text = round_pgn(self.rows[number].pgn for number in sorted(self.rows))
+        text = self._text()
         if text == self._written:
             return
-        try:
-            files.put_in_place(self.pgn, text)
+        self._writing = True
+        begun = self._loop.now()
+
+        def done(trouble: str) -> None:
+            self._writing = False
+            self._gathered = max(GATHERED, min(LONGEST, SHARE * (self._loop.now() - begun)))
+            self._put(text, trouble)
+            if trouble:
+                self._writes = self._loop.after(AGAIN, self._write)
+            else:
+                self._remade()
+
+        self._worker.do(lambda: written(self.pgn, text), done)
+
+    def _put(self, text: bytes, trouble: str) -> None:
+        """What came of a writing."""
+        if not trouble:
             self._written = text
             if self._pgn_trouble:
                 self.say(f"{self.pgn} is written again")
-            self._pgn_trouble = ""
-        except OSError as error:
-            if not self._pgn_trouble:
-                self._pgn_trouble = text_of(error)
-                self.say(f"DISK FULL: {self.pgn} can't be written ({self._pgn_trouble}); it is tried again each second")
-            self._writes = self._loop.after(AGAIN, self._write)
+        elif not self._pgn_trouble:
+            self.say(f"DISK FULL: {self.pgn} can't be written ({trouble}); it is tried again each second")
+        self._pgn_trouble = trouble
 
     # The screen.
 
@@ -267,7 +298,10 @@ class Round:
         complaints = [f"board {number}: {row.trouble}" for number, row in sorted(self.rows.items()) if row.trouble]
         if self._writes:
             self._writes.cancel()
-        self._write()
+        self._worker.close()
+        self._worker.wait()
+        text = self._text()
+        self._put(text, written(self.pgn, text))
         if self._written is None or self._pgn_trouble:
             complaints.append(f"{self.pgn} can't be written ({self._pgn_trouble}): is the disk full?")
         last = f"dgt_round: what was played is in {self.pgn}"

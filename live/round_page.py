@@ -5,6 +5,7 @@ from __future__ import annotations
 from typing import Callable, Dict, Iterable, List, Optional, Protocol, Sequence, Tuple
 
 from live.address import Address
+from live.beside import Worker
 from live.loop import Loop, Timer
 from live.page import Page
 from live.options import Options
@@ -64,28 +65,36 @@ def clocks_of(plies: Sequence[Told]) -> Tuple[str, str]:
 
 
 class Positions:
-    """The FENs of a game that grows: only what is new is asked for."""
+    """The FENs of a game that grows: only what is new is asked for, and nobody waits for it. `changed` is called when it came."""
 
-    def __init__(self, program: Program) -> None:
-        self._program = program
-        self._moves: List[str] = []
+    def __init__(self, program: Program, worker: Worker, changed: Callable[[], None]) -> None:
+        self._program, self._worker, self._changed = program, worker, changed
+        self._moves: Optional[List[str]] = None  # those whose answer has come
         self._fens: List[str] = []
+        self.asks = False  # whether an answer is to come
 
     def of(self, fen: Optional[str], moves: Sequence[str]) -> Tuple[str, ...]:
+        """Those of the start and after each move, as far as they are known."""
+        before = self._moves or []
         same = 0
-        while same < min(len(moves), len(self._moves)) and moves[same] == self._moves[same]:
+        while same < min(len(moves), len(before)) and moves[same] == before[same]:
             same += 1
-        if not self._fens or len(self._fens) <= same:
-            same, fens = 0, []
-            start = fen
-        else:
-            fens = self._fens[:same]
-            start = self._fens[same]
-        if not self._fens or same < len(moves) or same < len(self._moves):
-            more, _ = self._program.positions(start, moves[same:])
-            self._fens = fens + more
-            self._moves = list(moves)
-        return tuple(self._fens)
+        known = self._fens[: same + 1]
+        if not self.asks and (self._moves is None or same < max(len(moves), len(before))):
+            self.asks = True
+            if len(known) <= same:
+                self._ask(fen, [], list(moves), 0)
+            else:
+                self._ask(known[same], known[:same], list(moves), same)
+        return tuple(known)
+
+    def _ask(self, start: Optional[str], before: List[str], moves: List[str], same: int) -> None:
+        def came(answer: Tuple[List[str], str]) -> None:
+            self.asks = False
+            self._fens, self._moves = before + answer[0], moves
+            self._changed()
+
+        self._worker.do(lambda: self._program.positions(start, moves[same:]), came)
 
 
 def plies_view(plies: Sequence[Told]) -> Tuple[Ply, ...]:
@@ -99,6 +108,7 @@ class RoundPage:
     def __init__(self, loop: Loop, program: Program, address: Address, event: str) -> None:
         self._loop, self._program, self._event = loop, program, event
         self._page = Page(loop, address)
+        self._worker = Worker(loop)
         self._games: Callable[[], Iterable[Game]] = tuple
         self._positions: Dict[int, Positions] = {}
         self._timer: Optional[Timer] = None
@@ -122,8 +132,12 @@ class RoundPage:
 
     def _view(self, game: Game) -> BoardView:
         words, since, alarm = game.standing()
-        plies = game.plies
-        positions = self._positions.setdefault(game.number, Positions(self._program))
+        positions = self._positions.get(game.number)
+        if positions is None:
+            positions = self._positions[game.number] = Positions(self._program, self._worker, self.changed)
+        fens = positions.of(game.options.fen, [ply.san for ply in game.plies])
+        # A move is shown with its position.
+        plies = game.plies[: max(0, len(fens) - 1)] if positions.asks else game.plies
         return BoardView(
             number=game.number,
             name=game.name,
@@ -136,11 +150,12 @@ class RoundPage:
             differing=game.differing,
             clocks=clocks_of(plies),
             moves=plies_view(plies),
-            positions=positions.of(game.options.fen, [ply.san for ply in plies]),
+            positions=fens,
             pgn=game.pgn,
         )
 
     def close(self) -> None:
         if self._timer:
             self._timer.cancel()
+        self._worker.close()
         self._page.close()

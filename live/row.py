@@ -225,7 +225,7 @@ class Row:
     # Its line is read again.
 
     def take(self, pairing: Pairing) -> None:
-        """The line as it is now. Where it is another device, or another name while no ply stands, it is begun again with that."""
+        """The line as it is now. With another device, or another name while no ply stands, it is begun again."""
         before, self.pairing = self.pairing, pairing
         self.wrong = ""
         self._wants_result = True
@@ -326,7 +326,8 @@ class Row:
             return self.trouble, None, True
         if state is None:
             return (f"over {self.result}" if self.result != "*" else "over, no result"), None, self.result == "*"
-        return dataclasses.replace(state, since=self._loop.now()).text(self._loop.now()), state.since, state.is_alarm
+        words = dataclasses.replace(state, since=self._loop.now()).text(self._loop.now())
+        return words, None if state.kind is Kind.WAITS else state.since, state.is_alarm
 
     def view(self) -> RowView:
         """What its row shows."""

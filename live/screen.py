@@ -91,8 +91,8 @@ class Screen:
         self._write(self._clock(), text)
 
     def state(self, text: str, news: object) -> None:
-        """How the board stands, and what makes that another state than before: on a terminal the last line, elsewhere a line for
-        each other state."""
+        """How the board stands, and what makes that another state than before: on a terminal the last line, elsewhere a line
+        for each other state."""
         now = self._clock()
         # A result that was just told as a line needs no second one.
         is_news, self._news = news != self._news, news

@@ -7,12 +7,15 @@ import os
 import pathlib
 import stat
 import termios
+import time
 from typing import List, Optional, Tuple
 
 from live.refused import FAILED, Refused
 
 SEE_DEVICES = "see which devices there are with dgt_live --devices"
 PLUGGED = ("ttyUSB*", "ttyACM*")
+BUSY = "is being recorded by another dgt_live: end that one"
+BUSY_PATIENCE = 3.0  # seconds: a call that was just killed may still hold the lock
 
 
 def serial_folders() -> List[pathlib.Path]:
@@ -71,6 +74,31 @@ def check(device: str, may_wait: bool) -> None:
             raise Refused(FAILED, f"{device} is no serial line: {SEE_DEVICES}")
     finally:
         os.close(line)
+
+
+def check_free(device: str) -> None:
+    """Refused where another process records it, and goes on doing so; one that can't be opened may be waited for."""
+    try:
+        line = os.open(device, os.O_RDWR | os.O_NOCTTY | os.O_NONBLOCK)
+    except OSError:
+        return
+    ends = time.monotonic() + BUSY_PATIENCE
+    try:
+        while _is_locked(line):
+            if time.monotonic() >= ends:
+                raise Refused(FAILED, f"{device} {BUSY}")
+            time.sleep(0.05)
+    finally:
+        os.close(line)
+
+
+def _is_locked(line: int) -> bool:
+    """Whether another process has the lock. If not it is taken, up to the close."""
+    try:
+        fcntl.flock(line, fcntl.LOCK_EX | fcntl.LOCK_NB)
+    except BlockingIOError:
+        return True
+    return False
 
 
 class Busy(Exception):

@@ -17,6 +17,7 @@ from live.program import Program
 from live.recording import Reason, Recording
 from live.refused import DONE, FAILED, REFUSED, Refused
 from live.screen import Screen, Told
+from live.serial_line import BUSY
 from live.setting_up import SettingUp
 from live.standing import Standing
 
@@ -272,7 +273,8 @@ class Player:
 
     def unplugged(self) -> None:
         self._unplugged, self._silent = True, False
-        self._screen.say(f"{self._board.cable} isn't there: plug the board in, it is waited for")
+        if not self._call.once:
+            self._screen.say(f"{self._board.cable} isn't there: plug the board in, it is waited for")
         game = self._recording or self._setting_up
         if game:
             game.standing.unplugged()
@@ -293,7 +295,7 @@ class Player:
             game.standing.silence(silent)
 
     def busy(self) -> None:
-        self._fail(f"{self._call.device} is being recorded by another dgt_live: end that one")
+        self._fail(f"{self._call.device} {BUSY}")
 
     def _broken(self, what: str) -> None:
         self._fail(f"a part of it has broken off ({what}); what was played is in {self.paths.pgn}")
@@ -312,7 +314,7 @@ class Player:
         before = self._before if self._before and name == self._before.name else None
         status, answer = self._add(words if named else text, before, sure=named, may_quit=True)
         if status != DONE:
-            self._screen.say(answer)
+            self._screen.say(answer + added.QUIT_TOO if answer.endswith(added.WAYS) else answer)
 
     def _asked(self, text: str) -> Answer:
         """What another call asks for."""

@@ -1,4 +1,4 @@
-"""Between two games of a series: what comes is kept behind the game that is over, until the pieces stand at the start again."""
+"""Between two games of a series: what comes is kept behind the game that is over, until the start stands again."""
 
 from __future__ import annotations
 
@@ -14,7 +14,7 @@ from live.screen import Screen
 from live.standing import Standing
 
 INITIAL = "rnbqkbnr/pppppppp/8/8/8/8/PPPPPPPP/RNBQKBNR"
-TICK = 1.0
+TICK = 1.0  # seconds between two looks at what waits
 DUMP_BEGINS = b"\x86\x00\x43"  # such bytes begin a dump wherever they stand, since only a frame's first has its top bit set
 
 
@@ -59,7 +59,7 @@ class SettingUp:
         self._begin(end)
 
     def _begin(self, end: int) -> None:
-        """Looks behind this offset. What is listed begins with the last dump before it, without which no update would count."""
+        """Looks behind this offset. What is listed begins with the last dump before it: without one no update would count."""
         self._end = end
         self._from, self._before = end, 0
         before = self._capture.bytes(0, end)

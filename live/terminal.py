@@ -11,7 +11,7 @@ from typing import Callable, List, Optional
 from live.loop import Loop
 
 WAITING = 64 * 1024  # bytes that may wait to be printed; lines past that are dropped
-WIDEST = 79
+WIDEST = 79  # columns of the last line
 PAUSE = 1.0  # seconds, where a terminal can't be read just now
 ERASE = b"\r\x1b[K"
 

@@ -25,6 +25,7 @@ export class Large {
       const button = event.target.closest('button');
       if (button) this.go(Number(button.dataset.ply));
     });
+    new ResizeObserver(() => this.scroll()).observe(this.moves); // in another window other moves are in sight
     this.keys = {
       ArrowLeft: () => this.step(-1),
       ArrowRight: () => this.step(1),
@@ -180,7 +181,13 @@ export class Large {
         place.tabIndex = here ? 0 : -1;
       }
     });
+    this.scroll();
+  }
+
+  /** Brings the move that is shown into sight. */
+  scroll() {
     const list = this.moves;
+    const ply = this.ply === null ? this.made.length : this.ply;
     if (ply === 0) list.scrollTop = 0;
     else if (this.made[ply - 1]) {
       const { place } = this.made[ply - 1];

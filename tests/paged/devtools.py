@@ -1,6 +1,7 @@
 """A browser without a screen, told what to do by its DevTools protocol over a WebSocket."""
 
 import base64
+import contextlib
 import json
 import os
 import pathlib
@@ -21,6 +22,18 @@ KEYS = {"ArrowLeft": 37, "ArrowUp": 38, "ArrowRight": 39, "ArrowDown": 40, "Home
 def browser_path():
     """Where a browser is, or None."""
     return next((path for name in NAMES for path in [shutil.which(name)] if path), None)
+
+
+def install_browser():
+    """Debian's chromium, where there is no browser and the caller may install one, unless INSTALL=no forbids it."""
+    if browser_path() or os.geteuid() != 0 or os.environ.get("INSTALL") == "no" or not shutil.which("apt-get"):
+        return
+    print("there is no browser here: apt-get install chromium (INSTALL=no leaves that)", flush=True)
+    install = ["-o", "DPkg::Lock::Timeout=600", "--no-install-recommends", "install", "chromium"]
+    for words in (["update"], install):
+        with contextlib.suppress(subprocess.TimeoutExpired):
+            subprocess.run(["apt-get", "-q", "-y", *words], stdin=subprocess.DEVNULL, stdout=subprocess.DEVNULL,
+                           stderr=subprocess.DEVNULL, timeout=900, env={**os.environ, "DEBIAN_FRONTEND": "noninteractive"})  # fmt: skip
 
 
 class Browser:

@@ -78,18 +78,18 @@ def again():
         site.show(*[a_board(number, number) for number in range(1, 6)])
         reader = Events(site)
         reader.until(lambda: len(reader.boards) == 5)
-        last = reader.last
+        last, known = reader.last, reader.boards
         reader.close()
         site.show(a_board(2, 6))
         site.show(a_board(4, 6))
         site.until("/state.json", lambda content: content.count(b"Bc5") == 2)
         again = Events(site, last)
-        again.until(lambda: {2, 4} <= set(again.boards))
-        same("what has changed meanwhile, whole", again.boards, {number: state(site)[number] for number in (2, 4)})
+        again.boards = known
+        events = again.until(lambda: again.boards == state(site))
         site.show(a_board(2, 7))
-        again.until(lambda: len(again.boards[2]["moves"]) == 7)
-        same("and it goes on from there", again.boards[2], state(site)[2])
-        same("nothing else", set(again.boards), {2, 4})
+        events += again.until(lambda: len(again.boards[2]["moves"]) == 7)
+        same("what has changed meanwhile, and it goes on from there", again.boards, state(site))
+        same("nothing else", {data["number"] for kind, data in events if kind == "board"}, {2, 4})
         known = again.last
         again.close()
         for what, identifier in [

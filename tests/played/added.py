@@ -83,7 +83,15 @@ def typed_moves(folder: pathlib.Path) -> None:
 def typed_nonsense(folder: pathlib.Path) -> None:
     """What isn't understood, and moves that aren't legal, are refused with what was typed, and change nothing."""
     board, live = begin_game(folder, typed=True)
-    for text, part in (("hello", "hello"), ("Nf6", "Nf6"), ("Nf3 Qxf7", "Qxf7"), ("2-0", "2-0"), ("0-0", "0-0"), ("K" * 300, "K")):
+    refused = {
+        "hello": "hello",
+        "Nf6": "Nf6 is no legal move: White is to move, after 1... e5",
+        "Nf3 Qxf7": "Qxf7 is no legal move: Black is to move, after 2. Nf3",
+        "2-0": "2-0",
+        "0-0": "O-O is no legal move",
+        "K" * 300: "K",
+    }
+    for text, part in refused.items():
         said = len(live.lines())
         live.type(text)
         until(lambda: part in live.lines()[said:], f"a word on {text}")
@@ -132,12 +140,23 @@ def added_by_command(folder: pathlib.Path) -> None:
     same((answer.returncode, movetext(live.name)), (0, "1. e4 e5 2. Nf3 Nc6 *"))
     answer = add(folder, "0-1", live.name)
     same((answer.returncode, movetext(live.name)), (0, "1. e4 e5 2. Nf3 Nc6 0-1"))
+    answer = add(folder, "Bb5", live.name)
+    same((answer.returncode, movetext(live.name)), (0, "1. e4 e5 2. Nf3 Nc6 3. Bb5 *"))
+    assert b"the result 0-1 is gone: add it again" in answer.stdout, answer.stdout.decode()
+    answer = add(folder, "0-1", live.name)
+    same((answer.returncode, movetext(live.name)), (0, "1. e4 e5 2. Nf3 Nc6 3. Bb5 0-1"))
+    assert b"gone" not in answer.stdout, answer.stdout.decode()
     same(bytes_of(live.name + ".dgt")[: len(capture)], capture)
     same(run("record", given=bytes_of(live.name + ".dgt")).stdout, bytes_of(live.name + ".pgn"))
     log = (folder / "game.log").read_text()
     assert "Nf3 Nc6" in log and "0-1" in log, log
     answer = add(folder, "1-0", folder / "none")
     assert answer.returncode in (1, 2, 3) and not (folder / "none.dgt").exists(), answer
+    answer = add(folder, "hello", live.name)
+    assert b"or q" not in answer.stderr, answer.stderr.decode()
+    (folder / "club-1.dgt").write_bytes(capture)
+    answer = add(folder, "1-0", folder / "club")
+    same((answer.returncode, answer.stderr.endswith(f"The last one is {folder}/club-1\n".encode())), (1, True))
 
 
 def added_while_recorded(folder: pathlib.Path) -> None:

@@ -18,7 +18,6 @@ from played.stage import (
     begun,
     bytes_of,
     go_on,
-    movetext,
     refuses,
     same,
     stop,
@@ -36,7 +35,8 @@ def refused(folder: pathlib.Path) -> None:
     none = str(folder / "none")
     cases = [
         ([board.device, "game", "--first", "green"], 2, "--first"),
-        ([board.device, "game", "--fen", "8/8/8/8/8/8/8/4K3 w - - 0 1"], 1, "kings"),
+        ([board.device, "game", "--fen", "8/8/8/8/8/8/8/4K3 w - - 0 1"], 1, "each side has one king"),
+        ([board.device, "game", "--fen", "nonsense"], 1, "six fields"),
         ([board.device, "game", "--date", "last Sunday"], 1, "2024.05.31"),
         ([board.device, "game", "--white", "A" * 101], 1, "100"),
         ([board.device, "game", "--white", "王"], 1, "--white"),
@@ -46,6 +46,11 @@ def refused(folder: pathlib.Path) -> None:
         ([board.device, "game", "--white"], 2, "--white"),
         ([board.device, ""], 2, "NAME"),
         ([board.device, "game", "more"], 2, "more"),
+        ([board.device, "game", "--devices"], 2, "--devices"),
+        (["game", board.device], 2, "DEVICE first"),
+        ([board.device, "game.dgt"], 1, "type its NAME alone, game"),
+        ([board.device, "club/game-2.before.dgt"], 1, "type its NAME alone, club/game-2"),
+        ([board.device, "game."], 1, "type its NAME alone, game"),
         ([none, "game"], 3, f"there is no {none}"),
         (["/dev/null", "game"], 3, words.NO_LINE),
         ([str(TOP / "crates.txt"), "game"], 3, words.NO_DEVICE),
@@ -63,6 +68,7 @@ def refused(folder: pathlib.Path) -> None:
         refuses(live, status, part)
         same(live.lines(), "")
         assert "Traceback" not in live.complaint(), live.complaint()
+        assert "dgt_replay <COMMAND>" not in live.complaint(), live.complaint()
     same(sorted(path.name for path in folder.iterdir()), before)
     same(list((folder / "shut").iterdir()), [])
     (folder / "foreign.pgn").write_text("a game\n")
@@ -171,7 +177,7 @@ def old_game(folder: pathlib.Path) -> None:
 
 
 def twice(folder: pathlib.Path) -> None:
-    """Two at once on one NAME, and two at once on one device: the second is refused, the first goes on."""
+    """Two at once on one NAME, and two at once on one device: the second is refused and begins nothing, the first goes on."""
     board, live = begin_game(folder)
     place = folder / "other"
     place.mkdir()
@@ -180,6 +186,8 @@ def twice(folder: pathlib.Path) -> None:
     third = Live(board.device, place / "game")
     refuses(second, 1, words.ANOTHER_RECORDER)
     refuses(third, 3, words.ANOTHER_RECORDER)
+    same((third.lines(), list(place.glob("game*"))), ("", []))
+    assert "again" not in third.complaint(), third.complaint()
     same(other.asked, b"")
     for move in RUY[2:]:
         board.play(move)

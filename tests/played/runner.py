@@ -9,8 +9,10 @@ import sys
 import tempfile
 import time
 import traceback
-from typing import Callable, Dict, List, Sequence
+import types
+from typing import Callable, Dict, List, Optional, Sequence
 
+from played import TOP
 from played.recorder import Live
 from played.stage import LIMIT, PROGRAM, Skipped, Stage
 
@@ -18,8 +20,20 @@ Case = Callable[[pathlib.Path], None]
 PASSED, FAILED, SKIPPED = 0, 1, 3
 
 
+class OutOfTime(AssertionError):
+    """A case has had its time. No error of the system, as TimeoutError is: nobody who expects those may take it for one."""
+
+
 def out_of_time(*_: object) -> None:
-    raise TimeoutError(f"{LIMIT} s are over")
+    raise OutOfTime(f"{LIMIT} s are over")
+
+
+def ended_from_outside(number: int, frame: Optional[types.FrameType]) -> None:
+    """Says where the case stood, and ends it."""
+    signal.signal(number, signal.SIG_IGN)
+    stood = "".join(traceback.format_stack(frame))
+    os.write(1, f"ended from outside by signal {number}, where it stood in\n{stood}".encode())
+    sys.exit(143)
 
 
 def tell_what_was_said() -> None:
@@ -40,7 +54,7 @@ def clear() -> None:
 
 def play(case: Case) -> int:
     """Plays one case here, and tells the outcome in a line."""
-    signal.signal(signal.SIGTERM, lambda *_: sys.exit(143))
+    signal.signal(signal.SIGTERM, ended_from_outside)
     signal.signal(signal.SIGALRM, out_of_time)
     start = time.monotonic()
     Stage.ends = start + LIMIT
@@ -74,21 +88,36 @@ class Playing:
     name: str
     output: pathlib.Path
     process: "subprocess.Popen[bytes]"
-    ends: float
+    turned_at: float
+    seconds: float = 0.0  # in which it was played: a machine that was stopped for a while has taken nothing of them
+    was_told: bool = False
 
     @property
     def is_over(self) -> bool:
-        late = time.monotonic() - self.ends
-        if self.process.poll() is None and late > 0:
-            self.process.kill() if late > 20 else self.process.terminate()
-        return self.process.poll() is not None
+        now = time.monotonic()
+        self.seconds += min(now - self.turned_at, 1.0)
+        self.turned_at = now
+        if self.process.poll() is not None:
+            return True
+        if self.seconds > LIMIT + 60:
+            self.process.kill()
+        elif self.seconds > LIMIT + 30 and not self.was_told:
+            self.was_told = True  # once: a second signal would end it without a word
+            self.process.terminate()
+        return False
 
 
 def environment(folder: pathlib.Path) -> Dict[str, str]:
-    """That of a case. Each recorder is run by this Python, and what it compiles is kept for the next, but not beside it."""
+    """That of a case. Each recorder is run by this Python, and takes what was compiled for all of them."""
     path = f"{pathlib.Path(sys.executable).parent}{os.pathsep}{os.environ.get('PATH', os.defpath)}"
     others = {name: value for name, value in os.environ.items() if name != "PYTHONDONTWRITEBYTECODE"}
     return {**others, "PATH": path, "PYTHONPYCACHEPREFIX": str(folder / "compiled")}
+
+
+def compile_modules(folder: pathlib.Path) -> None:
+    """Compiles the recorder's modules once, since a recorder keeps nothing of what it compiles."""
+    words = [sys.executable, "-m", "compileall", "-q", str(TOP / "live")]
+    subprocess.run(words, check=True, env=environment(folder))
 
 
 def begin(script: str, name: str, folder: pathlib.Path) -> Playing:
@@ -96,7 +125,7 @@ def begin(script: str, name: str, folder: pathlib.Path) -> Playing:
     words = [sys.executable, script, "--alone", name]
     with open(output, "wb") as kept:
         process = subprocess.Popen(words, stdout=kept, stderr=subprocess.STDOUT, env=environment(folder))
-    return Playing(name, output, process, time.monotonic() + LIMIT + 30)
+    return Playing(name, output, process, time.monotonic())
 
 
 def play_all(script: str, names: Sequence[str], at_once: int) -> Dict[int, int]:
@@ -105,6 +134,7 @@ def play_all(script: str, names: Sequence[str], at_once: int) -> Dict[int, int]:
     waiting = list(names)
     playing: List[Playing] = []
     with tempfile.TemporaryDirectory(prefix="dgt_live.") as place:
+        compile_modules(pathlib.Path(place))
         try:
             while waiting or playing:
                 while waiting and len(playing) < at_once:

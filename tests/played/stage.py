@@ -17,7 +17,7 @@ from played.boards import Board
 from played.recorder import Live, processes
 
 PROGRAM = TOP / "bin" / "dgt_replay"
-LIMIT = int(os.environ.get("CASE_SECONDS", "120"))  # that a case may take
+LIMIT = int(os.environ.get("CASE_SECONDS", "300"))  # that a case may take
 RUY = ["e2e4", "e7e5", "g1f3", "b8c6", "f1b5"]
 RUY_TEXT = "1. e4 e5 2. Nf3 Nc6 3. Bb5 *"
 SAMPLE_TEXT = (

@@ -232,6 +232,7 @@ def cable(folder: pathlib.Path) -> None:
     board.pull()
     same(ended(once), 3)
     assert words.GONE_AWAY in once.complaint(), once.complaint()
+    assert "it is waited for" not in once.lines(), once.lines()
     same(movetext(live.name), "1. e4 e5 2. Nf3 Nc6 3. Bb5 a6 *")
 
 
@@ -412,7 +413,6 @@ child = os.fork()
 if child == 0:
     os.setpgid(0, 0)
     os.execv(sys.argv[1], sys.argv[1:])
-os.setpgid(child, child)
 sys.exit(os.waitstatus_to_exitcode(os.waitpid(child, 0)[1]))
 """
 

@@ -7,9 +7,9 @@ import time
 from typing import Dict, List, Optional, Sequence, Set
 
 from played import TOP
-from played.boards import Board
+from played.boards import Board, Cables
 from played.recorder import Live
-from played.stage import a_board, bytes_of, check, movetext, until, until_line
+from played.stage import Stage, a_board, bytes_of, check, movetext, until, until_line
 
 ROUND = TOP / "bin" / "dgt_round"
 GAMES = [
@@ -28,6 +28,12 @@ def moves(number: int) -> List[str]:
 def text(number: int) -> str:
     """The movetext of that, without clocks."""
     return GAMES[number % len(GAMES)][1]
+
+
+def told(number: int, ply: int) -> str:
+    """How the line begins that tells a ply of a board, counted from 0."""
+    sans = [word for word in text(number).split() if not word[0].isdigit()]
+    return f"{ply // 2 + 1}{'.' if ply % 2 == 0 else '...'} {sans[ply]}"
 
 
 def plain(movetext_of_game: str) -> str:
@@ -73,28 +79,38 @@ def games_of(round_text: bytes) -> List[bytes]:
 
 
 class Hall:
-    """So many boards and the round that records them."""
+    """So many boards and the round that records them. Those in `clocks` and `cabled`, counted from 0, have a clock, and a
+    cable with a name of its own, under which the file names them."""
 
-    def __init__(self, folder: pathlib.Path, count: int, clocks: Sequence[int] = ()) -> None:
+    def __init__(self, folder: pathlib.Path, count: int, clocks: Sequence[int] = (), cabled: Sequence[int] = ()) -> None:
         self.folder = folder
         self.file = folder / "round.csv"
         self.games = folder / "games"
         self.boards: List[Board] = []
         self.clocks = clocks
         self.extra: Dict[int, str] = {}  # what stands behind a line
+        self.cables = Cables(folder)
         for number in range(1, count + 1):
-            self.boards.append(a_board(folder, device=folder / f"board{number}", seed=number))
+            if number - 1 in cabled:
+                self.boards.append(self.cables.board(f"DGT_{number}", number))
+                Stage.boards.append(self.boards[-1])
+            else:
+                self.boards.append(a_board(folder, device=folder / f"board{number}", seed=number))
         self.write()
 
     def line(self, number: int) -> str:
-        return f"{number},{self.folder}/board{number},White {number},Black {number}{self.extra.get(number, '')}"
+        device = self.boards[number - 1].cable or self.folder / f"board{number}"
+        return f"{number},{device},White {number},Black {number}{self.extra.get(number, '')}"
 
     def write(self, *more: str, header: str = "board,device,white,black") -> None:
         lines = [header, *[self.line(number) for number in range(1, len(self.boards) + 1)], *more]
         self.file.write_text("\n".join(lines) + "\n", encoding="utf-8")
 
-    def record(self, *options: str, **more: object) -> Live:
-        return Live(self.file, self.games, *options, program=ROUND, **more)  # type: ignore[arg-type]
+    def record(
+        self, *options: str, environment: Optional[Dict[str, str]] = None, program: pathlib.Path = ROUND, **more: object
+    ) -> Live:
+        serial = {**self.cables.environment(), **(environment or {})}
+        return Live(self.file, self.games, *options, program=program, environment=serial, **more)  # type: ignore[arg-type]
 
     def name(self, number: int) -> str:
         return str(self.games / f"{number:02}")
@@ -103,29 +119,49 @@ class Hall:
         for number in range(1, len(self.boards) + 1):
             until_line(live, f"{number:>3}  agrees")
 
+    def until_over(self, live: Live, number: int, result: str) -> None:
+        """The board's game is over, and its row says so when it is asked."""
+        asked_at = 0.0
+
+        def over() -> bool:
+            nonlocal asked_at
+            if time.monotonic() - asked_at > 0.5:
+                asked_at = time.monotonic()
+                live.type(str(number))
+            return live.says(f"{number}: over {result}")
+
+        until(over, f"the end of the game of board {number}")
+
     def text(self, number: int) -> str:
         return plain(movetext(self.name(number)))
 
     def until_text(self, number: int, wanted: str) -> None:
         until(lambda: self.text(number) == wanted, f"{wanted} on board {number}, which has {self.text(number)}", 0.01)
 
-    def play(self, begin: int = 0, end: Optional[int] = None) -> None:
-        """On all boards in turn, a ply each."""
+    def make(self, ply: int, numbers: Optional[Sequence[int]] = None) -> None:
+        """A ply on these boards, counted from 0, else on all; on none whose game is over before."""
+        for number in range(len(self.boards)) if numbers is None else numbers:
+            if ply < len(moves(number)):
+                if number in self.clocks:
+                    self.boards[number].clock(5400 - ply, 5400 - ply)
+                self.boards[number].play(moves(number)[ply])
+
+    def until_plies(self, plies: int, numbers: Optional[Sequence[int]] = None) -> None:
+        """The games of these boards have so many plies, or all that there are."""
+        for number in range(len(self.boards)) if numbers is None else numbers:
+            wanted = min(plies, len(moves(number)))
+            until(
+                lambda: check(bytes_of(self.name(number + 1) + ".pgn")) == f"moves {wanted}, result *",
+                f"{wanted} plies on board {number + 1}, which has {self.text(number + 1)}",
+                0.01,
+            )
+
+    def play(self, begin: int = 0, end: Optional[int] = None, numbers: Optional[Sequence[int]] = None) -> None:
+        """On these boards in turn, a ply each."""
         longest = max(len(moves(number)) for number in range(len(self.boards)))
         for ply in range(begin, longest if end is None else end):
-            for number, board in enumerate(self.boards):
-                played = moves(number)
-                if ply < len(played):
-                    if number in self.clocks:
-                        board.clock(5400 - ply, 5400 - ply)
-                    board.play(played[ply])
-            for number in range(len(self.boards)):
-                wanted = min(ply + 1, len(moves(number)))
-                until(
-                    lambda: check(bytes_of(self.name(number + 1) + ".pgn")) == f"moves {wanted}, result *",
-                    f"{wanted} plies on board {number + 1}, which has {self.text(number + 1)}",
-                    0.01,
-                )
+            self.make(ply, numbers)
+            self.until_plies(ply + 1, numbers)
 
     def until_round(self) -> None:
         """round.pgn has what the games have."""

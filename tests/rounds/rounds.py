@@ -4,14 +4,33 @@ import json
 import os
 import pathlib
 import re
+import shutil
 import signal
 import socket
 import urllib.request
+from typing import Any, Dict, List
 
-from played import words
+from played import TOP, words
 from played.recorder import Live
-from played.stage import bytes_of, check, ended, kill, refuses, same, stop, until, until_line
-from rounds.hall import Hall, Reader, games_of, moves, text
+from played.stage import bytes_of, check, ended, kill, program, refuses, same, stop, until, until_line
+from rounds.hall import ROUND, Hall, Reader, games_of, moves, text, told
+
+
+# Waits in each sync of a file whose path has a part, as long as another file is there.
+SLOW_DISK = """
+import os, time
+sync = os.fsync
+def slow(number):
+    while {part!r} in os.readlink(f"/proc/self/fd/{{number}}") and os.path.exists({stuck!r}):
+        time.sleep(0.02)
+    sync(number)
+os.fsync = slow
+"""
+# A program whose `positions` wait as long as a file is there.
+SLOW_POSITIONS = """#!/bin/sh
+while [ "$1" = positions ] && [ -e '{stuck}' ]; do sleep 0.05; done
+exec '{program}' "$@"
+"""
 
 
 def eight_boards(folder: pathlib.Path) -> None:
@@ -32,16 +51,6 @@ def eight_boards(folder: pathlib.Path) -> None:
     for tag in ('[Event "Club"]', '[Date "2024.05.31"]', '[Round "3"]', '[White "White 3"]', '[Black "Black 3"]'):
         assert tag in game, game
     assert "what was played is in" in live.lines()
-
-
-def many_boards(folder: pathlib.Path) -> None:
-    """32 boards in one process: each game is right."""
-    hall = Hall(folder, 32)
-    live = hall.record()
-    hall.begun(live)
-    hall.play(0, 4)
-    hall.until_round()
-    same(stop(live), 0)
 
 
 def troubles(folder: pathlib.Path) -> None:
@@ -82,7 +91,7 @@ def troubles(folder: pathlib.Path) -> None:
 
 
 def typed(folder: pathlib.Path) -> None:
-    """Results and missed moves are typed; each is answered, and nonsense too."""
+    """Results and missed moves are typed; each is answered, and nonsense too. A result that was typed wrong is typed again."""
     hall = Hall(folder, 3)
     live = hall.record(typed=True)
     hall.begun(live)
@@ -95,7 +104,6 @@ def typed(folder: pathlib.Path) -> None:
     hall.until_text(3, "1. e4 c5 1-0")
     until_line(live, "3: added to ")
     for line, answer in (
-        ("3 0-1", "3 refused"),
         ("2 Qh5", "2 refused"),
         ("9 1-0", "there is no board 9"),
         ("hello", "refused: hello"),
@@ -106,14 +114,22 @@ def typed(folder: pathlib.Path) -> None:
         until_line(live, answer)
     hall.boards[1].play("c2c4")
     hall.until_text(2, "1. d4 d5 2. c4 *")
+    # While the game is being ended nothing can be added. Then its result can be put right.
+    hall.until_over(live, 3, "1-0")
+    live.type("3 0-1")
+    until_line(live, "added to ", 3)
+    hall.until_text(3, "1. e4 c5 0-1")
+    for wrong in ("3 2-0", "3 Nf3 1-0"):
+        live.type(wrong)
+    until_line(live, "3 refused", 2)
     hall.until_round()
     live.type("q")
     same(ended(live), 0)
-    same(hall.text(3), "1. e4 c5 1-0")
+    same(hall.text(3), "1. e4 c5 0-1")
 
 
 def read_again(folder: pathlib.Path) -> None:
-    """HUP reads the file again: a name put right, another device, a new line, a line that is gone, a result, a file that is empty."""
+    """HUP reads the file again: a name put right, another device, a new line, a line that is gone, a result, an empty file."""
     hall = Hall(folder, 3)
     live = hall.record()
     hall.begun(live)
@@ -234,8 +250,55 @@ def full_disk(folder: pathlib.Path) -> None:
     same(stop(live), 0)
 
 
+def slow_disk(folder: pathlib.Path) -> None:
+    """The disk doesn't answer where one board's files are: its moves are told, and the others' games and round.pgn are written.
+    When it answers again the game is written too."""
+    hall = Hall(folder, 3)
+    stuck = folder / "stuck"
+    (folder / "sitecustomize.py").write_text(SLOW_DISK.format(stuck=str(stuck), part="/01."))
+    live = hall.record(environment={"PYTHONPATH": str(folder)})
+    hall.begun(live)
+    hall.play(0, 1)
+    stuck.touch()
+    for ply in range(1, 4):
+        hall.make(ply, [0])
+        until_line(live, f"  1  {told(0, ply)}")
+        hall.play(ply, ply + 1, [1, 2])
+    same(hall.text(1), "1. e4 *")
+    hall.until_round()
+    stuck.unlink()
+    hall.until_plies(4)
+    hall.until_round()
+    same(stop(live), 0)
+
+
+def slow_program(folder: pathlib.Path) -> None:
+    """The page's positions don't come: moves are told, games and round.pgn are written. When they come the page has them."""
+    hall = Hall(folder, 2)
+    stuck, place = folder / "stuck", folder / "place"
+    place.mkdir()
+    shutil.copy(ROUND, place)
+    (place / "live").symlink_to(TOP / "live")
+    (place / "dgt_replay").write_text(SLOW_POSITIONS.format(stuck=stuck, program=program()))
+    (place / "dgt_replay").chmod(0o755)
+    port = free_port()
+    live = hall.record("--page", str(port), program=place / "dgt_round")
+    hall.begun(live)
+    stuck.touch()
+    hall.play(0, 4)
+    for number in (0, 1):
+        until_line(live, f"{number + 1:>3}  {told(number, 3)}")
+    hall.until_round()
+    same([board["moves"] for board in boards_of(port)], [[], []])
+    stuck.unlink()
+    until(lambda: [len(board["positions"]) for board in boards_of(port)] == [5, 5], "five positions on each board", 0.05)
+    moves_shown = [[ply["san"] for ply in board["moves"]] for board in boards_of(port)]
+    same(moves_shown, [["e4", "e5", "Nf3", "Nc6"], ["d4", "d5", "c4", "e6"]])
+    same(stop(live), 0)
+
+
 def on_a_terminal(folder: pathlib.Path) -> None:
-    """The table on a terminal of 80 columns: players, last moves, clocks and states, alarms marked; what is typed is answered."""
+    """The table on a terminal of 80 columns: players, last moves, clocks, states, alarms; what is typed is answered."""
     hall = Hall(folder, 3, clocks=(0,))
     live = hall.record("--event", "Club", terminal=True, environment={"TERM": "xterm"})
     for part in ("Club", "White        Black", "agrees", "3 boards, no alarm"):
@@ -256,6 +319,18 @@ def on_a_terminal(folder: pathlib.Path) -> None:
     same(ended(live), 0)
 
 
+def fetch(port: int, path: str) -> bytes:
+    """What the page serves there."""
+    with urllib.request.urlopen(f"http://127.0.0.1:{port}{path}", timeout=30) as answer:
+        return bytes(answer.read())
+
+
+def boards_of(port: int) -> List[Dict[str, Any]]:
+    """The boards as the page has them."""
+    boards: List[Dict[str, Any]] = json.loads(fetch(port, "/state.json"))["boards"]
+    return boards
+
+
 def page(folder: pathlib.Path) -> None:
     """The page has the round: its boards, their moves and positions, round.pgn, and the state."""
     hall = Hall(folder, 2, clocks=(0,))
@@ -264,20 +339,12 @@ def page(folder: pathlib.Path) -> None:
     hall.begun(live)
     hall.play(0, 3)
 
-    def fetch(path: str) -> bytes:
-        with urllib.request.urlopen(f"http://127.0.0.1:{port}{path}", timeout=30) as answer:
-            return bytes(answer.read())
-
-    def shown() -> bool:
-        boards = json.loads(fetch("/state.json"))["boards"]
-        return [len(board["moves"]) for board in boards] == [3, 3]
-
-    until(shown, "three plies on each board of the page", 0.05)
-    first = json.loads(fetch("/state.json"))["boards"][0]
+    until(lambda: [len(board["moves"]) for board in boards_of(port)] == [3, 3], "three plies on each board of the page", 0.05)
+    first = boards_of(port)[0]
     same([ply["san"] for ply in first["moves"]], ["e4", "e5", "Nf3"])
     same(first["positions"][-1].split()[0], "rnbqkbnr/pppp1ppp/8/4p3/4P3/5N2/PPPP1PPP/RNBQKB1R")
     same((first["white"], first["black"]), ("White 1", "Black 1"))
-    until(lambda: fetch("/round.pgn") == bytes_of(hall.games / "round.pgn"), "round.pgn on the page", 0.05)
+    until(lambda: fetch(port, "/round.pgn") == bytes_of(hall.games / "round.pgn"), "round.pgn on the page", 0.05)
     same(stop(live), 0)
 
 

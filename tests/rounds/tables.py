@@ -72,6 +72,8 @@ def rows(_: pathlib.Path) -> None:
     same(row(calm, 140), "   1 Anna         Benjamin M.. 12... Nxe5+   1:12:07 0:58:11  agrees 40s")
     alarm = RowView(12, "Anna", "Ben", "3. Bb5", ("", ""), "WRONG: e2 d5", 100.0, True)
     same(row(alarm, 280), "! 12 Anna         Ben          3. Bb5                         WRONG 3m: e2 d5")
+    waits = RowView(2, "Anna", "Ben", state="waits for the board")
+    same(row(waits, 280), "   2 Anna         Ben                                         waits for the b..")
     wrong = RowView(None, state="line 9 is wrong: a quote isn't closed", alarm=True)
     same(row(wrong, 0), "!  ? line 9 is wrong: a quote isn't closed")
     shown = screen("10:00:00  Club", [calm] * 30 + [alarm], ["a message"], 280, 24)

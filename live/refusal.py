@@ -1,0 +1,28 @@
+"""What the program says of options that it refuses, in words for the one who typed them."""
+
+from __future__ import annotations
+
+from typing import Dict
+
+from live.options import SEE_HELP
+
+# The conditions of a position, and of the text that has it, in docs/CHESS.md.
+OF_FEN: Dict[str, str] = {
+    "form": "six fields are wanted, or the first four, as in '8/8/4k3/8/8/4K3/4P3/8 w - - 0 1'",
+    "counters": "the two numbers at its end are 0 to 9999 and 1 to 9999",
+    "placement": "its first field has eight ranks of eight squares, a8 first, with '/' between",
+    "kings": "each side has one king",
+    "pawns": "no pawn stands on rank 1 or 8",
+    "rights": "for each letter of KQkq the king and that rook stand at home",
+    "en passant": "the pawn that has just gone two squares isn't there, or not alone",
+    "check": "the king of the side that isn't to move stands in check",
+}
+
+
+def reason(error: str) -> str:
+    """What is to be told, of what the program has printed."""
+    first = (error.strip().splitlines() or ["no reason is told"])[0]
+    kind, _, why = first.partition(": ")
+    if kind == "fen":
+        return f"--fen is refused ({why}): {OF_FEN.get(why, SEE_HELP)}"
+    return f"the options are refused: {why if kind == 'error' else first}. {SEE_HELP.capitalize()}"

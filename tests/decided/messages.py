@@ -1,0 +1,106 @@
+"""What is told where options or a NAME are refused, and where a disk has room again."""
+
+import pathlib
+import tempfile
+
+from live.disk import Disk
+from live.files import Log, check_name
+from live.refusal import reason
+from live.refused import Refused
+
+from decided.table import refused, same
+
+# What the program prints, and what is told. The reasons are the conditions in CHESS, 'Positions' and 'FEN'.
+REASONS = {
+    "fen: form\n": "six fields",
+    "fen: counters\n": "9999",
+    "fen: placement\n": "eight ranks",
+    "fen: kings\n": "one king",
+    "fen: pawns\n": "rank 1 or 8",
+    "fen: rights\n": "KQkq",
+    "fen: en passant\n": "pawn",
+    "fen: check\n": "in check",
+    "fen: another\n": "dgt_live --help",
+    "error: the side after '--first' is white or black\n\nUsage: dgt_replay <COMMAND>\n": "'--first' is white or black. See",
+    "tag White: long\n": "tag White: long. See",
+    "": "no reason is told",
+}
+NAMES = {
+    "game.dgt": "game",
+    "game.pgn": "game",
+    "club/blitz-2.before.dgt": "club/blitz-2",
+    "game.": "game",
+    "a.b.end": "a.b",
+}
+PLAIN = ["game", "blitz-1", "1.1", "game.pgn.old", ".", "..", ".pgn", "./.dgt", "a\0b"]
+
+
+def reasons() -> None:
+    for printed, part in REASONS.items():
+        told = reason(printed)
+        same(f"{part} in {told!r}", part in told and "\n" not in told and "Usage" not in told, True)
+
+
+def no_names() -> None:
+    for name, game in NAMES.items():
+        said = refused(name, Refused, check_name, name)
+        same(name, said.endswith(f"type its NAME alone, {game}"), True)
+    for name in PLAIN:
+        same(name, check_name(name), None)
+    same("a device", "DEVICE first" in refused("a device", Refused, check_name, "/dev/null"), True)
+    with tempfile.TemporaryDirectory() as folder:
+        old = pathlib.Path(folder) / "game.pgn.dgt"
+        old.write_bytes(b"")
+        refused("an empty file", Refused, check_name, str(old.with_suffix("")))
+        old.write_bytes(b"\x86")
+        same("a game that was begun so", check_name(str(old.with_suffix(""))), None)
+
+
+class Full:
+    """A capture, a screen and a state of the board, as far as a disk asks for them."""
+
+    def __init__(self) -> None:
+        self.full = self.disk_full = False
+        self.path, self.trouble, self.lost = "game.dgt", "no room", 0
+        self.said = []
+
+    def say(self, *lines) -> None:
+        self.said.append(lines[0])
+
+    def disk(self, full) -> None:
+        self.disk_full = full
+
+    def write(self) -> None:
+        self.full = False
+
+
+def disks() -> None:
+    """Each file that was full is written again; the text alone, or the capture alone."""
+    for of_text in (False, True):
+        full = Full()
+        text = [of_text]
+        disk = Disk(full, full, full, lambda: text[0])
+        full.full = not of_text
+        disk.look()
+        same("it is full", (full.disk_full, len(full.said)), (True, 0 if of_text else 1))
+        text[0] = False
+        disk.try_again()
+        same("what is told names no file", (full.disk_full, full.said[-1]), (False, "there is room again, and all is written"))
+
+
+def logs() -> None:
+    """A log that can't be opened at first is, once that succeeds, and says what is missing."""
+    with tempfile.TemporaryDirectory() as folder:
+        path = pathlib.Path(folder) / "later" / "game.log"
+        log = Log(path)
+        log.write("10:00:00", "agrees")
+        log.write("10:00:01", "1. e4")
+        path.parent.mkdir()
+        log.write("10:00:02", "1... e5")
+        log.write("10:00:03", "agrees")
+        log.close()
+        missing = "10:00:02  (2 lines are missing here: the log couldn't be written)"
+        same("a log", path.read_text().splitlines(), [missing, "10:00:02  1... e5", "10:00:03  agrees"])
+
+
+TABLES = [reasons, no_names, disks, logs]

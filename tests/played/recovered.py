@@ -1,0 +1,213 @@
+"""`--recover`: moves that two hands hid.
+
+The program that is put to the test may have no `recover` yet: then tests/recovering/recover.py stands in for it.
+"""
+
+import os
+import pathlib
+import shutil
+import signal
+import subprocess
+import sys
+from typing import Tuple
+
+from play_board import BLACK, PROMOTED
+from played import TOP, words
+from played.boards import Board
+from played.recorder import LIVE, Live, command, processes
+from played.stage import (
+    a_board,
+    begun,
+    bytes_of,
+    ended,
+    kill,
+    movetext,
+    program,
+    refuses,
+    rest,
+    run,
+    same,
+    stop,
+    until,
+    until_game,
+    until_line,
+)
+
+KNIGHT = PROMOTED["n"]
+STRICT_TEXT = "1. e4 e5 *"
+WHOLE_TEXT = "1. e4 e5 2. Nf3 Nc6 3. Bb5 *"
+PAIR = "recovered 2. Nf3 2... Nc6"
+
+
+def recorder(folder: pathlib.Path) -> pathlib.Path:
+    """A dgt_live whose program has `recover`. To be taken out, for LIVE, when each program has it."""
+    if run("recover", "--help").returncode == 0:
+        return LIVE
+    place = folder / "program"
+    place.mkdir()
+    shutil.copy(TOP / "bin" / "dgt_live", place)
+    (place / "live").symlink_to(TOP / "live")
+    script = place / "dgt_replay"
+    by_rules = f"{sys.executable} {TOP}/tests/recovering/recover.py"
+    script.write_text(f'#!/bin/sh\n[ "$1" = recover ] || exec {program()} "$@"\nshift\nexec {by_rules} "$@"\n')
+    script.chmod(0o755)
+    return place / "dgt_live"
+
+
+def hurried(board: Board, first: str = "g1f3", reply: str = "b8c6") -> None:
+    """The reply's piece is lifted while the move's is in the air: two knights."""
+    board.lift(first[:2])
+    board.lift(reply[:2])
+    board.put(first[2:], KNIGHT)
+    board.put(reply[2:], BLACK + KNIGHT)
+
+
+def begin(folder: pathlib.Path, *options: str, **more: object) -> Tuple[Board, Live, pathlib.Path]:
+    """Two plies, recorded with --recover."""
+    live_path = recorder(folder)
+    board = a_board(folder)
+    live = Live(board.device, folder / "game", "--recover", *options, program=live_path, **more)  # type: ignore[arg-type]
+    begun(live)
+    for move in ("e2e4", "e7e5"):
+        board.play(move)
+    until_game(live.name, STRICT_TEXT)
+    return board, live, live_path
+
+
+def again(board: Board, live: Live, path: pathlib.Path, *options: str) -> Live:
+    """The same game again."""
+    asked = board.asked.count(b"BK")
+    new = Live(board.device, live.name, *options, program=path)
+    until(lambda: board.asked.count(b"BK") > asked, "a request for updates")
+    return new
+
+
+def pair_recovered(folder: pathlib.Path) -> None:
+    """A hidden pair is put in with the next move, told and kept in the log; the capture has what the board sent alone. Started
+    again the game is told again; with --strict it is what `record` makes of the capture, and with --recover whole again."""
+    board, live, path = begin(folder)
+    hurried(board)
+    rest(1.5)
+    same(movetext(live.name), STRICT_TEXT)
+    board.play("f1b5")
+    until_game(live.name, WHOLE_TEXT)
+    until_line(live, "3. Bb5")
+    lines = [words.untimed(line) for line in live.lines().splitlines() if words.AGREES not in line]
+    at = lines.index(PAIR)
+    same(lines[at + 1 : at + 4], ["2. Nf3", "2... Nc6", "3. Bb5"])
+    board.play("a7a6")
+    until_game(live.name, WHOLE_TEXT.replace("*", "a6 *"))
+    same(stop(live), 0)
+    log = (folder / "game.log").read_text()
+    same(log.count(PAIR), 1)
+    assert "look whether they were played: 2. Nf3 2... Nc6" in log, log
+    capture = bytes_of(live.name + ".dgt")
+    same(b" ".join(run("record", given=capture).stdout.split(b"\n\n")[1].split()), STRICT_TEXT.encode())
+
+    live = again(board, live, path)
+    until_line(live, "3... a6")
+    assert f"--:--:--  {PAIR}" in live.lines(), live.lines()
+    same(stop(live), 0)
+    same(movetext(live.name), WHOLE_TEXT.replace("*", "a6 *"))
+    same(bytes_of(live.name + ".dgt")[: len(capture)], capture)
+
+    live = again(board, live, path, "--strict")
+    until_game(live.name, STRICT_TEXT)
+    same(stop(live), 0)
+    live = again(board, live, path, "--recover")
+    until_game(live.name, WHOLE_TEXT.replace("*", "a6 *"))
+    same(stop(live), 0)
+
+
+def recovered_and_killed(folder: pathlib.Path) -> None:
+    """KILL of the child that recovers, before and after a pair, and of all: the game goes on, and each line is told once."""
+    board, live, path = begin(folder)
+    script = f"{TOP}/tests/recovering/recover.py"
+
+    def recovering() -> int:
+        found = [process for process in processes(live.process.pid) if {"recover", script} & set(command(process))]
+        return found[0] if len(found) == 1 else 0
+
+    ended_ones = [0]
+
+    def is_another() -> bool:
+        child = recovering()
+        if child in ended_ones:
+            return False
+        ended_ones.append(child)
+        return True
+
+    for part in range(2):
+        until(is_another, "a child that recovers")
+        os.kill(ended_ones[-1], signal.SIGKILL)
+        if part == 0:
+            hurried(board)
+            rest(0.5)
+        else:
+            board.play("f1b5")
+    until_game(live.name, WHOLE_TEXT)
+    until_line(live, "3. Bb5")
+    same((live.lines().count(PAIR), live.lines().count("3. Bb5")), (1, 1))
+    kill(live)
+    live = again(board, live, path)
+    board.play("a7a6")
+    until_game(live.name, WHOLE_TEXT.replace("*", "a6 *"))
+    same(stop(live), 0)
+
+
+def recovered_and_added(folder: pathlib.Path) -> None:
+    """What is typed, or added by command, comes behind the recovered moves; a typed result ends the whole game."""
+    board, live, path = begin(folder, typed=True)
+    hurried(board)
+    board.play("f1b5")
+    until_game(live.name, WHOLE_TEXT)
+    board.lift("a7")
+    live.type("a6")
+    until_line(live, "added by hand: a6")
+    until_game(live.name, WHOLE_TEXT.replace("*", "a6 *"))
+    live.type("1-0")
+    same(ended(live), 0)
+    same(movetext(live.name), WHOLE_TEXT.replace("*", "a6 1-0"))
+    size = (folder / "game.end").read_text()
+    same(int(size), len(bytes_of(live.name + ".dgt")))
+    answer = subprocess.run([path, "--add", "0-1", live.name], stdout=subprocess.PIPE, stderr=subprocess.PIPE)
+    same((answer.returncode, movetext(live.name)), (0, WHOLE_TEXT.replace("*", "a6 0-1")))
+
+
+def recovered_series(folder: pathlib.Path) -> None:
+    """Two games in a row, each with a hidden pair: the first ends by a mate, and its end is marked in the capture's bytes."""
+    path = recorder(folder)
+    board = a_board(folder)
+    live = Live(board.device, folder / "blitz", "--recover", "--series", "--linger", "1", program=path)
+    begun(live)
+    for move in ("e2e4", "e7e5"):
+        board.play(move)
+    until_game(f"{live.name}-1", STRICT_TEXT)
+    hurried(board)
+    for move in ("f3g5", "a7a6", "d1h5", "a6a5", "h5f7"):
+        board.play(move)
+    until_line(live, "blitz-2 begins")
+    same(movetext(f"{live.name}-1"), "1. e4 e5 2. Nf3 Nc6 3. Ng5 a6 4. Qh5 a5 5. Qxf7# 1-0")
+    end = int((folder / "blitz-1.end").read_text())
+    same(end, len(bytes_of(f"{live.name}-1.dgt")[:end]))
+    for _ in board.homecoming():
+        rest(0.01)
+    until_line(live, "blitz-2.dgt")
+    begun(live)
+    for move in ("d2d4", "d7d5"):
+        board.play(move)
+    until_game(f"{live.name}-2", "1. d4 d5 *")
+    hurried(board)
+    board.play("c2c4")
+    until_game(f"{live.name}-2", "1. d4 d5 2. Nf3 Nc6 3. c4 *")
+    same(stop(live), 0)
+    same(movetext(f"{live.name}-1"), "1. e4 e5 2. Nf3 Nc6 3. Ng5 a6 4. Qh5 a5 5. Qxf7# 1-0")
+
+
+def recover_refused(folder: pathlib.Path) -> None:
+    """Where the program has no `recover` the option is refused, and nothing is begun. To be taken out when each has it."""
+    if run("recover", "--help").returncode == 0:
+        return
+    board = a_board(folder)
+    refuses(Live(board.device, folder / "game", "--recover"), 1, "no `recover`")
+    assert not (folder / "game.dgt").exists()

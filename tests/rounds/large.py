@@ -1,0 +1,190 @@
+"""A large hall in which all goes wrong that may, and troubles that are one board's alone."""
+
+import os
+import pathlib
+import shutil
+import signal
+import subprocess
+
+from played import words
+from played.recorder import Live, command
+from played.stage import Skipped, bytes_of, kill, movetext, rest, same, stop, until, until_line
+from rounds.hall import Hall, Reader, games_of, moves, plain, text
+
+# Boards of the large hall, counted from 0; the others have no trouble of their own.
+CLOCKS = range(0, 10)
+CUT = range(6, 12)
+CABLED = SWAPPED_1, SWAPPED_2, RENAMED = 12, 13, 14
+SWITCHED = (15, 16)
+PULLED = 17
+HURRIED = range(18, 24)
+BOARDS = 32
+
+
+def slide(hall: Hall, number: int, move: str) -> None:
+    """A move whose piece is set down on two empty squares first, and which no one waits for."""
+    board = hall.boards[number]
+    code = board.codes[play_field(move[:2])]
+    board.lift(move[:2])
+    for square in ("a5", "h4"):
+        board.put(square, code)
+        board.lift(square)
+    board.put(move[:2], code)
+    board.play(move)
+
+
+def play_field(square: str) -> int:
+    return "abcdefgh".index(square[0]) + 8 * (8 - int(square[1]))
+
+
+def troubled(hall: Hall, live: Live) -> None:
+    """Boards are switched off, cables are pulled, change places and names; the others play on meanwhile."""
+    away = [*CABLED, *SWITCHED, PULLED]
+    others = [number for number in range(BOARDS) if number not in away]
+    for number in SWITCHED:
+        hall.boards[number].switch_off()
+    for number in (*CABLED, PULLED):
+        hall.boards[number].pull()
+    for number in (*CABLED, PULLED):
+        until_line(live, f"{number + 1:>3}  {words.UNPLUGGED}")
+    hall.play(2, 3, others)
+    for number in SWITCHED:
+        until_line(live, f"{number + 1:>3}  {words.SILENT}")
+        hall.boards[number].switch_on()
+    hall.cables.plug(hall.boards[SWAPPED_1], SWAPPED_2 + 1)
+    hall.cables.plug(hall.boards[SWAPPED_2], SWAPPED_1 + 1)
+    hall.cables.plug(hall.boards[RENAMED], 99)
+    hall.boards[PULLED].plug()
+    until(lambda: all(board.asked_for_updates for board in hall.boards), "a request on each board")
+    hall.play(2, 3, away)
+    assert words.OTHER_BOARD not in live.lines(), live.lines()
+
+
+def full(hall: Hall, live: Live) -> None:
+    """The disk is full while each board makes a move, and has room again."""
+    live.fill_disk(20)
+    hall.make(3)
+    for number in range(BOARDS):
+        until_line(live, f"{number + 1:>3}  {words.DISK_FULL}")
+    live.make_room()
+    hall.until_plies(4)
+
+
+def thirty_two_boards(folder: pathlib.Path) -> None:
+    """32 boards: clocks, cut updates, hands in a hurry, boards off and on, cables swapped and renamed, a full disk, two kills."""
+    hall = Hall(folder, BOARDS, clocks=CLOCKS, cabled=CABLED)
+    for number in CUT:
+        hall.boards[number].spoiled_share = 0.1
+    hall.write("33,,nobody,nobody", "x,y,z")
+    live = hall.record("--event", "Hall")
+    reader = Reader(hall.games / "round.pgn")
+    hall.begun(live)
+    until_line(live, "line 34 of round.csv is wrong")
+    hall.play(0, 2)
+    troubled(hall, live)
+    full(hall, live)
+    kill(live)
+    live = hall.record("--event", "Hall")
+    hall.begun(live)
+    for ply in (4, 5):
+        for number in HURRIED:
+            slide(hall, number, moves(number)[ply])
+    hall.until_plies(6, HURRIED)
+    hall.play(4, 6, [number for number in range(BOARDS) if number not in HURRIED])
+    hall.write("1,again,A,B")
+    live.send(signal.SIGHUP)
+    until_line(live, "is read again: 32 boards, 1 line is wrong")
+    hall.make(6)
+    kill(live)
+    live = hall.record("--event", "Hall")
+    hall.until_plies(7)
+    hall.begun(live)
+    hall.play(7)
+    for number in range(BOARDS):
+        hall.until_text(number + 1, text(number))
+    hall.until_round()
+    same(stop(live), 0)
+    same(len(games_of(bytes_of(hall.games / "round.pgn"))), BOARDS)
+    reader.end(BOARDS)
+    for number in CLOCKS:
+        assert "[%clk 1:29:5" in movetext(hall.name(number + 1)), movetext(hall.name(number + 1))
+
+
+def always_failing(folder: pathlib.Path) -> None:
+    """A child of one board is killed again and again: its row says so, the others play on; it is recorded again later."""
+    hall = Hall(folder, 3)
+    hall.extra[2] = ",yes"
+    hall.boards[1].rotated = True
+    hall.write(header="board,device,white,black,rotated")
+    live = hall.record()
+    hall.begun(live)
+    hall.play(0, 2)
+    live.was_killed = True
+
+    def fails() -> bool:
+        for child in live.children():
+            called = command(child)
+            if "follow" in called and "--rotated" in called:
+                os.kill(child, signal.SIGKILL)
+        return live.says("  2  isn't recorded: a part of it has broken off")
+
+    until(fails, "that board 2 is given up")
+    hall.play(2, 4, (0, 2))
+    until_line(live, "  2  agrees", 2)
+    hall.play(2, 4, (1,))
+    for number in range(3):
+        same(plain(movetext(hall.name(number + 1))).count(" "), 6)
+    hall.until_round()
+    for number in (1, 3):
+        assert f"  {number}  isn't recorded" not in live.lines(), live.lines()
+    same(stop(live), 0)
+
+
+def full_from_the_start(folder: pathlib.Path) -> None:
+    """The disk is full as it begins: each row says so, nothing ends; when there is room all boards are recorded."""
+    for limit in (0, 60):
+        place = folder / str(limit)
+        place.mkdir()
+        hall = Hall(place, 2)
+        live = hall.record(limit=limit)
+        for number in (1, 2):
+            until_line(live, f"{number:>3}  isn't recorded: ")
+        rest(0.5)
+        assert live.runs, live.complaint()
+        live.make_room()
+        hall.begun(live)
+        hall.play(0, 2)
+        hall.until_round()
+        same(stop(live), 0)
+
+
+def chess_programs(folder: pathlib.Path) -> None:
+    """pgn-extract and Scid read round.pgn without a complaint: clocks, results, a game without moves, turned names."""
+    places = f"{os.environ.get('PATH', os.defpath)}{os.pathsep}/usr/games"
+    extract, scid = (shutil.which(name, path=places) for name in ("pgn-extract", "tkscid"))
+    hall = Hall(folder, 5, clocks=(0, 2))
+    hall.write(f'6,{folder}/nowhere,"Ødegård, Åse",Jörg')
+    live = hall.record("--event", 'Club "cup" \\ 2', "--date", "31.05.2024", "--round", "3", typed=True)
+    hall.begun(live)
+    hall.play()
+    for number, result in ((1, "1-0"), (2, "1/2-1/2"), (3, "0-1")):
+        live.type(f"{number} {result}")
+        until(lambda: result in movetext(hall.name(number)), f"the result of board {number}")
+    until(lambda: len(games_of(bytes_of(hall.games / "round.pgn"))) == 6, "six games in round.pgn")
+    same(stop(live), 0)
+    assert b'[White "Oedegaard, Aase"]' in bytes_of(hall.games / "round.pgn"), bytes_of(hall.games / "round.pgn")
+    if extract:
+        same(said_by(folder, extract, "-s", "-o/dev/null", "games/round.pgn"), "")
+    if scid:
+        (folder / "import.tcl").write_text(
+            "sc_base create base\nputs [sc_base import [sc_base current] games/round.pgn]\nexit 0\n"
+        )
+        same(said_by(folder, scid, "import.tcl"), "6 {}\n")  # the number of games, and what it complains of
+    if not (extract and scid):
+        raise Skipped("there is not both: Debian's packages pgn-extract and scid")
+
+
+def said_by(folder: pathlib.Path, *words: str) -> str:
+    """What another program says, on both streams."""
+    heard = subprocess.run(words, cwd=folder, stdin=subprocess.DEVNULL, stdout=subprocess.PIPE, stderr=subprocess.STDOUT)
+    return heard.stdout.decode(errors="replace")

@@ -1,0 +1,132 @@
+#!/usr/bin/env python3
+"""Writes the tables of docs/EDITS.md from the first lines of the edits in crates/*/must-fail/.
+
+    tools/edits.py             writes the tables anew
+    tools/edits.py --check     says what is to be done where the page isn't what the edits say
+
+An edit begins with a line 'says: ' and what its wrong body does, and may have a line 'refused by: ' and the clause behind it.
+`rt` passes over both.
+"""
+import dataclasses
+import pathlib
+import re
+import sys
+import typing
+
+TOP = pathlib.Path(__file__).resolve().parent.parent
+PAGE = TOP / "docs" / "EDITS.md"
+HEAD = ["| Edit | In | What the wrong body does | Refused by |", "|---|---|---|---|"]
+
+
+@dataclasses.dataclass(frozen=True)
+class Edit:
+    crate: str
+    name: str
+    file: str
+    function: str
+    says: str
+    refused_by: str
+
+    def row(self) -> str:
+        place = f"`{self.file}`: `{self.function}`" if self.function else f"`{self.file}`"
+        return f"| `{self.name}` | {place} | {self.says} | {self.refused_by} |"
+
+
+NAMES = {  # what names a function in src/, a definition in specs/
+    ".rt": re.compile(r"\bfn (\w+)"),
+    ".antt": re.compile(r"(?m)^(?:abbrev |unfoldable )?pub (?:record |data )?(\w+)"),
+}
+
+
+def function_of(path: pathlib.Path, old: str) -> str:
+    """The function or definition in which a text stands, or none where it stands before all of them."""
+    source = path.read_text()
+    named = NAMES[path.suffix].findall(source[: source.find(old) + len(old)])
+    return str(named[-1]) if named else ""
+
+
+def read_edit(crate: str, name: str, text: str) -> typing.Union[Edit, str]:
+    """The edit of this text, or what is wrong with it."""
+    lines = text.split("\n")
+    path = f"crates/{crate}/must-fail/{name}.edit"
+    if not re.match(r"says: \S", lines[0]):
+        return f"{path}: its first line has to be 'says: ' and what the wrong body does"
+    refused_by = lines[1][len("refused by: ") :] if lines[1].startswith("refused by: ") else ""
+    if "|" in lines[0] + refused_by:
+        return f"{path}: its first lines have a '|', which ends a cell of the table"
+    files = [line[len("file: ") :].strip() for line in lines if line.startswith("file: ")]
+    olds = [line[len("old: ") :] for line in lines if line.startswith("old: ")]
+    if not files or not olds or not (TOP / "crates" / crate / files[0]).is_file():
+        return f"{path}: its lines 'file: ' and 'old: ' name no text of the crate"
+    function = function_of(TOP / "crates" / crate / files[0], olds[0])
+    return Edit(crate, name, files[0], function, lines[0][len("says: ") :], refused_by)
+
+
+def sections(page: str) -> typing.List[str]:
+    """The page cut before each heading of a crate: its beginning, and a part for each crate."""
+    return re.split(r"(?m)^(?=### `)", page)
+
+
+def crate_of(section: str) -> str:
+    heading = re.match(r"### `(\w+)`", section)
+    return heading.group(1) if heading else ""
+
+
+def with_table(section: str, edits: typing.List[Edit]) -> str:
+    """The section with the rows of these edits in the place of its table, or behind its heading where it has none."""
+    lines = section.split("\n")
+    first = next((at for at, line in enumerate(lines) if line.startswith("|")), None)
+    table = HEAD + [edit.row() for edit in sorted(edits, key=lambda edit: (edit.file, edit.name))]
+    if first is None:
+        return "\n".join([lines[0], "", *table, *lines[1:]])
+    last = next((at for at, line in enumerate(lines) if at > first and not line.startswith("|")), len(lines))
+    return "\n".join(lines[:first] + table + lines[last:])
+
+
+def page_of(page: str, edits: typing.List[Edit]) -> typing.Tuple[str, typing.List[str]]:
+    """The page with a table of these edits for each crate, and what is wrong with it."""
+    parts = sections(page)
+    crates = [crate_of(part) for part in parts]
+    have = {edit.crate for edit in edits}
+    wrong = [f"docs/EDITS.md has no heading '### `{crate}`', and it has edits" for crate in sorted(have - set(crates))]
+    wrong += [f"docs/EDITS.md has a heading for `{it}`, which has no edit" for it in crates if it and it not in have]
+    rows = {crate: [it for it in edits if it.crate == crate] for crate in have}
+    return "".join(with_table(part, rows[crate]) if crate in have else part for crate, part in zip(crates, parts)), wrong
+
+
+def all_edits() -> typing.Tuple[typing.List[Edit], typing.List[str]]:
+    """The edits of all crates, and what is wrong with the others."""
+    paths = sorted(TOP.glob("crates/*/must-fail/*.edit"))
+    read = [read_edit(path.parent.parent.name, path.stem, path.read_text()) for path in paths]
+    return [it for it in read if isinstance(it, Edit)], [it for it in read if isinstance(it, str)]
+
+
+def complaints() -> typing.List[str]:
+    """What has to be done so that docs/EDITS.md is what the edits say."""
+    edits, wrong = all_edits()
+    before = PAGE.read_text()
+    page, missing = page_of(before, edits)
+    if not wrong and not missing and page != before:
+        missing = ["docs/EDITS.md isn't what the edits say: run tools/edits.py, and commit the page"]
+    return wrong + missing
+
+
+def main() -> int:
+    if sys.argv[1:] == ["--check"]:
+        wrong = complaints()
+    elif sys.argv[1:]:
+        print(__doc__, file=sys.stderr)
+        return 2
+    else:
+        edits, unread = all_edits()
+        page, missing = page_of(PAGE.read_text(), edits)
+        wrong = unread + missing
+        if not wrong:
+            PAGE.write_text(page)
+    for line in wrong:
+        print(line)
+    return 1 if wrong else 0
+
+
+if __name__ == "__main__":
+    sys.exit(main())
