@@ -4,3 +4,5 @@ pub mod FollowLemmas
 pub mod EventLemmas
 pub mod PassLemmas
 pub mod WordLemmas
+pub mod GiveLemmas
+pub mod StreamLemmas
