@@ -1,7 +1,7 @@
 -- Bytes that are given on, one event at a time.
-use Rattle.std.proofs.Common.{◌≡◌, ◌<◌, ◌≤◌, ◌+◌, ◌-◌, ℕ, List, [], ◌∷◌, ◌++◌, ◌⊎◌, inl, inr, length, take, drop, Option, Some, None, refl, sym, ap, subst, arith, ◌∙◌, append_assoc, append-nil, length-append, take-add}
+use Rattle.std.proofs.Common.{◌≡◌, ◌<◌, ◌+◌, ℕ, List, [], ◌++◌, inl, inr, length, Option, Some, None, refl, sym, ap, subst, arith, ◌∙◌, append_assoc, append-nil, length-append}
 use Rattle.std.proofs.KnownBytes.{Appends-kept, Appends-nil, Appends-trans}
-use Rattle.std.specs.Io.KnownBytes.{Appends, Keeps}
+use Rattle.std.specs.Io.KnownBytes.{Appends}
 use Rattle.dgt_frame.specs.declared.decode.Decoder.{Decoder}
 use Rattle.dgt_frame.specs.declared.events.Event.{Event}
 use Rattle.unseen_pairs.specs.declared.pair.Recovery.{Recovery}
@@ -12,8 +12,8 @@ use Rattle.recovery.specs.declared.refusal.RecoverError.{RecoverError}
 use Rattle.recovery.specs.declared.refusal.RecoverError.TheVariants.{Read, Write, Lines, TooLong, Memory}
 use Rattle.recovery.specs.Passing.{Adds, Passes, Stands}
 use Rattle.recovery.specs.Progress.{BreaksOff, Concludes, GivesOn, HasBegun, IsPutIn, PutsPart}
-use Rattle.recovery.specs.Streams.{BeginsLine, IsLine}
-use Rattle.recovery.specs.Weaving.{Recovers, TellsRecovered}
+use Rattle.recovery.specs.Streams.{IsLine}
+use Rattle.recovery.specs.Weaving.{Recovers}
 
 stands_as : (decoder : Decoder) (keeper : Keeper) (setting : Setting) (bytes bytes' woven woven' text text' : List ℕ) → bytes ≡ bytes' → woven ≡ woven' → text ≡ text'
     → Stands decoder keeper setting bytes woven text → Stands decoder keeper setting bytes' woven' text'
@@ -102,9 +102,13 @@ begun_on old new keeper k start chunk waiting written written' said said' begun 
     (setting, bytes ++ chunk, (begun.2 ++ before.0) ++ waiting, begun.3 ++ before.1, length-append bytes chunk ∙ ap (λ n. n + length chunk) begun.4, before.2)
 
 -- a part of these bytes, behind those that were written
-part_behind : (written written' after : Option (List ℕ)) (sent more : List ℕ) → Appends written written' sent → AppendsPart written' after more → AppendsPart written after (sent ++ more)
+pub part_behind : (written written' after : Option (List ℕ)) (sent more : List ℕ) → Appends written written' sent → AppendsPart written' after more → AppendsPart written after (sent ++ more)
 part_behind written written' after sent more first part =
     (sent ++ part.0, part.1, ap (λ bs. sent ++ bs) part.2 ∙ sym (append_assoc sent part.0 part.1), Appends-trans written written' after sent part.0 first part.3)
+
+-- A part of these bytes is one of more.
+pub part_longer : (written after : Option (List ℕ)) (bytes more : List ℕ) → AppendsPart written after bytes → AppendsPart written after (bytes ++ more)
+part_longer written after bytes more part = (part.0, part.1 ++ more, ap (λ bs. bs ++ more) part.2 ∙ append_assoc part.0 part.1 more, part.3)
 
 -- Memory ran out at the next event, and what waited was written.
 pub breaks_memory : (old now : Decoder) (keeper k : Keeper) (start : ℕ) (chunk whole after waiting : List ℕ) (written written' written'' said said' : Option (List ℕ))

@@ -5,4 +5,5 @@ pub mod EventLemmas
 pub mod PassLemmas
 pub mod WordLemmas
 pub mod GiveLemmas
+pub mod ChunkLemmas
 pub mod StreamLemmas

@@ -6,7 +6,7 @@ use Rattle.std.specs.Io.KnownBytes.{Appends, Consumes, IsAtEnd, Keeps}
 use Rattle.dgt_frame.specs.declared.decode.Decoder.{Decoder}
 use Rattle.dgt_frame.specs.declared.input.ReadChunk.{ReadChunk}
 use Rattle.dgt_frame.specs.Input.{GivesChunk}
-use Rattle.board_session.specs.Recording.{AppendsPart, limit}
+use Rattle.board_session.specs.Recording.{limit}
 use Rattle.board_session.specs.Settings.{Setting}
 use Rattle.board_listing.specs.Listings.{ReadsWithin}
 use Rattle.recovery.specs.declared.keeper.Keeper.{Keeper}
@@ -16,6 +16,7 @@ use Rattle.recovery.specs.Passing.{Stands}
 use Rattle.recovery.specs.Progress.{BreaksOff, Concludes, GivesOn, HasBegun, HasGiven, Stops}
 use Rattle.recovery.specs.Streams.{RecoversAll, RecoversFirst, RecoversFront, RecoversRead, RecoversSome}
 use Rattle.recovery.specs.Weaving.{Recovers}
+use Rattle.recovery.proofs.GiveLemmas.{part_behind}
 
 -- Nothing was read.
 pub given_none : (decoder : Decoder) (keeper : Keeper) (setting : Setting) (input written said : Option (List ℕ)) → Stands decoder keeper setting [] [] []
@@ -165,11 +166,6 @@ some_broken old keeper setting count room buffer chunk input now left written so
       Appends-trans said told told' done.2 cut.3 done.7 cut.6.1,
     )
 
--- a part of these bytes, behind those that were written
-part_behind : (written written' after : Option (List ℕ)) (sent more : List ℕ) → Appends written written' sent → AppendsPart written' after more → AppendsPart written after (sent ++ more)
-part_behind written written' after sent more first part =
-    (sent ++ part.0, part.1, ap (λ bs. sent ++ bs) part.2 ∙ sym (append_assoc sent part.0 part.1), Appends-trans written written' after sent part.0 first part.3)
-
 -- A refusal came amid a chunk.
 pub front_broken : (error : RecoverError) (old : Decoder) (keeper : Keeper) (setting : Setting) (count room : ℕ) (buffer : List ℕ) (chunk : ReadChunk) (input now left written so_far after said told told' : Option (List ℕ)) (lines_failed : Bool)
     → (error ≡ Lines → lines_failed ≡ true) → HasGiven old keeper setting count input now written so_far said told → GivesChunk room buffer chunk now left
@@ -238,3 +234,18 @@ reads_none decoder keeper setting count input now left written so_far said told 
 pub reads_no_more : (decoder : Decoder) (keeper : Keeper) (setting : Setting) (count : ℕ) (input now left written so_far said told : Option (List ℕ)) → count ≤ limit
     → HasGiven decoder keeper setting count input now written so_far said told → Keeps now left → ReadsWithin limit input left
 reads_no_more decoder keeper setting count input now left written so_far said told within done kept = (done.0, Consumes-kept input now left done.0 done.4 kept, omega (arith, done.3, within))
+
+-- Of what may come amid a chunk only a write fails the output, and only a line the stream of the lines.
+pub write_fails : (error : RecoverError) (failed : Bool) → ((error ≡ Read) ⊎ (error ≡ TooLong) → ⊥) → (error ≡ Lines → failed ≡ false) → (error ≡ Memory → failed ≡ false) → failed ≡ true → error ≡ Write
+write_fails Read failed other lines memory is = absurd (other (inl refl))
+write_fails Write failed other lines memory is = refl
+write_fails Lines failed other lines memory is = absurd (let bad : true ≡ false = sym is ∙ lines refl in cc)
+write_fails TooLong failed other lines memory is = absurd (other (inr refl))
+write_fails Memory failed other lines memory is = absurd (let bad : true ≡ false = sym is ∙ memory refl in cc)
+
+pub line_fails : (error : RecoverError) (failed : Bool) → ((error ≡ Read) ⊎ (error ≡ TooLong) → ⊥) → (error ≡ Write → failed ≡ false) → (error ≡ Memory → failed ≡ false) → failed ≡ true → error ≡ Lines
+line_fails Read failed other write memory is = absurd (other (inl refl))
+line_fails Write failed other write memory is = absurd (let bad : true ≡ false = sym is ∙ write refl in cc)
+line_fails Lines failed other write memory is = refl
+line_fails TooLong failed other write memory is = absurd (other (inr refl))
+line_fails Memory failed other write memory is = absurd (let bad : true ≡ false = sym is ∙ memory refl in cc)

@@ -7,7 +7,5 @@ mod passer;
 mod refusal;
 mod stream;
 
-pub use keeper::Keeper;
-pub use passer::{Frames, begin, conclude, hear, pass};
 pub use refusal::RecoverError;
 pub use stream::recover_stream;

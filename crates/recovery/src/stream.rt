@@ -97,8 +97,10 @@ fn give_chunk<O: Write, E: Write>(
             &mut frames,
             &mut line,
         ) else {
-            send(out, &chunk[sent..taken])?;
-            return Err(RecoverError::Memory);
+            return match send(out, &chunk[sent..taken]) {
+                Ok(()) => Err(RecoverError::Memory),
+                Err(error) => Err(error),
+            };
         };
         let Some(more) = passed else {
             // Only for its clause: what the bytes given so far show.
