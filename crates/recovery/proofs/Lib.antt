@@ -7,3 +7,4 @@ pub mod WordLemmas
 pub mod GiveLemmas
 pub mod ChunkLemmas
 pub mod StreamLemmas
+pub mod LawLemmas

@@ -3,3 +3,4 @@ pub mod Weaving
 pub mod Passing
 pub mod Streams
 pub mod Progress
+pub mod Laws

@@ -2,6 +2,7 @@
 #![tactic(auto)]
 
 mod keeper;
+pub mod laws;
 mod lines;
 mod passer;
 mod refusal;
