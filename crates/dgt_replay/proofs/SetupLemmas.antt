@@ -10,9 +10,9 @@ use Rattle.board_session.specs.declared.recording.Setup.{Setup}
 use Rattle.board_session.specs.Settings.{Setting}
 use Rattle.replay_arguments.specs.declared.setup.Refusal.{Refusal}
 use Rattle.board_listing.specs.declared.listing.Listing.TheVariants.{Game}
-use Rattle.replay_arguments.specs.declared.arguments.FollowArguments.{FollowArguments}
+use Rattle.replay_arguments.specs.declared.arguments.BoardArguments.{BoardArguments}
 use Rattle.replay_arguments.specs.declared.arguments.RecordArguments.{RecordArguments}
-use Rattle.replay_arguments.specs.Setups.{ForMemory, HasNoStart, HasNoValue, HasValue, HasValues, Meets, MeetsNothing, MeetsToFollow, SetsFollowingUp, SetsUp, SetsUpNothing, StartsAt, Wants, WantsToFollow, given, tag_text}
+use Rattle.replay_arguments.specs.Setups.{ForMemory, HasNoStart, HasNoValue, HasValue, HasValues, Meets, MeetsBoard, MeetsNothing, SetsBoardUp, SetsUp, SetsUpNothing, StartsAt, Wants, WantsBoard, given, tag_text}
 
 -- What the rows of a parse set up is what the fields want.
 pub meets : (rows : List Row) (options : RecordArguments) (setup : Setup) → Wants rows options → SetsUp rows setup → Meets options setup
@@ -26,8 +26,8 @@ meets rows options setup wants sets =
       tags = λ tag. (let Q : Option Text → Type 0 = λ text. HasValue tag text (value_of tag setup.tags) in subst Q (sym (wants.tags tag)) (sets.tags tag));
     }
 
-pub meets_to_follow : (rows : List Row) (options : FollowArguments) (setting : Setting) → WantsToFollow rows options → SetsFollowingUp rows setting → MeetsToFollow options setting
-meets_to_follow rows options setting wants sets =
+pub meets_board : (rows : List Row) (options : BoardArguments) (setting : Setting) → WantsBoard rows options → SetsBoardUp rows setting → MeetsBoard options setting
+meets_board rows options setting wants sets =
     let first : Some setting.first ≡ Some options.first = sym sets.first ∙ wants.first in
     let P : Option Text → Type 0 = λ fen. StartsAt fen setting.start in
     record {
@@ -37,7 +37,7 @@ meets_to_follow rows options setting wants sets =
     }
 
 -- The setting that has this start is the one that the arguments say.
-pub same_game : (options : FollowArguments) (setting : Setting) (start : Parts) → MeetsToFollow options setting → start ≡ setting.start
+pub same_game : (options : BoardArguments) (setting : Setting) (start : Parts) → MeetsBoard options setting → start ≡ setting.start
     → Game start options.first options.rotated ≡ Game setting.start setting.first setting.rotated
 same_game options setting start meets same =
     let first : options.first ≡ setting.first = sym meets.first in

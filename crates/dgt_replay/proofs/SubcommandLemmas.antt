@@ -8,13 +8,13 @@ use Rattle.clap.specs.Simple.{subcommand_of}
 use Rattle.board_session.specs.declared.recording.Setup.{Setup}
 use Rattle.board_session.specs.Settings.{Setting}
 use Rattle.replay_arguments.specs.declared.arguments.Subcommand.{Subcommand}
-use Rattle.replay_arguments.specs.declared.arguments.Subcommand.TheVariants.{Show, Pictures, Record, Follow, Check, Moves, Positions}
-use Rattle.replay_arguments.specs.declared.arguments.FollowArguments.{FollowArguments}
+use Rattle.replay_arguments.specs.declared.arguments.Subcommand.TheVariants.{Show, Pictures, Record, Follow, Recover, Check, Moves, Positions}
+use Rattle.replay_arguments.specs.declared.arguments.BoardArguments.{BoardArguments}
 use Rattle.replay_arguments.specs.declared.arguments.RecordArguments.{RecordArguments}
 use Rattle.replay_arguments.specs.Command.{replay}
-use Rattle.replay_arguments.specs.Subcommands.{Asks, AsksForPictures, AsksToCheck, AsksToShow, AsksFor, AsksToFollow, AsksToRecord, Chooses, IsRefused, is_subcommand}
-use Rattle.replay_arguments.specs.Setups.{Meets, MeetsToFollow, Wants, WantsToFollow, given}
-use Rattle.dgt_replay.proofs.SetupLemmas.{meets, meets_to_follow}
+use Rattle.replay_arguments.specs.Subcommands.{Asks, AsksForPictures, AsksToCheck, AsksToShow, AsksFor, AsksToFollow, AsksToRecord, AsksToRecover, Chooses, IsRefused, is_subcommand}
+use Rattle.replay_arguments.specs.Setups.{Meets, MeetsBoard, Wants, WantsBoard, given}
+use Rattle.dgt_replay.proofs.SetupLemmas.{meets, meets_board}
 
 -- what the arguments of this name ask for
 chosen_with : (found : Option (Text × List Row)) (name : Text) (rows : List Row) (subcommand : Subcommand) → found ≡ Some (name, rows)
@@ -62,16 +62,29 @@ chooses_record arguments setup subcommand (rows, asks, sets) asked =
 
 -- `follow` asks that a game be followed as its options say
 pub follow_chosen : (arguments : List Text) (rows : List Row) (subcommand : Subcommand) → Asks arguments (codes "follow") rows → AsksFor arguments subcommand
-    → (options : FollowArguments) × (subcommand ≡ Follow options) × WantsToFollow rows options
+    → (options : BoardArguments) × (subcommand ≡ Follow options) × WantsBoard rows options
 follow_chosen arguments rows subcommand asks asked =
     let found = (chosen arguments (codes "follow") rows subcommand asks asked).follow refl in
     (found.0, found.1, found.2)
 
 pub chooses_follow : (arguments : List Text) (setting : Setting) (subcommand : Subcommand) → AsksToFollow arguments setting → AsksFor arguments subcommand
-    → (options : FollowArguments) × (subcommand ≡ Follow options) × MeetsToFollow options setting
+    → (options : BoardArguments) × (subcommand ≡ Follow options) × MeetsBoard options setting
 chooses_follow arguments setting subcommand (rows, asks, sets) asked =
     let found = follow_chosen arguments rows subcommand asks asked in
-    (found.0, found.1, meets_to_follow rows found.0 setting found.2 sets)
+    (found.0, found.1, meets_board rows found.0 setting found.2 sets)
+
+-- `recover` asks that a game be recovered as its options say
+pub recover_chosen : (arguments : List Text) (rows : List Row) (subcommand : Subcommand) → Asks arguments (codes "recover") rows → AsksFor arguments subcommand
+    → (options : BoardArguments) × (subcommand ≡ Recover options) × WantsBoard rows options
+recover_chosen arguments rows subcommand asks asked =
+    let found = (chosen arguments (codes "recover") rows subcommand asks asked).recover refl in
+    (found.0, found.1, found.2)
+
+pub chooses_recover : (arguments : List Text) (setting : Setting) (subcommand : Subcommand) → AsksToRecover arguments setting → AsksFor arguments subcommand
+    → (options : BoardArguments) × (subcommand ≡ Recover options) × MeetsBoard options setting
+chooses_recover arguments setting subcommand (rows, asks, sets) asked =
+    let found = recover_chosen arguments rows subcommand asks asked in
+    (found.0, found.1, meets_board rows found.0 setting found.2 sets)
 
 -- `moves` asks for those of the position that its option says
 pub moves_chosen : (arguments : List Text) (rows : List Row) (subcommand : Subcommand) → Asks arguments (codes "moves") rows → AsksFor arguments subcommand
@@ -102,6 +115,9 @@ record_unrefused arguments setup (rows, asks, sets) = unrefused arguments (codes
 
 pub follow_unrefused : (arguments : List Text) (setting : Setting) → AsksToFollow arguments setting → IsRefused arguments → ⊥
 follow_unrefused arguments setting (rows, asks, sets) = unrefused arguments (codes "follow") rows asks
+
+pub recover_unrefused : (arguments : List Text) (setting : Setting) → AsksToRecover arguments setting → IsRefused arguments → ⊥
+recover_unrefused arguments setting (rows, asks, sets) = unrefused arguments (codes "recover") rows asks
 
 pub or_refused : {P Q : Type 0} → P ⊎ Q → (Q → ⊥) → P
 or_refused (inl p) k = p

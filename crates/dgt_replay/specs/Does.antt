@@ -14,7 +14,7 @@ use Rattle.board_listing.specs.declared.listing.Listing.{Listing}
 use Rattle.board_listing.specs.declared.listing.Listing.TheVariants.{Game}
 use Rattle.replay_arguments.specs.declared.arguments.Subcommand.{Subcommand}
 use Rattle.replay_arguments.specs.declared.arguments.Subcommand.TheVariants.{Show, Pictures, Record, Follow, Check, Moves, Positions}
-use Rattle.replay_arguments.specs.Setups.{HasNoStart, Meets, MeetsNothing, MeetsToFollow, StartsAt, given, tag_text}
+use Rattle.replay_arguments.specs.Setups.{HasNoStart, Meets, MeetsBoard, MeetsNothing, StartsAt, given, tag_text}
 use Rattle.dgt_replay.specs.Checked.{ChecksGame, ChecksPart, RefusesText, text_limit}
 use Rattle.dgt_replay.specs.Messages.{IsTooLong, Says, Tells}
 use Rattle.dgt_replay.specs.Played.{PlaysAll, PlaysPart, RefusesMoves, line_limit}
@@ -99,7 +99,7 @@ Does Show status s = WritesText event_lines rest_line status s
 Does (Pictures rotated) status s = WritesText (picture_lines rotated) no_line status s
 Does (Record options) status s = ((setup : Setup) → Meets options setup → Records setup status s)
     × (MeetsNothing options → Refuses (RefusesSetup (given options.fen) (tag_text options)) status s)
-Does (Follow options) status s = ((setting : Setting) → MeetsToFollow options setting → Lists (Game setting.start setting.first setting.rotated) status s)
+Does (Follow options) status s = ((setting : Setting) → MeetsBoard options setting → Lists (Game setting.start setting.first setting.rotated) status s)
     × (HasNoStart (given options.fen) → Refuses (RefusesStart (given options.fen)) status s)
 Does Check status s = Checks status s
 Does (Moves fen) status s = Prints (given fen) status s

@@ -12,7 +12,7 @@ ghost use Rattle.replay_arguments.specs.Subcommands.{AreMistaken, Asks, AsksForH
 ghost use Rattle.board_listing.specs.declared.listing.Listing.{Listing};
 ghost use Rattle.board_listing.specs.EventLines.{rest_line};
 ghost use Rattle.board_listing.specs.OneText.{event_lines, no_line, picture_lines};
-ghost use Rattle.replay_arguments.specs.Setups.{HasNoStart, MeetsToFollow, SetsUpNothing, StartsAt, given, option_of};
+ghost use Rattle.replay_arguments.specs.Setups.{HasNoStart, MeetsBoard, SetsUpNothing, StartsAt, given, option_of};
 ghost use Rattle.dgt_replay.specs.Does.{Checks, Does, Lists, Plays, Prints, Records, Refuses, WritesText};
 ghost use Rattle.dgt_replay.specs.Refusals.{RefusesSetup, RefusesStart};
 ghost use Rattle.dgt_replay.specs.Messages.{GivesText, RefusesArguments, Says};
@@ -28,7 +28,7 @@ use clap::Error;
 use clap::error::ErrorKind;
 use dgt_frame::{Watch, put};
 use replay_arguments::laws::without_options;
-use replay_arguments::{FollowArguments, Subcommand, read_arguments, start_of};
+use replay_arguments::{BoardArguments, Subcommand, read_arguments, start_of};
 use std::alloc::Global;
 use std::io::{Read, Write};
 
@@ -96,7 +96,7 @@ fn list<R: Read, O: Write, E: Write>(
 // Lists what each event makes of a game.
 fn follow<R: Read, O: Write, E: Write>(
     alloc: Global,
-    options: &FollowArguments<'_>,
+    options: &BoardArguments<'_>,
     reader: &mut Watch<R>,
     out: &mut Watch<O>,
     err: &mut Watch<E>,
@@ -104,7 +104,7 @@ fn follow<R: Read, O: Write, E: Write>(
     requires reading { has_failed reader.old ≡ false }
     requires working { has_failed out.old ≡ false }
     requires erring { has_failed err.old ≡ false }
-    ensures lists { (setting : Setting) → MeetsToFollow options.now setting → Lists (Listing.Game setting.start setting.first setting.rotated) result
+    ensures lists { (setting : Setting) → MeetsBoard options.now setting → Lists (Listing.Game setting.start setting.first setting.rotated) result
         (streams R.remaining O.contents E.contents reader.old reader.new out.old out.new err.old err.new) }
     ensures refuses { HasNoStart (given options.now.fen) → Refuses (RefusesStart (given options.now.fen)) result
         (streams R.remaining O.contents E.contents reader.old reader.new out.old out.new err.old err.new) }

@@ -1,8 +1,10 @@
 -- What the parse of arguments gives.
-use Rattle.std.proofs.Common.{◌≡◌, ◌⊎◌, ℕ, ◌∷◌, [], ◌∙◌, Bool, true, false, List, Option, Some, None, ap, refl, sym, inl, inr, codes, option_map, slice_index, subst, arith}
+use Rattle.std.proofs.Common.{◌≡◌, ◌⊎◌, ℕ, ◌∷◌, [], ◌∙◌, Bool, true, false, List, Option, Some, None, ap, refl, sym, inl, inr, codes, option_map, subst}
 use Rattle.std.specs.Prelude.{IfSome, MatchOption, is_some}
 use Rattle.std.specs.Option.{option_map_or}
 use Rattle.std.specs.Borrow.{Bor}
+use Rattle.std.specs.Str.{bytes_eq}
+use Rattle.std.proofs.lemmas.Slice.Eq.{bytes_eq-Decides}
 use Rattle.clap.specs.Walk.{Row, Text, first_of, one_of, rows_of}
 use Rattle.clap.specs.Matches.{first_value, one_text}
 use Rattle.clap.specs.Simple.{App, HasMatchesOf, is_simple, subcommand_of, subcommand_rows_of}
@@ -17,9 +19,9 @@ use Rattle.pgn_book.specs.declared.values.Tag.TheVariants.{Event, Site, Date, Ro
 use Rattle.board_session.specs.Recording.{setting_of}
 use Rattle.replay_arguments.specs.declared.arguments.Subcommand.{Subcommand}
 use Rattle.replay_arguments.specs.Command.{replay}
-use Rattle.replay_arguments.specs.Subcommands.{Asks, AsksForPictures, AsksToCheck, AsksToShow, AsksForMoves, AsksForPositions, AsksToFollow, AsksToRecord, Chooses, IsCheck, IsFollow, IsMoves, IsPictures, IsPositions, IsRecord, IsShow, is_subcommand}
-use Rattle.replay_arguments.specs.Setups.{flag_text, given, option_of, plain_setup, side_in}
-use Rattle.replay_arguments.proofs.SetupLemmas.{follows_plainly, sets_up_plainly}
+use Rattle.replay_arguments.specs.Subcommands.{Asks, AsksForPictures, AsksToCheck, AsksToShow, AsksForMoves, AsksForPositions, AsksToFollow, AsksToRecord, AsksToRecover, Chooses, IsCheck, IsFollow, IsMoves, IsPictures, IsPositions, IsRecord, IsRecover, IsShow, is_subcommand}
+use Rattle.replay_arguments.specs.Setups.{SetsBoardUp, flag_text, given, option_of, plain_setup, side_in}
+use Rattle.replay_arguments.proofs.SetupLemmas.{sets_board_up_plainly, sets_up_plainly}
 
 -- a text that was given, or not, is in the rows
 pub text_given : (found : Found) (id : Text) (result : Option (Bor (List ℕ))) → option_map (λ s. s.now) result ≡ first_value found id → given result ≡ first_of id (rows_of found)
@@ -62,44 +64,11 @@ pub side_known : {A : Type 0} (found : Found) (options : Option A) → is_some o
     → is_some options ≡ is_some (side_in (first_of (codes "first") (rows_of found)))
 side_known found options known = known ∙ ap (λ text. is_some (side_in text)) (first_value-rows found (codes "first"))
 
-pub pictures_not_record : (name : Text) → name ≡ codes "pictures" → name ≡ codes "record" → ⊥
-pictures_not_record name is other = let bad : 112 ≡ 114 = ap (λ t. slice_index t 0) (sym is ∙ other) in absurd (omega (arith, bad))
-
-pub pictures_not_check : (name : Text) → name ≡ codes "pictures" → name ≡ codes "check" → ⊥
-pictures_not_check name is other = let bad : 112 ≡ 99 = ap (λ t. slice_index t 0) (sym is ∙ other) in absurd (omega (arith, bad))
-
-pub pictures_not_moves : (name : Text) → name ≡ codes "pictures" → name ≡ codes "moves" → ⊥
-pictures_not_moves name is other = let bad : 112 ≡ 109 = ap (λ t. slice_index t 0) (sym is ∙ other) in absurd (omega (arith, bad))
-
-pub record_not_moves : (name : Text) → name ≡ codes "record" → name ≡ codes "moves" → ⊥
-record_not_moves name is other = let bad : 114 ≡ 109 = ap (λ t. slice_index t 0) (sym is ∙ other) in absurd (omega (arith, bad))
-
-pub record_not_check : (name : Text) → name ≡ codes "record" → name ≡ codes "check" → ⊥
-record_not_check name is other = let bad : 114 ≡ 99 = ap (λ t. slice_index t 0) (sym is ∙ other) in absurd (omega (arith, bad))
-
-pub pictures_not_follow : (name : Text) → name ≡ codes "pictures" → name ≡ codes "follow" → ⊥
-pictures_not_follow name is other = let bad : 112 ≡ 102 = ap (λ t. slice_index t 0) (sym is ∙ other) in absurd (omega (arith, bad))
-
-pub record_not_follow : (name : Text) → name ≡ codes "record" → name ≡ codes "follow" → ⊥
-record_not_follow name is other = let bad : 114 ≡ 102 = ap (λ t. slice_index t 0) (sym is ∙ other) in absurd (omega (arith, bad))
-
-pub follow_not_check : (name : Text) → name ≡ codes "follow" → name ≡ codes "check" → ⊥
-follow_not_check name is other = let bad : 102 ≡ 99 = ap (λ t. slice_index t 0) (sym is ∙ other) in absurd (omega (arith, bad))
-
-pub follow_not_moves : (name : Text) → name ≡ codes "follow" → name ≡ codes "moves" → ⊥
-follow_not_moves name is other = let bad : 102 ≡ 109 = ap (λ t. slice_index t 0) (sym is ∙ other) in absurd (omega (arith, bad))
-
-pub pictures_not_positions : (name : Text) → name ≡ codes "pictures" → name ≡ codes "positions" → ⊥
-pictures_not_positions name is other = let bad : 105 ≡ 111 = ap (λ t. slice_index t 1) (sym is ∙ other) in absurd (omega (arith, bad))
-
-pub record_not_positions : (name : Text) → name ≡ codes "record" → name ≡ codes "positions" → ⊥
-record_not_positions name is other = let bad : 114 ≡ 112 = ap (λ t. slice_index t 0) (sym is ∙ other) in absurd (omega (arith, bad))
-
-pub follow_not_positions : (name : Text) → name ≡ codes "follow" → name ≡ codes "positions" → ⊥
-follow_not_positions name is other = let bad : 102 ≡ 112 = ap (λ t. slice_index t 0) (sym is ∙ other) in absurd (omega (arith, bad))
-
-pub moves_not_positions : (name : Text) → name ≡ codes "moves" → name ≡ codes "positions" → ⊥
-moves_not_positions name is other = let bad : 109 ≡ 112 = ap (λ t. slice_index t 0) (sym is ∙ other) in absurd (omega (arith, bad))
+-- a name isn't two texts that differ
+pub named_once : {A : Type 0} {name a b : Text} → name ≡ a → name ≡ b → bytes_eq a b ≡ false → A
+named_once {A} {name} {a} {b} is other differ =
+    let same : bytes_eq a b ≡ true = (bytes_eq-Decides a b).1 (sym is ∙ other) in
+    let bad : true ≡ false = sym same ∙ differ in cc
 
 -- ---- fixed arguments
 
@@ -216,6 +185,13 @@ record_asks false arguments (name, is) =
     let P : List Text → Type 0 = λ w. AsksToRecord w (plain_setup false) in
     subst P (sym is) (asks_to_record (name ∷ codes "record" ∷ []) false f.1 f.0 (plain_others name) (plain_tags name))
 
+-- a subcommand of this name that has the options of a board, without them
+asks_of_a_board : (word : Text) (arguments : List Text) (rotated : Bool) → name_in (subcommand_of replay arguments) ≡ Some word → one_of (codes "rotated") (rows_for arguments) ≡ Some (flag_text rotated)
+    → first_of (codes "first") (rows_for arguments) ≡ None → first_of (codes "fen") (rows_for arguments) ≡ None → takes replay arguments ≡ true → is_subcommand word (rows_for arguments) ≡ true
+    → (rows : List Row) × Asks arguments word rows × SetsBoardUp rows (setting_of (plain_setup rotated))
+asks_of_a_board word arguments rotated is turned first fen taken known =
+    (rows_for arguments, asks_by arguments word taken is known, sets_board_up_plainly (rows_for arguments) rotated turned first fen)
+
 follow_found : (name : Text) → (name_in (subcommand_of replay (name ∷ codes "follow" ∷ [])) ≡ Some (codes "follow"))
     × (one_of (codes "rotated") (rows_for (name ∷ codes "follow" ∷ [])) ≡ Some (codes "false"))
     × (first_of (codes "first") (rows_for (name ∷ codes "follow" ∷ [])) ≡ None) × (first_of (codes "fen") (rows_for (name ∷ codes "follow" ∷ [])) ≡ None)
@@ -231,20 +207,40 @@ turned_follow_found : (name : Text) → (name_in (subcommand_of replay (name ∷
 unfolding clap_on_literals
 turned_follow_found name = (refl, refl, refl, refl, refl)
 
-asks_to_follow : (arguments : List Text) (rotated : Bool) → name_in (subcommand_of replay arguments) ≡ Some (codes "follow") → one_of (codes "rotated") (rows_for arguments) ≡ Some (flag_text rotated)
-    → first_of (codes "first") (rows_for arguments) ≡ None → first_of (codes "fen") (rows_for arguments) ≡ None → takes replay arguments ≡ true → AsksToFollow arguments (setting_of (plain_setup rotated))
-asks_to_follow arguments rotated is turned first fen taken =
-    (rows_for arguments, asks_by arguments (codes "follow") taken is (rw first refl), follows_plainly (rows_for arguments) rotated turned first fen)
-
 pub follow_asks : (rotated : Bool) (arguments : List Text) → IsFollow rotated arguments → AsksToFollow arguments (setting_of (plain_setup rotated))
 follow_asks true arguments (name, is) =
     let f = turned_follow_found name in
     let P : List Text → Type 0 = λ w. AsksToFollow w (setting_of (plain_setup true)) in
-    subst P (sym is) (asks_to_follow (name ∷ codes "follow" ∷ codes "--rotated" ∷ []) true f.0 f.1 f.2 f.3 f.4)
+    subst P (sym is) (asks_of_a_board (codes "follow") (name ∷ codes "follow" ∷ codes "--rotated" ∷ []) true f.0 f.1 f.2 f.3 f.4 (rw f.2 refl))
 follow_asks false arguments (name, is) =
     let f = follow_found name in
     let P : List Text → Type 0 = λ w. AsksToFollow w (setting_of (plain_setup false)) in
-    subst P (sym is) (asks_to_follow (name ∷ codes "follow" ∷ []) false f.0 f.1 f.2 f.3 f.4)
+    subst P (sym is) (asks_of_a_board (codes "follow") (name ∷ codes "follow" ∷ []) false f.0 f.1 f.2 f.3 f.4 (rw f.2 refl))
+
+recover_found : (name : Text) → (name_in (subcommand_of replay (name ∷ codes "recover" ∷ [])) ≡ Some (codes "recover"))
+    × (one_of (codes "rotated") (rows_for (name ∷ codes "recover" ∷ [])) ≡ Some (codes "false"))
+    × (first_of (codes "first") (rows_for (name ∷ codes "recover" ∷ [])) ≡ None) × (first_of (codes "fen") (rows_for (name ∷ codes "recover" ∷ [])) ≡ None)
+    × (takes replay (name ∷ codes "recover" ∷ []) ≡ true)
+unfolding clap_on_literals
+recover_found name = (refl, refl, refl, refl, refl)
+
+turned_recover_found : (name : Text) → (name_in (subcommand_of replay (name ∷ codes "recover" ∷ codes "--rotated" ∷ [])) ≡ Some (codes "recover"))
+    × (one_of (codes "rotated") (rows_for (name ∷ codes "recover" ∷ codes "--rotated" ∷ [])) ≡ Some (codes "true"))
+    × (first_of (codes "first") (rows_for (name ∷ codes "recover" ∷ codes "--rotated" ∷ [])) ≡ None)
+    × (first_of (codes "fen") (rows_for (name ∷ codes "recover" ∷ codes "--rotated" ∷ [])) ≡ None)
+    × (takes replay (name ∷ codes "recover" ∷ codes "--rotated" ∷ []) ≡ true)
+unfolding clap_on_literals
+turned_recover_found name = (refl, refl, refl, refl, refl)
+
+pub recover_asks : (rotated : Bool) (arguments : List Text) → IsRecover rotated arguments → AsksToRecover arguments (setting_of (plain_setup rotated))
+recover_asks true arguments (name, is) =
+    let f = turned_recover_found name in
+    let P : List Text → Type 0 = λ w. AsksToRecover w (setting_of (plain_setup true)) in
+    subst P (sym is) (asks_of_a_board (codes "recover") (name ∷ codes "recover" ∷ codes "--rotated" ∷ []) true f.0 f.1 f.2 f.3 f.4 (rw f.2 refl))
+recover_asks false arguments (name, is) =
+    let f = recover_found name in
+    let P : List Text → Type 0 = λ w. AsksToRecover w (setting_of (plain_setup false)) in
+    subst P (sym is) (asks_of_a_board (codes "recover") (name ∷ codes "recover" ∷ []) false f.0 f.1 f.2 f.3 f.4 (rw f.2 refl))
 
 moves_found : (name : Text) → (name_in (subcommand_of replay (name ∷ codes "moves" ∷ [])) ≡ Some (codes "moves"))
     × (first_of (codes "fen") (rows_for (name ∷ codes "moves" ∷ [])) ≡ None)

@@ -18,7 +18,7 @@ use Rattle.board_session.specs.Recording.{setting_of}
 use Rattle.replay_arguments.specs.declared.setup.Refusal.{Refusal}
 use Rattle.replay_arguments.specs.declared.setup.Refusal.TheVariants.{Fen, Tag as OfTag}
 use Rattle.replay_arguments.specs.declared.arguments.RecordArguments.{RecordArguments}
-use Rattle.replay_arguments.specs.Setups.{ForMemory, HasNoValue, HasValue, HasValues, IsFirst, MayHave, MeetsNothing, OfFirstTag, SetsFollowingUp, SetsUp, StartsAt, flag_text, given, option_of, plain_setup, tag_text, tags, with_given}
+use Rattle.replay_arguments.specs.Setups.{ForMemory, HasNoValue, HasValue, HasValues, IsFirst, MayHave, MeetsNothing, OfFirstTag, SetsBoardUp, SetsUp, StartsAt, flag_text, given, option_of, plain_setup, tag_text, tags, with_given}
 
 unknown : (tag : Tag) → value_of tag unknown_values ≡ unknown_of tag
 unknown Event = refl
@@ -37,9 +37,9 @@ sets_up_plainly rows rotated turned first fen none = record {
   tags = λ tag. rw (none tag) (unknown tag);
 }
 
-pub follows_plainly : (rows : List Row) (rotated : Bool) → one_of (codes "rotated") rows ≡ Some (flag_text rotated) → first_of (codes "first") rows ≡ None
-    → first_of (codes "fen") rows ≡ None → SetsFollowingUp rows (setting_of (plain_setup rotated))
-follows_plainly rows rotated turned first fen = record {
+pub sets_board_up_plainly : (rows : List Row) (rotated : Bool) → one_of (codes "rotated") rows ≡ Some (flag_text rotated) → first_of (codes "first") rows ≡ None
+    → first_of (codes "fen") rows ≡ None → SetsBoardUp rows (setting_of (plain_setup rotated))
+sets_board_up_plainly rows rotated turned first fen = record {
   rotated = turned;
   first = rw first refl;
   start = rw fen refl;

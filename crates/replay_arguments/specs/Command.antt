@@ -47,14 +47,17 @@ positions_app = with_text (new_app (codes "positions")) (codes "fen")
 abbrev pub follow_app : App
 follow_app = with_board (new_app (codes "follow"))
 
+abbrev pub recover_app : App
+recover_app = with_board (new_app (codes "recover"))
+
 -- a version, and a subcommand that must be given
 abbrev pub with_version : App → App
 with_version app = record app { top = record app.top { has_version = true; subcommand_required = true } }
 
 -- the command with its subcommands
 abbrev pub replay : App
-replay = with_subcommand (with_subcommand (with_subcommand (with_subcommand (with_subcommand (with_subcommand (with_subcommand (with_version (new_app (codes "dgt_replay")))
-    show_app.top) pictures_app.top) record_app.top) follow_app.top) check_app.top) moves_app.top) positions_app.top
+replay = with_subcommand (with_subcommand (with_subcommand (with_subcommand (with_subcommand (with_subcommand (with_subcommand (with_subcommand (with_version (new_app (codes "dgt_replay")))
+    show_app.top) pictures_app.top) record_app.top) follow_app.top) recover_app.top) check_app.top) moves_app.top) positions_app.top
 
 -- The command is read so by a parse.
 pub record IsApp (command : Command) (app : App) : Type 0 where

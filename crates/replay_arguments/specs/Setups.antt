@@ -1,4 +1,4 @@
--- What the arguments of `record`, of `follow`, of `moves` and of `positions` mean.
+-- What the arguments of `record`, of `follow` and `recover`, of `moves` and of `positions` mean.
 use Rattle.std.specs.Prelude.{◌≡◌, ◌⊎◌, Bool, List, [], ◌∷◌, ◌++◌, All, ℕ, codes, Option, Some, None, MatchOption, option_map, true, false, if◌then◌else◌, ⊤}
 use Rattle.std.specs.Borrow.{Bor}
 use Rattle.std.specs.Str.{bytes_eq}
@@ -17,7 +17,7 @@ use Rattle.board_session.specs.declared.recording.Setup.{Setup}
 use Rattle.board_session.specs.Settings.{Setting}
 use Rattle.replay_arguments.specs.declared.setup.Refusal.{Refusal}
 use Rattle.replay_arguments.specs.declared.setup.Refusal.TheVariants.{Fen, Tag as OfTag}
-use Rattle.replay_arguments.specs.declared.arguments.FollowArguments.{FollowArguments}
+use Rattle.replay_arguments.specs.declared.arguments.BoardArguments.{BoardArguments}
 use Rattle.replay_arguments.specs.declared.arguments.RecordArguments.{RecordArguments}
 
 -- the text of a flag
@@ -56,8 +56,8 @@ pub record SetsUp (rows : List Row) (setup : Setup) : Type 0 where
   pub start : StartsAt (first_of (codes "fen") rows) setup.start
   pub tags : (tag : Tag) → HasValue tag (first_of (option_of tag) rows) (value_of tag setup.tags)
 
--- The options set following up so.
-pub record SetsFollowingUp (rows : List Row) (setting : Setting) : Type 0 where
+-- The options set a board and its game up so.
+pub record SetsBoardUp (rows : List Row) (setting : Setting) : Type 0 where
   pub rotated : one_of (codes "rotated") rows ≡ Some (flag_text setting.rotated)
   pub first : side_in (first_of (codes "first") rows) ≡ Some setting.first
   pub start : StartsAt (first_of (codes "fen") rows) setting.start
@@ -106,8 +106,8 @@ pub record Wants (rows : List Row) (options : RecordArguments) : Type 0 where
   pub fen : given options.fen ≡ first_of (codes "fen") rows
   pub tags : (tag : Tag) → tag_text options tag ≡ first_of (option_of tag) rows
 
--- The fields of the arguments of `follow` are what the rows of a parse say.
-pub record WantsToFollow (rows : List Row) (options : FollowArguments) : Type 0 where
+-- The fields of the arguments of `follow` or `recover` are what the rows of a parse say.
+pub record WantsBoard (rows : List Row) (options : BoardArguments) : Type 0 where
   pub rotated : (rotated : Bool) → one_of (codes "rotated") rows ≡ Some (flag_text rotated) → options.rotated ≡ rotated
   pub first : side_in (first_of (codes "first") rows) ≡ Some options.first
   pub fen : given options.fen ≡ first_of (codes "fen") rows
@@ -123,8 +123,8 @@ pub record Meets (options : RecordArguments) (setup : Setup) : Type 0 where
   pub start : StartsAt (given options.fen) setup.start
   pub tags : HasValues options setup.tags
 
--- The setting in which a game is followed is as the arguments say.
-pub record MeetsToFollow (options : FollowArguments) (setting : Setting) : Type 0 where
+-- The setting in which a game is followed or recovered is as the arguments say.
+pub record MeetsBoard (options : BoardArguments) (setting : Setting) : Type 0 where
   pub rotated : setting.rotated ≡ options.rotated
   pub first : setting.first ≡ options.first
   pub start : StartsAt (given options.fen) setting.start

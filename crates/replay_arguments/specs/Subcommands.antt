@@ -13,15 +13,15 @@ use Rattle.chess_rules.specs.declared.parts.Parts.{Parts}
 use Rattle.board_session.specs.declared.recording.Setup.{Setup}
 use Rattle.board_session.specs.Settings.{Setting}
 use Rattle.replay_arguments.specs.declared.arguments.Subcommand.{Subcommand}
-use Rattle.replay_arguments.specs.declared.arguments.Subcommand.TheVariants.{Show, Pictures, Record, Follow, Check, Moves, Positions}
-use Rattle.replay_arguments.specs.declared.arguments.FollowArguments.{FollowArguments}
+use Rattle.replay_arguments.specs.declared.arguments.Subcommand.TheVariants.{Show, Pictures, Record, Follow, Recover, Check, Moves, Positions}
+use Rattle.replay_arguments.specs.declared.arguments.BoardArguments.{BoardArguments}
 use Rattle.replay_arguments.specs.declared.arguments.RecordArguments.{RecordArguments}
 use Rattle.replay_arguments.specs.Command.{replay}
-use Rattle.replay_arguments.specs.Setups.{SetsFollowingUp, SetsUp, StartsAt, Wants, WantsToFollow, flag_text, given, side_in}
+use Rattle.replay_arguments.specs.Setups.{SetsBoardUp, SetsUp, StartsAt, Wants, WantsBoard, flag_text, given, side_in}
 
 -- whether the subcommand is one of the program's, and the side after `--first`, if there is one, is white or black
 abbrev pub is_subcommand : Text → List Row → Bool
-is_subcommand name rows = if bytes_eq name (codes "record") || bytes_eq name (codes "follow") then is_some (side_in (first_of (codes "first") rows))
+is_subcommand name rows = if bytes_eq name (codes "record") || bytes_eq name (codes "follow") || bytes_eq name (codes "recover") then is_some (side_in (first_of (codes "first") rows))
     else (bytes_eq name (codes "show") || bytes_eq name (codes "pictures") || bytes_eq name (codes "check") || bytes_eq name (codes "moves") || bytes_eq name (codes "positions"))
 
 -- what a subcommand with these arguments asks for
@@ -29,7 +29,8 @@ pub record Chooses (name : Text) (rows : List Row) (subcommand : Option Subcomma
   pub show : name ≡ codes "show" → subcommand ≡ Some Show
   pub pictures : (rotated : Bool) → name ≡ codes "pictures" → one_of (codes "rotated") rows ≡ Some (flag_text rotated) → subcommand ≡ Some (Pictures rotated)
   pub record_is : name ≡ codes "record" → IfSome subcommand (λ chosen. (options : RecordArguments) × (chosen ≡ Record options) × Wants rows options)
-  pub follow : name ≡ codes "follow" → IfSome subcommand (λ chosen. (options : FollowArguments) × (chosen ≡ Follow options) × WantsToFollow rows options)
+  pub follow : name ≡ codes "follow" → IfSome subcommand (λ chosen. (options : BoardArguments) × (chosen ≡ Follow options) × WantsBoard rows options)
+  pub recover : name ≡ codes "recover" → IfSome subcommand (λ chosen. (options : BoardArguments) × (chosen ≡ Recover options) × WantsBoard rows options)
   pub check : name ≡ codes "check" → subcommand ≡ Some Check
   pub moves : name ≡ codes "moves" → (fen : Option (Bor Text)) × (subcommand ≡ Some (Moves fen)) × (given fen ≡ first_of (codes "fen") rows)
   pub positions : name ≡ codes "positions" → (fen : Option (Bor Text)) × (subcommand ≡ Some (Positions fen)) × (given fen ≡ first_of (codes "fen") rows)
@@ -82,7 +83,11 @@ AsksToRecord arguments setup = (rows : List Row) × Asks arguments (codes "recor
 
 -- The arguments ask that a game be followed that is set up so.
 abbrev pub AsksToFollow : List Text → Setting → Type 0
-AsksToFollow arguments setting = (rows : List Row) × Asks arguments (codes "follow") rows × SetsFollowingUp rows setting
+AsksToFollow arguments setting = (rows : List Row) × Asks arguments (codes "follow") rows × SetsBoardUp rows setting
+
+-- The arguments ask that a game be recovered that is set up so.
+abbrev pub AsksToRecover : List Text → Setting → Type 0
+AsksToRecover arguments setting = (rows : List Row) × Asks arguments (codes "recover") rows × SetsBoardUp rows setting
 
 -- The arguments ask for the moves of this position.
 abbrev pub AsksForMoves : List Text → Parts → Type 0
@@ -107,6 +112,10 @@ IsRecord rotated arguments = (name : Text) × (arguments ≡ name ∷ codes "rec
 -- The arguments are a program's name, whatever it is, and `follow`, with or without `--rotated`.
 abbrev pub IsFollow : Bool → List Text → Type 0
 IsFollow rotated arguments = (name : Text) × (arguments ≡ name ∷ codes "follow" ∷ (if rotated then codes "--rotated" ∷ [] else []))
+
+-- The arguments are a program's name, whatever it is, and `recover`, with or without `--rotated`.
+abbrev pub IsRecover : Bool → List Text → Type 0
+IsRecover rotated arguments = (name : Text) × (arguments ≡ name ∷ codes "recover" ∷ (if rotated then codes "--rotated" ∷ [] else []))
 
 -- The arguments are a program's name, whatever it is, and `check`.
 abbrev pub IsCheck : List Text → Type 0

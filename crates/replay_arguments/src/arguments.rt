@@ -8,7 +8,7 @@ ghost use Rattle.clap.specs.Simple.{subcommand_rows_of};
 ghost use Rattle.clap.specs.Walk.{rows_of};
 ghost use Rattle.replay_arguments.specs.Command.{replay};
 ghost use Rattle.replay_arguments.specs.Subcommands.{AsksFor, Chooses, IsRefused};
-ghost use Rattle.replay_arguments.specs.Setups.{Wants, WantsToFollow, side_in};
+ghost use Rattle.replay_arguments.specs.Setups.{Wants, WantsBoard, side_in};
 
 use crate::command::command;
 use clap::error::ErrorKind;
@@ -26,7 +26,9 @@ pub enum Subcommand<'a> {
     /// The game of a stream as PGN.
     Record(RecordArguments<'a>),
     /// What each event of a stream makes of the game.
-    Follow(FollowArguments<'a>),
+    Follow(BoardArguments<'a>),
+    /// The bytes of a stream, and between them those that recover its hidden moves.
+    Recover(BoardArguments<'a>),
     /// Whether a text is PGN in export form.
     Check,
     /// The legal moves of a position.
@@ -58,9 +60,9 @@ pub struct RecordArguments<'a> {
     pub black: Option<&'a str>,
 }
 
-/// How a game is to be followed.
+/// How a board stands, and where its game starts.
 #[derive(Clone, Copy, Debug)]
-pub struct FollowArguments<'a> {
+pub struct BoardArguments<'a> {
     /// Whether field n means square 63 - n.
     pub rotated: bool,
     /// Whose time comes first in a time message.
@@ -109,14 +111,14 @@ fn record_arguments_of<'a>(matches: &ArgMatches<'a>) -> Option<RecordArguments<'
     })
 }
 
-fn follow_arguments_of<'a>(matches: &ArgMatches<'a>) -> Option<FollowArguments<'a>>
-    ensures wants { IfSome result (λ options. WantsToFollow (rows_of (found_of matches.now)) options) }
+fn board_arguments_of<'a>(matches: &ArgMatches<'a>) -> Option<BoardArguments<'a>>
+    ensures wants { IfSome result (λ options. WantsBoard (rows_of (found_of matches.now)) options) }
     ensures known { is_some result ≡ is_some (side_in (first_value (found_of matches.now) (codes "first"))) }
 {
     let Some(first) = side_of(matches.get_str("first")) else {
         return None;
     };
-    Some(FollowArguments {
+    Some(BoardArguments {
         rotated: matches.get_flag("rotated"),
         first,
         fen: matches.get_str("fen"),
@@ -135,8 +137,12 @@ fn subcommand_named<'a>(name: &str, matches: &ArgMatches<'a>) -> Option<Subcomma
             Some(options) => Some(Subcommand::Record(options)),
             None => None,
         },
-        "follow" => match follow_arguments_of(matches) {
+        "follow" => match board_arguments_of(matches) {
             Some(follow) => Some(Subcommand::Follow(follow)),
+            None => None,
+        },
+        "recover" => match board_arguments_of(matches) {
+            Some(recover) => Some(Subcommand::Recover(recover)),
             None => None,
         },
         "check" => Some(Subcommand::Check),

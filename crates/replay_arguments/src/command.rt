@@ -1,7 +1,7 @@
 //! The command line of the program, as `clap` parses it.
 ghost use Rattle.std.specs.Prelude.{◌≡◌, IfOk};
 ghost use Rattle.clap.specs.Simple.{App, app_of, new_app};
-ghost use Rattle.replay_arguments.specs.Command.{AddsRule, AddsApp, IsApp, Makes, check_app, follow_app, moves_app, pictures_app, positions_app, record_app, replay, rotated_rule, show_app, text_rule, with_board, with_tags};
+ghost use Rattle.replay_arguments.specs.Command.{AddsRule, AddsApp, IsApp, Makes, check_app, follow_app, moves_app, pictures_app, positions_app, record_app, recover_app, replay, rotated_rule, show_app, text_rule, with_board, with_tags};
 
 use clap::{Arg, ArgAction, Command};
 use std::alloc::{AllocError, Global};
@@ -141,6 +141,17 @@ fn follow<'a>(alloc: Global) -> Result<Command<'a>, AllocError>
     with_board(alloc, Ok(command))
 }
 
+fn recover<'a>(alloc: Global) -> Result<Command<'a>, AllocError>
+    ensures { IfOk result (λ command. IsApp command recover_app) }
+{
+    let command = named(
+        alloc,
+        "recover",
+        "Writes the bytes of a board on standard input again, with dumps put in for moves that two hands hid",
+    );
+    with_board(alloc, Ok(command))
+}
+
 fn check<'a>(alloc: Global) -> Command<'a>
     ensures { IsApp result check_app }
 {
@@ -190,6 +201,7 @@ pub fn command<'a>(alloc: Global) -> Result<Command<'a>, AllocError>
     let command = with_subcommand(command, pictures(alloc));
     let command = with_subcommand(command, record(alloc));
     let command = with_subcommand(command, follow(alloc));
+    let command = with_subcommand(command, recover(alloc));
     let command = with_subcommand(command, Ok(check(alloc)));
     let command = with_subcommand(command, moves(alloc));
     with_subcommand(command, positions(alloc))

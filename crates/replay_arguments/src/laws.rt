@@ -3,16 +3,18 @@ ghost use Rattle.std.specs.Prelude.{Bool, List, ℕ, [], ◌∷◌, codes};
 ghost use Rattle.board_session.specs.Recording.{setting_of};
 ghost use Rattle.chess_rules.specs.Initial.{initial};
 ghost use Rattle.replay_arguments.specs.Setups.{plain_setup};
-ghost use Rattle.replay_arguments.specs.Subcommands.{AreMistaken, AsksForHelp, AsksForMoves, AsksForPictures, AsksForPositions, AsksForVersion, AsksToCheck, AsksToFollow, AsksToRecord, AsksToShow, IsCheck, IsFollow, IsHelp, IsMoves, IsPictures, IsPositions, IsRecord, IsShow, IsVersion};
+ghost use Rattle.replay_arguments.specs.Subcommands.{AreMistaken, AsksForHelp, AsksForMoves, AsksForPictures, AsksForPositions, AsksForVersion, AsksToCheck, AsksToFollow, AsksToRecord, AsksToRecover, AsksToShow, IsCheck, IsFollow, IsHelp, IsMoves, IsPictures, IsPositions, IsRecord, IsRecover, IsShow, IsVersion};
 
 /// `record` asks for a recording from the initial position, with White's time first and unknown tags, turned where `--rotated`
-/// is given; `follow` asks that a game be followed that is set up so; `moves` asks for those of the initial position, and
-/// `positions` for those of a line from it; `show`, `pictures` and `check` ask for what they are called.
+/// is given; `follow` asks that a game be followed that is set up so, and `recover` that one be recovered; `moves` asks for those
+/// of the initial position, and `positions` for those of a line from it; `show`, `pictures` and `check` ask for what they are
+/// called.
 pub fn without_options()
     ensures shows { (arguments : List (List ℕ)) → IsShow arguments → AsksToShow arguments }
     ensures pictures { (rotated : Bool) (arguments : List (List ℕ)) → IsPictures rotated arguments → AsksForPictures rotated arguments }
     ensures records { (rotated : Bool) (arguments : List (List ℕ)) → IsRecord rotated arguments → AsksToRecord arguments (plain_setup rotated) }
     ensures follows { (rotated : Bool) (arguments : List (List ℕ)) → IsFollow rotated arguments → AsksToFollow arguments (setting_of (plain_setup rotated)) }
+    ensures recovers { (rotated : Bool) (arguments : List (List ℕ)) → IsRecover rotated arguments → AsksToRecover arguments (setting_of (plain_setup rotated)) }
     ensures checks { (arguments : List (List ℕ)) → IsCheck arguments → AsksToCheck arguments }
     ensures moves { (arguments : List (List ℕ)) → IsMoves arguments → AsksForMoves arguments initial }
     ensures positions { (arguments : List (List ℕ)) → IsPositions arguments → AsksForPositions arguments initial }

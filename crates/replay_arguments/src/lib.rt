@@ -7,6 +7,6 @@ pub mod laws;
 mod setup;
 mod start;
 
-pub use arguments::{FollowArguments, RecordArguments, Subcommand, read_arguments};
+pub use arguments::{BoardArguments, RecordArguments, Subcommand, read_arguments};
 pub use setup::{Refusal, setup_of};
 pub use start::start_of;

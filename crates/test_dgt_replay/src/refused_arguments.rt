@@ -7,13 +7,19 @@ use std::alloc::Global;
 use test_streams::bytes::Bytes;
 use test_streams::streams::{Sink, Source};
 
-static REFUSED_ARGUMENTS: [&[&str]; 11] = [
+static REFUSED_ARGUMENTS: [&[&str]; 17] = [
     &[],
     &["fly"],
     &["record", "--first", "green"],
     &["record", "--fen"],
     &["follow", "--first", "green"],
     &["follow", "--white", "Anna"],
+    &["recover", "--first", "green"],
+    &["recover", "--first"],
+    &["recover", "--white", "Anna"],
+    &["recover", "--rotated", "--rotated"],
+    &["recover", "--fen", "x", "--fen", "x"],
+    &["recover", "game.dgt"],
     &["show", "--rotated"],
     &["moves", "--rotated"],
     &["positions", "e4"],
@@ -103,6 +109,33 @@ fn status_without_arguments(alloc: Global) -> u8 {
         Sink::new(2048),
     )
     .status
+}
+
+const REFUSED_FEN: Case<'static> = Case {
+    input: &[INITIAL, E2_EMPTY, E4_PAWN],
+    more: 1,
+    unread: 1,
+    status: 1,
+    ..PLAIN
+};
+
+/// Before anything is read, a FEN that no position has is refused.
+static REFUSED_FENS: [Case<'static>; 2] = [
+    Case {
+        arguments: &["recover", "--fen", "8/8/8/8/8/8/8/4K3 w - - 0 1"],
+        err: b"fen: kings\n",
+        ..REFUSED_FEN
+    },
+    Case {
+        arguments: &["recover", "--rotated", "--first", "black", "--fen", "x"],
+        err: b"fen: form\n",
+        ..REFUSED_FEN
+    },
+];
+
+#[test]
+fn fens_are_refused(rt: HostRuntime) {
+    assert_eq!(rt; first_unlike(rt.alloc(), &[&REFUSED_FENS]), None);
 }
 
 #[test]

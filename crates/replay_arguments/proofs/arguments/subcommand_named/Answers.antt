@@ -4,8 +4,8 @@ use Rattle.std.specs.Prelude.{is_some}
 use Rattle.clap.specs.Matches.{found_of}
 use Rattle.clap.specs.Walk.{rows_of}
 use Rattle.replay_arguments.specs.declared.arguments.Subcommand.TheVariants.{Pictures}
-use Rattle.replay_arguments.specs.Setups.{Wants, WantsToFollow}
-use Rattle.replay_arguments.proofs.ArgumentLemmas.{flag_reads, if_some_at, follow_not_check, follow_not_moves, follow_not_positions, moves_not_positions, pictures_not_check, pictures_not_follow, pictures_not_moves, pictures_not_positions, pictures_not_record, record_not_check, record_not_follow, record_not_moves, record_not_positions, side_known, text_given}
+use Rattle.replay_arguments.specs.Setups.{Wants, WantsBoard}
+use Rattle.replay_arguments.proofs.ArgumentLemmas.{flag_reads, if_some_at, named_once, side_known, text_given}
 use Rattle.replay_arguments.proofs.arguments.subcommand_named.Goals as goal
 
 pub returns-in-show : goal.returns-in-show
@@ -14,6 +14,7 @@ returns-in-show c = record {
   pictures = search rules;
   record_is = search rules;
   follow = search rules;
+  recover = search rules;
   check = search rules;
   moves = search rules;
   positions = search rules;
@@ -24,11 +25,12 @@ pub returns-in-pictures : goal.returns-in-pictures
 returns-in-pictures c = record {
   show = λ e. absurd (c.in-pictures.not-show e);
   pictures = λ rotated e given. ap (λ b. Some (Pictures b)) (flag_reads (found_of c.args.matches.now) c.get_flag.result rotated c.get_flag.ensures.value c.get_flag.ensures.other given);
-  record_is = λ e. absurd (pictures_not_record c.args.name.now c.in-pictures.is e);
-  follow = λ e. absurd (pictures_not_follow c.args.name.now c.in-pictures.is e);
-  check = λ e. absurd (pictures_not_check c.args.name.now c.in-pictures.is e);
-  moves = λ e. absurd (pictures_not_moves c.args.name.now c.in-pictures.is e);
-  positions = λ e. absurd (pictures_not_positions c.args.name.now c.in-pictures.is e);
+  record_is = λ e. named_once c.in-pictures.is e refl;
+  follow = λ e. named_once c.in-pictures.is e refl;
+  recover = λ e. named_once c.in-pictures.is e refl;
+  check = λ e. named_once c.in-pictures.is e refl;
+  moves = λ e. named_once c.in-pictures.is e refl;
+  positions = λ e. named_once c.in-pictures.is e refl;
   known = rw c.in-pictures.is refl;
 }
 
@@ -37,10 +39,11 @@ returns-in-Some c = record {
   show = λ e. absurd (c.in-record.not-show e);
   pictures = λ rotated e given. absurd (c.in-record.not-pictures e);
   record_is = λ e. (c.in-Some.options, refl, if_some_at (Wants (rows_of (found_of c.args.matches.now))) c.record_arguments_of.result c.in-Some.options c.in-Some.is c.record_arguments_of.ensures.wants);
-  follow = λ e. absurd (record_not_follow c.args.name.now c.in-record.is e);
-  check = λ e. absurd (record_not_check c.args.name.now c.in-record.is e);
-  moves = λ e. absurd (record_not_moves c.args.name.now c.in-record.is e);
-  positions = λ e. absurd (record_not_positions c.args.name.now c.in-record.is e);
+  follow = λ e. named_once c.in-record.is e refl;
+  recover = λ e. named_once c.in-record.is e refl;
+  check = λ e. named_once c.in-record.is e refl;
+  moves = λ e. named_once c.in-record.is e refl;
+  positions = λ e. named_once c.in-record.is e refl;
   known = rw c.in-record.is (ap is_some (sym c.in-Some.is) ∙ side_known (found_of c.args.matches.now) c.record_arguments_of.result c.record_arguments_of.ensures.known);
 }
 
@@ -49,10 +52,11 @@ returns-in-None c = record {
   show = λ e. absurd (c.in-record.not-show e);
   pictures = λ rotated e given. absurd (c.in-record.not-pictures e);
   record_is = λ e. tt;
-  follow = λ e. absurd (record_not_follow c.args.name.now c.in-record.is e);
-  check = λ e. absurd (record_not_check c.args.name.now c.in-record.is e);
-  moves = λ e. absurd (record_not_moves c.args.name.now c.in-record.is e);
-  positions = λ e. absurd (record_not_positions c.args.name.now c.in-record.is e);
+  follow = λ e. named_once c.in-record.is e refl;
+  recover = λ e. named_once c.in-record.is e refl;
+  check = λ e. named_once c.in-record.is e refl;
+  moves = λ e. named_once c.in-record.is e refl;
+  positions = λ e. named_once c.in-record.is e refl;
   known = rw c.in-record.is (ap is_some (sym c.in-None.is) ∙ side_known (found_of c.args.matches.now) c.record_arguments_of.result c.record_arguments_of.ensures.known);
 }
 
@@ -62,9 +66,10 @@ returns-in-moves c = record {
   pictures = λ rotated e given. absurd (c.in-moves.not-pictures e);
   record_is = λ e. absurd (c.in-moves.not-record e);
   follow = λ e. absurd (c.in-moves.not-follow e);
+  recover = λ e. absurd (c.in-moves.not-recover e);
   check = λ e. absurd (c.in-moves.not-check e);
   moves = λ e. (c.get_str.result, refl, text_given (found_of c.args.matches.now) (codes "fen") c.get_str.result c.get_str.ensures);
-  positions = λ e. absurd (moves_not_positions c.args.name.now c.in-moves.is e);
+  positions = λ e. named_once c.in-moves.is e refl;
   known = rw c.in-moves.is refl;
 }
 
@@ -74,32 +79,61 @@ returns-in-positions c = record {
   pictures = λ rotated e given. absurd (c.in-positions.not-pictures e);
   record_is = λ e. absurd (c.in-positions.not-record e);
   follow = λ e. absurd (c.in-positions.not-follow e);
+  recover = λ e. absurd (c.in-positions.not-recover e);
   check = λ e. absurd (c.in-positions.not-check e);
   moves = λ e. absurd (c.in-positions.not-moves e);
   positions = λ e. (c.get_str-in-positions.result, refl, text_given (found_of c.args.matches.now) (codes "fen") c.get_str-in-positions.result c.get_str-in-positions.ensures);
   known = rw c.in-positions.is refl;
 }
 
-pub returns-in-Some-follow_arguments_of : goal.returns-in-Some-follow_arguments_of
-returns-in-Some-follow_arguments_of c = record {
+pub returns-in-Some-board_arguments_of : goal.returns-in-Some-board_arguments_of
+returns-in-Some-board_arguments_of c = record {
   show = λ e. absurd (c.in-follow.not-show e);
   pictures = λ rotated e given. absurd (c.in-follow.not-pictures e);
   record_is = λ e. absurd (c.in-follow.not-record e);
-  follow = λ e. (c.in-Some-follow_arguments_of.follow, refl, if_some_at (WantsToFollow (rows_of (found_of c.args.matches.now))) c.follow_arguments_of.result c.in-Some-follow_arguments_of.follow c.in-Some-follow_arguments_of.is c.follow_arguments_of.ensures.wants);
-  check = λ e. absurd (follow_not_check c.args.name.now c.in-follow.is e);
-  moves = λ e. absurd (follow_not_moves c.args.name.now c.in-follow.is e);
-  positions = λ e. absurd (follow_not_positions c.args.name.now c.in-follow.is e);
-  known = rw c.in-follow.is (ap is_some (sym c.in-Some-follow_arguments_of.is) ∙ side_known (found_of c.args.matches.now) c.follow_arguments_of.result c.follow_arguments_of.ensures.known);
+  follow = λ e. (c.in-Some-board_arguments_of.follow, refl, if_some_at (WantsBoard (rows_of (found_of c.args.matches.now))) c.board_arguments_of.result c.in-Some-board_arguments_of.follow c.in-Some-board_arguments_of.is c.board_arguments_of.ensures.wants);
+  recover = λ e. named_once c.in-follow.is e refl;
+  check = λ e. named_once c.in-follow.is e refl;
+  moves = λ e. named_once c.in-follow.is e refl;
+  positions = λ e. named_once c.in-follow.is e refl;
+  known = rw c.in-follow.is (ap is_some (sym c.in-Some-board_arguments_of.is) ∙ side_known (found_of c.args.matches.now) c.board_arguments_of.result c.board_arguments_of.ensures.known);
 }
 
-pub returns-in-None-follow_arguments_of : goal.returns-in-None-follow_arguments_of
-returns-in-None-follow_arguments_of c = record {
+pub returns-in-None-board_arguments_of : goal.returns-in-None-board_arguments_of
+returns-in-None-board_arguments_of c = record {
   show = λ e. absurd (c.in-follow.not-show e);
   pictures = λ rotated e given. absurd (c.in-follow.not-pictures e);
   record_is = λ e. absurd (c.in-follow.not-record e);
   follow = λ e. tt;
-  check = λ e. absurd (follow_not_check c.args.name.now c.in-follow.is e);
-  moves = λ e. absurd (follow_not_moves c.args.name.now c.in-follow.is e);
-  positions = λ e. absurd (follow_not_positions c.args.name.now c.in-follow.is e);
-  known = rw c.in-follow.is (ap is_some (sym c.in-None-follow_arguments_of.is) ∙ side_known (found_of c.args.matches.now) c.follow_arguments_of.result c.follow_arguments_of.ensures.known);
+  recover = λ e. named_once c.in-follow.is e refl;
+  check = λ e. named_once c.in-follow.is e refl;
+  moves = λ e. named_once c.in-follow.is e refl;
+  positions = λ e. named_once c.in-follow.is e refl;
+  known = rw c.in-follow.is (ap is_some (sym c.in-None-board_arguments_of.is) ∙ side_known (found_of c.args.matches.now) c.board_arguments_of.result c.board_arguments_of.ensures.known);
+}
+
+pub returns-in-Some-board_arguments_of-2 : goal.returns-in-Some-board_arguments_of-2
+returns-in-Some-board_arguments_of-2 c = record {
+  show = λ e. absurd (c.in-recover.not-show e);
+  pictures = λ rotated e given. absurd (c.in-recover.not-pictures e);
+  record_is = λ e. absurd (c.in-recover.not-record e);
+  follow = λ e. absurd (c.in-recover.not-follow e);
+  recover = λ e. (c.in-Some-board_arguments_of-2.recover, refl, if_some_at (WantsBoard (rows_of (found_of c.args.matches.now))) c.board_arguments_of-in-recover.result c.in-Some-board_arguments_of-2.recover c.in-Some-board_arguments_of-2.is c.board_arguments_of-in-recover.ensures.wants);
+  check = λ e. named_once c.in-recover.is e refl;
+  moves = λ e. named_once c.in-recover.is e refl;
+  positions = λ e. named_once c.in-recover.is e refl;
+  known = rw c.in-recover.is (ap is_some (sym c.in-Some-board_arguments_of-2.is) ∙ side_known (found_of c.args.matches.now) c.board_arguments_of-in-recover.result c.board_arguments_of-in-recover.ensures.known);
+}
+
+pub returns-in-None-board_arguments_of-2 : goal.returns-in-None-board_arguments_of-2
+returns-in-None-board_arguments_of-2 c = record {
+  show = λ e. absurd (c.in-recover.not-show e);
+  pictures = λ rotated e given. absurd (c.in-recover.not-pictures e);
+  record_is = λ e. absurd (c.in-recover.not-record e);
+  follow = λ e. absurd (c.in-recover.not-follow e);
+  recover = λ e. tt;
+  check = λ e. named_once c.in-recover.is e refl;
+  moves = λ e. named_once c.in-recover.is e refl;
+  positions = λ e. named_once c.in-recover.is e refl;
+  known = rw c.in-recover.is (ap is_some (sym c.in-None-board_arguments_of-2.is) ∙ side_known (found_of c.args.matches.now) c.board_arguments_of-in-recover.result c.board_arguments_of-in-recover.ensures.known);
 }

@@ -2,7 +2,7 @@ use Rattle.std.proofs.Common.{codes, ap, sym, ◌∙◌}
 use Rattle.clap.specs.Matches.{found_of}
 use Rattle.replay_arguments.specs.Setups.{side_in}
 use Rattle.replay_arguments.proofs.ArgumentLemmas.{flag_reads, text_given}
-use Rattle.replay_arguments.proofs.arguments.follow_arguments_of.Goals as goal
+use Rattle.replay_arguments.proofs.arguments.board_arguments_of.Goals as goal
 
 pub returns-clause-wants : goal.returns-clause-wants
 returns-clause-wants c =
