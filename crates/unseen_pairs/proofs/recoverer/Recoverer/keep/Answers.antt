@@ -51,7 +51,7 @@ returns c = λ start past written w none.
     let S : Parts → Type 0 = λ (p : Parts). SeenAs p (moves_of plies) seen Waits in
     let A : Parts → Type 0 = λ (p : Parts). AreAllAdded p plies seen c.args.clock.now c.in_ok-candidates.candidates.items c.add_all.new.candidates.items in
     let all : AreAllAdded start plies seen c.args.clock.now c.in_ok-candidates.candidates.items c.add_all.new.candidates.items =
-    subst A start_is (c.in_ok-add_all.ensures (subst P (sym start_is) played) (subst S (sym start_is) here.waits)) in
+    subst A start_is (c.in_ok-add_all.ensures (here.settles).last (subst P (sym start_is) played) (subst S (sym start_is) here.waits)) in
     other_told old c.add_all.new.candidates.items start past written entry here both.1 other
     (lists_next start plies here.waiting entry old.candidates c.in_ok-candidates.candidates.items all.one c.add_all.new.candidates.items
     valid played here.waits here.candidates aged all.next all.more all.none)
