@@ -1,7 +1,9 @@
 -- How many squares two plies change.
 use Rattle.std.proofs.Common.{◌≡◌, ◌≢◌, ℕ, ◌<◌, ◌≤◌, ◌+◌, ◌^◌, inl, inr, List, [], ◌∷◌, Bool, false, not, get_or, set, length, sym, ap, subst, ◌∙◌, arith}
 use Rattle.std.proofs.lemmas.Bool.{cases_eq, cases_lt, eq-eqb}
-use Rattle.std.proofs.lemmas.List.{get_or_past, length-map}
+use Rattle.std.proofs.lemmas.List.{ext_get_or, get_or_past, length-map}
+use Rattle.std.proofs.lemmas.Nat.Bits.{bit_at-lt, bit_at-zero, same_from_bits_below}
+use Rattle.std.specs.Int.{bit_at}
 use Rattle.std.specs.Int.RustNames.{count_ones}
 use Rattle.chess_rules.specs.declared.chess_move.Move.{Move}
 use Rattle.chess_rules.specs.declared.parts.Parts.{Parts}
@@ -13,7 +15,8 @@ use Rattle.chess_rules.specs.Picture.{code, picture}
 use Rattle.chess_rules.proofs.LawLemmas.{moves_move_pieces, moves_stay_valid}
 use Rattle.settle_core.specs.Masks.{IsDiff}
 use Rattle.settle_core.proofs.Counting.{cleared, cleared_at, mask_is, ones_trues, trues, trues_clear_le, trues_none}
-use Rattle.settle_core.proofs.Masking.{at_diffs, diffs, length-diffs}
+use Rattle.settle_core.proofs.Masking.{at_diffs, diffs, length-diffs, zero_one}
+use Rattle.settle_core.proofs.Boards.{same_unless}
 use Rattle.settle_core.proofs.Pieces.{at_picture}
 use Rattle.unseen_pairs.specs.Pairs.{IsAfterTwo}
 
@@ -70,7 +73,7 @@ shows_same p m k s v l low a b x y =
     let w : Valid (after p m) = moves_stay_valid p m v l in
     at_picture (after p m) s (rw w.squares low) ∙ ap code (k.others s a b x y) ∙ sym (at_picture p s (rw v.squares low))
 
-squares : (p : Parts) → Valid p → length (picture p) ≡ 64
+pub squares : (p : Parts) → Valid p → length (picture p) ≡ 64
 squares p v = length-map p.board code ∙ v.squares
 
 -- two plies change at most eight squares
@@ -111,3 +114,26 @@ two_correct p last m n seen mask v l two low diff =
     ∙ sym (shows_same p m j s v two.first small x.1.1.1.1.0 x.1.1.1.1.1.0 x.1.1.1.1.1.1.0 x.1.1.1.1.1.1.1.0)
     ∙ sym (shows_same q n k s w two.second small x.1.1.1.1.1.1.1.1.0 x.1.1.1.1.1.1.1.1.1.0 x.1.1.1.1.1.1.1.1.1.1.0 x.1.1.1.1.1.1.1.1.1.1.1.0)
     ∙ ap (λ xs. get_or xs s 0) (sym two.shows))
+
+-- no square differs exactly where both pictures are one
+pub none_differ : (mask : ℕ) (before seen : List ℕ) → length before ≡ 64 → length seen ≡ 64 → IsDiff mask before seen → mask ≡ 0 → seen ≡ before
+none_differ mask before seen a b diff none =
+    ext_get_or 0 seen before (b ∙ sym a)
+    (λ i low.
+    same_unless (get_or seen i 0) (get_or before i 0)
+    (λ ne.
+    let d = diff i (rw (← b) low) in
+    zero_one (ap (λ k. bit_at k i) none ∙ bit_at-zero i) (d.1 (λ e. ne (sym e)))))
+
+no_bit : (b : ℕ) → b < 2 → b ≢ 1 → b ≡ 0
+no_bit b low ne = omega arith
+
+some_power : 0 < 2 ^ 64
+some_power = omega arith
+
+pub one_picture : (mask : ℕ) (before seen : List ℕ) → mask < 2 ^ 64 → IsDiff mask before seen → seen ≡ before → mask ≡ 0
+one_picture mask before seen low diff same =
+    same_from_bits_below 64 mask 0 low some_power
+    (λ i small.
+    let d = diff i small in
+    no_bit (bit_at mask i) (bit_at-lt mask i) (λ e. d.0 e (ap (λ xs. get_or xs i 0) (sym same))) ∙ sym (bit_at-zero i))
