@@ -1,6 +1,7 @@
 pub mod Adding
 pub mod Aging
 pub mod Choosing
+pub mod Counting
 pub mod Losing
 pub mod Putting
 pub mod Sequels
