@@ -7,3 +7,5 @@ pub mod Sequels
 pub mod Telling
 pub mod Recovered
 pub mod Coming
+pub mod OnTheWay
+pub mod Alone
