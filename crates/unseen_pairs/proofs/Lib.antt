@@ -8,3 +8,5 @@ pub mod Sequels
 pub mod Telling
 pub mod Recovered
 pub mod Coming
+pub mod OnTheWay
+pub mod Alone
