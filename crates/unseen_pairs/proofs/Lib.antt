@@ -7,3 +7,4 @@ pub mod Sequels
 pub mod Telling
 pub mod Recovered
 pub mod Coming
+pub mod Hurried

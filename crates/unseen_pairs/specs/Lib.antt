@@ -4,3 +4,4 @@ pub mod Lost
 pub mod Candidates
 pub mod Recoverer
 pub mod Laws
+pub mod HurriedHands
