@@ -1,5 +1,5 @@
 -- Hurried hands give their line.
-use Rattle.std.proofs.Common.{◌≡◌, ◌≢◌, ◌<◌, ◌⊎◌, ℕ, inl, inr, false, true, List, [], ◌∷◌, Option, Some, None, reverse, refl, sym, ap, subst, ◌∙◌}
+use Rattle.std.proofs.Common.{◌≡◌, ◌⊎◌, ℕ, inl, inr, List, [], ◌∷◌, Option, Some, reverse, refl, sym, ap, subst, ◌∙◌}
 use mathlib.Core.List.{reverse_aux}
 use Rattle.std.proofs.lemmas.List.{reverse-reverse}
 use Rattle.dgt_frame.specs.declared.time.Reading.{Reading}
@@ -15,25 +15,24 @@ use Rattle.settle_core.specs.declared.game.Ply.{Ply}
 use Rattle.settle_core.specs.declared.game.Seen.{Seen}
 use Rattle.settle_core.specs.declared.game.Seen.TheVariants.{Same, Moved, Sign, Replaced, Waits}
 use Rattle.settle_core.specs.Entries.{Entry}
-use Rattle.settle_core.specs.Folding.{Replaces, Score, SeenAs, moves_of, played, score_after, time_of}
-use Rattle.settle_core.specs.HonestPlay.{IsInHand, MayPass, Shown, Takes, last_reading}
-use Rattle.settle_core.specs.Settling.{Played, Settles, position_after, reached}
+use Rattle.settle_core.specs.Folding.{Replaces, Score, SeenAs, moves_of, played, time_of}
+use Rattle.settle_core.specs.HonestPlay.{MayPass, Shown, last_reading}
+use Rattle.settle_core.specs.Settling.{Settles, position_after, reached}
 use Rattle.settle_core.specs.Sign.{IsSign}
 use Rattle.settle_core.proofs.Lines.{moves-reverse_aux}
 use Rattle.settle_core.proofs.Lists.{position_in_order}
 use Rattle.settle_core.proofs.Hands.{in_hand_quiet, lacking_settles}
 use Rattle.settle_core.proofs.Pieces.{settles_end}
-use Rattle.settle_core.proofs.Stages.{IsOpen, IsSound, NotYet, StandsIn, bare, now, shows_at, step_end, step_open}
+use Rattle.settle_core.proofs.Stages.{IsOpen, IsSound, NotYet, bare, now, shows_at, step_end, step_open}
 use Rattle.settle_core.proofs.Unseen.{three_settle_nothing}
 use Rattle.settle_core.proofs.Whatever.{kings_make_no_move}
-use Rattle.unseen_pairs.specs.declared.pair.Pair.{Pair}
 use Rattle.unseen_pairs.specs.declared.pair.Recovery.{Recovery}
 use Rattle.unseen_pairs.specs.declared.pair.Told.{Told}
 use Rattle.unseen_pairs.specs.declared.pair.Told.TheVariants as told
 use Rattle.unseen_pairs.specs.declared.pair.Told.TheVariants.{Recovered}
-use Rattle.unseen_pairs.specs.Pairs.{Confirms, Explains, ExplainsAt, GoesOn, IsInstead, ends}
-use Rattle.unseen_pairs.specs.Recovering.{FoldsRecovering, TellsAs, recovered, score_told, waiting_after}
-use Rattle.unseen_pairs.specs.HurriedHands.{AllButLastConfirmNothing, AreSilent, ConfirmsNothing, EndsHiding, Hidden, HidesTwo, HurriedHands, HurriedHandsKeepClocks, IsHiding, IsHurried, IsPlain, KingsEndHurriedHands, Stretch, plain, hiding, after_both, come_after, hurried_plies, left_waiting, line_of, pair_of, recorded, with_hidden}
+use Rattle.unseen_pairs.specs.Pairs.{Confirms, GoesOn}
+use Rattle.unseen_pairs.specs.Recovering.{FoldsRecovering, TellsAs, score_told, waiting_after}
+use Rattle.unseen_pairs.specs.HurriedHands.{AllButLastConfirmNothing, AreSilent, EndsHiding, Hidden, HidesTwo, HurriedHands, HurriedHandsKeepClocks, IsHiding, IsHurried, IsPlain, KingsEndHurriedHands, Stretch, plain, hiding, after_both, come_after, hurried_plies, left_waiting, line_of, pair_of, recorded, with_hidden}
 use Rattle.unseen_pairs.proofs.Recovered.{recovers_once}
 
 -- the entries give this score, and these wait

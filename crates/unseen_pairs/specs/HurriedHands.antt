@@ -1,5 +1,5 @@
--- Hurried hands: a line of moves of which some pairs of plies are not seen ply by ply. Entries stand in their order, but those of
--- the past and those that wait, which have the latest first.
+-- Hurried hands: a line of moves in which some pairs of plies are not seen ply by ply. Entries stand in their order; those of the
+-- past and those that wait have the latest first.
 use Rattle.std.specs.Prelude.{◌≡◌, ◌≢◌, ◌<◌, ◌⊎◌, ℕ, false, List, [], ◌∷◌, Some, None, reverse, slice_get}
 use Rattle.chess_rules.specs.declared.chess_move.Move.{Move}
 use Rattle.chess_rules.specs.declared.parts.Parts.{Parts}
@@ -35,7 +35,8 @@ pub data Stretch : Type 0 where
   plain : (silent : List Entry) (m : Move) (shown : List Entry) → Stretch
   hiding : (silent : List Entry) (h : Hidden) (next : Entry) (m : Move) (more : List Entry) → Stretch
 
--- Each of these entries shows nothing by itself after these moves, and confirms no pair.
+-- Each of these entries shows nothing by itself after these moves, and confirms no pair. The picture after two legal plies always
+-- shows nothing by itself.
 abbrev pub AreSilent : Parts → List Move → List Entry → List Entry → Type 0
 AreSilent start moves waiting [] = Unit {0}
 AreSilent start moves waiting (entry ∷ more) = TellsAs start moves waiting entry.picture (told.Shown Waits)
@@ -51,7 +52,7 @@ abbrev pub come_after : List Entry → List Entry → List Entry
 come_after [] past = past
 come_after (entry ∷ more) past = come_after more (entry ∷ past)
 
--- After these entries, this one confirms no pair.
+-- Where it comes after these entries, this one confirms no pair.
 abbrev pub ConfirmsNothing : Parts → List Entry → Entry → Type 0
 ConfirmsNothing start past entry =
     (score : Score) (waiting : List Entry) (r : Recovery)
@@ -63,7 +64,7 @@ AllButLastConfirmNothing start past [] = Unit {0}
 AllButLastConfirmNothing start past (entry ∷ []) = Unit {0}
 AllButLastConfirmNothing start past (entry ∷ next ∷ more) = ConfirmsNothing start past entry × AllButLastConfirmNothing start (entry ∷ past) (next ∷ more)
 
--- the pair that the two plies are; the position and the moves after them
+-- the pair that the two plies are, and the position after them
 abbrev pub pair_of : Hidden → Pair
 pair_of h = record { corrects = false; first = h.first; second = h.second }
 
