@@ -10,3 +10,4 @@ pub mod Recovered
 pub mod Coming
 pub mod OnTheWay
 pub mod Alone
+pub mod Hurried

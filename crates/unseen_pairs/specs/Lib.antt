@@ -5,3 +5,4 @@ pub mod Candidates
 pub mod Recoverer
 pub mod Laws
 pub mod HonestHands
+pub mod HurriedHands

@@ -1,5 +1,6 @@
 //! What holds of all games in which unseen pairs are recovered, each law as the contract of a function.
 ghost use Rattle.unseen_pairs.specs.HonestHands.{HonestHandsAreLeftAlone, HonestHandsConfirmNone, PlainHandsAreOnTheWay};
+ghost use Rattle.unseen_pairs.specs.HurriedHands.{HurriedHands, HurriedHandsKeepClocks, KingsEndHurriedHands};
 ghost use Rattle.unseen_pairs.specs.Laws.{IsWritten, NothingConfirmed, NothingIsInvented, NothingPutIn, PliesAreLegal, RecoversOnce, WritesOnce, WrittenFolds};
 
 /// Where no pair is confirmed, entries give what they fold to without recovering, and nothing is put in.
@@ -36,4 +37,12 @@ pub fn honest_hands_are_left_alone()
     ensures confirms { HonestHandsConfirmNone }
     ensures written { HonestHandsAreLeftAlone }
     ensures plain { PlainHandsAreOnTheWay }
+{}
+
+/// Hurried hands: where some pairs of a line are not seen ply by ply, and the next moves or the kings go on from them alone, the
+/// entries give the line, with its clocks.
+pub fn hurried_hands_give_their_line()
+    ensures moves { HurriedHands }
+    ensures score { HurriedHandsKeepClocks }
+    ensures kings { KingsEndHurriedHands }
 {}
