@@ -20,11 +20,13 @@ from live.refused import DONE, FAILED, REFUSED, Refused
 from live.round_page import clocks_of
 from live.screen import Screen, Told
 from live.series import Player, is_over, printable, reason_of
-from live.state import Kind, State
+from live.state import OTHER_BOARD, Kind, State
 from live.table import RowView
 from live.terminal import Terminal
 
 UNSAID = ("records ", "added by hand")  # below a table: its rows and the answers show that
+NOT_RECORDED = "NOT RECORDED"
+TURNED, OTHER = "turned round?", "other board?"  # in a row, for a hint that has no room there
 PAUSES = (2.0, 5.0, 10.0, 20.0, 40.0, 60.0)  # seconds between tries to record a board
 
 
@@ -46,7 +48,7 @@ class RowScreen(Screen):
     def say(self, text: str, *more: str) -> None:
         super().say(text, *more)
         if self._has_table and not text.startswith(UNSAID):
-            self._says(f"{self._number}: {text}")
+            self._says(f"{self._number}: {' '.join([text, *more])}")
 
     def _print(self, line: str) -> None:
         super()._print(f"{line[:10]}{self._number:>3}  {line[10:]}")
@@ -62,6 +64,13 @@ class RowScreen(Screen):
     def state(self, text: str, news: object) -> None:
         super().state(text, news)
         self._changed()
+
+    def turn(self, rotated: bool) -> str:
+        return f"Write {'no' if rotated else 'yes'} in its column rotated, save the table, and type r; or turn the board"
+
+    def hint(self, text: str) -> None:
+        if self._has_table:
+            self._says(f"{self._number}: {text}")
 
 
 def plies_of(program: Program, options: Options, sent: bytes) -> List[Told]:
@@ -95,7 +104,6 @@ class Row:
         self._loop, self._program, self._folder, self._tags, self._linger = loop, program, folder, tags, linger
         self._changed, self._remade, self._says = changed, remade, says
         self.pairing = pairing
-        self.wrong = ""  # what is wrong with its line, as it was read last
         self.trouble = ""  # why it isn't recorded
         self.pgn = b""
         self.result = "*"
@@ -227,7 +235,6 @@ class Row:
     def take(self, pairing: Pairing) -> None:
         """The line as it is now. With another device, or another name while no ply stands, it is begun again."""
         before, self.pairing = self.pairing, pairing
-        self.wrong = ""
         self._wants_result = True
         if dataclasses.replace(before, line=0, result="") == dataclasses.replace(pairing, line=0, result=""):
             self._loop.after(0, self._apply_result)
@@ -319,20 +326,24 @@ class Row:
 
     def standing(self) -> Tuple[str, Optional[float], bool]:
         """How it stands in words, since when, and whether somebody must look at it."""
-        state = self.state
-        if self.wrong:
-            return f"line {self.wrong}", None, True
+        front, rest, since, alarm = self._standing(self.state)
+        return front + rest, since, alarm
+
+    def _standing(self, state: Optional[State]) -> Tuple[str, str, Optional[float], bool]:
+        """The words before how long it has stood so, and those after."""
         if self.trouble:
-            return self.trouble, None, True
+            return NOT_RECORDED, f": {self.trouble}", None, True
         if state is None:
-            return (f"over {self.result}" if self.result != "*" else "over, no result"), None, self.result == "*"
-        words = dataclasses.replace(state, since=self._loop.now()).text(self._loop.now())
-        return words, None if state.kind is Kind.WAITS else state.since, state.is_alarm
+            return f"over {self.result}" if self.result != "*" else "over, no result", "", None, self.result == "*"
+        return (*state.parts(), None if state.kind is Kind.WAITS else state.since, state.is_alarm)
 
     def view(self) -> RowView:
-        """What its row shows."""
-        words, since, alarm = self.standing()
+        """What its row shows. A hint was told in full as it came, and is two words here."""
+        state = self.state
+        front, rest, since, alarm = self._standing(state)
+        if state and state.hint and not (state.disk_full or self.trouble):
+            front, rest = OTHER if state.hint == OTHER_BOARD else TURNED, ""
         plies = self.plies
         last = " ".join(plies[-1].words.split(" ")[:2]) if plies else ""
         white, black = self.player_name("--white"), self.player_name("--black")
-        return RowView(self.number, white, black, last, clocks_of(plies), words, since, alarm)
+        return RowView(self.number, white, black, last, clocks_of(plies), front, rest, since, alarm)
