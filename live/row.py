@@ -24,8 +24,9 @@ from live.state import OTHER_BOARD, Kind, State
 from live.table import RowView
 from live.terminal import Terminal
 
-UNSAID = ("records ", "added by hand")  # below a table: its rows and the answers show that
+UNSAID = ("records ", "added by hand", " has the cable ")  # below a table: its rows and the answers show that
 NOT_RECORDED = "NOT RECORDED"
+BEGUN_ANEW = "is begun anew"  # where its line has changed
 TURNED, OTHER = "turned round?", "other board?"  # in a row, for a hint that has no room there
 PAUSES = (2.0, 5.0, 10.0, 20.0, 40.0, 60.0)  # seconds between tries to record a board
 
@@ -47,7 +48,7 @@ class RowScreen(Screen):
 
     def say(self, text: str, *more: str) -> None:
         super().say(text, *more)
-        if self._has_table and not text.startswith(UNSAID):
+        if self._has_table and not any(part in text for part in UNSAID):
             self._says(f"{self._number}: {' '.join([text, *more])}")
 
     def _print(self, line: str) -> None:
@@ -334,6 +335,8 @@ class Row:
         if self.trouble:
             return NOT_RECORDED, f": {self.trouble}", None, True
         if state is None:
+            if not self._over:
+                return BEGUN_ANEW, "", None, False
             return f"over {self.result}" if self.result != "*" else "over, no result", "", None, self.result == "*"
         return (*state.parts(), None if state.kind is Kind.WAITS else state.since, state.is_alarm)
 

@@ -319,6 +319,58 @@ def on_a_terminal(folder: pathlib.Path) -> None:
     same(ended(live), 0)
 
 
+def turned_round(folder: pathlib.Path) -> None:
+    """A board the other way round: its row says so, and what to do in a round; `r` reads that it is, and the game is recorded."""
+    hall = Hall(folder, 2)
+    hall.boards[1].rotated = True
+    live = hall.record(terminal=True, environment={"TERM": "xterm"})
+    until_line(live, "turned round?")
+    until_line(live, "2: is the board the other way round? Write yes in its column rotated,")
+    live.type("2")
+    until_line(live, "2: setting up; is the board the other way round? Write yes")
+    hall.extra[2] = ",yes"
+    hall.write(header="board,device,white,black,rotated")
+    live.type("r")
+    until_line(live, "2 boards, no alarm")
+    hall.boards[1].play("d2d4")
+    hall.until_text(2, "1. d4 *")
+    until_line(live, "1. d4")
+    for never in ("over, no result", words.ROTATED):
+        assert never not in live.lines(), live.lines()
+    # The other way: the table says that a board is rotated, and it isn't.
+    hall.extra[1] = ",yes"
+    hall.write(header="board,device,white,black,rotated")
+    live.type("r")
+    until_line(live, "1: is the board the other way round? Write no in its column rotated")
+    live.type("q")
+    same(ended(live), 0)
+
+
+def a_wrong_line(folder: pathlib.Path) -> None:
+    """The line of a board that is recorded becomes wrong: it goes on, its alarms are shown as before, and the line is no board."""
+    hall = Hall(folder, 2)
+    live = hall.record(terminal=True, environment={"TERM": "xterm"})
+    until_line(live, "2 boards, no alarm")
+    hall.file.write_text(hall.file.read_text().replace("White 2", '"White 2') + "9,,nobody,nobody\n")
+    live.type("r")
+    until_line(live, "2 boards, no alarm, 2 lines are wrong")
+    until_line(live, "!  2 line 3 is wrong: a quote isn't closed")
+    until_line(live, "board 2 goes on as it was begun")
+    until_line(live, "!  9 line 4 is wrong: it names no device")
+    hall.boards[1].play("d2d4")
+    hall.until_text(2, "1. d4 *")
+    hall.boards[1].pull()
+    until_line(live, "UNPLUGGED")
+    until_line(live, "2 boards, 1 alarm, 2 lines are wrong")
+    hall.write()
+    hall.boards[1].plug()
+    seen = len(live.lines())
+    live.type("r")
+    until(lambda: re.search("2 boards, no alarm(?!,)", live.lines()[seen:]), "that no line is wrong any more")
+    live.type("q")
+    same(ended(live), 0)
+
+
 def fetch(port: int, path: str) -> bytes:
     """What the page serves there."""
     with urllib.request.urlopen(f"http://127.0.0.1:{port}{path}", timeout=30) as answer:
