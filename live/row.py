@@ -187,15 +187,20 @@ class Row:
         self._loop.after(0, self._apply_result)
 
     def _options_of(self, paths: Paths, capture: Capture, given: Options) -> Options:
-        """Those of the line; but a game that has moves keeps those that it was begun with."""
+        """Those of the line; but a game that has moves keeps how the board lies and the position at the start."""
         try:
             return options_of(self._program, paths, capture, given)
         except Refused as refused:
             kept = files.kept_options(paths)
             if kept is None or refused.status != REFUSED:
                 raise
-            self._screen.say("the game has moves, and keeps what it was begun with: " + " ".join(kept.words))
-            return kept
+            if kept.of_board() != given.of_board():
+                words = " ".join(kept.of_board()) or "nothing in the columns rotated, first and fen"
+                self._screen.say(f"the game has moves, and keeps what it was begun with: {words}")
+            wanted = kept.with_tags_of(given)
+            if wanted != kept:
+                files.keep_options(paths, wanted)
+            return wanted
 
     def _stopped(self) -> None:
         """All that was recorded here has ended."""
@@ -234,7 +239,7 @@ class Row:
     # Its line is read again.
 
     def take(self, pairing: Pairing) -> None:
-        """The line as it is now. With another device, or another name while no ply stands, it is begun again."""
+        """The line as it is now. Where it is another one the recording is begun anew, and the game goes on."""
         before, self.pairing = self.pairing, pairing
         self._wants_result = True
         if dataclasses.replace(before, line=0, result="") == dataclasses.replace(pairing, line=0, result=""):
@@ -246,10 +251,7 @@ class Row:
             self._tries = 0
             self.begin()
         else:
-            if before.file_name == pairing.file_name and before.device == pairing.device and self.plies:
-                self._screen.say("the game has moves, and keeps what it was begun with: " + " ".join(self.options.words))
-            else:
-                self.end(self.begin)
+            self.end(self.begin)
 
     def _apply_result(self) -> None:
         """The result that the line has, where the game has none."""

@@ -131,7 +131,7 @@ def typed(folder: pathlib.Path) -> None:
 def read_again(folder: pathlib.Path) -> None:
     """HUP reads the file again: a name put right, another device, a new line, a line that is gone, a result, an empty file."""
     hall = Hall(folder, 3)
-    live = hall.record()
+    live = hall.record(typed=True)
     hall.begun(live)
     hall.boards[0].play("e2e4")
     hall.until_text(1, "1. e4 *")
@@ -142,7 +142,7 @@ def read_again(folder: pathlib.Path) -> None:
     hall.boards[1].pull()
     hall.boards[1].device = str(folder / "elsewhere")
     hall.boards[1].plug()
-    changed = [f"{lines[0]},result", lines[1].replace("White 1", "Anna"), f"2,{folder}/elsewhere,Ben,Black 2"]
+    changed = [f"{lines[0]},rotated,result", f"{lines[1].replace('White 1', 'Anna')},yes", f"2,{folder}/elsewhere,Ben,Black 2"]
     hall.file.write_text("\n".join([*changed, f"4,{folder}/nowhere,A,B", ""]))
     live.send(signal.SIGHUP)
     until_line(live, "is read again: 3 boards")
@@ -153,7 +153,8 @@ def read_again(folder: pathlib.Path) -> None:
     until(lambda: hall.boards[1].asked_for_updates, "a request on the other device")
     hall.boards[1].play("d2d4")
     hall.until_text(2, "1. d4 *")
-    assert b'[White "White 1"]' in bytes_of(hall.name(1) + ".pgn")
+    until(lambda: b'[White "Anna"]' in bytes_of(hall.name(1) + ".pgn"), "the name of board 1, whose game has a move")
+    until(lambda: hall.boards[0].asked_for_updates, "a request on board 1")
     hall.boards[0].play("e7e5")
     hall.until_text(1, "1. e4 e5 *")
     changed[1] += ",1-0"
@@ -161,6 +162,13 @@ def read_again(folder: pathlib.Path) -> None:
     live.send(signal.SIGHUP)
     hall.until_text(1, "1. e4 e5 1-0")
     same(len(games_of(bytes_of(hall.games / "03.pgn"))), 1)
+    # A name is put right where the game is over.
+    hall.until_over(live, 1, "1-0")
+    changed[1] = changed[1].replace("Anna", "Anne")
+    hall.file.write_text("\n".join([*changed, f"4,{folder}/nowhere,A,B", ""]))
+    live.send(signal.SIGHUP)
+    until(lambda: b'[White "Anne"]' in bytes_of(hall.games / "round.pgn"), "the name of board 1, whose game is over")
+    same(hall.text(1), "1. e4 e5 1-0")
     same(stop(live), 0)
 
 
