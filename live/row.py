@@ -117,6 +117,8 @@ class Row:
         self._again: Optional[Timer] = None
         self._ended: Optional[Callable[[], None]] = None
         self._given: Tuple[str, ...] = ()
+        self._device = ""  # as the line had it when the recording was begun
+        self._cable = ""  # the name that its cable keeps, whatever becomes of that device
         self._wants_result = True
 
     @property
@@ -165,7 +167,8 @@ class Row:
         self._given = given.words
         refuse_options(self._program, given)
         paths = self.paths
-        serial_line.check(pairing.device, may_wait=True)
+        device = self._cable if self._cable and pairing.device == self._device else pairing.device
+        serial_line.check(device, may_wait=True)
         capture = files.open_game(paths, 0)
         try:
             self._screen.keep(Log(paths.log))
@@ -177,7 +180,8 @@ class Row:
             self._plies = plies_of(self._program, kept, capture.bytes(0, end))
             self._over = is_over(paths, capture)
             if not self._over:
-                call = Call(device=pairing.device, name=paths.name, linger=self._linger)
+                call = Call(device=device, name=paths.name, linger=self._linger)
+                self._device = pairing.device
                 self._player = Player(self._loop, self._program, self._screen, call, paths, capture, kept, self._stopped)
         finally:
             if self._player is None:
@@ -211,6 +215,7 @@ class Row:
         if player is None:
             return
         self._plies = list(player.plies)
+        self._cable = player.cable
         player.release()
         self._read_pgn()
         self._over = self.result != "*" or files.end_mark(self.paths) is not None

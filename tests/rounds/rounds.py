@@ -327,6 +327,30 @@ def on_a_terminal(folder: pathlib.Path) -> None:
     same(ended(live), 0)
 
 
+def renamed(folder: pathlib.Path) -> None:
+    """A board comes back under another name, and then its player's name is put right: it is found by its cable all the same."""
+    hall = Hall(folder, 1, cabled=(0,))
+    file = f"board,device,white,black\n1,{hall.boards[0].device},Ana,Ben\n"
+    hall.file.write_text(file)
+    live = hall.record()
+    hall.begun(live)
+    hall.boards[0].play("e2e4")
+    hall.until_text(1, "1. e4 *")
+    hall.boards[0].pull()
+    until_line(live, "  1  UNPLUGGED")
+    hall.cables.plug(hall.boards[0], 7)
+    until(lambda: hall.boards[0].asked_for_updates, "a request as ttyUSB7")
+    hall.boards[0].play("e7e5")
+    hall.until_text(1, "1. e4 e5 *")
+    hall.file.write_text(file.replace("Ana", "Anna"))
+    live.send(signal.SIGHUP)
+    until(lambda: b'[White "Anna"]' in bytes_of(hall.name(1) + ".pgn"), "the name that was put right")
+    hall.boards[0].play("g1f3")
+    hall.until_text(1, "1. e4 e5 2. Nf3 *")
+    same(live.lines().count("  1  UNPLUGGED"), 1)
+    same(stop(live), 0)
+
+
 def turned_round(folder: pathlib.Path) -> None:
     """A board the other way round: its row says so, and what to do in a round; `r` reads that it is, and the game is recorded."""
     hall = Hall(folder, 2)
