@@ -149,6 +149,11 @@ class Options:
         """All but these."""
         return Options(_words((option, value) for option, value in self.pairs() if option not in options))
 
+    def with_tags_of(self, other: Options) -> Options:
+        """The same game with the tags of another one."""
+        tags = other.without(*BOARD, *PLAIN)
+        return Options((*self.of_board(), *tags.words)).recovering(self.recover)
+
     def recovering(self, recover: bool) -> Options:
         """The same, but whether pairs are recovered."""
         return Options((*self.of_record(), RECOVER) if recover else self.of_record())

@@ -105,7 +105,7 @@ class Recording:
         self._done: Optional[Callable[[bool], None]] = None
         self._ends: Optional[Timer] = None
         self._watchdog: Optional[Timer] = None
-        self.standing = Standing(loop, screen, self._start)
+        self.standing = Standing(loop, screen, self._start, options.rotated)
         self._maker = Maker(loop, program, paths, capture, options, self._pgn_trouble, screen.made)
         self._disk = Disk(screen, self.standing, capture, lambda: self._maker.full)
         self._whole: Optional[Whole] = None

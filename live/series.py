@@ -232,6 +232,11 @@ class Player:
         return self._plies
 
     @property
+    def cable(self) -> str:
+        """The name under which its device is opened again."""
+        return self._board.cable
+
+    @property
     def standing(self) -> Optional[Standing]:
         """How the board stands; None where it has ended."""
         game = self._recording or self._setting_up
