@@ -37,6 +37,7 @@ type 1-0, 0-1 or 1/2-1/2 to end the game so, or moves that it missed: Nf3 Nc6.
   --once             a board that is unplugged ends it, and isn't waited for
   --linger SECONDS   a result that has stood so long ends it (without it, 10)
   --page [ADDRESS:]PORT   show it to browsers, as --page 8000
+  --recover          put in moves that two hands hid (--strict: no longer)
 OPTION says how the board lies, how the game begins, and what its tags say:
   --rotated          Black has the connector on the left
   --first SIDE       whose time comes first, white (without it) or black
@@ -96,19 +97,20 @@ def plies(program: Program, capture: Capture, kept: Options) -> int:
 
 def options_of(program: Program, paths: Paths, capture: Capture, given: Options) -> Options:
     """Those that were kept; or those that were given, where the game has none yet, or has no ply. Whether pairs are recovered
-    may be changed at any time: the capture stays the same."""
+    may be changed at any time."""
     kept = files.kept_options(paths) if capture.size else None
-    wanted = given.without(options.STRICT)
+    wanted = given
     if kept is not None:
         game, others = Options(kept.of_record()), Options(given.of_record())
         if not others.words or others.same_as(game):
-            wanted = kept.recovering((kept.recover or given.recover) and not given.strict)
+            wanted = kept
         elif plies(program, capture, kept) > 0:
             raise Refused(
                 REFUSED,
                 f"{paths.name} was begun with other options: give none to go on, or choose another NAME. They were",
                 " ".join(kept.words),
             )
+    wanted = wanted.recovering((kept or Options()).recovers_with(given))
     if wanted.recover and not program.can_recover():
         raise Refused(
             REFUSED,

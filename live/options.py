@@ -126,12 +126,17 @@ class Options:
     @property
     def recover(self) -> bool:
         """Whether moves that two hands hid are recovered."""
-        return RECOVER in self.words
+        return self._how == RECOVER
 
     @property
     def strict(self) -> bool:
         """Whether they are recovered no longer."""
-        return STRICT in self.words
+        return self._how == STRICT
+
+    @property
+    def _how(self) -> str:
+        """Which of the two is said; the last one counts."""
+        return ([""] + [option for option, _ in self.pairs() if option in (RECOVER, STRICT)])[-1]
 
     @property
     def fen(self) -> Optional[str]:
@@ -145,6 +150,10 @@ class Options:
         """Those that `record` knows."""
         return self.without(RECOVER, STRICT).words
 
+    def of_recovery(self) -> Options:
+        """The one that says whether pairs are recovered, if one does."""
+        return Options((self._how,) if self._how else ())
+
     def without(self, *options: str) -> Options:
         """All but these."""
         return Options(_words((option, value) for option, value in self.pairs() if option not in options))
@@ -152,6 +161,10 @@ class Options:
     def recovering(self, recover: bool) -> Options:
         """The same, but whether pairs are recovered."""
         return Options((*self.of_record(), RECOVER) if recover else self.of_record())
+
+    def recovers_with(self, given: Options) -> bool:
+        """Whether pairs are recovered where these were kept and those are given."""
+        return given.recover or (self.recover and not given.strict)
 
     def turned(self, turns: Dict[str, Callable[[str], str]]) -> Options:
         """With the value of each of these options turned into what PGN takes."""

@@ -23,8 +23,10 @@ from live.series import Player, is_over, printable, reason_of
 from live.state import Kind, State
 from live.table import RowView
 from live.terminal import Terminal
+from live.whole import pairs_of
 
 UNSAID = ("records ", "added by hand")  # below a table: its rows and the answers show that
+BEGUN_AGAIN = ("file_name", "device", "recover")  # a line with another one of these has its game begun again, moves or not
 PAUSES = (2.0, 5.0, 10.0, 20.0, 40.0, 60.0)  # seconds between tries to record a board
 
 
@@ -65,9 +67,9 @@ class RowScreen(Screen):
 
 
 def plies_of(program: Program, options: Options, sent: bytes) -> List[Told]:
-    """The moves that some bytes give."""
+    """The moves that a capture gives."""
     plies: List[Told] = []
-    for line in lines_of(program.run("follow", *options.of_board(), given=sent).stdout):
+    for line in lines_of(program.run("follow", *options.of_board(), given=program.whole(options, sent)).stdout):
         told = Told.of_line(line)
         if told and told.kind == "correction":
             plies.pop()
@@ -101,6 +103,7 @@ class Row:
         self.result = "*"
         self.options = Options()
         self._plies: List[Told] = []
+        self._recovered: List[str] = []
         self._player: Optional[Player] = None
         self._screen = RowScreen(pairing.board, terminal, changed, self._made, says)
         self._over = False
@@ -166,6 +169,7 @@ class Row:
             make_now(self._program, paths, capture, kept, end)
             self._read_pgn()
             self._plies = plies_of(self._program, kept, capture.bytes(0, end))
+            self._recovered = pairs_of(self._program, kept, capture.bytes(0, end))
             self._over = is_over(paths, capture)
             if not self._over:
                 call = Call(device=pairing.device, name=paths.name, linger=self._linger)
@@ -178,7 +182,8 @@ class Row:
         self._loop.after(0, self._apply_result)
 
     def _options_of(self, paths: Paths, capture: Capture, given: Options) -> Options:
-        """Those of the line; but a game that has moves keeps those that it was begun with."""
+        """Those of the line; but a game that has moves keeps those that it was begun with, but for whether pairs are
+        recovered."""
         try:
             return options_of(self._program, paths, capture, given)
         except Refused as refused:
@@ -186,7 +191,7 @@ class Row:
             if kept is None or refused.status != REFUSED:
                 raise
             self._screen.say("the game has moves, and keeps what it was begun with: " + " ".join(kept.words))
-            return kept
+            return options_of(self._program, paths, capture, given.of_recovery())
 
     def _stopped(self) -> None:
         """All that was recorded here has ended."""
@@ -196,7 +201,7 @@ class Row:
         player, self._player = self._player, None
         if player is None:
             return
-        self._plies = list(player.plies)
+        self._plies, self._recovered = list(player.plies), list(player.recovered)
         player.release()
         self._read_pgn()
         self._over = self.result != "*" or files.end_mark(self.paths) is not None
@@ -225,7 +230,8 @@ class Row:
     # Its line is read again.
 
     def take(self, pairing: Pairing) -> None:
-        """The line as it is now. With another device, or another name while no ply stands, it is begun again."""
+        """The line as it is now. With another device, another name while no ply stands, or another word on whether pairs are
+        recovered, it is begun again."""
         before, self.pairing = self.pairing, pairing
         self.wrong = ""
         self._wants_result = True
@@ -237,11 +243,10 @@ class Row:
         if self._player is None:
             self._tries = 0
             self.begin()
+        elif self.plies and all(getattr(before, name) == getattr(pairing, name) for name in BEGUN_AGAIN):
+            self._screen.say("the game has moves, and keeps what it was begun with: " + " ".join(self.options.words))
         else:
-            if before.file_name == pairing.file_name and before.device == pairing.device and self.plies:
-                self._screen.say("the game has moves, and keeps what it was begun with: " + " ".join(self.options.words))
-            else:
-                self.end(self.begin)
+            self.end(self.begin)
 
     def _apply_result(self) -> None:
         """The result that the line has, where the game has none."""
@@ -303,6 +308,11 @@ class Row:
     @property
     def plies(self) -> List[Told]:
         return self._player.plies if self._player else self._plies
+
+    @property
+    def recovered(self) -> List[str]:
+        """The pairs of its moves that two hands hid."""
+        return self._player.recovered if self._player else self._recovered
 
     @property
     def state(self) -> Optional[State]:

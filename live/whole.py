@@ -10,7 +10,7 @@ from typing import Callable, List, Optional
 
 from live.loop import Loop
 from live.options import Options
-from live.program import CHUNK, Program, Reader, Source
+from live.program import CHUNK, Program, Reader, Source, lines_of
 from live.protocol import SIZES, DUMP_ID, TIME_ID
 
 
@@ -106,6 +106,14 @@ class Whole(Reader):
                 self._pairs_came += 1
                 if self._pairs_came > len(self.pairs):
                     self.pairs.append(pair)
+
+
+def pairs_of(program: Program, options: Options, sent: bytes) -> List[str]:
+    """The pairs that are recovered of a capture, as they are told."""
+    if not options.recover:
+        return []
+    told = lines_of(program.run("recover", *options.of_board(), given=sent).stderr)
+    return [pair.text for pair in map(Pair.of_line, told) if pair]
 
 
 def put_in(first: int) -> int:

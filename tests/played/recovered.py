@@ -39,19 +39,19 @@ WHOLE_TEXT = "1. e4 e5 2. Nf3 Nc6 3. Bb5 *"
 PAIR = "recovered 2. Nf3 2... Nc6"
 
 
-def recorder(folder: pathlib.Path) -> pathlib.Path:
-    """A dgt_live whose program has `recover`. To be taken out, for LIVE, when each program has it."""
+def recorder(folder: pathlib.Path, door: pathlib.Path = LIVE) -> pathlib.Path:
+    """A dgt_live, or a dgt_round, whose program has `recover`. To be taken out, for the door, when each program has it."""
     if run("recover", "--help").returncode == 0:
-        return LIVE
+        return door
     place = folder / "program"
     place.mkdir()
-    shutil.copy(TOP / "bin" / "dgt_live", place)
+    shutil.copy(door, place)
     (place / "live").symlink_to(TOP / "live")
     script = place / "dgt_replay"
     by_rules = f"{sys.executable} {TOP}/tests/recovering/recover.py"
     script.write_text(f'#!/bin/sh\n[ "$1" = recover ] || exec {program()} "$@"\nshift\nexec {by_rules} "$@"\n')
     script.chmod(0o755)
-    return place / "dgt_live"
+    return place / door.name
 
 
 def hurried(board: Board, first: str = "g1f3", reply: str = "b8c6") -> None:
