@@ -21,10 +21,11 @@ from live.round_page import RoundPage
 from live.screen import Screen
 from live.series import Player, last_number, numbered
 from live.terminal import Terminal, Typed, open_standard_streams
+from live.whole import pairs_of
 
 HELP = """\
 usage: dgt_live [--series] [--once] [--linger SECONDS] DEVICE NAME [OPTION..]
-       dgt_live --add WORDS NAME        dgt_live --devices
+       dgt_live --add WORDS NAME  dgt_live --recover NAME  dgt_live --devices
 
 Records the DGT board at DEVICE, tells the game line by line, and keeps
   NAME.dgt   what the board sent
@@ -178,14 +179,42 @@ def record(call: Call, program: Program, signals: Signals) -> int:
     return DONE
 
 
-def add(call: Call, program: Program) -> int:
-    """Adds to a game that is recorded, or to one that is over."""
-    paths = Paths(call.name)
-    words = call.added or ""
+def existing_game(name: str) -> Paths:
+    """The files of a game that there is."""
+    paths = Paths(name)
     if not os.path.isfile(paths.capture):
-        last = numbered(call.name, last_number(call.name))
+        last = numbered(name, last_number(name))
         known = f" The last one is {last.name}" if os.path.isfile(last.capture) else ""
         raise Refused(REFUSED, f"there is no {paths.capture}: which game is meant?{known}")
+    return paths
+
+
+def remake(call: Call, program: Program) -> int:
+    """Makes the text of a game anew that nobody records, with its pairs recovered or without them."""
+    given = Options(call.words)
+    refuse_options(program, given)
+    paths = existing_game(call.name)
+    capture = files.open_game(paths)
+    end = files.end_mark(paths)
+    kept = (files.kept_options(paths) or Options()).recovering(given.recover)
+    try:
+        make_now(program, paths, capture, kept, end)
+    except OSError as error:
+        raise Refused(FAILED, f"{paths.pgn} can't be written ({text_of(error)}): is the disk full?") from None
+    files.keep_options(paths, kept)
+    pairs = "; ".join(pairs_of(program, kept, capture.bytes(0, end))) or "nothing recovered"
+    capture.close()
+    screen = Screen(None)
+    screen.keep(files.Log(paths.log))
+    screen.note(f"made anew: {pairs}")
+    print(f"dgt_live: {paths.pgn} is made anew: {pairs}")
+    return DONE
+
+
+def add(call: Call, program: Program) -> int:
+    """Adds to a game that is recorded, or to one that is over."""
+    paths = existing_game(call.name)
+    words = call.added or ""
     answer = control.ask(paths.capture, words)
     if answer is None:
         capture = files.open_game(paths)
@@ -249,4 +278,6 @@ def call(asked: Call, here: pathlib.Path, signals: Signals) -> int:
         return list_devices()
     files.check_name(asked.name)
     program = Program.find(here)
-    return record(asked, program, signals) if asked.added is None else add(asked, program)
+    if asked.added is not None:
+        return add(asked, program)
+    return record(asked, program, signals) if asked.device else remake(asked, program)

@@ -19,7 +19,7 @@ Pair = Tuple[str, Optional[str]]  # an option and its value
 
 @dataclass(frozen=True)
 class Call:
-    """A command line. `words` are the options of the game, as they were typed."""
+    """A command line. `words` are the options of the game, as they were typed. Without a device nothing is recorded."""
 
     device: str = ""
     name: str = ""
@@ -71,7 +71,8 @@ def parse(arguments: Sequence[str]) -> Call:
         if len(arguments) > 1:
             raise Refused(ARGUMENTS, f"--devices stands alone: {SEE_HELP}")
         return Call(devices=True)
-    wanted = 1 if added is not None else 2
+    remakes = added is None and len(plain) == 1 and not flags["--series"] and words in ([RECOVER], [STRICT])
+    wanted = 1 if added is not None or remakes else 2
     if len(plain) > wanted:
         raise Refused(ARGUMENTS, f"{plain[wanted]} is one argument too many: {SEE_HELP}")
     if len(plain) < wanted or not plain[-1]:

@@ -156,7 +156,8 @@ def recovered_and_killed(folder: pathlib.Path) -> None:
 
 
 def recovered_and_added(folder: pathlib.Path) -> None:
-    """What is typed, or added by command, comes behind the recovered moves; a typed result ends the whole game."""
+    """What is typed, or added by command, comes behind the recovered moves; a typed result ends the whole game. Afterwards a
+    command makes the strict one of it, and the whole one again."""
     board, live, path = begin(folder, typed=True)
     hurried(board)
     board.play("f1b5")
@@ -170,8 +171,14 @@ def recovered_and_added(folder: pathlib.Path) -> None:
     same(movetext(live.name), WHOLE_TEXT.replace("*", "a6 1-0"))
     size = (folder / "game.end").read_text()
     same(int(size), len(bytes_of(live.name + ".dgt")))
-    answer = subprocess.run([path, "--add", "0-1", live.name], stdout=subprocess.PIPE, stderr=subprocess.PIPE)
-    same((answer.returncode, movetext(live.name)), (0, WHOLE_TEXT.replace("*", "a6 0-1")))
+    for words, text in ((["--add", "0-1"], "0-1"), (["--strict"], ""), (["--strict"], ""), (["--recover"], "0-1")):
+        answer = subprocess.run([path, *words, live.name], stdout=subprocess.PIPE, stderr=subprocess.PIPE)
+        whole = WHOLE_TEXT.replace("*", f"a6 {text}")
+        same((answer.returncode, movetext(live.name)), (0, whole if text else STRICT_TEXT))
+        same(PAIR.encode() in answer.stdout, words == ["--recover"])
+    same(bytes_of(folder / "game.options"), b"--recover\n")
+    for name, status in ((str(folder / "other"), 1), ("/dev/null", 2)):
+        same(subprocess.run([path, "--strict", name], stderr=subprocess.DEVNULL).returncode, status)
 
 
 def recovered_series(folder: pathlib.Path) -> None:
