@@ -6,7 +6,7 @@ import contextlib
 import os
 import subprocess
 from dataclasses import dataclass
-from typing import Callable, List, Optional
+from typing import Callable, List, Optional, Sequence
 
 from live.loop import Loop
 from live.options import Options
@@ -68,16 +68,7 @@ class Whole(Reader):
 
     def place(self, offset: int) -> Place:
         """Where the byte at an offset comes from."""
-        more = 0  # bytes that were put in so far
-        for pair in self.pairs:
-            begins = pair.offset + 1 + more
-            if offset < begins:
-                break
-            size = put_in(self._content[begins])
-            if offset < begins + size:
-                return Place(pair.offset, pair)
-            more += size
-        return Place(offset - more)
+        return place_in(self._content, self.pairs, offset)
 
     def _begins_anew(self) -> None:
         self._came = self._pairs_came = 0
@@ -114,6 +105,20 @@ def pairs_of(program: Program, options: Options, sent: bytes) -> List[str]:
         return []
     told = lines_of(program.run("recover", *options.of_board(), given=sent).stderr)
     return [pair.text for pair in map(Pair.of_line, told) if pair]
+
+
+def place_in(content: Sequence[int], pairs: Sequence[Pair], offset: int) -> Place:
+    """Where a byte comes from, of what `recover` has written with these pairs."""
+    more = 0  # bytes that were put in so far
+    for pair in pairs:
+        begins = pair.offset + 1 + more
+        if offset < begins:
+            break
+        size = put_in(content[begins])
+        if offset < begins + size:
+            return Place(pair.offset, pair)
+        more += size
+    return Place(offset - more)
 
 
 def put_in(first: int) -> int:
