@@ -209,9 +209,9 @@ CASES: Tuple[Case, ...] = (
         "*",
     ),
     Case("three plies at once", f"{START} {AFTER_E4} e7 e5p", "*"),
-    # Of the pictures that wait, that of both knights is the fourth, and 255 come after it; then 257.
+    # Of the pictures that wait, that of both knights is the fourth, and 255 come after it; then 256.
     Case(
         "the oldest of 256 pictures that wait", f"{KNIGHTS} e2{' a1 a1R' * 127} e4P {PUT_IN}", GAME, (f"1366 {PAIR}",)
     ),
-    Case("one that is older", f"{KNIGHTS} e2{' a1 a1R' * 128} e4P", "*"),
+    Case("one that is older", f"{KNIGHTS} e2{' a1 a1R' * 126} a1 a1Q a1R e4P", "*"),
 )
