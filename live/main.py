@@ -82,8 +82,6 @@ def changes(given: Options, kept: Options) -> List[str]:
 
 def refuse_options(program: Program, given: Options) -> None:
     """Refused where the program refuses them."""
-    if given.recover and not program.can_recover():
-        raise Refused(REFUSED, f"{options.RECOVER} isn't there yet: this dgt_replay has no `recover`. Leave it out")
     answer = program.run("record", *given.of_record())
     if answer.returncode != 0:
         raise Refused(answer.returncode, refusal.reason(answer.stderr.decode("utf-8", "replace")))
@@ -112,11 +110,6 @@ def options_of(program: Program, paths: Paths, capture: Capture, given: Options)
                 " ".join(kept.words),
             )
     wanted = wanted.recovering((kept or Options()).recovers_with(given))
-    if wanted.recover and not program.can_recover():
-        raise Refused(
-            REFUSED,
-            f"{paths.name} has {options.RECOVER}, and this dgt_replay has no `recover`: go on with {options.STRICT}",
-        )
     if wanted != kept:
         files.keep_options(paths, wanted)
     return wanted

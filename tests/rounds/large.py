@@ -7,10 +7,9 @@ import signal
 import subprocess
 
 from played import words
-from played.recovered import recorder
 from played.recorder import Live, command
 from played.stage import Skipped, bytes_of, kill, movetext, rest, same, stop, until, until_line
-from rounds.hall import ROUND, Hall, Reader, games_of, moves, plain, text
+from rounds.hall import Hall, Reader, games_of, moves, plain, text
 
 # Boards of the large hall, counted from 0; the others have no trouble of their own.
 CLOCKS = range(0, 10)
@@ -88,12 +87,11 @@ def full(hall: Hall, live: Live) -> None:
 def thirty_two_boards(folder: pathlib.Path) -> None:
     """32 boards: clocks, cut updates, hands in a hurry, moves that two hands hid, boards off and on, cables swapped and renamed,
     a full disk, two kills."""
-    program = recorder(folder, ROUND)
     hall = Hall(folder, BOARDS, clocks=CLOCKS, cabled=CABLED)
     for number in CUT:
         hall.boards[number].spoiled_share = 0.1
     hall.write("33,,nobody,nobody", "x,y,z")
-    live = hall.record("--event", "Hall", "--recover", program=program)
+    live = hall.record("--event", "Hall", "--recover")
     reader = Reader(hall.games / "round.pgn")
     hall.begun(live)
     until_line(live, "line 34 of round.csv is wrong")
@@ -101,7 +99,7 @@ def thirty_two_boards(folder: pathlib.Path) -> None:
     troubled(hall, live)
     full(hall, live)
     kill(live)
-    live = hall.record("--event", "Hall", program=program)  # the games are kept with --recover
+    live = hall.record("--event", "Hall")  # the games are kept with --recover
     hall.begun(live)
     for ply in (4, 5):
         for number in set(HURRIED) - set(HIDDEN):
@@ -115,7 +113,7 @@ def thirty_two_boards(folder: pathlib.Path) -> None:
     until_line(live, "is read again: 32 boards, 1 line is wrong")
     hall.make(6)
     kill(live)
-    live = hall.record("--event", "Hall", program=program)
+    live = hall.record("--event", "Hall")
     hall.until_plies(7)
     for number in HIDDEN:
         until_line(live, f"{number + 1:>3}  recovered 3. ")

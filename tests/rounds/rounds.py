@@ -12,7 +12,7 @@ from typing import Any, Dict, List
 
 from played import TOP, words
 from played.recorder import Live
-from played.recovered import PAIR, hurried, recorder
+from played.recovered import PAIR, hurried
 from played.stage import bytes_of, check, ended, kill, program, refuses, run, same, stop, until, until_line
 from rounds.hall import ROUND, Hall, Reader, games_of, moves, text, told
 
@@ -172,7 +172,7 @@ def recovered(folder: pathlib.Path) -> None:
     header = "board,device,white,black,recover"
     hall.extra = {1: ",yes", 2: ",no"}
     hall.write(header=header)
-    live = hall.record("--recover", program=recorder(folder, ROUND), typed=True)
+    live = hall.record("--recover", typed=True)
     hall.begun(live)
     for board in hall.boards:
         for move in ("e2e4", "e7e5"):
