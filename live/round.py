@@ -265,7 +265,8 @@ class Round:
         if row is None:
             return f"refused: there is no board {number}: {WAYS}"
         if not words:
-            return f"{number}: {row.standing()[0]}; {row.pairing.device}, {row.paths.capture}"
+            parts = [row.standing()[0], *row.recovered, f"{row.pairing.device}, {row.paths.capture}"]
+            return f"{number}: {'; '.join(parts)}"
         status, answer = row.add(" ".join(words))
         return f"{number}: {answer}" if status == DONE else f"{number} {answer}"
 

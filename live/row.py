@@ -23,6 +23,7 @@ from live.series import Player, is_over, printable, reason_of
 from live.state import OTHER_BOARD, Kind, State
 from live.table import RowView
 from live.terminal import Terminal
+from live.whole import pairs_of
 
 UNSAID = ("records ", "added by hand", " has the cable ")  # below a table: its rows and the answers show that
 NOT_RECORDED = "NOT RECORDED"
@@ -75,9 +76,9 @@ class RowScreen(Screen):
 
 
 def plies_of(program: Program, options: Options, sent: bytes) -> List[Told]:
-    """The moves that some bytes give."""
+    """The moves that a capture gives."""
     plies: List[Told] = []
-    for line in lines_of(program.run("follow", *options.of_board(), given=sent).stdout):
+    for line in lines_of(program.run("follow", *options.of_board(), given=program.whole(options, sent)).stdout):
         told = Told.of_line(line)
         if told and told.kind == "correction":
             plies.pop()
@@ -110,6 +111,7 @@ class Row:
         self.result = "*"
         self.options = Options()
         self._plies: List[Told] = []
+        self._recovered: List[str] = []
         self._player: Optional[Player] = None
         self._screen = RowScreen(pairing.board, terminal, changed, self._made, says)
         self._over = False
@@ -178,6 +180,7 @@ class Row:
             make_now(self._program, paths, capture, kept, end)
             self._read_pgn()
             self._plies = plies_of(self._program, kept, capture.bytes(0, end))
+            self._recovered = pairs_of(self._program, kept, capture.bytes(0, end))
             self._over = is_over(paths, capture)
             if not self._over:
                 call = Call(device=device, name=paths.name, linger=self._linger)
@@ -201,7 +204,7 @@ class Row:
             if kept.of_board() != given.of_board():
                 words = " ".join(kept.of_board()) or "nothing in the columns rotated, first and fen"
                 self._screen.say(f"the game has moves, and keeps what it was begun with: {words}")
-            wanted = kept.with_tags_of(given)
+            wanted = kept.with_tags_of(given).recovering(kept.recovers_with(given))
             if wanted != kept:
                 files.keep_options(paths, wanted)
             return wanted
@@ -214,7 +217,7 @@ class Row:
         player, self._player = self._player, None
         if player is None:
             return
-        self._plies = list(player.plies)
+        self._plies, self._recovered = list(player.plies), list(player.recovered)
         self._cable = player.cable
         player.release()
         self._read_pgn()
@@ -318,6 +321,11 @@ class Row:
     @property
     def plies(self) -> List[Told]:
         return self._player.plies if self._player else self._plies
+
+    @property
+    def recovered(self) -> List[str]:
+        """The pairs of its moves that two hands hid."""
+        return self._player.recovered if self._player else self._recovered
 
     @property
     def state(self) -> Optional[State]:

@@ -12,7 +12,8 @@ from typing import Any, Dict, List
 
 from played import TOP, words
 from played.recorder import Live
-from played.stage import bytes_of, check, ended, kill, program, refuses, same, stop, until, until_line
+from played.recovered import PAIR, hurried
+from played.stage import bytes_of, check, ended, kill, program, refuses, run, same, stop, until, until_line
 from rounds.hall import ROUND, Hall, Reader, games_of, moves, text, told
 
 
@@ -170,6 +171,47 @@ def read_again(folder: pathlib.Path) -> None:
     until(lambda: b'[White "Anne"]' in bytes_of(hall.games / "round.pgn"), "the name of board 1, whose game is over")
     same(hall.text(1), "1. e4 e5 1-0")
     same(stop(live), 0)
+
+
+def recovered(folder: pathlib.Path) -> None:
+    """A column says on which boards pairs are recovered, and the file read again says otherwise: both games are made anew, and
+    so is one that is over. What was recovered is told with the board's number, and when its number is typed."""
+    hall = Hall(folder, 3)
+    header = "board,device,white,black,recover"
+    hall.extra = {1: ",yes", 2: ",no"}
+    hall.write(header=header)
+    live = hall.record("--recover", typed=True)
+    hall.begun(live)
+    for board in hall.boards:
+        for move in ("e2e4", "e7e5"):
+            board.play(move)
+    for number in (1, 2, 3):
+        hall.until_text(number, "1. e4 e5 *")
+    for board in hall.boards:
+        hurried(board)
+        board.play("f1b5")
+    strict, whole = "1. e4 e5 *", "1. e4 e5 2. Nf3 Nc6 3. Bb5 *"
+    for number in (1, 3):
+        hall.until_text(number, whole)
+        until_line(live, f"{number:>3}  {PAIR}")
+    until_line(live, f"  2  {words.IN_HAND}")
+    same(hall.text(2), strict)
+    live.type("3")
+    until_line(live, f"3: agrees; {PAIR}; ")
+    live.type("3 1-0")
+    hall.until_over(live, 3, "1-0")
+    hall.extra = {1: ",no", 2: ",yes", 3: ",no"}
+    hall.write(header=header)
+    live.type("r")
+    hall.until_text(1, strict)
+    hall.until_text(2, whole)
+    # The kings were put in over the whole game's position, where the strict one has no result.
+    hall.until_text(3, strict)
+    hall.until_round()
+    same(stop(live), 0)
+    for number in (1, 2, 3):
+        capture = bytes_of(hall.name(number) + ".dgt")
+        same(" ".join(run("record", given=capture).stdout.decode().split("\n\n")[1].split()), strict)
 
 
 def killed(folder: pathlib.Path) -> None:

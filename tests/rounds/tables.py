@@ -2,6 +2,7 @@
 
 import pathlib
 
+from live.options import Options
 from live.pairings import Pairing, read_pairings
 from live.refused import Refused
 from live.table import RowView, head, row, screen
@@ -24,6 +25,10 @@ def separators(_: pathlib.Path) -> None:
     full = "board,device,white,black,rotated,first,fen,name,result\n2,d,A,B,yes,black,8/8 w,my game,1/2\n"
     same(read_pairings(full.encode()).boards,
          (Pairing(2, 2, "d", "A", "B", True, "black", "8/8 w", "my game", "1/2-1/2"),))  # fmt: skip
+    read = read_pairings(b"board,device,recover\n1,a,yes\n2,b,no\n3,c,\n").boards
+    same([pairing.words(("--event", "E", "--recover")) for pairing in read],
+         [("--event", "E", "--recover", *words) for words in (("--recover",), ("--strict",), ())])  # fmt: skip
+    same([Options(pairing.words(("--recover",))).recover for pairing in read], [True, False, True])
     same(read_pairings(b"sep=;\nboard;device\n1;d\n").boards, (Pairing(3, 1, "d"),))
     same(read_pairings(b"board,device,elo\n1,d,2000\n").remarks, ("the column 'elo' isn't known, and isn't used",))
     same([pairing.board for pairing in read_pairings(b"board,device\n9,a\n10,b\n2,c\n").boards], [2, 9, 10])
@@ -31,7 +36,7 @@ def separators(_: pathlib.Path) -> None:
 
 def wrong_lines(_: pathlib.Path) -> None:
     """A line that is wrong says why, and stops no other."""
-    header = "board,device,white,black,rotated,first,name,result"
+    header = "board,device,white,black,rotated,first,name,result,recover"
     for line, board, part in (
         ("x,d", None, "no number of a board"),
         ("0,d", None, "no number of a board"),
@@ -39,10 +44,11 @@ def wrong_lines(_: pathlib.Path) -> None:
         (",d", None, "no number of a board"),
         ("3", 3, "names no device"),
         ("3,d,A,B,maybe", 3, "rotated is 'maybe'"),
+        ("3,d,A,B,,,,,maybe", 3, "recover is 'maybe'"),
         ("3,d,A,B,,red", 3, "first is 'red'"),
         ("3,d,A,B,,,../x", 3, "name is '../x'"),
         ("3,d,A,B,,,,2-0", 3, "result is '2-0'"),
-        ("3,d,A,B,,,,,more", 3, "it has 9 fields, and the first line has 8"),
+        ("3,d,A,B,,,,,,more", 3, "it has 10 fields, and the first line has 9"),
         ('3,d,"A', 3, "a quote isn't closed"),
         ("3,d,A\x00,B", 3, "can't be seen"),
         ("1,d", 1, "board 1 stands in line 2 already"),
