@@ -68,6 +68,7 @@ impl Keeper {
     }
 
     /// Replaces what `frames` holds by what is put in for the pair that was recovered at the last event.
+    #[inline(never)]
     pub fn put_in(&self, found: &Recovery, frames: &mut ArrayVec<u8, MOST>)
         ensures shows { (setting : Setting) (past : List EventOf) (event : EventOf) (written : List Entry) → Keeps self.now setting (event ∷ past) written
             → RecoversAt setting past event (Some found.now)

@@ -30,6 +30,7 @@ fn add_move(lines: &mut Lines, position: &Position, m: &Move)
 }
 
 /// Adds the line of a pair that was recovered at this offset.
+#[inline(never)]
 pub fn add_recovered(lines: &mut Lines, offset: u32, found: &Recovery)
     requires room { array_vec_len lines.old + 256 ≤ GATHERED }
     requires first { Legal found.now.before found.now.pair.first }

@@ -100,8 +100,9 @@ fn older(a: &Confirmed, b: &Confirmed) -> Confirmed
     }
 }
 
-/// The oldest candidate of the one pair from which the picture goes on, if there is exactly one such pair.
-pub fn only_one(
+// The same of some candidates: apart, since a picture seldom meets any.
+#[inline(never)]
+fn only_one_of(
     alloc: Global,
     candidates: &[Candidate],
     picture: &[u8; 64],
@@ -130,4 +131,20 @@ pub fn only_one(
         };
     }
     Ok(found)
+}
+
+/// The oldest candidate of the one pair from which the picture goes on, if there is exactly one such pair.
+pub fn only_one(
+    alloc: Global,
+    candidates: &[Candidate],
+    picture: &[u8; 64],
+) -> Result<Option<Confirmed>, AllocError>
+    requires { All (λ code. code < 16) picture.now }
+    ensures some { IfOk result (λ found. IfSome found (IsOnlyOne candidates.now picture.now)) }
+    ensures none { IfOk result (λ found. IfNone found ((one : ConfirmedOf) → ¬ IsOnlyOne candidates.now picture.now one)) }
+{
+    if candidates.is_empty() {
+        return Ok(None);
+    }
+    only_one_of(alloc, candidates, picture)
 }

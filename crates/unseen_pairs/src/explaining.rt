@@ -71,7 +71,7 @@ pub fn has_more(mask: u64, most: u32) -> bool
 }
 
 /// Whether each side has left a square, and no more differ than two plies change: without that, no pair explains the picture.
-fn may_hide_two(p: &Position, seen: &[u8; 64]) -> bool
+pub fn may_hide_two(p: &Position, seen: &[u8; 64]) -> bool
     ensures { (m n : MoveOf) → IsAfterTwo p.now seen.now m n → IsTrue result }
 {
     // The position is valid.

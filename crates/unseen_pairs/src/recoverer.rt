@@ -99,6 +99,7 @@ impl Recoverer {
     }
 
     /// Shows the settler what was not seen: the pictures after each of the pair's plies, and then the last one again.
+    #[inline(never)]
     fn put_in(
         &mut self,
         one: &Confirmed,

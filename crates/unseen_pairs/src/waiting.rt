@@ -9,7 +9,7 @@ ghost use Rattle.settle_core.specs.Settling.{Played, reached};
 ghost use Rattle.unseen_pairs.specs.Candidates.{AreAdded, AreAllAdded, AreAged, IsNew};
 
 use crate::confirming::Candidate;
-use crate::explaining::{has_more, pairs_that_explain, theirs_left};
+use crate::explaining::{has_more, may_hide_two, pairs_that_explain, theirs_left};
 use crate::pair::{Pair, TwoPlies};
 use chess_rules::{Move, Position};
 use dgt_frame::Reading;
@@ -29,8 +29,9 @@ fn copy_move(m: &Move) -> Move
     *m
 }
 
-/// The candidates after one more entry: those that are as old as can be are left out.
-pub fn all_aged(alloc: Global, candidates: &[Candidate]) -> Result<Vec<Candidate>, AllocError>
+// The same of some candidates: apart, since a picture seldom meets any.
+#[inline(never)]
+fn aged_each(alloc: Global, candidates: &[Candidate]) -> Result<Vec<Candidate>, AllocError>
     ensures { IfOk result (λ aged. AreAged candidates.now aged.items) }
 {
     let mut aged = Vec::new(alloc);
@@ -43,6 +44,16 @@ pub fn all_aged(alloc: Global, candidates: &[Candidate]) -> Result<Vec<Candidate
         }
     }
     Ok(aged)
+}
+
+/// The candidates after one more entry: those that are as old as can be are left out.
+pub fn all_aged(alloc: Global, candidates: &[Candidate]) -> Result<Vec<Candidate>, AllocError>
+    ensures { IfOk result (λ aged. AreAged candidates.now aged.items) }
+{
+    if candidates.is_empty() {
+        return Ok(Vec::new(alloc));
+    }
+    aged_each(alloc, candidates)
 }
 
 /// The candidate of two plies from a position.
@@ -72,8 +83,9 @@ fn candidate_of(
     }
 }
 
-/// Adds the pairs from a position that explain the picture.
-fn add_pairs(
+// The same where some may: apart, since few pictures come so far.
+#[inline(never)]
+fn add_explaining(
     alloc: Global,
     candidates: &mut Vec<Candidate>,
     corrects: bool,
@@ -88,6 +100,23 @@ fn add_pairs(
         candidates.push(candidate_of(corrects, p, two, reading))?;
     }
     Ok(())
+}
+
+/// Adds the pairs from a position that explain the picture.
+fn add_pairs(
+    alloc: Global,
+    candidates: &mut Vec<Candidate>,
+    corrects: bool,
+    p: &Position,
+    picture: &[u8; 64],
+    reading: &Option<Reading>,
+) -> Result<(), AllocError>
+    ensures { OnOk result (AreAdded corrects p.now picture.now reading.now candidates.old.items candidates.new.items) }
+{
+    if !may_hide_two(p, picture) {
+        return Ok(());
+    }
+    add_explaining(alloc, candidates, corrects, p, picture, reading)
 }
 
 /// Adds those from the position before the settler's last ply.

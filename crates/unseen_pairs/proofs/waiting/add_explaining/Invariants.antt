@@ -1,5 +1,5 @@
 use Rattle.unseen_pairs.specs.Candidates.{AddedBelow}
-use Rattle.unseen_pairs.proofs.waiting.add_pairs.Given as goal
+use Rattle.unseen_pairs.proofs.waiting.add_explaining.Given as goal
 
 abbrev pub invariant-loop-two : goal.invariant-loop-two
 invariant-loop-two l = AddedBelow l.corrects l.p l.reading l.two-items l.two-index l.initial.candidates.items l.candidates.items

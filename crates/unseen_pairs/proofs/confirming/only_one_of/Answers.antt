@@ -4,8 +4,8 @@ use Rattle.unseen_pairs.specs.declared.confirming.Confirmed.{Confirmed}
 use Rattle.unseen_pairs.specs.Pairs.{GoesOn}
 use Rattle.unseen_pairs.specs.Candidates.{FoundBelow}
 use Rattle.unseen_pairs.proofs.Sequels.{found_first, found_again}
-use Rattle.unseen_pairs.proofs.confirming.only_one.Goals.{in-None, in-Some-found+else-not-is_same}
-use Rattle.unseen_pairs.proofs.confirming.only_one.Goals as goal
+use Rattle.unseen_pairs.proofs.confirming.only_one_of.Goals.{in-None, in-Some-found+else-not-is_same}
+use Rattle.unseen_pairs.proofs.confirming.only_one_of.Goals as goal
 
 pub loop-candidate-preserved : goal.loop-candidate-preserved
 loop-candidate-preserved c =
