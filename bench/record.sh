@@ -1,8 +1,8 @@
 #!/usr/bin/env bash
 # Compares `record` with `sha256sum` on streams of 48 MB (bench/streams.py): medians of five runs by turns, what they write goes
 # nowhere. It is to take at most half of its processor time on an idle and on a played stream, and no more on a fumbled one.
-# Where the program has `recover`, compares it with `record`, of whose time it is to take at most one and a half times; and
-# measures once, with nothing asked of them, the streams of 64 MiB that are the worst for it that anyone has thought of.
+# Compares `recover` with `record`, of whose time it is to take at most one and a half times; and measures once, with nothing
+# asked of them, the first MiB of the streams that are the worst for it that anyone has thought of.
 set -euo pipefail
 
 cd "$(dirname "$0")/.."
@@ -21,17 +21,16 @@ heading 'record, by stream' sha256sum
 beside idle 0.5 "$work/idle" "$program record" sha256sum
 beside played 0.5 "$work/played" "$program record" sha256sum
 beside fumbled 1.0 "$work/fumbled" "$program record" sha256sum
-if "$program" recover --help > /dev/null 2>&1; then
-    heading 'recover, by stream' record
-    for stream in played fumbled; do
-        beside "recover $stream" 1.5 "$work/$stream" "$program recover" "$program record"
-        rm "$work/$stream"
-    done
-    for stream in promoted lifted; do
-        python3 bench/streams.py "$work" "$stream"
-        fen=$(cd bench && python3 -c "import streams; print(streams.${stream^^})")
-        /usr/bin/time -f "recover $stream: %U s, peak %M KiB" "$program" recover --fen "$fen" < "$work/$stream" > /dev/null
-        rm "$work/$stream"
-    done
-fi
+heading 'recover, by stream' record
+for stream in played fumbled; do
+    beside "recover $stream" 1.5 "$work/$stream" "$program recover" "$program record"
+    rm "$work/$stream"
+done
+for stream in promoted lifted; do
+    python3 bench/streams.py "$work" "$stream"
+    fen=$(cd bench && python3 -c "import streams; print(streams.${stream^^})")
+    head -c 1048576 "$work/$stream" > "$work/part"
+    /usr/bin/time -f "recover $stream, first MiB: %U s, peak %M KiB" "$program" recover --fen "$fen" < "$work/part" > /dev/null
+    rm "$work/$stream"
+done
 verdicts
