@@ -4,3 +4,7 @@ pub mod FollowLemmas
 pub mod EventLemmas
 pub mod PassLemmas
 pub mod WordLemmas
+pub mod GiveLemmas
+pub mod ChunkLemmas
+pub mod StreamLemmas
+pub mod LawLemmas

@@ -1,3 +1,6 @@
 pub mod Keeping
 pub mod Weaving
 pub mod Passing
+pub mod Streams
+pub mod Progress
+pub mod Laws

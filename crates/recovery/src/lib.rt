@@ -2,8 +2,11 @@
 #![tactic(auto)]
 
 mod keeper;
+pub mod laws;
 mod lines;
 mod passer;
+mod refusal;
+mod stream;
 
-pub use keeper::Keeper;
-pub use passer::{Frames, begin, conclude, hear, pass};
+pub use refusal::RecoverError;
+pub use stream::recover_stream;

@@ -7,7 +7,7 @@ ghost use Rattle.board_session.specs.Settings.{Setting};
 ghost use Rattle.board_session.specs.History.{IsInRange};
 ghost use Rattle.recovery.specs.Keeping.{Keeps};
 ghost use Rattle.recovery.specs.Passing.{Carries, Hears, Passes, Stands};
-ghost use Rattle.recovery.specs.Weaving.{Recovers};
+ghost use Rattle.recovery.specs.Progress.{Concludes, HasBegun, IsPutIn};
 
 use crate::keeper::Keeper;
 use crate::lines::add_recovered;
@@ -66,13 +66,17 @@ pub fn pass(
     line: &mut Lines,
 ) -> Result<Option<usize>, AllocError>
     requires room { start + length bytes.now < 2 ^ 32 }
-    requires begun { (setting : Setting) × (before woven text : List ℕ) × (length before ≡ start) × Stands decoder.old keeper.old setting before woven text }
+    requires begun { HasBegun decoder.old keeper.old start }
+    ensures before { Concludes decoder.old keeper.old }
     ensures none { IfOk result (λ taken. IfNone taken (Passes decoder.old keeper.old start bytes.now decoder.new keeper.new [] [])) }
     ensures some { IfOk result (λ taken. IfSome taken (λ count.
         Passes decoder.old keeper.old start (take count bytes.now) decoder.new keeper.new frames.new.items line.new.items)) }
+    ensures put_in { IfOk result (λ taken. IfSome taken (λ _. IsPutIn frames.new.items line.new.items)) }
     ensures taken { IfOk result (λ taken. IfSome taken (λ count. (0 < count) × (count ≤ length bytes.now))) }
 {
     frames_are_put_in();
+    // Only for its clause: what the bytes given so far show.
+    conclude(decoder, keeper);
     let mut event = BLANK;
     let Some(taken) = decoder.push_into(bytes, &mut event) else {
         return Ok(None);
@@ -88,7 +92,7 @@ pub fn pass(
 
 /// What stands for the bytes that the decoder and the keeper were given, and for those with what was put in.
 pub fn conclude(decoder: &Decoder, keeper: &Keeper)
-    ensures { (setting : Setting) (bytes woven text : List ℕ) → Stands decoder.now keeper.now setting bytes woven text → Recovers setting bytes woven text }
+    ensures { Concludes decoder.now keeper.now }
 {
     // Only for its clause: the bytes show the events so far.
     decoder.pending();

@@ -1,5 +1,7 @@
-use Rattle.std.proofs.Common.{◌+◌, ◌-◌, ◌++◌, refl, subst, append-nil, IfNone}
+use Rattle.std.proofs.Common.{◌+◌, ◌-◌, ◌∷◌, ◌++◌, refl, subst, append-nil, IfNone}
 use Rattle.dgt_frame.specs.Decoder.{TakesAll}
+use Rattle.board_session.specs.Commands.{past_of}
+use Rattle.recovery.proofs.GiveLemmas.{is_put_in}
 use Rattle.recovery.proofs.PassLemmas.{stands_event, stands_none}
 use Rattle.recovery.proofs.passer.pass.Goals as goal
 
@@ -17,3 +19,9 @@ returns-in-Ok-clause-some c = λ setting bytes woven text at s.
     (c.args.start + (c.in-Some.taken - 1)) c.in-Some.taken c.pending.result c.push_into.new.event bytes woven text c.args.bytes.now
     c.hear.new.frames.items c.hear.new.line.items c.in-Some.ensures.taken.0 c.in-Some.ensures.taken.1 refl at c.in-Some.ensures.some c.pending.ensures
     (λ past written carries. c.in-Ok.ensures setting past written carries) s
+
+pub returns-in-Ok-clause-put_in : goal.returns-in-Ok-clause-put_in
+returns-in-Ok-clause-put_in c =
+    let begun = c.requires.begun in
+    let h = c.in-Ok.ensures begun.0 (past_of begun.5.events) (past_of begun.5.written) begun.5.carries in
+    is_put_in begun.0 (c.push_into.new.event ∷ past_of begun.5.events) (c.args.start + (c.in-Some.taken - 1)) h.found c.hear.new.frames.items c.hear.new.line.items h.adds

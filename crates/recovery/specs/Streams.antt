@@ -1,0 +1,50 @@
+-- What is left of a stream that is given on, with what is put in. Its streams are `input`, of which bytes are left, `written`, what
+-- the output holds, and `said`, what the stream of the lines holds; a prime marks what they are afterwards.
+use Rattle.std.specs.Prelude.{◌≡◌, ◌<◌, ◌≤◌, ◌⊎◌, ℕ, List, [], ◌++◌, length, Option, IfSome, Bool, true}
+use Rattle.std.specs.Io.KnownBytes.{Appends, Consumes}
+use Rattle.unseen_pairs.specs.declared.pair.Recovery.{Recovery}
+use Rattle.board_session.specs.Recording.{AppendsPart, limit}
+use Rattle.board_session.specs.Settings.{Setting}
+use Rattle.recovery.specs.Weaving.{Recovers, TellsRecovered}
+
+-- All of the input was read, which is within the limit: its bytes were written, with what was put in, and the lines said.
+abbrev pub RecoversAll : Setting → Option (List ℕ) → Option (List ℕ) → Option (List ℕ) → Option (List ℕ) → Option (List ℕ) → Type 0
+RecoversAll setting input written written' said said' = IfSome input (λ bytes. (woven text : List ℕ) × (length bytes ≤ limit)
+    × Recovers setting bytes woven text × Appends written written' woven × Appends said said' text)
+
+-- The input is longer than the limit, and that was done of its first bytes, so many.
+abbrev pub RecoversFirst : Setting → Option (List ℕ) → Option (List ℕ) → Option (List ℕ) → Option (List ℕ) → Option (List ℕ) → Type 0
+RecoversFirst setting input written written' said said' = IfSome input (λ bytes. (first more woven text : List ℕ)
+    × (bytes ≡ first ++ more) × (length first ≡ limit) × (0 < length more)
+    × Recovers setting first woven text × Appends written written' woven × Appends said said' text)
+
+-- These bytes were read, and that was done of them.
+abbrev pub RecoversRead : Setting → Option (List ℕ) → Option (List ℕ) → Option (List ℕ) → Option (List ℕ) → Option (List ℕ) → Option (List ℕ) → Type 0
+RecoversRead setting input input' written written' said said' = (bytes woven text : List ℕ)
+    × Consumes input input' bytes × Recovers setting bytes woven text × Appends written written' woven × Appends said said' text
+
+-- That was done of the first of the bytes that were read.
+abbrev pub RecoversSome : Setting → Option (List ℕ) → Option (List ℕ) → Option (List ℕ) → Option (List ℕ) → Option (List ℕ) → Option (List ℕ) → Type 0
+RecoversSome setting input input' written written' said said' = (bytes after woven text : List ℕ)
+    × Consumes input input' (bytes ++ after) × Recovers setting bytes woven text × Appends written written' woven × Appends said said' text
+
+-- a line that tells of a pair, or the first bytes of one
+abbrev pub IsLine : List ℕ → Type 0
+IsLine text = (offset : ℕ) × (r : Recovery) × TellsRecovered offset r text
+
+abbrev pub BeginsLine : List ℕ → Type 0
+BeginsLine part = (text rest : List ℕ) × IsLine text × (text ≡ part ++ rest)
+
+-- A front was written of what the first of the bytes that were read give, and no other byte; all of its lines were said, and of
+-- the next one at most a part, where their stream has failed. So no frame was put in whose line was not said.
+pub record RecoversFront (setting : Setting) (input input' written written' said said' : Option (List ℕ)) (lines_failed : Bool) : Type 0 where
+  pub bytes : List ℕ
+  pub after : List ℕ
+  pub woven : List ℕ
+  pub text : List ℕ
+  pub part : List ℕ
+  pub consumes : Consumes input input' (bytes ++ after)
+  pub recovers : Recovers setting bytes woven text
+  pub writes : AppendsPart written written' woven
+  pub says : Appends said said' (text ++ part)
+  pub unfinished : (part ≡ []) ⊎ ((lines_failed ≡ true) × BeginsLine part)
