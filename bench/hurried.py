@@ -6,6 +6,8 @@ lifted before the other side's move stands whole. So many of 100 updates are cut
 second or third frame after that. Pieces are slid, a capture lifts either piece first, a castling's rook comes last or not.
 Nobody shows a result with the kings.
 
+Prints the table of docs/FORMATS.md, in a few minutes.
+
 hurried.py [--recover PROGRAM..] [--games N] [--times N] [--seed N] [--slides SHARE] [--at-once N] [--show]
 """
 
@@ -19,7 +21,7 @@ import subprocess
 import sys
 from concurrent.futures import ProcessPoolExecutor
 from dataclasses import dataclass, field
-from typing import Dict, List, Sequence, Tuple
+from typing import List, Sequence, Tuple
 
 from hands import EMPTY, INITIAL, KINGS, PROGRAM, lognormal, moves_of, program
 
@@ -49,7 +51,6 @@ ROWS = (
     Row("5 of 100", 5),
     Row("5 of 100, and 2 of 100 updates cut off", 5, 2),
     Row("20 of 100", 20),
-    Row("20 of 100, and 2 of 100 updates cut off", 20, 2),
 )
 
 
@@ -275,14 +276,23 @@ def has_recover(words: Sequence[str]) -> bool:
 
 
 def line_of(row: Row, counts: Counts, recovers: bool) -> str:
-    def share(kept: int) -> str:
-        return f"{100 * kept / counts.plies:.0f} %"
+    def of(whole: int, kept: int) -> str:
+        return f"{whole}, {100 * kept / counts.plies:.0f} %"
 
-    alone = f"| {row.name} | {counts.whole}, {share(counts.kept)}, {counts.false} |"
-    if not recovers:
-        return alone
-    after = f" {counts.whole_after}, {share(counts.kept_after)}, {counts.false_after} |"
-    return f"{alone}{after} {counts.pairs}, {counts.pairs_not_played} | {counts.changed} |"
+    cells = [row.name, of(counts.whole, counts.kept)]
+    if recovers:
+        cells += [of(counts.whole_after, counts.kept_after), f"{counts.pairs}, {counts.pairs_not_played}"]
+        cells += [str(counts.false_after), str(counts.changed)]
+    return f"| {' | '.join(cells)} |"
+
+
+HEADS = (
+    "`record` alone: whole games, plies kept",
+    "after `recover`",
+    "pairs put in, of these not played",
+    "games with a move that was not played",
+    "games of which bytes changed",
+)
 
 
 def main() -> int:
@@ -297,14 +307,12 @@ def main() -> int:
     words = parser.parse_args()
     recover: Tuple[str, ...] = tuple(words.recover) if has_recover(words.recover) else ()
     games = read_games(words.games)
-    title = f"| Of {words.times * len(games)} games, {words.times * sum(len(game.sans) for game in games):,} plies |"
-    if recover:
-        print(title + " `record` alone: whole, plies kept, with a wrong move | after `recover` | pairs, wrong ones | changed |")
-        print("|---|---|---|---|---|")
-    else:
+    heads = HEADS if recover else HEADS[:1]
+    if not recover:
         print(f"{' '.join(words.recover)} has no `recover`: what `record` makes alone")
-        print(title + " whole, plies kept, with a wrong move |\n|---|---|")
-    total: Dict[bool, Counts] = {True: Counts(), False: Counts()}
+    plies = words.times * sum(len(game.sans) for game in games)
+    print(f"| {' | '.join((f'Of {words.times * len(games)} games, {plies:,} plies', *heads))} |")
+    print("|---" * (1 + len(heads)) + "|")
     with ProcessPoolExecutor(words.at_once) as pool:
         for row in ROWS:
             trials = [
@@ -313,12 +321,9 @@ def main() -> int:
                 for number, game in enumerate(games)
             ]
             counts = sum(pool.map(trial, trials, chunksize=4), Counts())
-            total[row.early + row.cut == 0] += counts
             print(line_of(row, counts, bool(recover)), flush=True)
             for note in counts.notes if words.show else ():
                 print(f"    {note}")
-    if recover:
-        print(f"honest games whose bytes were changed: {total[True].changed} of {total[True].games}")
     return 0
 
 

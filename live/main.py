@@ -21,10 +21,11 @@ from live.round_page import RoundPage
 from live.screen import Screen
 from live.series import Player, last_number, numbered
 from live.terminal import Terminal, Typed, open_standard_streams
+from live.whole import pairs_of
 
 HELP = """\
 usage: dgt_live [--series] [--once] [--linger SECONDS] DEVICE NAME [OPTION..]
-       dgt_live --add WORDS NAME        dgt_live --devices
+       dgt_live --add WORDS NAME  dgt_live --recover NAME  dgt_live --devices
 
 Records the DGT board at DEVICE, tells the game line by line, and keeps
   NAME.dgt   what the board sent
@@ -37,6 +38,7 @@ type 1-0, 0-1 or 1/2-1/2 to end the game so, or moves that it missed: Nf3 Nc6.
   --once             a board that is unplugged ends it, and isn't waited for
   --linger SECONDS   a result that has stood so long ends it (without it, 10)
   --page [ADDRESS:]PORT   show it to browsers, as --page 8000
+  --recover          put in moves that two hands hid (--strict: no longer)
 OPTION says how the board lies, how the game begins, and what its tags say:
   --rotated          Black has the connector on the left
   --first SIDE       whose time comes first, white (without it) or black
@@ -80,8 +82,6 @@ def changes(given: Options, kept: Options) -> List[str]:
 
 def refuse_options(program: Program, given: Options) -> None:
     """Refused where the program refuses them."""
-    if given.recover and not program.can_recover():
-        raise Refused(REFUSED, f"{options.RECOVER} isn't there yet: this dgt_replay has no `recover`. Leave it out")
     answer = program.run("record", *given.of_record())
     if answer.returncode != 0:
         raise Refused(answer.returncode, refusal.reason(answer.stderr.decode("utf-8", "replace")))
@@ -96,24 +96,20 @@ def plies(program: Program, capture: Capture, kept: Options) -> int:
 
 def options_of(program: Program, paths: Paths, capture: Capture, given: Options) -> Options:
     """Those that were kept; or those that were given, where the game has none yet, or has no ply. Whether pairs are recovered
-    may be changed at any time: the capture stays the same."""
+    may be changed at any time."""
     kept = files.kept_options(paths) if capture.size else None
-    wanted = given.without(options.STRICT)
+    wanted = given
     if kept is not None:
         game, others = Options(kept.of_record()), Options(given.of_record())
         if not others.words or others.same_as(game):
-            wanted = kept.recovering((kept.recover or given.recover) and not given.strict)
+            wanted = kept
         elif plies(program, capture, kept) > 0:
             raise Refused(
                 REFUSED,
                 f"{paths.name} was begun with other options: give none to go on, or choose another NAME. They were",
                 " ".join(kept.words),
             )
-    if wanted.recover and not program.can_recover():
-        raise Refused(
-            REFUSED,
-            f"{paths.name} has {options.RECOVER}, and this dgt_replay has no `recover`: go on with {options.STRICT}",
-        )
+    wanted = wanted.recovering((kept or Options()).recovers_with(given))
     if wanted != kept:
         files.keep_options(paths, wanted)
     return wanted
@@ -176,14 +172,42 @@ def record(call: Call, program: Program, signals: Signals) -> int:
     return DONE
 
 
-def add(call: Call, program: Program) -> int:
-    """Adds to a game that is recorded, or to one that is over."""
-    paths = Paths(call.name)
-    words = call.added or ""
+def existing_game(name: str) -> Paths:
+    """The files of a game that there is."""
+    paths = Paths(name)
     if not os.path.isfile(paths.capture):
-        last = numbered(call.name, last_number(call.name))
+        last = numbered(name, last_number(name))
         known = f" The last one is {last.name}" if os.path.isfile(last.capture) else ""
         raise Refused(REFUSED, f"there is no {paths.capture}: which game is meant?{known}")
+    return paths
+
+
+def remake(call: Call, program: Program) -> int:
+    """Makes the text of a game anew that nobody records, with its pairs recovered or without them."""
+    given = Options(call.words)
+    refuse_options(program, given)
+    paths = existing_game(call.name)
+    capture = files.open_game(paths)
+    end = files.end_mark(paths)
+    kept = (files.kept_options(paths) or Options()).recovering(given.recover)
+    try:
+        make_now(program, paths, capture, kept, end)
+    except OSError as error:
+        raise Refused(FAILED, f"{paths.pgn} can't be written ({text_of(error)}): is the disk full?") from None
+    files.keep_options(paths, kept)
+    pairs = "; ".join(pairs_of(program, kept, capture.bytes(0, end))) or "nothing recovered"
+    capture.close()
+    screen = Screen(None)
+    screen.keep(files.Log(paths.log))
+    screen.note(f"made anew: {pairs}")
+    print(f"dgt_live: {paths.pgn} is made anew: {pairs}")
+    return DONE
+
+
+def add(call: Call, program: Program) -> int:
+    """Adds to a game that is recorded, or to one that is over."""
+    paths = existing_game(call.name)
+    words = call.added or ""
     answer = control.ask(paths.capture, words)
     if answer is None:
         capture = files.open_game(paths)
@@ -247,4 +271,6 @@ def call(asked: Call, here: pathlib.Path, signals: Signals) -> int:
         return list_devices()
     files.check_name(asked.name)
     program = Program.find(here)
-    return record(asked, program, signals) if asked.added is None else add(asked, program)
+    if asked.added is not None:
+        return add(asked, program)
+    return record(asked, program, signals) if asked.device else remake(asked, program)

@@ -19,7 +19,7 @@ Pair = Tuple[str, Optional[str]]  # an option and its value
 
 @dataclass(frozen=True)
 class Call:
-    """A command line. `words` are the options of the game, as they were typed."""
+    """A command line. `words` are the options of the game, as they were typed. Without a device nothing is recorded."""
 
     device: str = ""
     name: str = ""
@@ -71,7 +71,8 @@ def parse(arguments: Sequence[str]) -> Call:
         if len(arguments) > 1:
             raise Refused(ARGUMENTS, f"--devices stands alone: {SEE_HELP}")
         return Call(devices=True)
-    wanted = 1 if added is not None else 2
+    remakes = added is None and len(plain) == 1 and not flags["--series"] and words in ([RECOVER], [STRICT])
+    wanted = 1 if added is not None or remakes else 2
     if len(plain) > wanted:
         raise Refused(ARGUMENTS, f"{plain[wanted]} is one argument too many: {SEE_HELP}")
     if len(plain) < wanted or not plain[-1]:
@@ -126,12 +127,17 @@ class Options:
     @property
     def recover(self) -> bool:
         """Whether moves that two hands hid are recovered."""
-        return RECOVER in self.words
+        return self._how == RECOVER
 
     @property
     def strict(self) -> bool:
         """Whether they are recovered no longer."""
-        return STRICT in self.words
+        return self._how == STRICT
+
+    @property
+    def _how(self) -> str:
+        """Which of the two is said; the last one counts."""
+        return ([""] + [option for option, _ in self.pairs() if option in (RECOVER, STRICT)])[-1]
 
     @property
     def fen(self) -> Optional[str]:
@@ -145,13 +151,26 @@ class Options:
         """Those that `record` knows."""
         return self.without(RECOVER, STRICT).words
 
+    def of_recovery(self) -> Options:
+        """The one that says whether pairs are recovered, if one does."""
+        return Options((self._how,) if self._how else ())
+
     def without(self, *options: str) -> Options:
         """All but these."""
         return Options(_words((option, value) for option, value in self.pairs() if option not in options))
 
+    def with_tags_of(self, other: Options) -> Options:
+        """The same game with the tags of another one."""
+        tags = other.without(*BOARD, *PLAIN)
+        return Options((*self.of_board(), *tags.words)).recovering(self.recover)
+
     def recovering(self, recover: bool) -> Options:
         """The same, but whether pairs are recovered."""
         return Options((*self.of_record(), RECOVER) if recover else self.of_record())
+
+    def recovers_with(self, given: Options) -> bool:
+        """Whether pairs are recovered where these were kept and those are given."""
+        return given.recover or (self.recover and not given.strict)
 
     def turned(self, turns: Dict[str, Callable[[str], str]]) -> Options:
         """With the value of each of these options turned into what PGN takes."""

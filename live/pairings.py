@@ -7,11 +7,12 @@ import re
 from dataclasses import dataclass
 from typing import Dict, List, Optional, Sequence, Tuple, Union
 
+from live.options import RECOVER, STRICT
 from live.refused import REFUSED, Refused
 
 SEPARATORS = (",", ";", "\t")
 WANTED = ("board", "device")
-KNOWN = WANTED + ("white", "black", "rotated", "first", "fen", "name", "result")
+KNOWN = WANTED + ("white", "black", "rotated", "first", "fen", "name", "result", "recover")
 YES = ("yes", "y", "1", "x", "true", "rotated", "ja", "oui", "si")
 NO = ("", "no", "n", "0", "-", "false", "nein", "non")
 RESULTS = {"1-0": "1-0", "0-1": "0-1", "1/2-1/2": "1/2-1/2", "1/2": "1/2-1/2", "½": "1/2-1/2", "½-½": "1/2-1/2"}
@@ -36,6 +37,7 @@ class Pairing:
     fen: str = ""
     name: str = ""
     result: str = ""
+    recover: Optional[bool] = None  # as the call has it, where nothing is said
 
     @property
     def file_name(self) -> str:
@@ -43,13 +45,15 @@ class Pairing:
         return self.name or f"{self.board:02}"
 
     def words(self, tags: Sequence[str]) -> Tuple[str, ...]:
-        """The options of the game, behind those that all games have."""
+        """The options of the game, with those that all games have."""
         words = ["--rotated"] if self.rotated else []
         for option, value in (("--first", self.first), ("--fen", self.fen)):
             words += [option, value] if value else []
         words += tags
         for option, value in (("--white", self.white), ("--black", self.black)):
             words += [option, value] if value else []
+        if self.recover is not None:
+            words.append(RECOVER if self.recover else STRICT)
         return tuple(words)
 
 
@@ -154,6 +158,7 @@ def _read(number: int, line: str, separator: str, header: Sequence[str]) -> Unio
         values["fen"],
         values["name"],
         RESULTS.get(values["result"].replace(" ", ""), ""),
+        values["recover"].lower() in YES if values["recover"] else None,
     )
 
 
@@ -169,8 +174,9 @@ def _trouble(values: Dict[str, str]) -> str:
     odd = next((name for name, value in values.items() if not value.isprintable()), "")
     if odd:
         return f"{odd} has a character that can't be seen: type it anew"
-    if values["rotated"].lower() not in YES + NO:
-        return f"rotated is {values['rotated']!r}: type yes or no"
+    for name in ("rotated", "recover"):
+        if values[name].lower() not in YES + NO:
+            return f"{name} is {values[name]!r}: type yes or no"
     if values["first"].lower() not in ("", "white", "black"):
         return f"first is {values['first']!r}: type white or black"
     result = values["result"].replace(" ", "")

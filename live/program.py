@@ -73,10 +73,6 @@ class Program:
         answer = self.run("positions", *start, given=" ".join(moves).encode())
         return lines_of(answer.stdout), answer.stderr.decode("utf-8", "replace").strip() if answer.returncode else ""
 
-    def can_recover(self) -> bool:
-        """Whether it has `recover`."""
-        return self.run("recover", "--help").returncode == 0
-
     def whole(self, options: Options, sent: bytes) -> bytes:
         """What a game is read from: what the board sent, and the pairs that `recover` puts in, where that is asked for. An
         OSError comes where it can't."""

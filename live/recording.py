@@ -105,11 +105,11 @@ class Recording:
         self._done: Optional[Callable[[bool], None]] = None
         self._ends: Optional[Timer] = None
         self._watchdog: Optional[Timer] = None
-        self.standing = Standing(loop, screen, self._start)
+        self.standing = Standing(loop, screen, self._start, options.rotated)
         self._maker = Maker(loop, program, paths, capture, options, self._pgn_trouble, screen.made)
         self._disk = Disk(screen, self.standing, capture, lambda: self._maker.full)
         self._whole: Optional[Whole] = None
-        self._recovered: List[Pair] = []  # those that were told
+        self.recovered: List[str] = []  # pairs that were told, as they were
         if options.recover:
             self._whole = Whole(loop, program, options, capture, self._feed_follow, screen.say, broken)
             capture.limit = LARGEST - ROOM
@@ -182,9 +182,9 @@ class Recording:
 
     def _tell_pair(self, pair: Pair) -> None:
         """Moves that no picture showed are told as such before they are told as moves."""
-        if pair in self._recovered:
+        if pair.text in self.recovered:
             return
-        self._recovered.append(pair)
+        self.recovered.append(pair.text)
         if pair.offset < self._old:
             self._screen.old(pair.text)
         else:
@@ -323,8 +323,8 @@ class Recording:
         self._follow.close()
         if self._whole:
             self._whole.close()
-        if self._recovered:
-            pairs = "; ".join(pair.text.replace("recovered ", "") for pair in self._recovered)
+        if self.recovered:
+            pairs = "; ".join(pair.replace("recovered ", "") for pair in self.recovered)
             self._screen.say(f"recovered in {self.paths.pgn}, look whether they were played: {pairs}")
         if self._typed not in ("", self._result):
             self._screen.say(f"LOOK at {self.paths.pgn}: its result should be {self._typed}, and isn't")

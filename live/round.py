@@ -5,7 +5,7 @@ from __future__ import annotations
 import datetime
 import os
 import pathlib
-from typing import Callable, Dict, List, Optional, Tuple
+from typing import Callable, Dict, List, Optional, Set, Tuple
 
 from live import files
 from live.beside import Worker
@@ -18,11 +18,13 @@ from live.program import Program
 from live.refused import DONE, FAILED, REFUSED, Refused
 from live.row import Row
 from live.series import printable
-from live.table import RowView, screen
+from live.table import RowView, counted, lines_are_wrong, screen
 from live.terminal import Terminal, Typed
 from live.view import round_pgn
 
 WAYS = "type 3 1-0, 3 Nf3 Nc6, 3 (how board 3 stands), r (read the file again) or q (end)"
+NARROWEST = 40  # columns of a terminal: in one with fewer the rows are broken
+KEPT = 20  # messages
 DRAWS_EACH = 0.1  # seconds
 TICK = 1.0
 AGAIN = 1.0  # seconds, where round.pgn couldn't be written
@@ -56,6 +58,7 @@ class Round:
         self.pgn = folder / "round.pgn"
         self.rows: Dict[int, Row] = {}
         self._wrong: List[Wrong] = []
+        self._right: Set[int] = set()  # the boards whose lines are right
         self._messages: List[str] = []
         self._painter: Optional[Painter] = None
         self._terminal: Optional[Terminal] = None
@@ -102,20 +105,16 @@ class Round:
         if not read.boards:
             return f"refused: {self._file} has no line that is right: nothing is changed"
         self._take(read)
-        wrong = f", {len(read.wrong)} lines are wrong" if len(read.wrong) > 1 else ", 1 line is wrong" if read.wrong else ""
-        return f"{self._file} is read again: {len(read.boards)} boards{wrong}"
+        return f"{self._file} is read again: {counted(len(self._right), 'board')}{lines_are_wrong(len(self._wrong))}"
 
     def _take(self, read: Pairings) -> None:
         for remark in read.remarks:
             self.say(remark)
         boards, self._wrong = self._without_twice(read)
+        self._right = {pairing.board for pairing in boards}
         for wrong in self._wrong:
-            self.say(f"line {wrong.line} of {self._file.name} is wrong: {wrong.why}")
+            self.say(f"line {wrong.line} of {self._file.name} is wrong: {self._why(wrong)}")
         named = {pairing.board for pairing in boards} | {wrong.board for wrong in self._wrong}
-        for wrong in self._wrong:
-            row = self.rows.get(wrong.board or 0)
-            if row and wrong.board not in {pairing.board for pairing in boards}:
-                row.wrong = f"{wrong.line} is wrong: {wrong.why}; the game goes on as it was begun"
         for number in sorted(set(self.rows) - {number for number in named if number}):
             # A line whose number can't be read may be this one's.
             if None in named:
@@ -204,7 +203,7 @@ class Round:
         """A line for whoever looks at the screen."""
         now = datetime.datetime.now()
         line = f"{now:%H:%M:%S}  {text}"
-        self._messages = [*self._messages[-9:], line]
+        self._messages = [*self._messages[1 - KEPT :], line]
         if self._terminal:
             self._terminal.line(line)
         self._changed()
@@ -213,11 +212,14 @@ class Round:
         """The rows, and behind them the lines that belong to none."""
         rows = [self.rows[number].view() for number in sorted(self.rows)]
         for wrong in self._wrong:
-            if wrong.board not in self.rows:
-                rows.append(RowView(wrong.board, state=f"line {wrong.line} is wrong: {wrong.why}", alarm=True))
-            elif not self.rows[wrong.board].wrong:
-                rows.append(RowView(None, state=f"line {wrong.line} is wrong: {wrong.why}", alarm=True))
+            state = f"line {wrong.line} is wrong: {self._why(wrong)}"
+            rows.append(RowView(wrong.board, state=state, alarm=True, is_board=False))
         return rows
+
+    def _why(self, wrong: Wrong) -> str:
+        """What is wrong with a line, and what becomes of its board."""
+        goes_on = wrong.board in self.rows and wrong.board not in self._right
+        return f"{wrong.why}; board {wrong.board} goes on as it was begun" if goes_on else wrong.why
 
     def _changed(self) -> None:
         self.on_change()
@@ -230,7 +232,7 @@ class Round:
             columns, lines = self._painter.size()
             title = f"{datetime.datetime.now():%H:%M:%S}  {self._title}"
             self._painter.draw(
-                screen(title, self.views(), self._messages, self._loop.now(), lines, max(40, min(columns, 80)))
+                screen(title, self.views(), self._messages, self._loop.now(), lines, max(NARROWEST, columns))
             )
 
     def _each_second(self) -> None:
@@ -263,7 +265,8 @@ class Round:
         if row is None:
             return f"refused: there is no board {number}: {WAYS}"
         if not words:
-            return f"{number}: {row.standing()[0]}; {row.pairing.device}, {row.paths.capture}"
+            parts = [row.standing()[0], *row.recovered, f"{row.pairing.device}, {row.paths.capture}"]
+            return f"{number}: {'; '.join(parts)}"
         status, answer = row.add(" ".join(words))
         return f"{number}: {answer}" if status == DONE else f"{number} {answer}"
 

@@ -13,7 +13,7 @@ from live.address import Address, read_address
 from live.files import LOCK_PATIENCE, text_of
 from live.loop import Loop, Signals
 from live.main import turned
-from live.options import LINGER, Call, Options
+from live.options import LINGER, RECOVER, STRICT, Call, Options
 from live.program import Program
 from live.refused import ARGUMENTS, DONE, FAILED, REFUSED, Refused
 from live.round import Round
@@ -35,8 +35,8 @@ FILE is a table that a spreadsheet saves as CSV. Its first line names columns:
   board,device,white,black
   1,/dev/ttyUSB0,Anna,Ben
 and where wanted rotated (yes), first (white or black), fen, name (of the
-game's files) and result (1-0, 0-1, 1/2-1/2). A line that is wrong stops no
-other. dgt_live --devices lists the devices.
+game's files), result (1-0, 0-1, 1/2-1/2) and recover (yes or no). A line
+that is wrong stops no other. dgt_live --devices lists the devices.
 
 While it records, type
   3 1-0       the result of board 3: 1-0, 0-1 or 1/2-1/2
@@ -48,6 +48,7 @@ While it records, type
 OPTION for all games: --event, --site, --date, --round, each with TEXT
   --linger SECONDS          a result that has stood so long ends a game (10)
   --page [ADDRESS:]PORT     show the round to browsers, as --page 8000
+  --recover, --strict       put in moves that two hands hid; no longer
 """
 
 
@@ -75,7 +76,9 @@ def parse(arguments: Sequence[str]) -> Asked:
         if word in ("--help", "-h"):
             asked.help = True
             return asked
-        if option in TAGS or option in ("--linger", "--page"):
+        if word in (RECOVER, STRICT):
+            asked.words.append(word)
+        elif option in TAGS or option in ("--linger", "--page"):
             if not equals:
                 if not left:
                     raise Refused(ARGUMENTS, f"{option} wants a value: {SEE_HELP}")
@@ -85,6 +88,8 @@ def parse(arguments: Sequence[str]) -> Asked:
             raise Refused(ARGUMENTS, f"there is no option {word}: {SEE_HELP}")
         else:
             plain.append(word)
+    if RECOVER in asked.words and STRICT in asked.words:
+        raise Refused(ARGUMENTS, f"{RECOVER} and {STRICT}: only one of them can be: {SEE_HELP}")
     if not plain or not plain[0]:
         raise Refused(ARGUMENTS, f"a FILE with the pairings is wanted: {SEE_HELP}")
     if len(plain) > 2:

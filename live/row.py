@@ -20,11 +20,15 @@ from live.refused import DONE, FAILED, REFUSED, Refused
 from live.round_page import clocks_of
 from live.screen import Screen, Told
 from live.series import Player, is_over, printable, reason_of
-from live.state import Kind, State
+from live.state import OTHER_BOARD, Kind, State
 from live.table import RowView
 from live.terminal import Terminal
+from live.whole import pairs_of
 
-UNSAID = ("records ", "added by hand")  # below a table: its rows and the answers show that
+UNSAID = ("records ", "added by hand", " has the cable ")  # below a table: its rows and the answers show that
+NOT_RECORDED = "NOT RECORDED"
+BEGUN_ANEW = "is begun anew"  # where its line has changed
+TURNED, OTHER = "turned round?", "other board?"  # in a row, for a hint that has no room there
 PAUSES = (2.0, 5.0, 10.0, 20.0, 40.0, 60.0)  # seconds between tries to record a board
 
 
@@ -45,8 +49,8 @@ class RowScreen(Screen):
 
     def say(self, text: str, *more: str) -> None:
         super().say(text, *more)
-        if self._has_table and not text.startswith(UNSAID):
-            self._says(f"{self._number}: {text}")
+        if self._has_table and not any(part in text for part in UNSAID):
+            self._says(f"{self._number}: {' '.join([text, *more])}")
 
     def _print(self, line: str) -> None:
         super()._print(f"{line[:10]}{self._number:>3}  {line[10:]}")
@@ -63,11 +67,18 @@ class RowScreen(Screen):
         super().state(text, news)
         self._changed()
 
+    def turn(self, rotated: bool) -> str:
+        return f"Write {'no' if rotated else 'yes'} in its column rotated, save the table, and type r; or turn the board"
+
+    def hint(self, text: str) -> None:
+        if self._has_table:
+            self._says(f"{self._number}: {text}")
+
 
 def plies_of(program: Program, options: Options, sent: bytes) -> List[Told]:
-    """The moves that some bytes give."""
+    """The moves that a capture gives."""
     plies: List[Told] = []
-    for line in lines_of(program.run("follow", *options.of_board(), given=sent).stdout):
+    for line in lines_of(program.run("follow", *options.of_board(), given=program.whole(options, sent)).stdout):
         told = Told.of_line(line)
         if told and told.kind == "correction":
             plies.pop()
@@ -95,12 +106,12 @@ class Row:
         self._loop, self._program, self._folder, self._tags, self._linger = loop, program, folder, tags, linger
         self._changed, self._remade, self._says = changed, remade, says
         self.pairing = pairing
-        self.wrong = ""  # what is wrong with its line, as it was read last
         self.trouble = ""  # why it isn't recorded
         self.pgn = b""
         self.result = "*"
         self.options = Options()
         self._plies: List[Told] = []
+        self._recovered: List[str] = []
         self._player: Optional[Player] = None
         self._screen = RowScreen(pairing.board, terminal, changed, self._made, says)
         self._over = False
@@ -108,6 +119,8 @@ class Row:
         self._again: Optional[Timer] = None
         self._ended: Optional[Callable[[], None]] = None
         self._given: Tuple[str, ...] = ()
+        self._device = ""  # as the line had it when the recording was begun
+        self._cable = ""  # the name that its cable keeps, whatever becomes of that device
         self._wants_result = True
 
     @property
@@ -156,7 +169,8 @@ class Row:
         self._given = given.words
         refuse_options(self._program, given)
         paths = self.paths
-        serial_line.check(pairing.device, may_wait=True)
+        device = self._cable if self._cable and pairing.device == self._device else pairing.device
+        serial_line.check(device, may_wait=True)
         capture = files.open_game(paths, 0)
         try:
             self._screen.keep(Log(paths.log))
@@ -166,9 +180,11 @@ class Row:
             make_now(self._program, paths, capture, kept, end)
             self._read_pgn()
             self._plies = plies_of(self._program, kept, capture.bytes(0, end))
+            self._recovered = pairs_of(self._program, kept, capture.bytes(0, end))
             self._over = is_over(paths, capture)
             if not self._over:
-                call = Call(device=pairing.device, name=paths.name, linger=self._linger)
+                call = Call(device=device, name=paths.name, linger=self._linger)
+                self._device = pairing.device
                 self._player = Player(self._loop, self._program, self._screen, call, paths, capture, kept, self._stopped)
         finally:
             if self._player is None:
@@ -178,15 +194,20 @@ class Row:
         self._loop.after(0, self._apply_result)
 
     def _options_of(self, paths: Paths, capture: Capture, given: Options) -> Options:
-        """Those of the line; but a game that has moves keeps those that it was begun with."""
+        """Those of the line; but a game that has moves keeps how the board lies and the position at the start."""
         try:
             return options_of(self._program, paths, capture, given)
         except Refused as refused:
             kept = files.kept_options(paths)
             if kept is None or refused.status != REFUSED:
                 raise
-            self._screen.say("the game has moves, and keeps what it was begun with: " + " ".join(kept.words))
-            return kept
+            if kept.of_board() != given.of_board():
+                words = " ".join(kept.of_board()) or "nothing in the columns rotated, first and fen"
+                self._screen.say(f"the game has moves, and keeps what it was begun with: {words}")
+            wanted = kept.with_tags_of(given).recovering(kept.recovers_with(given))
+            if wanted != kept:
+                files.keep_options(paths, wanted)
+            return wanted
 
     def _stopped(self) -> None:
         """All that was recorded here has ended."""
@@ -196,7 +217,8 @@ class Row:
         player, self._player = self._player, None
         if player is None:
             return
-        self._plies = list(player.plies)
+        self._plies, self._recovered = list(player.plies), list(player.recovered)
+        self._cable = player.cable
         player.release()
         self._read_pgn()
         self._over = self.result != "*" or files.end_mark(self.paths) is not None
@@ -225,9 +247,8 @@ class Row:
     # Its line is read again.
 
     def take(self, pairing: Pairing) -> None:
-        """The line as it is now. With another device, or another name while no ply stands, it is begun again."""
+        """The line as it is now. Where it is another one the recording is begun anew, and the game goes on."""
         before, self.pairing = self.pairing, pairing
-        self.wrong = ""
         self._wants_result = True
         if dataclasses.replace(before, line=0, result="") == dataclasses.replace(pairing, line=0, result=""):
             self._loop.after(0, self._apply_result)
@@ -238,10 +259,7 @@ class Row:
             self._tries = 0
             self.begin()
         else:
-            if before.file_name == pairing.file_name and before.device == pairing.device and self.plies:
-                self._screen.say("the game has moves, and keeps what it was begun with: " + " ".join(self.options.words))
-            else:
-                self.end(self.begin)
+            self.end(self.begin)
 
     def _apply_result(self) -> None:
         """The result that the line has, where the game has none."""
@@ -305,6 +323,11 @@ class Row:
         return self._player.plies if self._player else self._plies
 
     @property
+    def recovered(self) -> List[str]:
+        """The pairs of its moves that two hands hid."""
+        return self._player.recovered if self._player else self._recovered
+
+    @property
     def state(self) -> Optional[State]:
         standing = self._player.standing if self._player else None
         return standing.board.state(self._loop.now()) if standing else None
@@ -319,20 +342,26 @@ class Row:
 
     def standing(self) -> Tuple[str, Optional[float], bool]:
         """How it stands in words, since when, and whether somebody must look at it."""
-        state = self.state
-        if self.wrong:
-            return f"line {self.wrong}", None, True
+        front, rest, since, alarm = self._standing(self.state)
+        return front + rest, since, alarm
+
+    def _standing(self, state: Optional[State]) -> Tuple[str, str, Optional[float], bool]:
+        """The words before how long it has stood so, and those after."""
         if self.trouble:
-            return self.trouble, None, True
+            return NOT_RECORDED, f": {self.trouble}", None, True
         if state is None:
-            return (f"over {self.result}" if self.result != "*" else "over, no result"), None, self.result == "*"
-        words = dataclasses.replace(state, since=self._loop.now()).text(self._loop.now())
-        return words, None if state.kind is Kind.WAITS else state.since, state.is_alarm
+            if not self._over:
+                return BEGUN_ANEW, "", None, False
+            return f"over {self.result}" if self.result != "*" else "over, no result", "", None, self.result == "*"
+        return (*state.parts(), None if state.kind is Kind.WAITS else state.since, state.is_alarm)
 
     def view(self) -> RowView:
-        """What its row shows."""
-        words, since, alarm = self.standing()
+        """What its row shows. A hint was told in full as it came, and is two words here."""
+        state = self.state
+        front, rest, since, alarm = self._standing(state)
+        if state and state.hint and not (state.disk_full or self.trouble):
+            front, rest = OTHER if state.hint == OTHER_BOARD else TURNED, ""
         plies = self.plies
         last = " ".join(plies[-1].words.split(" ")[:2]) if plies else ""
         white, black = self.player_name("--white"), self.player_name("--black")
-        return RowView(self.number, white, black, last, clocks_of(plies), words, since, alarm)
+        return RowView(self.number, white, black, last, clocks_of(plies), front, rest, since, alarm)

@@ -86,6 +86,13 @@ class Screen:
     def made(self) -> None:
         """NAME.pgn was made anew. Others may want to know that."""
 
+    def turn(self, rotated: bool) -> str:
+        """What to do where the board lies the other way round than is said."""
+        return "Leave --rotated out" if rotated else "--rotated"
+
+    def hint(self, text: str) -> None:
+        """What somebody is to look at: told where it is new, beside the state that says it too."""
+
     def note(self, text: str) -> None:
         """A line for the log alone."""
         self._write(self._clock(), text)

@@ -77,6 +77,7 @@ class Player:
         self._before: Optional[Paths] = None  # the game before this one, of this call
         self._recording: Optional[Recording] = None
         self._plies: List[Told] = []
+        self._recovered: List[str] = []
         self._setting_up: Optional[SettingUp] = None
         self._control: Optional[Control] = None
         self._unplugged = self._silent = False
@@ -116,7 +117,7 @@ class Player:
             self._broken,
             self._board.added,
         )
-        self._plies = self._recording.plies
+        self._plies, self._recovered = self._recording.plies, self._recording.recovered
         self._tell_line(self._recording)
 
     def _game_over(self, reason: Reason) -> None:
@@ -230,6 +231,16 @@ class Player:
     def plies(self) -> List[Told]:
         """The moves of the game, as they were told; those of the last one while none is recorded."""
         return self._plies
+
+    @property
+    def cable(self) -> str:
+        """The name under which its device is opened again."""
+        return self._board.cable
+
+    @property
+    def recovered(self) -> List[str]:
+        """Its pairs of moves that two hands hid, as they were told."""
+        return self._recovered
 
     @property
     def standing(self) -> Optional[Standing]:

@@ -51,7 +51,7 @@ class SettingUp:
         self._placement = start_placement(options)
         self._start = protocol.picture_of_placement(self._placement)
         self._words = pictures_words(options)
-        self.standing = Standing(loop, screen, self._start, played=False)
+        self.standing = Standing(loop, screen, self._start, options.rotated, played=False)
         self._disk = Disk(screen, self.standing, capture)
         capture.limit = None  # the game is over: what comes now may go past what a game may have
         self._tick = loop.after(TICK, self._each_second)

@@ -9,16 +9,17 @@ from typing import Optional
 from live.loop import Loop, Timer
 from live.protocol import Picture
 from live.screen import Screen
-from live.state import BoardState, Kind
+from live.state import TURNED_ROUND, BoardState, Kind
 
 
 class Standing:
     """The state of a board, which is told to a screen; where no game is `played`, a piece in a hand is being set up."""
 
-    def __init__(self, loop: Loop, screen: Screen, start: Picture, played: bool = True) -> None:
+    def __init__(self, loop: Loop, screen: Screen, start: Picture, rotated: bool, played: bool = True) -> None:
         self._loop, self._screen, self._played = loop, screen, played
-        self.board = BoardState(start)
+        self.board = BoardState(start, f"{TURNED_ROUND} {screen.turn(rotated)}")
         self.disk_full = False
+        self._hint = ""
         self._timer: Optional[Timer] = None
         self._closed = False
 
@@ -31,6 +32,9 @@ class Standing:
         if not self._played and state.kind in (Kind.WAITS, Kind.IN_HAND):
             state = dataclasses.replace(state, kind=Kind.SETTING_UP, squares=())
         self._screen.state(state.text(now), state.news)
+        if state.hint and state.hint != self._hint:
+            self._screen.hint(state.hint)
+        self._hint = state.hint
         if self._timer:
             self._timer.cancel()
             self._timer = None

@@ -20,7 +20,7 @@ HAND = 10.0  # seconds that a hand may take
 MOST_IN_HAND = 6  # squares: castling changes four, and a neighbour or two may be straightened
 MOST_LISTED = 8
 ONE_MOVE = 4  # squares that a move changes, at most
-TURNED_ROUND = "is the board the other way round? --rotated"
+TURNED_ROUND = "is the board the other way round?"
 OTHER_BOARD = "another board may be on this cable"
 
 
@@ -61,20 +61,23 @@ class State:
         """What makes a state another one: a line is told when this changes, and not when it only lasts."""
         return (self.kind, self.result, self.hint, self.disk_full, self.squares if self.kind is Kind.WRONG else ())
 
+    def parts(self) -> Tuple[str, str]:
+        """The state in words: those before how long it has lasted, and those after."""
+        words = " ".join(self.squares) if len(self.squares) <= MOST_LISTED else f"{len(self.squares)} squares"
+        front, rest = self.kind.value, ""
+        if self.kind is Kind.RESULT:
+            front += f" {self.result}"
+        elif words:
+            rest = f" {words}" if self.kind is Kind.IN_HAND else f": {words}"
+        if self.hint:
+            rest += f"; {self.hint}"
+        return (f"DISK FULL, {front}" if self.disk_full else front), rest
+
     def text(self, now: float) -> str:
         """The state in a line."""
-        words = " ".join(self.squares) if len(self.squares) <= MOST_LISTED else f"{len(self.squares)} squares"
-        text = self.kind.value
-        if self.kind is Kind.RESULT:
-            text += f" {self.result}"
-        elif self.kind is Kind.IN_HAND:
-            text += f" {words}"
-        elif self.kind in ALARMS:
-            text += f" since {lasting(now - self.since)}" if now >= self.since + 1 else ""
-            text += f": {words}" if words else ""
-        if self.hint:
-            text += f"; {self.hint}"
-        return f"DISK FULL, {text}" if self.disk_full else text
+        front, rest = self.parts()
+        lasts = f" since {lasting(now - self.since)}" if self.kind in ALARMS and now >= self.since + 1 else ""
+        return front + lasts + rest
 
 
 def lasting(seconds: float) -> str:
@@ -92,6 +95,7 @@ class BoardState:
     """Takes what happens at a board, and says its state at any time."""
 
     start: Optional[Picture] = None  # of the game, for the hint on a board that lies the other way round
+    turned_hint: str = TURNED_ROUND
     _since: float = 0.0  # of what was seen first, agreeing, or the first square that differs
     _seen: bool = False
     _squares: Dict[str, float] = field(default_factory=dict)  # those that differ, and since when each has
@@ -141,7 +145,7 @@ class BoardState:
             self._hint = OTHER_BOARD
         elif self._hint != OTHER_BOARD:
             turned = self.start and not self._played and turned_round(picture, self.start)
-            self._hint = TURNED_ROUND if turned else ""
+            self._hint = self.turned_hint if turned else ""
         self._picture, self._replugged = picture, False
 
     def unplugged(self, now: float) -> None:

@@ -6,11 +6,11 @@ import contextlib
 import os
 import subprocess
 from dataclasses import dataclass
-from typing import Callable, List, Optional
+from typing import Callable, List, Optional, Sequence
 
 from live.loop import Loop
 from live.options import Options
-from live.program import CHUNK, Program, Reader, Source
+from live.program import CHUNK, Program, Reader, Source, lines_of
 from live.protocol import SIZES, DUMP_ID, TIME_ID
 
 
@@ -68,16 +68,7 @@ class Whole(Reader):
 
     def place(self, offset: int) -> Place:
         """Where the byte at an offset comes from."""
-        more = 0  # bytes that were put in so far
-        for pair in self.pairs:
-            begins = pair.offset + 1 + more
-            if offset < begins:
-                break
-            size = put_in(self._content[begins])
-            if offset < begins + size:
-                return Place(pair.offset, pair)
-            more += size
-        return Place(offset - more)
+        return place_in(self._content, self.pairs, offset)
 
     def _begins_anew(self) -> None:
         self._came = self._pairs_came = 0
@@ -106,6 +97,28 @@ class Whole(Reader):
                 self._pairs_came += 1
                 if self._pairs_came > len(self.pairs):
                     self.pairs.append(pair)
+
+
+def pairs_of(program: Program, options: Options, sent: bytes) -> List[str]:
+    """The pairs that are recovered of a capture, as they are told."""
+    if not options.recover:
+        return []
+    told = lines_of(program.run("recover", *options.of_board(), given=sent).stderr)
+    return [pair.text for pair in map(Pair.of_line, told) if pair]
+
+
+def place_in(content: Sequence[int], pairs: Sequence[Pair], offset: int) -> Place:
+    """Where a byte comes from, of what `recover` has written with these pairs."""
+    more = 0  # bytes that were put in so far
+    for pair in pairs:
+        begins = pair.offset + 1 + more
+        if offset < begins:
+            break
+        size = put_in(content[begins])
+        if offset < begins + size:
+            return Place(pair.offset, pair)
+        more += size
+    return Place(offset - more)
 
 
 def put_in(first: int) -> int:

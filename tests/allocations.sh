@@ -9,8 +9,8 @@
 set -eu
 
 cd "$(dirname "$0")/../crates/test_allocations"
-calls=16
-runs=600
+calls=17
+runs=660
 folder=$(mktemp -d)
 trap 'rm -rf "$folder"' EXIT
 

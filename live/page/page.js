@@ -141,6 +141,7 @@ function showAlarms(numbers) {
 
 function connected(isThere) {
   document.body.classList.toggle('stale', !isThere);
+  document.body.classList.toggle('live', isThere);
   say(at('line'), isThere ? 'Live' : 'No connection to the recorder: trying again');
 }
 

@@ -3,6 +3,7 @@
 import math
 
 from live.protocol import SQUARES, dump, picture_of_dump, picture_of_placement
+from live.screen import Screen
 from live.state import BoardState, Kind, lasting, turned_round
 
 from decided.table import same
@@ -150,7 +151,8 @@ def hints():
     no_queen = tuple(0 if square == "d1" else code for square, code in zip(SQUARES, INITIAL))
     far = tuple(0 if square in ("a1", "b1", "c1", "d1", "e1") else code for square, code in zip(SQUARES, INITIAL))
     near = tuple(0 if square in ("a1", "b1", "c1", "d1") else code for square, code in zip(SQUARES, INITIAL))
-    rotated = ("setting up; is the board the other way round? --rotated", True)
+    rotated = ("setting up; is the board the other way round?", True)
+    same("what to do then", [Screen(None).turn(given) for given in (False, True)], ["--rotated", "Leave --rotated out"])
     all_differ = f"66 differs {CAMPS}"
     same("turned round", with_pictures(INITIAL, [turned, all_differ]), rotated)
     same("a piece is still to come", with_pictures(INITIAL, [no_queen[::-1], all_differ]), rotated)

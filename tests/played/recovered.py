@@ -1,18 +1,13 @@
-"""`--recover`: moves that two hands hid.
-
-The program that is put to the test may have no `recover` yet: then tests/recovering/recover.py stands in for it.
-"""
+"""`--recover`: moves that two hands hid."""
 
 import os
 import pathlib
-import shutil
 import signal
 import subprocess
-import sys
 from typing import Tuple
 
 from play_board import BLACK, PROMOTED
-from played import TOP, words
+from played import words
 from played.boards import Board
 from played.recorder import LIVE, Live, command, processes
 from played.stage import (
@@ -20,10 +15,9 @@ from played.stage import (
     begun,
     bytes_of,
     ended,
+    go_on,
     kill,
     movetext,
-    program,
-    refuses,
     rest,
     run,
     same,
@@ -39,21 +33,6 @@ WHOLE_TEXT = "1. e4 e5 2. Nf3 Nc6 3. Bb5 *"
 PAIR = "recovered 2. Nf3 2... Nc6"
 
 
-def recorder(folder: pathlib.Path) -> pathlib.Path:
-    """A dgt_live whose program has `recover`. To be taken out, for LIVE, when each program has it."""
-    if run("recover", "--help").returncode == 0:
-        return LIVE
-    place = folder / "program"
-    place.mkdir()
-    shutil.copy(TOP / "bin" / "dgt_live", place)
-    (place / "live").symlink_to(TOP / "live")
-    script = place / "dgt_replay"
-    by_rules = f"{sys.executable} {TOP}/tests/recovering/recover.py"
-    script.write_text(f'#!/bin/sh\n[ "$1" = recover ] || exec {program()} "$@"\nshift\nexec {by_rules} "$@"\n')
-    script.chmod(0o755)
-    return place / "dgt_live"
-
-
 def hurried(board: Board, first: str = "g1f3", reply: str = "b8c6") -> None:
     """The reply's piece is lifted while the move's is in the air: two knights."""
     board.lift(first[:2])
@@ -62,30 +41,21 @@ def hurried(board: Board, first: str = "g1f3", reply: str = "b8c6") -> None:
     board.put(reply[2:], BLACK + KNIGHT)
 
 
-def begin(folder: pathlib.Path, *options: str, **more: object) -> Tuple[Board, Live, pathlib.Path]:
+def begin(folder: pathlib.Path, *options: str, **more: object) -> Tuple[Board, Live]:
     """Two plies, recorded with --recover."""
-    live_path = recorder(folder)
     board = a_board(folder)
-    live = Live(board.device, folder / "game", "--recover", *options, program=live_path, **more)  # type: ignore[arg-type]
+    live = Live(board.device, folder / "game", "--recover", *options, **more)  # type: ignore[arg-type]
     begun(live)
     for move in ("e2e4", "e7e5"):
         board.play(move)
     until_game(live.name, STRICT_TEXT)
-    return board, live, live_path
-
-
-def again(board: Board, live: Live, path: pathlib.Path, *options: str) -> Live:
-    """The same game again."""
-    asked = board.asked.count(b"BK")
-    new = Live(board.device, live.name, *options, program=path)
-    until(lambda: board.asked.count(b"BK") > asked, "a request for updates")
-    return new
+    return board, live
 
 
 def pair_recovered(folder: pathlib.Path) -> None:
     """A hidden pair is put in with the next move, told and kept in the log; the capture has what the board sent alone. Started
     again the game is told again; with --strict it is what `record` makes of the capture, and with --recover whole again."""
-    board, live, path = begin(folder)
+    board, live = begin(folder)
     hurried(board)
     rest(1.5)
     same(movetext(live.name), STRICT_TEXT)
@@ -104,28 +74,27 @@ def pair_recovered(folder: pathlib.Path) -> None:
     capture = bytes_of(live.name + ".dgt")
     same(b" ".join(run("record", given=capture).stdout.split(b"\n\n")[1].split()), STRICT_TEXT.encode())
 
-    live = again(board, live, path)
+    live = go_on(board, live)
     until_line(live, "3... a6")
     assert f"--:--:--  {PAIR}" in live.lines(), live.lines()
     same(stop(live), 0)
     same(movetext(live.name), WHOLE_TEXT.replace("*", "a6 *"))
     same(bytes_of(live.name + ".dgt")[: len(capture)], capture)
 
-    live = again(board, live, path, "--strict")
+    live = go_on(board, live, "--strict")
     until_game(live.name, STRICT_TEXT)
     same(stop(live), 0)
-    live = again(board, live, path, "--recover")
+    live = go_on(board, live, "--recover")
     until_game(live.name, WHOLE_TEXT.replace("*", "a6 *"))
     same(stop(live), 0)
 
 
 def recovered_and_killed(folder: pathlib.Path) -> None:
     """KILL of the child that recovers, before and after a pair, and of all: the game goes on, and each line is told once."""
-    board, live, path = begin(folder)
-    script = f"{TOP}/tests/recovering/recover.py"
+    board, live = begin(folder)
 
     def recovering() -> int:
-        found = [process for process in processes(live.process.pid) if {"recover", script} & set(command(process))]
+        found = [process for process in processes(live.process.pid) if "recover" in command(process)]
         return found[0] if len(found) == 1 else 0
 
     ended_ones = [0]
@@ -149,15 +118,16 @@ def recovered_and_killed(folder: pathlib.Path) -> None:
     until_line(live, "3. Bb5")
     same((live.lines().count(PAIR), live.lines().count("3. Bb5")), (1, 1))
     kill(live)
-    live = again(board, live, path)
+    live = go_on(board, live)
     board.play("a7a6")
     until_game(live.name, WHOLE_TEXT.replace("*", "a6 *"))
     same(stop(live), 0)
 
 
 def recovered_and_added(folder: pathlib.Path) -> None:
-    """What is typed, or added by command, comes behind the recovered moves; a typed result ends the whole game."""
-    board, live, path = begin(folder, typed=True)
+    """What is typed, or added by command, comes behind the recovered moves; a typed result ends the whole game. Afterwards a
+    command makes the strict one of it, and the whole one again."""
+    board, live = begin(folder, typed=True)
     hurried(board)
     board.play("f1b5")
     until_game(live.name, WHOLE_TEXT)
@@ -170,15 +140,20 @@ def recovered_and_added(folder: pathlib.Path) -> None:
     same(movetext(live.name), WHOLE_TEXT.replace("*", "a6 1-0"))
     size = (folder / "game.end").read_text()
     same(int(size), len(bytes_of(live.name + ".dgt")))
-    answer = subprocess.run([path, "--add", "0-1", live.name], stdout=subprocess.PIPE, stderr=subprocess.PIPE)
-    same((answer.returncode, movetext(live.name)), (0, WHOLE_TEXT.replace("*", "a6 0-1")))
+    for words, text in ((["--add", "0-1"], "0-1"), (["--strict"], ""), (["--strict"], ""), (["--recover"], "0-1")):
+        answer = subprocess.run([LIVE, *words, live.name], stdout=subprocess.PIPE, stderr=subprocess.PIPE)
+        whole = WHOLE_TEXT.replace("*", f"a6 {text}")
+        same((answer.returncode, movetext(live.name)), (0, whole if text else STRICT_TEXT))
+        same(PAIR.encode() in answer.stdout, words == ["--recover"])
+    same(bytes_of(folder / "game.options"), b"--recover\n")
+    for name, status in ((str(folder / "other"), 1), ("/dev/null", 2)):
+        same(subprocess.run([LIVE, "--strict", name], stderr=subprocess.DEVNULL).returncode, status)
 
 
 def recovered_series(folder: pathlib.Path) -> None:
     """Two games in a row, each with a hidden pair: the first ends by a mate, and its end is marked in the capture's bytes."""
-    path = recorder(folder)
     board = a_board(folder)
-    live = Live(board.device, folder / "blitz", "--recover", "--series", "--linger", "1", program=path)
+    live = Live(board.device, folder / "blitz", "--recover", "--series", "--linger", "1")
     begun(live)
     for move in ("e2e4", "e7e5"):
         board.play(move)
@@ -202,12 +177,3 @@ def recovered_series(folder: pathlib.Path) -> None:
     until_game(f"{live.name}-2", "1. d4 d5 2. Nf3 Nc6 3. c4 *")
     same(stop(live), 0)
     same(movetext(f"{live.name}-1"), "1. e4 e5 2. Nf3 Nc6 3. Ng5 a6 4. Qh5 a5 5. Qxf7# 1-0")
-
-
-def recover_refused(folder: pathlib.Path) -> None:
-    """Where the program has no `recover` the option is refused, and nothing is begun. To be taken out when each has it."""
-    if run("recover", "--help").returncode == 0:
-        return
-    board = a_board(folder)
-    refuses(Live(board.device, folder / "game", "--recover"), 1, "no `recover`")
-    assert not (folder / "game.dgt").exists()

@@ -17,7 +17,8 @@ CUT = range(6, 12)
 CABLED = SWAPPED_1, SWAPPED_2, RENAMED = 12, 13, 14
 SWITCHED = (15, 16)
 PULLED = 17
-HURRIED = range(18, 24)
+HIDDEN = (18, 19, 20, 22, 23)  # a move and its reply are made at once, by two hands
+HURRIED = (*HIDDEN, 21)
 BOARDS = 32
 
 
@@ -31,6 +32,19 @@ def slide(hall: Hall, number: int, move: str) -> None:
         board.lift(square)
     board.put(move[:2], code)
     board.play(move)
+
+
+def hide(hall: Hall, number: int, ply: int) -> None:
+    """A move and its reply, whose piece is lifted before the move stands: no picture shows the move whole."""
+    board = hall.boards[number]
+    pair = moves(number)[ply : ply + 2]
+    codes = [board.codes[play_field(move[:2])] for move in pair]
+    for move in pair:
+        board.lift(move[:2])
+    for move, code in zip(pair, codes):
+        board.put(move[2:], code)
+    last = board.update(play_field(pair[1][2:]))
+    until(lambda: last in bytes_of(hall.name(number + 1) + ".dgt"), f"the reply in the capture of board {number + 1}", 0.01)
 
 
 def play_field(square: str) -> int:
@@ -71,12 +85,13 @@ def full(hall: Hall, live: Live) -> None:
 
 
 def thirty_two_boards(folder: pathlib.Path) -> None:
-    """32 boards: clocks, cut updates, hands in a hurry, boards off and on, cables swapped and renamed, a full disk, two kills."""
+    """32 boards: clocks, cut updates, hands in a hurry, moves that two hands hid, boards off and on, cables swapped and renamed,
+    a full disk, two kills."""
     hall = Hall(folder, BOARDS, clocks=CLOCKS, cabled=CABLED)
     for number in CUT:
         hall.boards[number].spoiled_share = 0.1
     hall.write("33,,nobody,nobody", "x,y,z")
-    live = hall.record("--event", "Hall")
+    live = hall.record("--event", "Hall", "--recover")
     reader = Reader(hall.games / "round.pgn")
     hall.begun(live)
     until_line(live, "line 34 of round.csv is wrong")
@@ -84,12 +99,14 @@ def thirty_two_boards(folder: pathlib.Path) -> None:
     troubled(hall, live)
     full(hall, live)
     kill(live)
-    live = hall.record("--event", "Hall")
+    live = hall.record("--event", "Hall")  # the games are kept with --recover
     hall.begun(live)
     for ply in (4, 5):
-        for number in HURRIED:
+        for number in set(HURRIED) - set(HIDDEN):
             slide(hall, number, moves(number)[ply])
-    hall.until_plies(6, HURRIED)
+    for number in HIDDEN:
+        hide(hall, number, 4)
+    hall.until_plies(6, list(set(HURRIED) - set(HIDDEN)))
     hall.play(4, 6, [number for number in range(BOARDS) if number not in HURRIED])
     hall.write("1,again,A,B")
     live.send(signal.SIGHUP)
@@ -98,6 +115,8 @@ def thirty_two_boards(folder: pathlib.Path) -> None:
     kill(live)
     live = hall.record("--event", "Hall")
     hall.until_plies(7)
+    for number in HIDDEN:
+        until_line(live, f"{number + 1:>3}  recovered 3. ")
     hall.begun(live)
     hall.play(7)
     for number in range(BOARDS):
@@ -106,6 +125,9 @@ def thirty_two_boards(folder: pathlib.Path) -> None:
     same(stop(live), 0)
     same(len(games_of(bytes_of(hall.games / "round.pgn"))), BOARDS)
     reader.end(BOARDS)
+    for number in range(BOARDS):
+        log = (hall.games / f"{number + 1:02}.log").read_text()
+        same("look whether they were played: 3. " in log, number in HIDDEN)
     for number in CLOCKS:
         assert "[%clk 1:29:5" in movetext(hall.name(number + 1)), movetext(hall.name(number + 1))
 

@@ -12,7 +12,8 @@ from typing import Any, Dict, List
 
 from played import TOP, words
 from played.recorder import Live
-from played.stage import bytes_of, check, ended, kill, program, refuses, same, stop, until, until_line
+from played.recovered import PAIR, hurried
+from played.stage import bytes_of, check, ended, kill, program, refuses, run, same, stop, until, until_line
 from rounds.hall import ROUND, Hall, Reader, games_of, moves, text, told
 
 
@@ -131,7 +132,7 @@ def typed(folder: pathlib.Path) -> None:
 def read_again(folder: pathlib.Path) -> None:
     """HUP reads the file again: a name put right, another device, a new line, a line that is gone, a result, an empty file."""
     hall = Hall(folder, 3)
-    live = hall.record()
+    live = hall.record(typed=True)
     hall.begun(live)
     hall.boards[0].play("e2e4")
     hall.until_text(1, "1. e4 *")
@@ -142,7 +143,7 @@ def read_again(folder: pathlib.Path) -> None:
     hall.boards[1].pull()
     hall.boards[1].device = str(folder / "elsewhere")
     hall.boards[1].plug()
-    changed = [f"{lines[0]},result", lines[1].replace("White 1", "Anna"), f"2,{folder}/elsewhere,Ben,Black 2"]
+    changed = [f"{lines[0]},rotated,result", f"{lines[1].replace('White 1', 'Anna')},yes", f"2,{folder}/elsewhere,Ben,Black 2"]
     hall.file.write_text("\n".join([*changed, f"4,{folder}/nowhere,A,B", ""]))
     live.send(signal.SIGHUP)
     until_line(live, "is read again: 3 boards")
@@ -153,7 +154,8 @@ def read_again(folder: pathlib.Path) -> None:
     until(lambda: hall.boards[1].asked_for_updates, "a request on the other device")
     hall.boards[1].play("d2d4")
     hall.until_text(2, "1. d4 *")
-    assert b'[White "White 1"]' in bytes_of(hall.name(1) + ".pgn")
+    until(lambda: b'[White "Anna"]' in bytes_of(hall.name(1) + ".pgn"), "the name of board 1, whose game has a move")
+    until(lambda: hall.boards[0].asked_for_updates, "a request on board 1")
     hall.boards[0].play("e7e5")
     hall.until_text(1, "1. e4 e5 *")
     changed[1] += ",1-0"
@@ -161,7 +163,55 @@ def read_again(folder: pathlib.Path) -> None:
     live.send(signal.SIGHUP)
     hall.until_text(1, "1. e4 e5 1-0")
     same(len(games_of(bytes_of(hall.games / "03.pgn"))), 1)
+    # A name is put right where the game is over.
+    hall.until_over(live, 1, "1-0")
+    changed[1] = changed[1].replace("Anna", "Anne")
+    hall.file.write_text("\n".join([*changed, f"4,{folder}/nowhere,A,B", ""]))
+    live.send(signal.SIGHUP)
+    until(lambda: b'[White "Anne"]' in bytes_of(hall.games / "round.pgn"), "the name of board 1, whose game is over")
+    same(hall.text(1), "1. e4 e5 1-0")
     same(stop(live), 0)
+
+
+def recovered(folder: pathlib.Path) -> None:
+    """A column says on which boards pairs are recovered, and the file read again says otherwise: both games are made anew, and
+    so is one that is over. What was recovered is told with the board's number, and when its number is typed."""
+    hall = Hall(folder, 3)
+    header = "board,device,white,black,recover"
+    hall.extra = {1: ",yes", 2: ",no"}
+    hall.write(header=header)
+    live = hall.record("--recover", typed=True)
+    hall.begun(live)
+    for board in hall.boards:
+        for move in ("e2e4", "e7e5"):
+            board.play(move)
+    for number in (1, 2, 3):
+        hall.until_text(number, "1. e4 e5 *")
+    for board in hall.boards:
+        hurried(board)
+        board.play("f1b5")
+    strict, whole = "1. e4 e5 *", "1. e4 e5 2. Nf3 Nc6 3. Bb5 *"
+    for number in (1, 3):
+        hall.until_text(number, whole)
+        until_line(live, f"{number:>3}  {PAIR}")
+    until_line(live, f"  2  {words.IN_HAND}")
+    same(hall.text(2), strict)
+    live.type("3")
+    until_line(live, f"3: agrees; {PAIR}; ")
+    live.type("3 1-0")
+    hall.until_over(live, 3, "1-0")
+    hall.extra = {1: ",no", 2: ",yes", 3: ",no"}
+    hall.write(header=header)
+    live.type("r")
+    hall.until_text(1, strict)
+    hall.until_text(2, whole)
+    # The kings were put in over the whole game's position, where the strict one has no result.
+    hall.until_text(3, strict)
+    hall.until_round()
+    same(stop(live), 0)
+    for number in (1, 2, 3):
+        capture = bytes_of(hall.name(number) + ".dgt")
+        same(" ".join(run("record", given=capture).stdout.decode().split("\n\n")[1].split()), strict)
 
 
 def killed(folder: pathlib.Path) -> None:
@@ -315,6 +365,82 @@ def on_a_terminal(folder: pathlib.Path) -> None:
     until_line(live, "over 1-0")
     lines = re.split(r"\x1b\[\d+;1H|\x1b8|\r|\n", live.told.read().replace("\x1b[H\x1b[2J", "\n"))
     same([line for line in lines if len(words.plain(line)) > 79], [])
+    live.type("q")
+    same(ended(live), 0)
+
+
+def renamed(folder: pathlib.Path) -> None:
+    """A board comes back under another name, and then its player's name is put right: it is found by its cable all the same."""
+    hall = Hall(folder, 1, cabled=(0,))
+    file = f"board,device,white,black\n1,{hall.boards[0].device},Ana,Ben\n"
+    hall.file.write_text(file)
+    live = hall.record()
+    hall.begun(live)
+    hall.boards[0].play("e2e4")
+    hall.until_text(1, "1. e4 *")
+    hall.boards[0].pull()
+    until_line(live, "  1  UNPLUGGED")
+    hall.cables.plug(hall.boards[0], 7)
+    until(lambda: hall.boards[0].asked_for_updates, "a request as ttyUSB7")
+    hall.boards[0].play("e7e5")
+    hall.until_text(1, "1. e4 e5 *")
+    hall.file.write_text(file.replace("Ana", "Anna"))
+    live.send(signal.SIGHUP)
+    until(lambda: b'[White "Anna"]' in bytes_of(hall.name(1) + ".pgn"), "the name that was put right")
+    hall.boards[0].play("g1f3")
+    hall.until_text(1, "1. e4 e5 2. Nf3 *")
+    same(live.lines().count("  1  UNPLUGGED"), 1)
+    same(stop(live), 0)
+
+
+def turned_round(folder: pathlib.Path) -> None:
+    """A board the other way round: its row says so, and what to do in a round; `r` reads that it is, and the game is recorded."""
+    hall = Hall(folder, 2)
+    hall.boards[1].rotated = True
+    live = hall.record(terminal=True, environment={"TERM": "xterm"})
+    until_line(live, "turned round?")
+    until_line(live, "2: is the board the other way round? Write yes in its column rotated,")
+    live.type("2")
+    until_line(live, "2: setting up; is the board the other way round? Write yes")
+    hall.extra[2] = ",yes"
+    hall.write(header="board,device,white,black,rotated")
+    live.type("r")
+    until_line(live, "2 boards, no alarm")
+    hall.boards[1].play("d2d4")
+    hall.until_text(2, "1. d4 *")
+    until_line(live, "1. d4")
+    for never in ("over, no result", words.ROTATED):
+        assert never not in live.lines(), live.lines()
+    # The other way: the table says that a board is rotated, and it isn't.
+    hall.extra[1] = ",yes"
+    hall.write(header="board,device,white,black,rotated")
+    live.type("r")
+    until_line(live, "1: is the board the other way round? Write no in its column rotated")
+    live.type("q")
+    same(ended(live), 0)
+
+
+def a_wrong_line(folder: pathlib.Path) -> None:
+    """The line of a board that is recorded becomes wrong: it goes on, its alarms are shown as before, and the line is no board."""
+    hall = Hall(folder, 2)
+    live = hall.record(terminal=True, environment={"TERM": "xterm"})
+    until_line(live, "2 boards, no alarm")
+    hall.file.write_text(hall.file.read_text().replace("White 2", '"White 2') + "9,,nobody,nobody\n")
+    live.type("r")
+    until_line(live, "2 boards, no alarm, 2 lines are wrong")
+    until_line(live, "!  2 line 3 is wrong: a quote isn't closed")
+    until_line(live, "board 2 goes on as it was begun")
+    until_line(live, "!  9 line 4 is wrong: it names no device")
+    hall.boards[1].play("d2d4")
+    hall.until_text(2, "1. d4 *")
+    hall.boards[1].pull()
+    until_line(live, "UNPLUGGED")
+    until_line(live, "2 boards, 1 alarm, 2 lines are wrong")
+    hall.write()
+    hall.boards[1].plug()
+    seen = len(live.lines())
+    live.type("r")
+    until(lambda: re.search("2 boards, no alarm(?!,)", live.lines()[seen:]), "that no line is wrong any more")
     live.type("q")
     same(ended(live), 0)
 

@@ -2,9 +2,10 @@
 
 import pathlib
 
+from live.options import Options
 from live.pairings import Pairing, read_pairings
 from live.refused import Refused
-from live.table import RowView, row, screen
+from live.table import RowView, head, row, screen
 from played.stage import same
 
 LINE = "1,/dev/ttyUSB0,Jörg,Ben"
@@ -24,6 +25,10 @@ def separators(_: pathlib.Path) -> None:
     full = "board,device,white,black,rotated,first,fen,name,result\n2,d,A,B,yes,black,8/8 w,my game,1/2\n"
     same(read_pairings(full.encode()).boards,
          (Pairing(2, 2, "d", "A", "B", True, "black", "8/8 w", "my game", "1/2-1/2"),))  # fmt: skip
+    read = read_pairings(b"board,device,recover\n1,a,yes\n2,b,no\n3,c,\n").boards
+    same([pairing.words(("--event", "E", "--recover")) for pairing in read],
+         [("--event", "E", "--recover", *words) for words in (("--recover",), ("--strict",), ())])  # fmt: skip
+    same([Options(pairing.words(("--recover",))).recover for pairing in read], [True, False, True])
     same(read_pairings(b"sep=;\nboard;device\n1;d\n").boards, (Pairing(3, 1, "d"),))
     same(read_pairings(b"board,device,elo\n1,d,2000\n").remarks, ("the column 'elo' isn't known, and isn't used",))
     same([pairing.board for pairing in read_pairings(b"board,device\n9,a\n10,b\n2,c\n").boards], [2, 9, 10])
@@ -31,7 +36,7 @@ def separators(_: pathlib.Path) -> None:
 
 def wrong_lines(_: pathlib.Path) -> None:
     """A line that is wrong says why, and stops no other."""
-    header = "board,device,white,black,rotated,first,name,result"
+    header = "board,device,white,black,rotated,first,name,result,recover"
     for line, board, part in (
         ("x,d", None, "no number of a board"),
         ("0,d", None, "no number of a board"),
@@ -39,10 +44,11 @@ def wrong_lines(_: pathlib.Path) -> None:
         (",d", None, "no number of a board"),
         ("3", 3, "names no device"),
         ("3,d,A,B,maybe", 3, "rotated is 'maybe'"),
+        ("3,d,A,B,,,,,maybe", 3, "recover is 'maybe'"),
         ("3,d,A,B,,red", 3, "first is 'red'"),
         ("3,d,A,B,,,../x", 3, "name is '../x'"),
         ("3,d,A,B,,,,2-0", 3, "result is '2-0'"),
-        ("3,d,A,B,,,,,more", 3, "it has 9 fields, and the first line has 8"),
+        ("3,d,A,B,,,,,,more", 3, "it has 10 fields, and the first line has 9"),
         ('3,d,"A', 3, "a quote isn't closed"),
         ("3,d,A\x00,B", 3, "can't be seen"),
         ("1,d", 1, "board 1 stands in line 2 already"),
@@ -68,16 +74,68 @@ def no_table(_: pathlib.Path) -> None:
 
 def rows(_: pathlib.Path) -> None:
     """Rows of 80 columns, alarms first where not all fit."""
-    calm = RowView(1, "Anna", "Benjamin Miller", "12... Nxe5+", ("1:12:07", "0:58:11"), "agrees", 100.0)
-    same(row(calm, 140), "   1 Anna         Benjamin M.. 12... Nxe5+   1:12:07 0:58:11  agrees 40s")
-    alarm = RowView(12, "Anna", "Ben", "3. Bb5", ("", ""), "WRONG: e2 d5", 100.0, True)
-    same(row(alarm, 280), "! 12 Anna         Ben          3. Bb5                         WRONG 3m: e2 d5")
+    calm = RowView(1, "Anna", "Benjamin Miller", "12... Nxe5+", ("1:12:07", "0:58:11"), "agrees", "", 100.0)
+    same(row(calm, 140), ["   1 Anna         Benjamin M.. 12... Nxe5+   1:12:07 0:58:11  agrees 40s"])
+    alarm = RowView(12, "Anna", "Ben", "3. Bb5", ("", ""), "WRONG", ": e2 d5", 100.0, True)
+    same(row(alarm, 280), ["! 12 Anna         Ben          3. Bb5                         WRONG 3m: e2 d5"])
     waits = RowView(2, "Anna", "Ben", state="waits for the board")
-    same(row(waits, 280), "   2 Anna         Ben                                         waits for the b..")
-    wrong = RowView(None, state="line 9 is wrong: a quote isn't closed", alarm=True)
-    same(row(wrong, 0), "!  ? line 9 is wrong: a quote isn't closed")
+    same(row(waits, 280), ["   2 Anna         Ben                                         waits for the b.."])
+    wrong = RowView(None, state="line 9 is wrong: a quote isn't closed", alarm=True, is_board=False)
+    same(row(wrong, 0), ["!  ? line 9 is wrong: a quote isn't closed"])
     shown = screen("10:00:00  Club", [calm] * 30 + [alarm], ["a message"], 280, 24)
     same(len(shown) < 24, True)
     assert all(len(line) < 80 for line in shown), shown
     assert shown[0].endswith("31 boards, 1 alarm") and shown[2].startswith("! 12"), shown
-    same(len(screen("t", [calm] * 8, [], 280, 24)), 2 + 8 + 1 + 3)
+    same(shown[-5:], ["     16 more: make the window higher", "", "a message", "", ""])
+
+
+def rows_of_any_width(_: pathlib.Path) -> None:
+    """The state is told whole where it has room, with its time behind its name; names have more room in a wide terminal."""
+    head_of_80 = "  No White        Black        Last move      White   Black   State and since"
+    same(head(), head_of_80)
+    turned = RowView(3, "Anna", "Ben", state="setting up", rest="; turned?", since=0.0, alarm=True)
+    same(row(turned, 4), ["!  3 Anna         Ben                                         setting up 4s; .."])
+    same(row(turned, 4, 100)[0][-22:], "setting up 4s; turned?")
+    long_name = RowView(4, "Bartholomew Zimmermann", "Ben", "1. e4", ("1:30:00", ""), "agrees", "", 0.0)
+    same(row(long_name, 9, 110), ["   4 Bartholomew Zimmermann Ben                    1. e4         1:30:00          agrees 9s"])
+    same(row(long_name, 9, 71), ["   4 Bartho.. Ben      1. e4          agrees 9s"])
+    for width in range(40, 200):
+        for view in (turned, long_name):
+            assert all(len(line) < width for line in [head(width), *row(view, 4, width)]), (width, row(view, 4, width))
+
+
+def messages(_: pathlib.Path) -> None:
+    """A message takes as many lines as it needs, and the newest are there as wholes; the screen has as many lines as before."""
+    cable = "/dev/serial/by-id/usb-Digital_Game_Technology_DGT_Board_3.1-if00-port0"
+    gone = f"14:02:59  4: {cable} isn't there: plug the board in, it is waited for"
+    board = RowView(1, "Anna", "Ben", state="agrees", since=0.0)
+    shown = screen("t", [board] * 8, [gone], 9, 24)
+    same(" ".join(line.strip() for line in shown[11:]).rstrip(), gone)
+    assert cable in shown[12] and all(len(line) < 80 for line in shown), shown
+    same(screen("t", [board] * 8, [gone], 9, 24, 140)[11:13], [gone, ""])
+    few = screen("t", [board] * 30, ["10:00:00  one", gone, "10:00:01  two"], 9, 24)
+    same(few[-3:], ["10:00:01  two", "", ""])
+    same(screen("t", [board] * 30, [gone, "10:00:01  two"], 9, 24, 140)[-3:], [gone, "10:00:01  two", ""])
+    endless = screen("t", [board] * 30, ["10:00:00  " + "more " * 90], 9, 24)
+    assert endless[-1].endswith(".."), endless
+    for number, height in ((1, 24), (8, 24), (30, 24), (30, 60), (3, 8)):
+        for times in (0, 1, 20):
+            said = [gone] * times
+            same(len(screen("t", [board] * number, said, 9, height)), len(screen("t", [board] * number, [], 9, height)))
+            same(len(screen("t", [board] * number, said, 9, height)) <= height - 1, True)
+
+
+def what_is_counted(_: pathlib.Path) -> None:
+    """Boards are counted, and lines of the table that are wrong beside them; a long one is told over more than a line."""
+    board = RowView(1, "Anna", "Ben", state="agrees", since=0.0)
+    off = RowView(2, "Anna", "Ben", state="SILENT", since=0.0, alarm=True)
+    why = "/dev/serial/by-id/usb-Digital_Game_Technology_DGT_Board_3.1-if00-port0 is the device of board 2, line 3"
+    wrong = RowView(9, state=f"line 10 is wrong: {why}", alarm=True, is_board=False)
+    for rows_shown, tail in (
+        ([board], "1 board, no alarm"),
+        ([board, off], "2 boards, 1 alarm"),
+        ([board, off, off, wrong], "3 boards, 2 alarms, 1 line is wrong"),
+        ([wrong, wrong], "no board, no alarm, 2 lines are wrong"),
+    ):
+        assert screen("t", rows_shown, [], 9, 24)[0].endswith("t" + " " * (77 - len(tail)) + " " + tail), screen("t", rows_shown, [], 9, 24)
+    same(" ".join(line.strip() for line in row(wrong, 9)).replace("!  9 ", ""), wrong.state)

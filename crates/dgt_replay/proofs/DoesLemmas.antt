@@ -13,10 +13,10 @@ use Rattle.board_listing.specs.declared.listing.Listing.TheVariants.{Game}
 use Rattle.dgt_frame.specs.Streams.{Timed}
 use Rattle.pgn_book.specs.declared.values.Tag.{Tag}
 use Rattle.replay_arguments.specs.declared.arguments.Subcommand.{Subcommand}
-use Rattle.replay_arguments.specs.Subcommands.{Asks, AsksFor, AsksForPictures, AsksToCheck, AsksToFollow, AsksToRecord, AsksToShow}
+use Rattle.replay_arguments.specs.Subcommands.{Asks, AsksFor, AsksForPictures, AsksToCheck, AsksToFollow, AsksToRecord, AsksToRecover, AsksToShow}
 use Rattle.replay_arguments.specs.Setups.{HasNoStart, SetsUpNothing, StartsAt, given, option_of, tag_text}
 use Rattle.dgt_replay.specs.Checked.{RefusesText, text_limit}
-use Rattle.dgt_replay.specs.Does.{Checks, Does, Lists, Plays, Prints, Records, Refuses, Untouched, WritesText}
+use Rattle.dgt_replay.specs.Does.{Checks, Does, Lists, Plays, Prints, Records, Recovers, Refuses, Untouched, WritesText}
 use Rattle.dgt_replay.specs.Messages.{IsTooLong, Says}
 use Rattle.dgt_replay.specs.Played.{RefusesMoves, line_limit}
 use Rattle.dgt_replay.specs.Refusals.{RefusesSetup, RefusesStart}
@@ -25,7 +25,7 @@ use Rattle.dgt_replay.proofs.EndLemmas.{ends_for_memory, none_read, not_both}
 use Rattle.dgt_replay.proofs.MessageLemmas.{tells_alike, tells_memory}
 use Rattle.dgt_replay.proofs.RefusalLemmas.{refuses_alike, refuses_start_alike}
 use Rattle.dgt_replay.proofs.SetupLemmas.{meets_nothing}
-use Rattle.dgt_replay.proofs.SubcommandLemmas.{chooses_check, chooses_follow, chooses_pictures, chooses_record, chooses_show, follow_chosen, moves_chosen, positions_chosen, record_chosen}
+use Rattle.dgt_replay.proofs.SubcommandLemmas.{chooses_check, chooses_follow, chooses_pictures, chooses_record, chooses_recover, chooses_show, follow_chosen, moves_chosen, positions_chosen, record_chosen, recover_chosen}
 
 -- Memory ran out before anything was read, or written to the output.
 pub record LacksMemory (status : ℕ) (s : Streams) : Type 0 where
@@ -69,6 +69,19 @@ records_memory setup status s lacks =
       long = λ e. absurd (omega arith);
       fails = λ e. absurd (omega arith);
       memory = λ e. inr (lacks.untouched, lacks.says);
+    }
+
+pub recovers_memory : (setting : Setting) (status : ℕ) (s : Streams) → LacksMemory status s → Recovers setting status s
+recovers_memory setting status s lacks =
+    let four : status ≡ 4 = lacks.four in
+    record {
+      done = λ e. absurd (omega arith);
+      long = λ e. absurd (omega arith);
+      fault = λ e. absurd (omega arith);
+      memory = λ e. inr (lacks.untouched, lacks.says);
+      known = (3, omega arith, sym four);
+      bounded = none_read limit s.input s.input' lacks.untouched.0;
+      read = λ e. not_both s.reader_failed e lacks.reading;
     }
 
 pub refuses_memory : (May : List ℕ → Type 0) (status : ℕ) (s : Streams) → LacksMemory status s → Refuses May status s
@@ -167,6 +180,22 @@ pub does_refuse_start : (arguments : List Text) (subcommand : Subcommand) (statu
     → (rows : List Row) → Asks arguments (codes "follow") rows → HasNoStart (first_of (codes "fen") rows) → Refuses (RefusesStart (first_of (codes "fen") rows)) status s
 does_refuse_start arguments subcommand status s asked does rows asks none =
     let chosen = follow_chosen arguments rows subcommand asks asked in
+    let fen = given chosen.0.fen in
+    let same = chosen.2.fen in
+    refuses_too (RefusesStart fen) (RefusesStart (first_of (codes "fen") rows)) status s
+    (λ message refuses. refuses_start_alike fen (first_of (codes "fen") rows) message same refuses)
+    ((does_as subcommand _ status s chosen.1 does).1 (subst HasNoStart (sym same) none))
+
+pub does_recover : (arguments : List Text) (subcommand : Subcommand) (status : ℕ) (s : Streams) → AsksFor arguments subcommand → Does subcommand status s
+    → (setting : Setting) → AsksToRecover arguments setting → Recovers setting status s
+does_recover arguments subcommand status s asked does setting asks =
+    let chosen = chooses_recover arguments setting subcommand asks asked in
+    (does_as subcommand _ status s chosen.1 does).0 setting chosen.2
+
+pub does_refuse_recover : (arguments : List Text) (subcommand : Subcommand) (status : ℕ) (s : Streams) → AsksFor arguments subcommand → Does subcommand status s
+    → (rows : List Row) → Asks arguments (codes "recover") rows → HasNoStart (first_of (codes "fen") rows) → Refuses (RefusesStart (first_of (codes "fen") rows)) status s
+does_refuse_recover arguments subcommand status s asked does rows asks none =
+    let chosen = recover_chosen arguments rows subcommand asks asked in
     let fen = given chosen.0.fen in
     let same = chosen.2.fen in
     refuses_too (RefusesStart fen) (RefusesStart (first_of (codes "fen") rows)) status s

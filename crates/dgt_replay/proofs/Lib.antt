@@ -5,6 +5,7 @@ pub mod FaultLemmas
 pub mod MessageLemmas
 pub mod MoveLemmas
 pub mod PlayedLemmas
+pub mod RecoverLemmas
 pub mod RefusalLemmas
 pub mod SetupLemmas
 pub mod SubcommandLemmas

@@ -44,6 +44,13 @@ same_game options setting start meets same =
     let rotated : options.rotated ≡ setting.rotated = sym meets.rotated in
     rw (same, first, rotated) refl
 
+pub same_setting : (options : BoardArguments) (setting : Setting) (start : Parts) → MeetsBoard options setting → start ≡ setting.start
+    → record { start = start; first = options.first; rotated = options.rotated } ≡ setting
+same_setting options setting start meets same =
+    let first : options.first ≡ setting.first = sym meets.first in
+    let rotated : options.rotated ≡ setting.rotated = sym meets.rotated in
+    rw (same, first, rotated) refl
+
 pub ok_same : {A E : Type 0} (r : Result A E) (a b : A) → r ≡ Ok a → r ≡ Ok b → a ≡ b
 ok_same r a b x y = let e : Ok a ≡ Ok b = sym x ∙ y in cc
 

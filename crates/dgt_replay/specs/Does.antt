@@ -1,9 +1,10 @@
 -- What each subcommand does with the streams, by its status.
-use Rattle.std.specs.Prelude.{◌≡◌, ◌⊎◌, ℕ, List, Option, codes, false, true}
+use Rattle.std.specs.Prelude.{◌≡◌, ◌⊎◌, ◌∷◌, [], ℕ, Contains, List, Option, codes, false, true}
 use Rattle.std.specs.Io.KnownBytes.{Keeps}
 use Rattle.clap.specs.Walk.{Text}
 use Rattle.chess_rules.specs.declared.parts.Parts.{Parts}
 use Rattle.dgt_frame.specs.Streams.{Timed}
+use Rattle.board_session.specs.Recording.{limit}
 use Rattle.board_session.specs.Settings.{Setting}
 use Rattle.board_session.specs.declared.recording.Setup.{Setup}
 use Rattle.board_session.specs.declared.refusal.RecordError.TheVariants.{Memory, TooLong}
@@ -12,8 +13,9 @@ use Rattle.board_listing.specs.Listings.{ListingEnds, ReadsWithin}
 use Rattle.board_listing.specs.OneText.{TextEnds, event_lines, no_line, picture_lines}
 use Rattle.board_listing.specs.declared.listing.Listing.{Listing}
 use Rattle.board_listing.specs.declared.listing.Listing.TheVariants.{Game}
+use Rattle.recovery.specs.Streams.{RecoversAll, RecoversFirst, RecoversFront, RecoversRead, RecoversSome}
 use Rattle.replay_arguments.specs.declared.arguments.Subcommand.{Subcommand}
-use Rattle.replay_arguments.specs.declared.arguments.Subcommand.TheVariants.{Show, Pictures, Record, Follow, Check, Moves, Positions}
+use Rattle.replay_arguments.specs.declared.arguments.Subcommand.TheVariants.{Show, Pictures, Record, Follow, Recover, Check, Moves, Positions}
 use Rattle.replay_arguments.specs.Setups.{HasNoStart, Meets, MeetsBoard, MeetsNothing, StartsAt, given, tag_text}
 use Rattle.dgt_replay.specs.Checked.{ChecksGame, ChecksPart, RefusesText, text_limit}
 use Rattle.dgt_replay.specs.Messages.{IsTooLong, Says, Tells}
@@ -48,6 +50,28 @@ pub record Records (setup : Setup) (status : ℕ) (s : Streams) : Type 0 where
   pub fails : status ≡ 3 → Fails setup s
   -- memory ran out, at a ply, or before anything was read, or written to the output
   pub memory : status ≡ 4 → EndsFor Memory setup s ⊎ (Untouched s × Says s.said s.said' s.err_failed (codes "memory\n"))
+
+-- That stood once this had been told, and then this message was said.
+abbrev pub TellsAfter : (Option (List ℕ) → Type 0) → Streams → List ℕ → Type 0
+TellsAfter Stood s message = (told : Option (List ℕ)) × Stood told × Says told s.said' s.err_failed message
+
+-- A stream was given on, with the pairs put in that no picture showed, and their lines were told; what ended it is said after them.
+pub record Recovers (setting : Setting) (status : ℕ) (s : Streams) : Type 0 where
+  -- the whole of it
+  pub done : status ≡ 0 → RecoversAll setting s.input s.written s.written' s.said s.said'
+  -- the stream is past its limit, and what is within it was given on
+  pub long : status ≡ 1 → TellsAfter (λ told. RecoversFirst setting s.input s.written s.written' s.said told) s (codes "input: too long\n")
+  -- a stream has failed: the reader, and all bytes before were given on; or the output or standard error, and a front stands
+  pub fault : status ≡ 3 → ((s.reader_failed ≡ true) × TellsAfter (λ told. RecoversRead setting s.input s.input' s.written s.written' s.said told) s (codes "read fault\n"))
+      ⊎ (((s.out_failed ≡ true) × TellsAfter (λ told. RecoversFront setting s.input s.input' s.written s.written' s.said told false) s (codes "write fault\n"))
+      ⊎ ((s.err_failed ≡ true) × RecoversFront setting s.input s.input' s.written s.written' s.said s.said' true))
+  -- memory ran out amid the stream, or before anything was read, or written to the output
+  pub memory : status ≡ 4 → TellsAfter (λ told. RecoversSome setting s.input s.input' s.written s.written' s.said told) s (codes "memory\n")
+      ⊎ (Untouched s × Says s.said s.said' s.err_failed (codes "memory\n"))
+  pub known : Contains (0 ∷ 1 ∷ 3 ∷ 4 ∷ []) status
+  pub bounded : ReadsWithin limit s.input s.input'
+  -- where a read has failed, all bytes before it were given on before it began
+  pub read : s.reader_failed ≡ true → (status ≡ 3) × ((told : Option (List ℕ)) × RecoversRead setting s.input s.input' s.written s.written' s.said told)
 
 -- The options are refused with such a message, or memory ran out before; nothing was read, and nothing written to the output.
 pub record Refuses (May : List ℕ → Type 0) (status : ℕ) (s : Streams) : Type 0 where
@@ -100,6 +124,8 @@ Does (Pictures rotated) status s = WritesText (picture_lines rotated) no_line st
 Does (Record options) status s = ((setup : Setup) → Meets options setup → Records setup status s)
     × (MeetsNothing options → Refuses (RefusesSetup (given options.fen) (tag_text options)) status s)
 Does (Follow options) status s = ((setting : Setting) → MeetsBoard options setting → Lists (Game setting.start setting.first setting.rotated) status s)
+    × (HasNoStart (given options.fen) → Refuses (RefusesStart (given options.fen)) status s)
+Does (Recover options) status s = ((setting : Setting) → MeetsBoard options setting → Recovers setting status s)
     × (HasNoStart (given options.fen) → Refuses (RefusesStart (given options.fen)) status s)
 Does Check status s = Checks status s
 Does (Moves fen) status s = Prints (given fen) status s

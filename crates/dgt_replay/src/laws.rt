@@ -1,4 +1,4 @@
-//! What holds of the texts that the program writes and reads, as the contract of a function that does nothing.
+//! What holds of the texts that the program writes and reads, as the contract of a function.
 ghost use Rattle.dgt_replay.specs.Laws.{WrittenTextsAreWithin, WrittenTextsPass};
 
 use board_session::laws::moves_take_ten_bytes;

@@ -9,5 +9,6 @@ mod moves;
 mod positions;
 mod program;
 mod record;
+mod recover;
 
 pub use program::run;

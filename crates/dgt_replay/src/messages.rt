@@ -14,6 +14,7 @@ use std::io::Write;
 pub fn refused<E: Write>(err: &mut Watch<E>, message: &[u8], status: u8) -> u8
     ensures status { result ≡ status }
     ensures says { Says (E.contents (inner_of err.old)) (E.contents (inner_of err.new)) (has_failed err.new) message.now }
+    ensures silent { has_failed err.old ≡ true → err.new ≡ err.old }
 {
     if !err.failed() {
         let _ = put(err, message);

@@ -8,12 +8,12 @@ ghost use Rattle.chess_rules.specs.declared.parts.Parts.{Parts as PartsOf};
 ghost use Rattle.clap.specs.Values.{kind_of};
 ghost use Rattle.clap.specs.Walk.{Row, first_of};
 ghost use Rattle.dgt_frame.specs.Watch.{inner_of, has_failed};
-ghost use Rattle.replay_arguments.specs.Subcommands.{AreMistaken, Asks, AsksForHelp, AsksForVersion, AsksToFollow, AsksToRecord, IsCheck, IsPictures, IsRefused, IsShow};
+ghost use Rattle.replay_arguments.specs.Subcommands.{AreMistaken, Asks, AsksForHelp, AsksForVersion, AsksToFollow, AsksToRecord, AsksToRecover, IsCheck, IsPictures, IsRefused, IsShow};
 ghost use Rattle.board_listing.specs.declared.listing.Listing.{Listing};
 ghost use Rattle.board_listing.specs.EventLines.{rest_line};
 ghost use Rattle.board_listing.specs.OneText.{event_lines, no_line, picture_lines};
 ghost use Rattle.replay_arguments.specs.Setups.{HasNoStart, MeetsBoard, SetsUpNothing, StartsAt, given, option_of};
-ghost use Rattle.dgt_replay.specs.Does.{Checks, Does, Lists, Plays, Prints, Records, Refuses, WritesText};
+ghost use Rattle.dgt_replay.specs.Does.{Checks, Does, Lists, Plays, Prints, Records, Recovers, Refuses, WritesText};
 ghost use Rattle.dgt_replay.specs.Refusals.{RefusesSetup, RefusesStart};
 ghost use Rattle.dgt_replay.specs.Messages.{GivesText, RefusesArguments, Says};
 ghost use Rattle.dgt_replay.specs.Streams.{streams};
@@ -23,6 +23,7 @@ use crate::messages::{refused, refused_fen};
 use crate::moves::moves;
 use crate::positions::positions;
 use crate::record::record_game;
+use crate::recover::recover;
 use board_listing::{Listing, list_stream};
 use clap::Error;
 use clap::error::ErrorKind;
@@ -150,15 +151,16 @@ fn dispatch<R: Read, O: Write, E: Write>(
         }
         Subcommand::Record(options) => record_game(alloc, options, reader, out, err),
         Subcommand::Follow(options) => follow(alloc, options, reader, out, err),
+        Subcommand::Recover(options) => recover(alloc, options, reader, out, err),
         Subcommand::Check => check(alloc, reader, out, err),
         Subcommand::Moves { fen } => moves(alloc, *fen, out, err),
         Subcommand::Positions { fen } => positions(alloc, *fen, reader, out, err),
     }
 }
 
-/// Does what the subcommand asks for. of which the first is the program's name, and returns the exit status: 0 where all was
-/// done, or help or the version was asked for, 1 where the input is refused, 2 where the arguments are, 3 where a stream has
-/// failed, 4 where memory ran out. Under `record` the bytes for the board go to `err`. No stream may have failed before.
+/// Does what the arguments ask for, of which the first is the program's name, and returns the exit status: 0 where all was done, or
+/// help or the version was asked for, 1 where the input is refused, 2 where the arguments are, 3 where a stream has failed, 4 where
+/// memory ran out. Under `record` the bytes for the board go to `err`, under `recover` the lines. No stream may have failed before.
 pub fn run<R: Read, O: Write, E: Write>(
     alloc: Global,
     arguments: &[String],
@@ -191,6 +193,14 @@ pub fn run<R: Read, O: Write, E: Write>(
     ensures follow { (setting : Setting) → AsksToFollow (map string_bytes arguments.now) setting → Lists (Listing.Game setting.start setting.first setting.rotated) result
         (streams R.remaining O.contents E.contents reader.old reader.new out.old out.new err.old err.new) }
     ensures follow_refuses { (rows : List Row) → Asks (map string_bytes arguments.now) (codes "follow") rows → HasNoStart (first_of (codes "fen") rows)
+        → Refuses (RefusesStart (first_of (codes "fen") rows)) result
+        (streams R.remaining O.contents E.contents reader.old reader.new out.old out.new err.old err.new) }
+
+    // `recover` with any options: the bytes with what is put in, and its lines, from the start that they say. Where no position has
+    // the FEN, the reason is said.
+    ensures recover { (setting : Setting) → AsksToRecover (map string_bytes arguments.now) setting → Recovers setting result
+        (streams R.remaining O.contents E.contents reader.old reader.new out.old out.new err.old err.new) }
+    ensures recover_refuses { (rows : List Row) → Asks (map string_bytes arguments.now) (codes "recover") rows → HasNoStart (first_of (codes "fen") rows)
         → Refuses (RefusesStart (first_of (codes "fen") rows)) result
         (streams R.remaining O.contents E.contents reader.old reader.new out.old out.new err.old err.new) }
 

@@ -4,3 +4,4 @@ pub mod Passing
 pub mod Streams
 pub mod Progress
 pub mod Laws
+pub mod Status

@@ -4,6 +4,7 @@
 
 mod calls;
 mod recordings;
+mod recoveries;
 mod runs;
 mod settling;
 
@@ -99,7 +100,7 @@ fn make_runs(rt: &HostRuntime) -> io::Result<()> {
     for case in &runs::CASES {
         say(rt, "run ", case.name, runs::runs(rt.alloc(), case))?;
     }
-    Ok(())
+    say(rt, "run ", "recover", recoveries::recovers(rt.alloc()))
 }
 
 /// The decimal number in a text, of which other bytes are passed over.

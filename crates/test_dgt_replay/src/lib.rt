@@ -22,6 +22,8 @@ mod picture_lines;
 #[cfg(test)]
 mod recorded_games;
 #[cfg(test)]
+mod recovered_captures;
+#[cfg(test)]
 mod refused_arguments;
 pub mod running;
 #[cfg(test)]

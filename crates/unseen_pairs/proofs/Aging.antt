@@ -1,5 +1,5 @@
 -- The candidates after one more entry.
-use Rattle.std.proofs.Common.{◌≡◌, ◌≢◌, ◌↔◌, ℕ, zero, suc, ◌<◌, ◌≤◌, ◌+◌, Bool, true, false, inl, inr, List, [], ◌∷◌, ◌++◌, Option, Some, Result, Ok, Err, OnOk, Contains, length, slice_index_or, refl, sym, ap, subst, ◌∙◌, arith, add-one}
+use Rattle.std.proofs.Common.{◌≡◌, ◌≢◌, ◌↔◌, ℕ, zero, suc, ◌<◌, ◌≤◌, ◌+◌, ◌^◌, Bool, true, false, inl, inr, List, [], ◌∷◌, ◌++◌, Option, Some, Result, Ok, Err, OnOk, Contains, length, slice_index_or, refl, sym, ap, subst, ◌∙◌, arith, add-one}
 use Rattle.std.proofs.lemmas.Bool.{cases_Bool, cases_eq}
 use Rattle.std.proofs.lemmas.List.{get_or_default}
 use Rattle.std.proofs.lemmas.List.Elements.{Contains-append_left, Contains-push, Contains-push_cases}
@@ -21,6 +21,9 @@ use Rattle.unseen_pairs.specs.declared.pair.TwoPlies.{TwoPlies}
 use Rattle.unseen_pairs.specs.declared.confirming.Candidate.{Candidate}
 use Rattle.unseen_pairs.specs.Pairs.{Explains, ExplainsAt, IsAfterTwo, IsInstead, begins, ends, root}
 use Rattle.unseen_pairs.specs.Candidates.{AddedBelow, AgedBelow, AreAdded, AreAllAdded, AreAged, IsCandidate, IsNew, ListsCandidates, aged}
+use Rattle.std.specs.Int.RustNames.{count_ones}
+use Rattle.settle_core.specs.Masks.{IsDiff}
+use Rattle.unseen_pairs.proofs.Counting.{two_change, two_correct}
 use Rattle.unseen_pairs.proofs.Losing.{correcting_loses, other_loses}
 use Rattle.unseen_pairs.proofs.Putting.{settles_own}
 use Rattle.chess_rules.specs.declared.pieces.Side.{Side}
@@ -385,6 +388,35 @@ none_left start plies seen reading old v played waits none =
       more = λ ply earlier e.
           none_added true (reached start (moves_of earlier)) seen reading old
           (λ m n two. none_corrects start ply.mv (moves_of earlier) seen m n v (subst P e played) (subst S e waits) (subst N e none) two);
+      none = λ e. refl;
+    }
+
+-- Nor does one where more squares differ than three plies change.
+pub none_near :
+    (start : Parts) (plies : List Ply) (seen : List ℕ) (reading : Option Reading) (old : List Candidate) (mask : ℕ)
+    → Valid start
+    → Played start (moves_of plies)
+    → mask < 2 ^ 64
+    → IsDiff mask (picture (reached start (moves_of plies))) seen
+    → 12 < count_ones mask
+    → AreAllAdded start plies seen reading old old
+none_near start plies seen reading old mask v played low diff many =
+    let p : Parts = reached start (moves_of plies) in
+    let P : List Ply → Type 0 = λ ps. Played start (moves_of ps) in
+    let D : List Ply → Type 0 = λ ps. IsDiff mask (picture (reached start (moves_of ps))) seen in
+    record {
+      one = old;
+      next = none_added false p seen reading old
+          (λ m n two.
+          let few : count_ones mask ≤ 8 = two_change p m n (picture p) seen mask (valid_reached start (moves_of plies) v played) two refl low diff in
+          let never : ⊥ = omega arith in never);
+      more = λ ply earlier e.
+          none_added true (reached start (moves_of earlier)) seen reading old
+          (λ m n two.
+          let before : Played start (moves_of (ply ∷ earlier)) = subst P e played in
+          let few : count_ones mask ≤ 12 =
+          two_correct (reached start (moves_of earlier)) ply.mv m n seen mask (valid_reached start (moves_of earlier) v before.1) before.0 two low (subst D e diff) in
+          let never : ⊥ = omega arith in never);
       none = λ e. refl;
     }
 

@@ -1,9 +1,13 @@
 pub mod Adding
 pub mod Aging
 pub mod Choosing
+pub mod Counting
 pub mod Losing
 pub mod Putting
 pub mod Sequels
 pub mod Telling
 pub mod Recovered
 pub mod Coming
+pub mod OnTheWay
+pub mod Alone
+pub mod Hurried

@@ -4,3 +4,5 @@ pub mod Lost
 pub mod Candidates
 pub mod Recoverer
 pub mod Laws
+pub mod HonestHands
+pub mod HurriedHands

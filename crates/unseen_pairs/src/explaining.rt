@@ -1,5 +1,5 @@
 // The pairs of plies that explain a picture.
-ghost use Rattle.std.specs.Prelude.{◌≡◌, ◌<◌, ◌↔◌, ℕ, List, Contains, IfOk, OnOk, IsTrue, slice_index};
+ghost use Rattle.std.specs.Prelude.{◌≡◌, ◌<◌, ◌↔◌, ◌^◌, ℕ, List, Contains, count_ones, IfOk, OnOk, IsTrue, slice_index};
 ghost use Rattle.chess_rules.specs.declared.chess_move.Move.{Move as MoveOf};
 ghost use Rattle.chess_rules.specs.declared.parts.Parts.{Parts as PartsOf};
 ghost use Rattle.chess_rules.specs.After.{after};
@@ -13,6 +13,7 @@ ghost use Rattle.unseen_pairs.specs.Lost.{Loses, LosesAt, AddsPairs};
 use crate::pair::TwoPlies;
 use crate::settled::settled_in;
 use chess_rules::{Move, Position, Side, kind_on};
+use settle_core::laws::diff_mask;
 use std::alloc::{AllocError, Global};
 
 /// A copy, since a move by value is given away.
@@ -61,13 +62,24 @@ fn loses(p: &Position, before: &[u8; 64], seen: &[u8; 64], side: Side) -> bool
     false
 }
 
-/// Whether each side has left a square: without that, no pair explains the picture.
+/// Whether the mask has more squares than these.
+pub fn has_more(mask: u64, most: u32) -> bool
+    ensures more { IsTrue result → most < count_ones mask }
+    ensures fits { mask < 2 ^ 64 }
+{
+    mask.count_ones() > most
+}
+
+/// Whether each side has left a square, and no more differ than two plies change: without that, no pair explains the picture.
 fn may_hide_two(p: &Position, seen: &[u8; 64]) -> bool
     ensures { (m n : MoveOf) → IsAfterTwo p.now seen.now m n → IsTrue result }
 {
     // The position is valid.
     let side = p.parts().side;
     let before = p.picture();
+    if has_more(diff_mask(&before, seen), 8) {
+        return false;
+    }
     if !loses(p, &before, seen, side) {
         return false;
     }

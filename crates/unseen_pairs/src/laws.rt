@@ -1,4 +1,6 @@
 //! What holds of all games in which unseen pairs are recovered, each law as the contract of a function.
+ghost use Rattle.unseen_pairs.specs.HonestHands.{HonestHandsAreLeftAlone, HonestHandsConfirmNone, PlainHandsAreOnTheWay};
+ghost use Rattle.unseen_pairs.specs.HurriedHands.{HurriedHands, HurriedHandsKeepClocks, KingsEndHurriedHands};
 ghost use Rattle.unseen_pairs.specs.Laws.{IsWritten, NothingConfirmed, NothingIsInvented, NothingPutIn, PliesAreLegal, RecoversOnce, WritesOnce, WrittenFolds};
 
 /// Where no pair is confirmed, entries give what they fold to without recovering, and nothing is put in.
@@ -27,4 +29,20 @@ pub fn plies_are_legal()
 /// Nothing is invented: whatever a board shows, each ply was shown whole, or is one of a pair that was recovered.
 pub fn nothing_is_invented()
     ensures { NothingIsInvented }
+{}
+
+/// Honest hands are left alone: where the other side's pieces stand still up to each move, but the one that it takes, and while
+/// that is off, the mover's too, but those that the move moves, no pair is confirmed, and nothing is put in.
+pub fn honest_hands_are_left_alone()
+    ensures confirms { HonestHandsConfirmNone }
+    ensures written { HonestHandsAreLeftAlone }
+    ensures plain { PlainHandsAreOnTheWay }
+{}
+
+/// Hurried hands: where some pairs of a line are not seen ply by ply, and the next moves or the kings go on from them alone, the
+/// entries give the line, with its clocks.
+pub fn hurried_hands_give_their_line()
+    ensures moves { HurriedHands }
+    ensures score { HurriedHandsKeepClocks }
+    ensures kings { KingsEndHurriedHands }
 {}

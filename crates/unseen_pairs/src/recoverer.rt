@@ -1,5 +1,5 @@
 // The recoverer: it takes pictures, and keeps the line that they show, with the pairs that no picture showed ply by ply.
-ghost use Rattle.std.specs.Prelude.{◌≡◌, ◌<◌, ◌↔◌, ℕ, List, [], ◌∷◌, All, IfOk, OnOk, IsTrue};
+ghost use Rattle.std.specs.Prelude.{◌≡◌, ◌<◌, ◌↔◌, ◌^◌, ℕ, List, [], ◌∷◌, All, IfOk, OnOk, IsTrue};
 ghost use Rattle.chess_rules.specs.declared.parts.Parts.{Parts as PartsOf};
 ghost use Rattle.settle_core.specs.Entries.{Entry, entry_of};
 ghost use Rattle.unseen_pairs.specs.declared.confirming.Confirmed.{Confirmed as ConfirmedOf};
@@ -30,10 +30,12 @@ impl Model for Recoverer {
     ghost view = { λ r. record { settler = r.settler; candidates = r.candidates.items } };
 }
 
-fn is_same(a: &[u8; 64], b: &[u8; 64]) -> bool
-    ensures { IsTrue result ↔ (a.now ≡ b.now) }
+/// Whether the mask has no square.
+fn agrees(mask: u64) -> bool
+    ensures none { IsTrue result ↔ (mask ≡ 0) }
+    ensures fits { mask < 2 ^ 64 }
 {
-    *a == *b
+    mask == 0
 }
 
 impl Recoverer {
@@ -138,12 +140,12 @@ impl Recoverer {
             → ((one : ConfirmedOf) → ¬ IsOnlyOne self.old.candidates picture.now one)
             → OnOk result (HasTold self.new start past written (entry_of picture.now clock.now) (Told.Shown Seen.Waits)) }
     {
-        if is_same(picture, &self.settler.position().picture()) {
+        // The start is valid.
+        self.settler.start().parts();
+        if agrees(self.settler.differs()) {
             self.candidates.clear();
             return Ok(());
         }
-        // The start is valid.
-        self.settler.start().parts();
         let mut candidates = all_aged(alloc, &self.candidates)?;
         add_all(alloc, &mut candidates, &self.settler, picture, clock)?;
         self.candidates = candidates;

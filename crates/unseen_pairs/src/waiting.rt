@@ -1,5 +1,5 @@
 // The candidates of the entries that wait.
-ghost use Rattle.std.specs.Prelude.{◌≡◌, ◌<◌, ◌∷◌, [], true, List, IfOk, OnOk};
+ghost use Rattle.std.specs.Prelude.{◌≡◌, ◌<◌, ◌∷◌, [], true, List, Some, IfOk, OnOk};
 ghost use Rattle.chess_rules.specs.After.{after};
 ghost use Rattle.chess_rules.specs.Legal.{Legal};
 ghost use Rattle.settle_core.specs.declared.game.Ply.{Ply as PlyOf};
@@ -9,7 +9,7 @@ ghost use Rattle.settle_core.specs.Settling.{Played, reached};
 ghost use Rattle.unseen_pairs.specs.Candidates.{AreAdded, AreAllAdded, AreAged, IsNew};
 
 use crate::confirming::Candidate;
-use crate::explaining::{pairs_that_explain, theirs_left};
+use crate::explaining::{has_more, pairs_that_explain, theirs_left};
 use crate::pair::{Pair, TwoPlies};
 use chess_rules::{Move, Position};
 use dgt_frame::Reading;
@@ -117,12 +117,17 @@ pub fn add_all(
     picture: &[u8; 64],
     reading: &Option<Reading>,
 ) -> Result<(), AllocError>
-    ensures { Played settler.now.start (moves_of settler.now.score.plies)
+    ensures { settler.now.last ≡ Some picture.now
+        → Played settler.now.start (moves_of settler.now.score.plies)
         → SeenAs settler.now.start (moves_of settler.now.score.plies) picture.now SeenOf.Waits
         → OnOk result (AreAllAdded settler.now.start settler.now.score.plies picture.now reading.now candidates.old.items candidates.new.items) }
 {
     // The start is valid.
     settler.start().parts();
+    // No ply changes more than four squares.
+    if has_more(settler.differs(), 12) {
+        return Ok(());
+    }
     if !theirs_left(settler.position(), picture) {
         return Ok(());
     }

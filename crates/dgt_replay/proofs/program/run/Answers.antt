@@ -9,10 +9,10 @@ use Rattle.board_listing.specs.OneText.{event_lines, no_line, picture_lines}
 use Rattle.board_listing.specs.declared.listing.Listing.TheVariants.{Game}
 use Rattle.replay_arguments.specs.Setups.{option_of}
 use Rattle.dgt_replay.specs.Refusals.{RefusesSetup, RefusesStart}
-use Rattle.dgt_replay.proofs.DoesLemmas.{checks_memory, does_check, does_follow, does_moves, does_pictures, does_positions, does_record, does_refuse_positions, does_refuse_setup, does_refuse_start, does_show, lacks_memory, lists_memory, plays_memory, prints_memory, records_memory, refuses_memory, text_memory}
+use Rattle.dgt_replay.proofs.DoesLemmas.{checks_memory, does_check, does_follow, does_moves, does_pictures, does_positions, does_record, does_recover, does_refuse_positions, does_refuse_recover, does_refuse_setup, does_refuse_start, does_show, lacks_memory, lists_memory, plays_memory, prints_memory, records_memory, recovers_memory, refuses_memory, text_memory}
 use Rattle.dgt_replay.proofs.FaultLemmas.{mistaken_asks_nothing, mistaken_kind, one_fault, one_kind}
 use Rattle.dgt_replay.proofs.MessageLemmas.{text_out_of_memory}
-use Rattle.dgt_replay.proofs.SubcommandLemmas.{check_unrefused, follow_unrefused, moves_chosen, or_refused, pictures_unrefused, record_unrefused, show_unrefused, unrefused}
+use Rattle.dgt_replay.proofs.SubcommandLemmas.{check_unrefused, follow_unrefused, moves_chosen, or_refused, pictures_unrefused, record_unrefused, recover_unrefused, show_unrefused, unrefused}
 use Rattle.dgt_replay.proofs.program.run.Goals as goal
 
 pub returns-in-Err-clause-show : goal.returns-in-Err-clause-show
@@ -74,6 +74,26 @@ pub returns-in-Ok-clause-follow_refuses : goal.returns-in-Ok-clause-follow_refus
 returns-in-Ok-clause-follow_refuses g c rows asks none =
     let arguments = map string_bytes c.args.arguments.now in
     does_refuse_start arguments c.in-Ok.subcommand c.dispatch.result _ c.in-Ok.ensures.chooses c.dispatch.ensures.does rows asks none
+
+pub returns-in-Err-clause-recover : goal.returns-in-Err-clause-recover
+returns-in-Err-clause-recover g c setting asks =
+    let arguments = map string_bytes c.args.arguments.now in
+    recovers_memory setting _ _ (lacks_memory _ _ (Keeps-refl (g.R.Read.remaining (inner_of c.args.reader.now))) c.requires.reading (c.refused_arguments.ensures.memory (or_refused c.in-Err.ensures.refused (recover_unrefused arguments setting asks))))
+
+pub returns-in-Ok-clause-recover : goal.returns-in-Ok-clause-recover
+returns-in-Ok-clause-recover g c setting asks =
+    let arguments = map string_bytes c.args.arguments.now in
+    does_recover arguments c.in-Ok.subcommand c.dispatch.result _ c.in-Ok.ensures.chooses c.dispatch.ensures.does setting asks
+
+pub returns-in-Err-clause-recover_refuses : goal.returns-in-Err-clause-recover_refuses
+returns-in-Err-clause-recover_refuses g c rows asks none =
+    let arguments = map string_bytes c.args.arguments.now in
+    refuses_memory (RefusesStart (first_of (codes "fen") rows)) _ _ (lacks_memory _ _ (Keeps-refl (g.R.Read.remaining (inner_of c.args.reader.now))) c.requires.reading (c.refused_arguments.ensures.memory (or_refused c.in-Err.ensures.refused (unrefused arguments (codes "recover") rows asks))))
+
+pub returns-in-Ok-clause-recover_refuses : goal.returns-in-Ok-clause-recover_refuses
+returns-in-Ok-clause-recover_refuses g c rows asks none =
+    let arguments = map string_bytes c.args.arguments.now in
+    does_refuse_recover arguments c.in-Ok.subcommand c.dispatch.result _ c.in-Ok.ensures.chooses c.dispatch.ensures.does rows asks none
 
 pub returns-in-Err-clause-check : goal.returns-in-Err-clause-check
 returns-in-Err-clause-check g c is =

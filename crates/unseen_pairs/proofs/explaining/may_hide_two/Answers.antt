@@ -1,11 +1,20 @@
-use Rattle.std.proofs.Common.{◌≡◌, sym, ap, subst, ◌∙◌}
+use Rattle.std.proofs.Common.{◌≡◌, ◌<◌, ◌≤◌, count_ones, sym, ap, subst, ◌∙◌, arith}
 use Rattle.chess_rules.specs.Board.{other as other_side}
 use Rattle.std.proofs.lemmas.Bool.{both_ways}
 use Rattle.chess_rules.specs.declared.pieces.Side.{Side}
 use Rattle.chess_rules.specs.declared.parts.Parts.{Parts}
 use Rattle.unseen_pairs.specs.Lost.{Loses}
+use Rattle.unseen_pairs.proofs.Counting.{two_change}
 use Rattle.unseen_pairs.proofs.Losing.{mover_loses, other_loses}
 use Rattle.unseen_pairs.proofs.explaining.may_hide_two.Goals as goal
+
+pub returns-then-has_more : goal.returns-then-has_more
+returns-then-has_more c = λ m n two.
+    let few : count_ones c.diff_mask.result ≤ 8 =
+    two_change c.args.p.now m n c.picture-before.result c.args.seen.now c.diff_mask.result c.parts.ensures.valid two c.picture-before.ensures.shown
+    c.has_more.ensures.fits c.diff_mask.ensures in
+    let many : 8 < count_ones c.diff_mask.result = c.has_more.ensures.more c.if-has_more.true in
+    absurd (let never : ⊥ = omega arith in never)
 
 pub returns-then-not-loses : goal.returns-then-not-loses
 returns-then-not-loses c = λ m n two.

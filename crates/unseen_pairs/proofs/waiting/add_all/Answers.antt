@@ -5,11 +5,19 @@ use Rattle.chess_rules.specs.Board.{other as other_side}
 use Rattle.chess_rules.specs.Valid.{Valid}
 use Rattle.unseen_pairs.specs.Lost.{Loses}
 use Rattle.unseen_pairs.specs.Candidates.{AreAdded}
-use Rattle.unseen_pairs.proofs.Aging.{all_added, none_left}
+use Rattle.unseen_pairs.proofs.Aging.{all_added, none_left, none_near}
 use Rattle.unseen_pairs.proofs.waiting.add_all.Goals as goal
 
+pub returns-then-has_more : goal.returns-then-has_more
+returns-then-has_more c = λ last played waits.
+    let start = c.args.settler.now.start in
+    let plies = c.args.settler.now.score.plies in
+    let valid : Valid start = subst Valid c.start.ensures c.parts.ensures.valid in
+    none_near start plies c.args.picture.now c.args.reading.now c.args.candidates.now.items c.differs.result valid played
+    c.has_more.ensures.fits (c.differs.ensures c.args.picture.now last) (c.has_more.ensures.more c.if-has_more.true)
+
 pub returns-then-not-theirs_left : goal.returns-then-not-theirs_left
-returns-then-not-theirs_left c = λ played waits.
+returns-then-not-theirs_left c = λ last played waits.
     let start = c.args.settler.now.start in
     let plies = c.args.settler.now.score.plies in
     let valid : Valid start = subst Valid c.start.ensures c.parts.ensures.valid in
@@ -19,7 +27,7 @@ returns-then-not-theirs_left c = λ played waits.
     (subst L c.position.ensures.reached (λ h. both_ways _ c.if-not-theirs_left.true (l.1 h)))
 
 pub returns : goal.returns
-returns c = λ played waits.
+returns c = λ last played waits.
     let start = c.args.settler.now.start in
     let plies = c.args.settler.now.score.plies in
     let A : Parts → Type 0 = λ (p : Parts). AreAdded false p c.args.picture.now c.args.reading.now c.args.candidates.now.items c.add_pairs.new.candidates.items in

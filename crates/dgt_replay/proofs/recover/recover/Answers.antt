@@ -1,0 +1,29 @@
+use Rattle.std.proofs.Common.{◌∙◌, inl, sym}
+use Rattle.std.proofs.KnownBytes.{Keeps-refl}
+use Rattle.dgt_frame.specs.Watch.{inner_of}
+use Rattle.replay_arguments.specs.Setups.{given}
+use Rattle.dgt_replay.specs.Refusals.{RefusesStart}
+use Rattle.dgt_replay.specs.Messages.{fen_message}
+use Rattle.dgt_replay.proofs.MessageLemmas.{tells_refused}
+use Rattle.dgt_replay.proofs.RefusalLemmas.{start_refused}
+use Rattle.dgt_replay.proofs.SetupLemmas.{ok_same, same_setting}
+use Rattle.dgt_replay.proofs.recover.recover.Goals as goal
+
+pub returns-in-Ok-clause-recovers : goal.returns-in-Ok-clause-recovers
+returns-in-Ok-clause-recovers g c setting meets =
+    let same = ok_same c.start_of.result c.in-Ok.start setting.start c.in-Ok.is ((c.start_of.ensures.start setting.start).1 meets.start) in
+    rw (← same_setting c.args.options.now setting c.in-Ok.start meets same) c.recover_from.ensures.recovers
+
+pub returns-in-Ok-clause-refuses : goal.returns-in-Ok-clause-refuses
+returns-in-Ok-clause-refuses g c none = absurd (none c.in-Ok.start ((c.start_of.ensures.start c.in-Ok.start).0 c.in-Ok.is))
+
+pub returns-in-Err-clause-recovers : goal.returns-in-Err-clause-recovers
+returns-in-Err-clause-recovers g c setting meets = absurd (let bad = sym c.in-Err.is ∙ (c.start_of.ensures.start setting.start).1 meets.start in cc)
+
+pub returns-in-Err-clause-refuses : goal.returns-in-Err-clause-refuses
+returns-in-Err-clause-refuses g c none = record {
+  known = inl c.refused_fen.ensures.status;
+  untouched = (Keeps-refl (g.R.Read.remaining (inner_of c.args.reader.now)), Keeps-refl (g.O.Write.contents (inner_of c.args.out.now)));
+  tells = tells_refused c.refused_fen.result (RefusesStart (given c.args.options.now.fen)) _ _ _ _ _ (fen_message c.in-Err.error) c.refused_fen.ensures.status
+      (start_refused (given c.args.options.now.fen) c.in-Err.error c.in-Err.ensures.refusal (λ start starts. let bad = sym c.in-Err.is ∙ (c.start_of.ensures.start start).1 starts in cc)) c.refused_fen.ensures.says;
+}

@@ -1,0 +1,78 @@
+//! The subcommand `recover`.
+ghost use Rattle.std.specs.Prelude.{◌≡◌, ◌≢◌, ◌≤◌, false};
+ghost use Rattle.board_session.specs.Settings.{Setting};
+ghost use Rattle.dgt_frame.specs.Watch.{inner_of, has_failed};
+ghost use Rattle.dgt_replay.specs.Does.{Recovers, Refuses};
+ghost use Rattle.dgt_replay.specs.Refusals.{RefusesStart};
+ghost use Rattle.dgt_replay.specs.Streams.{streams};
+ghost use Rattle.replay_arguments.specs.Setups.{HasNoStart, MeetsBoard, given};
+
+use crate::messages::{refused, refused_fen};
+use chess_rules::Position;
+use dgt_frame::Watch;
+use recovery::recover_stream;
+use replay_arguments::{BoardArguments, start_of};
+use std::alloc::Global;
+use std::io::{Read, Write};
+
+// Gives on a stream that begins in this position, and returns the status.
+fn recover_from<R: Read, O: Write, E: Write>(
+    alloc: Global,
+    start: Position,
+    options: &BoardArguments<'_>,
+    reader: &mut Watch<R>,
+    out: &mut Watch<O>,
+    err: &mut Watch<E>,
+) -> u8
+    requires reading { has_failed reader.old ≡ false }
+    requires working { has_failed out.old ≡ false }
+    requires erring { has_failed err.old ≡ false }
+    ensures recovers { Recovers (record { start = start; first = options.now.first; rotated = options.now.rotated }) result
+        (streams R.remaining O.contents E.contents reader.old reader.new out.old out.new err.old err.new) }
+    ensures works { result ≡ 0 → (has_failed reader.new ≡ false) × ((has_failed out.new ≡ false) × (has_failed err.new ≡ false)) }
+    ensures known { result ≤ 4 }
+    ensures status { result ≢ 2 }
+{
+    let done = recover_stream(
+        alloc,
+        start,
+        options.first,
+        options.rotated,
+        reader,
+        out,
+        err,
+    );
+    if out.failed() || out.flush().is_err() {
+        return refused(err, b"write fault\n", 3);
+    }
+    match done {
+        Ok(()) => 0,
+        Err(error) => refused(err, error.line(), error.status()),
+    }
+}
+
+/// Gives on the bytes of a board, with the moves put in that two hands hid, and returns the status. The line of each pair goes to
+/// `err`.
+pub fn recover<R: Read, O: Write, E: Write>(
+    alloc: Global,
+    options: &BoardArguments<'_>,
+    reader: &mut Watch<R>,
+    out: &mut Watch<O>,
+    err: &mut Watch<E>,
+) -> u8
+    requires reading { has_failed reader.old ≡ false }
+    requires working { has_failed out.old ≡ false }
+    requires erring { has_failed err.old ≡ false }
+    ensures recovers { (setting : Setting) → MeetsBoard options.now setting → Recovers setting result
+        (streams R.remaining O.contents E.contents reader.old reader.new out.old out.new err.old err.new) }
+    ensures refuses { HasNoStart (given options.now.fen) → Refuses (RefusesStart (given options.now.fen)) result
+        (streams R.remaining O.contents E.contents reader.old reader.new out.old out.new err.old err.new) }
+    ensures works { result ≡ 0 → (has_failed reader.new ≡ false) × ((has_failed out.new ≡ false) × (has_failed err.new ≡ false)) }
+    ensures known { result ≤ 4 }
+    ensures status { result ≢ 2 }
+{
+    match start_of(options.fen) {
+        Ok(start) => recover_from(alloc, start, options, reader, out, err),
+        Err(error) => refused_fen(err, error),
+    }
+}

@@ -1,0 +1,76 @@
+"""Pairs of moves that two hands hid: when they are recovered, what is told of them, and where what was put in belongs."""
+
+from live.options import Options, parse
+from live.refused import Refused
+from live.whole import Pair, Place, place_in
+
+from decided.table import refused, same
+
+YES, NO = ("--recover",), ("--strict",)
+# What was kept, what is given, and whether pairs are recovered then.
+KEPT = {
+    ((), ()): False,
+    ((), YES): True,
+    ((), NO): False,
+    (YES, ()): True,
+    (YES, YES): True,
+    (YES, NO): False,
+    (YES, ("--white", "--strict")): True,  # a player's name
+    ((), (*YES, *NO)): False,  # of a round and of its line: the last one counts
+    ((), (*NO, *YES)): True,
+}
+LINES = {
+    "350 recovered 3. Bc4 3... Nc6": Pair(350, "recovered 3. Bc4 3... Nc6"),
+    "0 recovered 12... Qxd5 13. O-O-O+": Pair(0, "recovered 12... Qxd5 13. O-O-O+"),
+    "input: too long": None,
+    "350 move 3. Bc4": None,
+    "recovered 3. Bc4 3... Nc6": None,
+    "": None,
+}
+
+
+def kept() -> None:
+    for (before, given), recovers in KEPT.items():
+        same(f"{before}, {given}", Options(before).recovers_with(Options(given)), recovers)
+    options = Options(("--rotated", "--recover", "--white", "Anna"))
+    same("of record", options.of_record(), ("--rotated", "--white", "Anna"))
+    same("of the board", options.of_board(), ("--rotated",))
+    same("no longer", options.recovering(False).words, ("--rotated", "--white", "Anna"))
+
+
+def calls() -> None:
+    """With a device a game is recorded so; without one its text is made anew."""
+    for words in (YES, NO):
+        call = parse(["/dev/ttyUSB0", "game", *words])
+        same(f"{words} with a device", (call.device, call.name, call.words), ("/dev/ttyUSB0", "game", words))
+        call = parse([*words, "game"])
+        same(f"{words} without", (call.device, call.name, call.words), ("", "game", words))
+    for words in ([*YES], [*YES, *NO, "game"], [*YES, "--rotated", "game"], [*YES, "--series", "game"], ["game"]):
+        refused(" ".join(words), Refused, parse, words)
+
+
+def told() -> None:
+    for line, pair in LINES.items():
+        same(line, Pair.of_line(line), pair)
+
+
+def places() -> None:
+    """Two pairs: behind the byte at 96 three dumps were put in, and behind that at 126 a time too, before them and behind two."""
+    one, two = Pair(96, "one"), Pair(126, "two")
+    content = bytes(97) + b"\x86" + bytes(200) + bytes(30) + b"\x8d" + bytes(220) + bytes(10)
+    for offset, place in (
+        (0, Place(0)),
+        (96, Place(96)),
+        (97, Place(96, one)),
+        (297, Place(96, one)),
+        (298, Place(97)),
+        (327, Place(126)),
+        (328, Place(126, two)),
+        (548, Place(126, two)),
+        (549, Place(127)),
+    ):
+        same(f"the byte at {offset}", place_in(content, (one, two), offset), place)
+    same("nothing was put in", place_in(content, (), 97), Place(97))
+
+
+TABLES = [kept, calls, told, places]
