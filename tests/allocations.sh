@@ -10,7 +10,7 @@ set -eu
 
 cd "$(dirname "$0")/../crates/test_allocations"
 calls=17
-runs=660
+runs=780
 folder=$(mktemp -d)
 trap 'rm -rf "$folder"' EXIT
 
