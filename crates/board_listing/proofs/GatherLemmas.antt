@@ -4,7 +4,7 @@ use Rattle.std.specs.Prelude.{is_err, is_ok}
 use Rattle.std.proofs.KnownBytes.{Appends-trans}
 use Rattle.std.proofs.lemmas.List.{take-append-drop}
 use Rattle.std.specs.Io.KnownBytes.{Appends}
-use Rattle.dgt_frame.specs.declared.WriteFault.{WriteFault}
+use Rattle.watched_streams.specs.declared.WriteFault.{WriteFault}
 use Rattle.dgt_frame.specs.Streams.{Timed}
 use Rattle.board_listing.specs.declared.printer.Printer.{Printer}
 use Rattle.board_listing.specs.declared.listing.Listing.{Listing}

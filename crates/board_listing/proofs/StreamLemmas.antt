@@ -5,15 +5,16 @@ use Rattle.std.proofs.KnownBytes.{Appends-trans, Consumes-kept, Consumes-trans}
 use Rattle.std.proofs.lemmas.List.{length-take-le}
 use Rattle.std.specs.Io.KnownBytes.{Appends, Consumes, IsAtEnd, Keeps}
 use Rattle.dgt_frame.specs.declared.decode.Decoder.{Decoder}
-use Rattle.dgt_frame.specs.declared.input.ReadChunk.{ReadChunk}
+use Rattle.watched_streams.specs.declared.input.ReadChunk.{ReadChunk}
 use Rattle.dgt_frame.specs.Decoder.{Decoded}
-use Rattle.dgt_frame.specs.Input.{GivesChunk}
+use Rattle.watched_streams.specs.Input.{GivesChunk}
 use Rattle.dgt_frame.specs.Streams.{Shows, Timed}
 use Rattle.board_session.specs.Recording.{limit}
 use Rattle.board_listing.specs.declared.printer.Printer.{Printer}
 use Rattle.board_listing.specs.declared.listing.Listing.{Listing}
 use Rattle.board_listing.specs.Printers.{HasBegun}
-use Rattle.board_listing.specs.Listings.{Gathers, Leaves, ListsAll, ListsFirst, ListsFront, ListsRead, ListsRefused, ReadsWithin, WritesFront, last_line}
+use Rattle.watched_streams.specs.Input.{ReadsWithin}
+use Rattle.board_listing.specs.Listings.{Gathers, Leaves, ListsAll, ListsFirst, ListsFront, ListsRead, ListsRefused, WritesFront, last_line}
 use Rattle.board_listing.specs.Progress.{BreaksOff, FinishBreaksOff, Finishes, HasListed, HasTaken, ListsChunk, Stops}
 use Rattle.board_listing.specs.declared.stream.ListError.{ListError}
 use Rattle.board_listing.specs.declared.stream.ListError.TheVariants.{Memory, Read, TooLong, Write}

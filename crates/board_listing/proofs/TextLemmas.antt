@@ -14,7 +14,7 @@ use Rattle.chess_rules.specs.Picture.{picture}
 use Rattle.chess_rules.specs.Valid.{Valid}
 use Rattle.chess_text.specs.Laws.{IsSanByte, TextsArePlain}
 use Rattle.chess_text.specs.Squares.{square_text}
-use Rattle.dgt_frame.specs.declared.Hms.{Hms}
+use Rattle.chess_clock.specs.declared.Hms.{Hms}
 use Rattle.dgt_frame.specs.declared.events.FaultKind.{FaultKind}
 use Rattle.dgt_frame.specs.declared.events.FaultKind.TheVariants.{Cut, Stray, Size, Data}
 use Rattle.settle_core.specs.declared.game.Outcome.{Outcome}

@@ -2,6 +2,7 @@
 use Rattle.std.specs.Prelude.{◌≡◌, ◌<◌, ◌≤◌, ◌+◌, ◌⊎◌, ℕ, List, [], ◌∷◌, ◌++◌, length, reverse, Option, IfSome, Bool, true, false, Contains, ⊤}
 use Rattle.std.specs.List.{flat_map}
 use Rattle.std.specs.Io.KnownBytes.{Appends, Consumes, Keeps}
+use Rattle.watched_streams.specs.Input.{ReadsWithin}
 use Rattle.dgt_frame.specs.Streams.{Shows, Timed}
 use Rattle.board_session.specs.Commands.{past_of}
 use Rattle.board_session.specs.Recording.{limit}
@@ -82,10 +83,6 @@ EndsForMemory Events input input' written written' = Keeps input input' × Keeps
 EndsForMemory (Pictures rotated) input input' written written' = Keeps input input' × Keeps written written'
 EndsForMemory (Game start first rotated) input input' written written' = (Keeps input input' × Keeps written written')
     ⊎ ListsRefused (Game start first rotated) input input' written written'
-
--- At most one byte past the limit was read.
-abbrev pub ReadsWithin : ℕ → Option (List ℕ) → Option (List ℕ) → Type 0
-ReadsWithin most input input' = (bytes : List ℕ) × Consumes input input' bytes × (length bytes ≤ most + 1)
 
 -- How a listing ends, by its status.
 pub record ListingEnds (listing : Listing) (status : ℕ) (input input' written written' : Option (List ℕ)) (reader_failed out_failed : Bool) : Type 0 where

@@ -7,7 +7,8 @@ use Rattle.board_session.specs.Commands.{past_of}
 use Rattle.board_session.specs.Recording.{limit}
 use Rattle.board_session.specs.Pictures.{pictures}
 use Rattle.board_listing.specs.EventLines.{line_of}
-use Rattle.board_listing.specs.Listings.{ReadsWithin, WritesFront}
+use Rattle.watched_streams.specs.Input.{ReadsWithin}
+use Rattle.board_listing.specs.Listings.{WritesFront}
 use Rattle.board_listing.specs.PictureLines.{placement_line}
 
 -- the lines of `show`: one for each event

@@ -6,7 +6,7 @@ ghost use Rattle.dgt_frame.specs.Streams.{HasFrame};
 ghost use Rattle.arrayvec.specs.ArrayVec.{array_vec_len};
 ghost use Rattle.board_listing.specs.EventLines.{hex_digit, two_hex_digits, kind_text, message_text, event_text, line_of, rest_line};
 
-use crate::text::{GATHERED, LONGEST, Lines, add, add_number};
+use watched_streams::{GATHERED, LONGEST, Lines, add, add_number};
 use dgt_frame::{Event, FaultKind, Message};
 
 fn hex_digit(n: u8) -> u8

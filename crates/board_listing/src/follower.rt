@@ -8,7 +8,7 @@ ghost use Rattle.board_listing.specs.News.{AddsNews, LastIsLegal, MayTell};
 
 use crate::events::add_line;
 use crate::game::{add_ply, add_result, add_waiting};
-use crate::text::{GATHERED, LONGEST, Lines};
+use watched_streams::{GATHERED, LONGEST, Lines};
 use board_session::Session;
 use chess_rules::Position;
 use dgt_frame::{Event, First};

@@ -8,10 +8,10 @@ ghost use Rattle.settle_core.specs.Masks.{IsDiff};
 ghost use Rattle.pgn_book.specs.Movetext.{number_token};
 ghost use Rattle.board_listing.specs.GameLines.{clock_words, line, move_words, result_words, squares_text, time_text, waiting_words};
 
-use crate::text::{GATHERED, Lines, add, add_number};
+use watched_streams::{GATHERED, Lines, add, add_number};
 use chess_rules::{Position, Side};
 use chess_text::write_san;
-use dgt_frame::Hms;
+use chess_clock::Hms;
 use pgn_book::result_str;
 use settle_core::{Outcome, Ply};
 

@@ -9,8 +9,6 @@ mod listing;
 mod pictures;
 mod printer;
 mod stream;
-mod text;
 
 pub use listing::Listing;
 pub use stream::{ListError, list_stream};
-pub use text::{GATHERED, LONGEST, Lines, add, add_number};

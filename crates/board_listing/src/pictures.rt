@@ -4,7 +4,7 @@ ghost use Rattle.arrayvec.specs.ArrayVec.{array_vec_len};
 ghost use Rattle.chess_text.specs.KeptRanks.{picture_in};
 ghost use Rattle.board_listing.specs.PictureLines.{placement_line};
 
-use crate::text::{GATHERED, LONGEST, Lines};
+use watched_streams::{GATHERED, LONGEST, Lines};
 use chess_text::PlacementText;
 
 /// Adds the placement of a picture, as a line.

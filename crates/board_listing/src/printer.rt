@@ -10,7 +10,7 @@ use crate::events::{add_line, add_rest};
 use crate::follower::Follower;
 use crate::listing::Listing;
 use crate::pictures::add_placement;
-use crate::text::{GATHERED, LONGEST, Lines};
+use watched_streams::{GATHERED, LONGEST, Lines};
 use board_session::{Change, View};
 use chess_text::PlacementText;
 use dgt_frame::Event;

@@ -1,8 +1,9 @@
 //! Streams to lines: the subcommands `show`, `pictures` and `follow`.
 ghost use Rattle.std.specs.Prelude.{◌≡◌, ◌<◌, ◌≤◌, ◌+◌, ◌^◌, [], length, IfErr, OnOk, OnErr, Err, true, false};
 ghost use Rattle.dgt_frame.specs.Streams.{HasFrame};
-ghost use Rattle.dgt_frame.specs.Watch.{inner_of, has_failed};
-ghost use Rattle.board_listing.specs.Listings.{ListsAll, ListsFirst, ListsFront, ListsRead, ListsRefused, ReadsWithin};
+ghost use Rattle.watched_streams.specs.Watch.{inner_of, has_failed};
+ghost use Rattle.watched_streams.specs.Input.{ReadsWithin};
+ghost use Rattle.board_listing.specs.Listings.{ListsAll, ListsFirst, ListsFront, ListsRead, ListsRefused};
 ghost use Rattle.arrayvec.specs.ArrayVec.{array_vec_len};
 ghost use Rattle.board_listing.specs.Printers.{HasBegun};
 ghost use Rattle.board_listing.specs.Progress.{BreaksLines, BreaksOff, FinishBreaksOff, Finishes, GathersEvent, HasTaken, ListsChunk};
@@ -10,8 +11,9 @@ ghost use Rattle.board_listing.specs.Status.{status_of, message_of};
 
 use crate::listing::Listing;
 use crate::printer::Printer;
-use crate::text::{GATHERED, LONGEST, Lines};
-use dgt_frame::{BLANK, CHUNK, Decoder, Event, LIMIT, Watch, WriteFault, put, read_chunk};
+use watched_streams::{GATHERED, LONGEST, Lines};
+use dgt_frame::{BLANK, Decoder, Event, LIMIT};
+use watched_streams::{CHUNK, Watch, WriteFault, put, read_chunk};
 use std::alloc::Global;
 use std::io::{Read, Write};
 

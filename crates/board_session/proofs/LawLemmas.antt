@@ -8,7 +8,7 @@ use Rattle.dgt_frame.specs.declared.events.Event.{Event}
 use Rattle.dgt_frame.specs.declared.events.Event.TheVariants.{Message as MessageEvent, Fault}
 use Rattle.dgt_frame.specs.declared.events.FaultKind.{FaultKind}
 use Rattle.dgt_frame.specs.declared.First.{First}
-use Rattle.dgt_frame.specs.declared.Reading.{Reading}
+use Rattle.chess_clock.specs.declared.Reading.{Reading}
 use Rattle.settle_core.specs.Entries.{Entry, entry_of, last_picture, repeats, deduplicated}
 use Rattle.pgn_book.specs.Games.{Content}
 use Rattle.pgn_book.specs.Values.{TagValues}

@@ -5,7 +5,7 @@ use Rattle.dgt_frame.specs.declared.events.Message.TheVariants.{Dump, Update, Ti
 use Rattle.dgt_frame.specs.declared.events.Event.{Event}
 use Rattle.dgt_frame.specs.declared.events.Event.TheVariants.{Message as MessageEvent, Fault}
 use Rattle.dgt_frame.specs.declared.First.{First}
-use Rattle.dgt_frame.specs.declared.Reading.{Reading}
+use Rattle.chess_clock.specs.declared.Reading.{Reading}
 use Rattle.dgt_frame.specs.Times.{is_acknowledgement, lacks_clock, has_digits, reading_of}
 
 -- codes are at most 15, and fields at most 63

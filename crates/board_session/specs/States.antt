@@ -1,7 +1,7 @@
 -- What a session keeps.
 use Rattle.std.specs.Prelude.{Bool, Option}
 use Rattle.dgt_frame.specs.declared.First.{First}
-use Rattle.dgt_frame.specs.declared.Reading.{Reading}
+use Rattle.chess_clock.specs.declared.Reading.{Reading}
 use Rattle.settle_core.specs.Settler.{Sheet}
 
 pub record State : Type 0 where

@@ -3,7 +3,7 @@ ghost use Rattle.std.specs.Prelude.{◌≡◌, ◌≢◌, ◌<◌, ◌≤◌, �
 ghost use Rattle.std.specs.Io.KnownBytes.{Appends};
 ghost use Rattle.dgt_frame.specs.Decoder.{Decoded};
 ghost use Rattle.dgt_frame.specs.Streams.{HasFrame, Timed};
-ghost use Rattle.dgt_frame.specs.Watch.{inner_of, has_failed};
+ghost use Rattle.watched_streams.specs.Watch.{IsFlushed, inner_of, has_failed};
 ghost use Rattle.board_session.specs.Settings.{Setting};
 ghost use Rattle.board_session.specs.History.{is_fault};
 ghost use Rattle.board_session.specs.Recording.{AppendsPart};
@@ -12,7 +12,8 @@ ghost use Rattle.board_session.specs.Recorder.{Hears, IsFed, IsRefusal, Kept, Li
 use crate::refusal::RecordError;
 use crate::session::Session;
 use chess_rules::Position;
-use dgt_frame::{BLANK, CHUNK, Decoder, Event, First, LIMIT, Watch, put, read_chunk};
+use dgt_frame::{BLANK, Decoder, Event, First, LIMIT};
+use watched_streams::{CHUNK, Watch, put, read_chunk};
 use std::alloc::Global;
 use std::io::{Read, Write};
 
@@ -39,6 +40,7 @@ fn send<B: Write>(board: &mut Watch<B>, bytes: &[u8]) -> Result<(), RecordError>
     ensures part { OnErr result (AppendsPart (B.contents (inner_of board.old)) (B.contents (inner_of board.new)) bytes.now) }
     ensures failed { OnErr result (has_failed board.new ≡ true) }
     ensures cause { IfErr result (λ error. error ≡ RecordError.Board) }
+    ensures flushed { IsFlushed board.new }
 {
     if put(board, bytes).is_err() || board.flush().is_err() {
         return Err(RecordError::Board);
@@ -77,6 +79,7 @@ impl Recorder {
         ensures working { OnOk result (has_failed board.new ≡ false) }
         ensures failed { result ≡ Err RecordError.Board → has_failed board.new ≡ true }
         ensures blamed { has_failed board.new ≡ true → result ≡ Err RecordError.Board }
+        ensures flushed { IsFlushed board.old → IsFlushed board.new }
         ensures refusal { IfErr result IsRefusal }
     {
         let Ok(taken) = self.session.take_ref(event) else {
@@ -120,6 +123,7 @@ impl Recorder {
         ensures working { OnOk result (has_failed board.new ≡ false) }
         ensures failed { result ≡ Err RecordError.Board → has_failed board.new ≡ true }
         ensures blamed { has_failed board.new ≡ true → result ≡ Err RecordError.Board }
+        ensures flushed { IsFlushed board.old → IsFlushed board.new }
         ensures refusal { IfErr result IsRefusal }
     {
         let mut event = BLANK;
@@ -149,6 +153,7 @@ impl Recorder {
         ensures board { result ≡ Err RecordError.Board → has_failed board.new ≡ true }
         ensures reader_blamed { has_failed reader.new ≡ true → result ≡ Err RecordError.Read }
         ensures board_blamed { has_failed board.new ≡ true → result ≡ Err RecordError.Board }
+        ensures flushed { IsFlushed board.old → IsFlushed board.new }
         ensures cause { result ≢ Err RecordError.Write }
     {
         let mut buffer = [0u8; CHUNK];
@@ -186,6 +191,7 @@ impl Recorder {
         ensures board { result ≡ Err RecordError.Board → has_failed board.new ≡ true }
         ensures reader_blamed { has_failed reader.new ≡ true → result ≡ Err RecordError.Read }
         ensures board_blamed { has_failed board.new ≡ true → result ≡ Err RecordError.Board }
+        ensures flushed { IsFlushed board.new }
         ensures cause { result ≢ Err RecordError.Write }
     {
         send(board, &[SEND_DUMP, SEND_UPDATES])?;

@@ -3,7 +3,7 @@ ghost use Rattle.std.specs.Prelude.{◌≡◌, ◌≢◌, ◌≤◌, ◌⊎◌, 
 ghost use Rattle.std.specs.Io.KnownBytes.{Appends};
 ghost use Rattle.dgt_frame.specs.Decoder.{Decoded};
 ghost use Rattle.dgt_frame.specs.Streams.{Timed};
-ghost use Rattle.dgt_frame.specs.Watch.{inner_of, has_failed};
+ghost use Rattle.watched_streams.specs.Watch.{IsFlushed, inner_of, has_failed};
 ghost use Rattle.pgn_book.specs.Pgn.{Pgn};
 ghost use Rattle.board_session.specs.Settings.{Setting};
 ghost use Rattle.board_session.specs.Recording.{AppendsPart, Leaves, RecordsAll};
@@ -12,7 +12,8 @@ ghost use Rattle.board_session.specs.Recorder.{Finished, Kept, event_count};
 use crate::recorder::Recorder;
 use crate::refusal::RecordError;
 use chess_rules::Position;
-use dgt_frame::{First, LIMIT, Watch};
+use dgt_frame::{First, LIMIT};
+use watched_streams::Watch;
 use pgn_book::laws::one_game;
 use pgn_book::{Game, Tags, write_pgn};
 use std::alloc::Global;
@@ -53,6 +54,7 @@ fn write_game<W: Write>(game: &Game, out: &mut Watch<W>) -> Result<(), RecordErr
     ensures working { OnOk result (has_failed out.new ≡ false) }
     ensures failed { OnErr result (has_failed out.new ≡ true) }
     ensures cause { IfErr result (λ error. error ≡ RecordError.Write) }
+    ensures flushed { IsFlushed out.new }
 {
     if write_pgn(game, out).is_err() || out.flush().is_err() {
         return Err(RecordError::Write);
@@ -79,6 +81,7 @@ fn finish<W: Write>(
     ensures failed { ending ≢ Err RecordError.Write → result ≡ Err RecordError.Write → has_failed out.new ≡ true }
     ensures written { result ≢ Err RecordError.Write → has_failed out.new ≡ false }
     ensures blamed { IfErr ending (λ error. (result ≡ Err error) ⊎ (result ≡ Err RecordError.Write)) }
+    ensures flushed { IsFlushed out.new }
 {
     let Recorder {
         decoder,
@@ -109,7 +112,7 @@ fn finish<W: Write>(
 /// # Errors
 ///
 /// `Memory`, `Read`, `Board` and `TooLong` say what ended the reading early; then the whole text of the events taken stands.
-/// `Write` says that the text stands only in part.
+/// `Write` says that a write or the flush failed: a first part of the text stands, perhaps all of it.
 pub fn record<R: Read, B: Write, W: Write>(
     alloc: Global,
     setup: Setup,
@@ -139,6 +142,9 @@ pub fn record<R: Read, B: Write, W: Write>(
     ensures written { result ≢ Err RecordError.Write → has_failed out.new ≡ false }
     ensures reader_blamed { has_failed reader.new ≡ true → (result ≡ Err RecordError.Read) ⊎ (result ≡ Err RecordError.Write) }
     ensures board_blamed { has_failed board.new ≡ true → (result ≡ Err RecordError.Board) ⊎ (result ≡ Err RecordError.Write) }
+
+    // Nothing waits for a flush on a stream that works: each request has left, and so has the text.
+    ensures flushed { IsFlushed board.new × IsFlushed out.new }
 {
     // The text's game is the only one: no two games have one text.
     one_game();

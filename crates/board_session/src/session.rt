@@ -12,7 +12,8 @@ ghost use Rattle.board_session.specs.Game.{IsGameOf};
 ghost use Rattle.board_session.specs.Session.{StandsFor, Takes, TellsTaken, WantsMemory, entries_in};
 
 use chess_rules::{Position, Square};
-use dgt_frame::{Event, First, Message, Reading, read_time};
+use chess_clock::Reading;
+use dgt_frame::{Event, First, Message, read_time};
 use pgn_book::{Game, Tags};
 use settle_core::{Seen, Settler};
 use std::alloc::{AllocError, Global};

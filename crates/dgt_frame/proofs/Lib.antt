@@ -5,7 +5,5 @@ pub mod StoredLemmas
 pub mod OnceLemmas
 pub mod FrontLemmas
 pub mod WholeLemmas
-pub mod PutLemmas
-pub mod InputLemmas
 pub mod RestartLemmas
 pub mod LossLemmas

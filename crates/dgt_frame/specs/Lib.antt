@@ -1,14 +1,11 @@
-pub mod Clock
 pub mod Decoder
 pub mod Encoding
 pub mod Frames
-pub mod Input
 pub mod Layout
 pub mod Room
 pub mod Stored
 pub mod Streams
 pub mod Times
-pub mod Watch
 pub mod Whole
 pub mod Restarts
 pub mod Losses

@@ -1,9 +1,9 @@
 -- What the seven data bytes of a time message say: two groups of three bytes, and a status.
 use Rattle.std.specs.Prelude.{ℕ, ◌+◌, ◌*◌, ◌/◌, ◌%◌, Bool, ◌&&◌, ◌||◌, ◌==◌, nat_lt, if◌then◌else◌, List, slice_index, Option, Some, None}
-use Rattle.dgt_frame.specs.Clock.{Clock}
+use Rattle.chess_clock.specs.Clock.{Clock}
 use Rattle.dgt_frame.specs.declared.time.First.{First}
 use Rattle.dgt_frame.specs.declared.time.First.TheVariants.{White, Black}
-use Rattle.dgt_frame.specs.declared.time.Reading.{Reading}
+use Rattle.chess_clock.specs.declared.times.Reading.{Reading}
 
 -- bits 6 to 4
 abbrev pub tens : ℕ → ℕ

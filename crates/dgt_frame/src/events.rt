@@ -1,5 +1,8 @@
 //! What a stream of bytes shows: the messages of the DGT Electronic Board Protocol, and this project's faults.
 
+/// The most bytes of a board's stream that are read.
+pub const LIMIT: u32 = 67_108_864;
+
 /// What a frame says (DGT Electronic Board Protocol). A decoder returns messages in these ranges alone.
 #[derive(Clone, Copy, Debug, PartialEq, Eq)]
 pub enum Message {

@@ -1,46 +1,15 @@
 //! What a time message says of the clock. The protocol gives the frame, and this project what its bytes mean.
 ghost use Rattle.std.specs.Prelude.{◌≡◌, ◌≤◌, ◌+◌, ◌↔◌, IsTrue};
-ghost use Rattle.dgt_frame.specs.Clock.{Clock};
+ghost use Rattle.chess_clock.specs.Clock.{Clock};
 ghost use Rattle.dgt_frame.specs.Times.{tens, units, number_of, are_digits, group_read, reading_after};
 
-use std::marker::Model;
+use chess_clock::{Hms, Reading};
 
 /// Whose time the first group of a time message is.
 #[derive(Clone, Copy, Debug, PartialEq, Eq)]
 pub enum First {
     White,
     Black,
-}
-
-/// A clock's time, 0:00:00 to 9:59:59.
-#[derive(Clone, Copy, Debug, PartialEq, Eq)]
-pub struct Hms {
-    /// 0 to 9.
-    pub hours: u8,
-    /// 0 to 59.
-    pub minutes: u8,
-    /// 0 to 59.
-    pub seconds: u8,
-}
-
-impl Model for Hms {
-    ghost use Rattle.std.specs.Prelude.{◌≤◌};
-    ghost use Rattle.dgt_frame.specs.Clock.{Clock};
-
-    ghost Value = { Clock };
-
-    ghost view = { λ h. record { hours = h.hours; minutes = h.minutes; seconds = h.seconds } };
-
-    ghost invariant = { λ h. (h.hours ≤ 9) × (h.minutes ≤ 59) × (h.seconds ≤ 59) };
-
-    ghost inverse = { λ c. record { hours = c.hours; minutes = c.minutes; seconds = c.seconds } };
-}
-
-/// The times of both clocks.
-#[derive(Clone, Copy, Debug, PartialEq, Eq)]
-pub struct Reading {
-    pub white: Hms,
-    pub black: Hms,
 }
 
 fn tens(byte: u8) -> u8

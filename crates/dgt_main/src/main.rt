@@ -1,7 +1,7 @@
 //! Runs `dgt_replay` on the standard streams.
 #![tactic(auto)]
 
-use dgt_frame::Watch;
+use watched_streams::Watch;
 use dgt_replay::run;
 use std::env;
 use std::process::ExitCode;

@@ -3,12 +3,12 @@ use Rattle.std.proofs.Common.{◌≡◌, ℕ, ◌+◌, ◌<◌, ◌≤◌, List,
 use Rattle.std.proofs.lemmas.List.{length-take-le}
 use Rattle.std.proofs.KnownBytes.{Consumes-trans}
 use Rattle.std.specs.Io.KnownBytes.{Appends, Consumes}
-use Rattle.dgt_frame.specs.declared.input.ReadChunk.{ReadChunk}
-use Rattle.dgt_frame.specs.Input.{GivesChunk}
+use Rattle.watched_streams.specs.declared.input.ReadChunk.{ReadChunk}
+use Rattle.watched_streams.specs.Input.{GivesChunk}
 use Rattle.pgn_book.specs.Games.{Content}
 use Rattle.pgn_book.specs.Pgn.{Pgn}
 use Rattle.dgt_replay.specs.Checked.{ChecksGame, ChecksPart, summary_line, text_limit}
-use Rattle.board_listing.specs.Listings.{ReadsWithin}
+use Rattle.watched_streams.specs.Input.{ReadsWithin}
 use Rattle.board_session.specs.Recording.{AppendsPart}
 
 pub checked : (input written written' : Option (List ℕ)) (text : List ℕ) (game : Content) → IfSome input (λ bytes. text ≡ bytes) → Pgn game text → length text ≤ text_limit

@@ -12,7 +12,7 @@ use Rattle.chess_rules.specs.Legal.{Legal}
 use Rattle.chess_text.specs.Fen.{fen}
 use Rattle.chess_text.specs.San.{San}
 use Rattle.settle_core.specs.Settling.{position_after}
-use Rattle.board_listing.specs.Listings.{ReadsWithin}
+use Rattle.watched_streams.specs.Input.{ReadsWithin}
 use Rattle.dgt_replay.specs.Does.{Plays}
 use Rattle.dgt_replay.specs.Messages.{Says, Tells}
 use Rattle.dgt_replay.specs.Streams.{Streams}

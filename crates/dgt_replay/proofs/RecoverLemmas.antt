@@ -4,7 +4,7 @@ use Rattle.std.proofs.KnownBytes.{Appends-kept}
 use Rattle.std.specs.Io.KnownBytes.{Appends, Keeps}
 use Rattle.board_session.specs.Recording.{limit}
 use Rattle.board_session.specs.Settings.{Setting}
-use Rattle.board_listing.specs.Listings.{ReadsWithin}
+use Rattle.watched_streams.specs.Input.{ReadsWithin}
 use Rattle.recovery.specs.declared.refusal.RecoverError.{RecoverError}
 use Rattle.recovery.specs.declared.refusal.RecoverError.TheVariants.{Read, Write, Lines, TooLong, Memory}
 use Rattle.recovery.specs.Status.{message_of, status_of}

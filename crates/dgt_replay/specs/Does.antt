@@ -9,7 +9,8 @@ use Rattle.board_session.specs.Settings.{Setting}
 use Rattle.board_session.specs.declared.recording.Setup.{Setup}
 use Rattle.board_session.specs.declared.refusal.RecordError.TheVariants.{Memory, TooLong}
 use Rattle.board_listing.specs.EventLines.{rest_line}
-use Rattle.board_listing.specs.Listings.{ListingEnds, ReadsWithin}
+use Rattle.watched_streams.specs.Input.{ReadsWithin}
+use Rattle.board_listing.specs.Listings.{ListingEnds}
 use Rattle.board_listing.specs.OneText.{TextEnds, event_lines, no_line, picture_lines}
 use Rattle.board_listing.specs.declared.listing.Listing.{Listing}
 use Rattle.board_listing.specs.declared.listing.Listing.TheVariants.{Game}

@@ -1,7 +1,7 @@
 -- The three streams of the program, before and after.
 use Rattle.std.specs.Prelude.{ℕ, List, Option, Bool}
-use Rattle.dgt_frame.specs.Watch.{inner_of, has_failed}
-use Rattle.dgt_frame.specs.declared.watched.Watch.{Watch}
+use Rattle.watched_streams.specs.Watch.{inner_of, has_failed}
+use Rattle.watched_streams.specs.declared.watched.Watch.{Watch}
 
 -- The bytes are those that are known.
 pub record Streams : Type 0 where

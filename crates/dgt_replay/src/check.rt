@@ -2,15 +2,15 @@
 ghost use Rattle.std.specs.Prelude.{◌≡◌, ◌≢◌, ◌≤◌, ◌⊎◌, ◌+◌, ◌++◌, false, true};
 ghost use Rattle.std.specs.Io.KnownBytes.{Keeps};
 ghost use Rattle.arrayvec.specs.ArrayVec.{array_vec_len};
-ghost use Rattle.dgt_frame.specs.Watch.{inner_of, has_failed};
+ghost use Rattle.watched_streams.specs.Watch.{inner_of, has_failed};
 ghost use Rattle.dgt_replay.specs.Checked.{ChecksGame, ChecksPart, RefusesText, summary_line};
-ghost use Rattle.board_listing.specs.Listings.{ReadsWithin};
+ghost use Rattle.watched_streams.specs.Input.{ReadsWithin};
 ghost use Rattle.dgt_replay.specs.Messages.{Tells};
 
 use crate::input::{TextError, read_text};
 use crate::messages::{refused, refused_run};
-use board_listing::{GATHERED, LONGEST, Lines, add};
-use dgt_frame::{Watch, put};
+use watched_streams::{GATHERED, LONGEST, Lines, add};
+use watched_streams::{Watch, put};
 use itoa::Buffer;
 use pgn_book::{PgnError, read_pgn, result_str};
 use settle_core::Outcome;

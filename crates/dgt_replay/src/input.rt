@@ -1,9 +1,9 @@
 //! A whole input, up to a limit.
 ghost use Rattle.std.specs.Prelude.{◌≡◌, ◌<◌, ◌≤◌, Err, IfOk, OnOk, IfSome, false, true, length};
-ghost use Rattle.dgt_frame.specs.Watch.{inner_of, has_failed};
-ghost use Rattle.board_listing.specs.Listings.{ReadsWithin};
+ghost use Rattle.watched_streams.specs.Watch.{inner_of, has_failed};
+ghost use Rattle.watched_streams.specs.Input.{ReadsWithin};
 
-use dgt_frame::{CHUNK, Watch, read_chunk};
+use watched_streams::{CHUNK, Watch, read_chunk};
 use std::alloc::Global;
 use std::io::Read;
 

@@ -1,12 +1,12 @@
 //! What the program says on standard error when it refuses.
 ghost use Rattle.std.specs.Prelude.{◌≡◌, ◌≢◌, ◌≤◌, ◌++◌, ◌⊎◌, codes, length, false, true};
 ghost use Rattle.std.specs.Io.KnownBytes.{Keeps};
-ghost use Rattle.dgt_frame.specs.Watch.{inner_of, has_failed};
+ghost use Rattle.watched_streams.specs.Watch.{inner_of, has_failed};
 ghost use Rattle.dgt_replay.specs.Messages.{Says, fen_message, tag_name, tag_message};
 
-use board_listing::{Lines, add};
+use watched_streams::{Lines, add};
 use chess_text::FenError;
-use dgt_frame::{Watch, put};
+use watched_streams::{Watch, put};
 use pgn_book::{Tag, TagError};
 use std::io::Write;
 

@@ -8,7 +8,7 @@ ghost use Rattle.chess_rules.specs.After.{after};
 ghost use Rattle.chess_rules.specs.Legal.{Legal};
 ghost use Rattle.chess_text.specs.Fen.{fen as fen_of};
 ghost use Rattle.chess_text.specs.San.{San};
-ghost use Rattle.dgt_frame.specs.Watch.{inner_of, has_failed};
+ghost use Rattle.watched_streams.specs.Watch.{inner_of, has_failed};
 ghost use Rattle.replay_arguments.specs.Setups.{HasNoStart, StartsAt, given};
 ghost use Rattle.dgt_replay.specs.Does.{Plays, Refuses};
 ghost use Rattle.dgt_replay.specs.Messages.{Says, Tells};
@@ -19,10 +19,10 @@ ghost use Rattle.dgt_replay.specs.Words.{is_blank as is_blank_lem, len_behind, p
 
 use crate::input::{TextError, read_text};
 use crate::messages::{refused, refused_fen, refused_run};
-use board_listing::{Lines, add};
+use watched_streams::{Lines, add};
 use chess_rules::Position;
 use chess_text::{read_san, write_fen};
-use dgt_frame::{Watch, put};
+use watched_streams::{Watch, put};
 use itoa::Buffer;
 use replay_arguments::start_of;
 use std::alloc::{AllocError, Global};

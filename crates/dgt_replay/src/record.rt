@@ -2,7 +2,7 @@
 ghost use Rattle.std.specs.Prelude.{◌≡◌, ◌≢◌, ◌≤◌, ◌+◌, ◌++◌, false};
 ghost use Rattle.arrayvec.specs.ArrayVec.{array_vec_len};
 ghost use Rattle.board_session.specs.declared.recording.Setup.{Setup as SetupOf};
-ghost use Rattle.dgt_frame.specs.Watch.{inner_of, has_failed};
+ghost use Rattle.watched_streams.specs.Watch.{inner_of, has_failed};
 ghost use Rattle.dgt_replay.specs.Does.{Records, Refuses};
 ghost use Rattle.dgt_replay.specs.Messages.{Says};
 ghost use Rattle.dgt_replay.specs.Recorded.{EndsFor, Fails, RecordsAndTells, report_line};
@@ -11,10 +11,10 @@ ghost use Rattle.dgt_replay.specs.Refusals.{RefusesSetup, refusal_message};
 ghost use Rattle.dgt_replay.specs.Streams.{streams};
 
 use crate::messages::{refused, refused_fen, refused_tag};
-use board_listing::{GATHERED, LONGEST, Lines, add, add_number};
+use watched_streams::{GATHERED, LONGEST, Lines, add, add_number};
 use board_session::{RecordError, Report, Setup, record};
 use chess_text::laws::texts_tell_positions;
-use dgt_frame::{Watch, put};
+use watched_streams::{Watch, put};
 use replay_arguments::{RecordArguments, Refusal, setup_of};
 use std::alloc::Global;
 use std::io::{Read, Write};

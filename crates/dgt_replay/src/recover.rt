@@ -1,7 +1,7 @@
 //! The subcommand `recover`.
 ghost use Rattle.std.specs.Prelude.{◌≡◌, ◌≢◌, ◌≤◌, false};
 ghost use Rattle.board_session.specs.Settings.{Setting};
-ghost use Rattle.dgt_frame.specs.Watch.{inner_of, has_failed};
+ghost use Rattle.watched_streams.specs.Watch.{inner_of, has_failed};
 ghost use Rattle.dgt_replay.specs.Does.{Recovers, Refuses};
 ghost use Rattle.dgt_replay.specs.Refusals.{RefusesStart};
 ghost use Rattle.dgt_replay.specs.Streams.{streams};
@@ -9,7 +9,7 @@ ghost use Rattle.replay_arguments.specs.Setups.{HasNoStart, MeetsBoard, given};
 
 use crate::messages::{refused, refused_fen};
 use chess_rules::Position;
-use dgt_frame::Watch;
+use watched_streams::Watch;
 use recovery::recover_stream;
 use replay_arguments::{BoardArguments, start_of};
 use std::alloc::Global;

@@ -4,7 +4,7 @@ use crate::recording::{Recording, recorded, report_of};
 use crate::recordings::text_without_move;
 use crate::row::{OPENING, Row, commands};
 use crate::rows::rows_by_subject;
-use dgt_frame::Watch;
+use watched_streams::Watch;
 use pgn_book::{Game, read_pgn, write_pgn};
 use std::alloc::Global;
 use test_streams::bytes::Bytes;

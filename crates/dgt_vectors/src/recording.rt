@@ -4,7 +4,7 @@ use crate::row::Row;
 use board_session::{RecordError, Report, Setup, record};
 use chess_rules::Position;
 use chess_text::{FenError, read_fen};
-use dgt_frame::Watch;
+use watched_streams::Watch;
 use pgn_book::Tags;
 use std::alloc::Global;
 use test_streams::bytes::Bytes;

@@ -7,8 +7,8 @@ use Rattle.dgt_frame.specs.declared.events.Event.{Event}
 use Rattle.dgt_frame.specs.declared.events.Event.TheVariants.{Message as MessageEvent}
 use Rattle.dgt_frame.specs.declared.First.{First}
 use Rattle.dgt_frame.specs.declared.First.TheVariants.{White, Black}
-use Rattle.dgt_frame.specs.declared.Reading.{Reading}
-use Rattle.dgt_frame.specs.Clock.{Clock}
+use Rattle.chess_clock.specs.declared.Reading.{Reading}
+use Rattle.chess_clock.specs.Clock.{Clock}
 use Rattle.dgt_frame.specs.Times.{are_digits, group, number_of, tens, units}
 use Rattle.chess_rules.specs.Picture.{picture}
 use Rattle.settle_core.specs.Entries.{Entry, entry_of}

@@ -3,8 +3,8 @@ use Rattle.std.specs.Prelude.{◌≡◌, ◌≤◌, ℕ, ◌+◌, Bool, true, Li
 use Rattle.dgt_frame.specs.declared.events.Event.{Event}
 use Rattle.dgt_frame.specs.declared.events.Event.TheVariants.{Message as MessageEvent, Fault}
 use Rattle.dgt_frame.specs.declared.First.{First}
-use Rattle.dgt_frame.specs.declared.Reading.{Reading}
-use Rattle.dgt_frame.specs.Clock.{Clock}
+use Rattle.chess_clock.specs.declared.Reading.{Reading}
+use Rattle.chess_clock.specs.Clock.{Clock}
 use Rattle.dgt_frame.specs.Restarts.{moved_on}
 use Rattle.dgt_frame.specs.Streams.{Shows, Timed}
 use Rattle.chess_rules.specs.Picture.{picture}

@@ -13,7 +13,8 @@ ghost use Rattle.pair_frames.specs.Laws.{IsRead, IsReadBehind, IsTime};
 
 use arrayvec::ArrayVec;
 use dgt_frame::laws::restarts_are_shown;
-use dgt_frame::{First, Message, Reading, encode};
+use chess_clock::Reading;
+use dgt_frame::{First, Message, encode};
 use unseen_pairs::Recovery;
 
 /// How many bytes are put in at most: three dumps of 67 bytes, and two time messages of 10.

@@ -1,7 +1,7 @@
 -- A game has one text, and no two games have one text.
 use Rattle.std.proofs.Common.{◌≡◌, ℕ, List, [], ◌∷◌, Option, None, Some, refl, sym, ap, subst, ◌∙◌, inl, inr}
 use Rattle.std.specs.Prelude.{◌⊎◌}
-use Rattle.dgt_frame.specs.declared.Hms.{Hms}
+use Rattle.chess_clock.specs.declared.Hms.{Hms}
 use Rattle.chess_rules.specs.declared.chess_move.Move.{Move}
 use Rattle.chess_rules.specs.declared.parts.Parts.{Parts}
 use Rattle.chess_rules.specs.declared.pieces.Side.{Side}

@@ -3,7 +3,7 @@ use Rattle.std.proofs.Common.{◌≡◌, ◌∙◌, ℕ, ◌+◌, ◌*◌, ◌<�
 use Rattle.std.specs.Prelude.{decimal, codes, nat_eq, nat_le, ◌==◌, ◌||◌, if◌then◌else◌}
 use Rattle.std.specs.List.{AllByRecursion}
 use Rattle.std.proofs.lemmas.Fmt.{length-decimal-le}
-use Rattle.dgt_frame.specs.declared.Hms.{Hms}
+use Rattle.chess_clock.specs.declared.Hms.{Hms}
 use Rattle.chess_rules.specs.declared.parts.Parts.{Parts}
 use Rattle.chess_rules.specs.declared.pieces.Side.{Side}
 use Rattle.chess_rules.specs.declared.pieces.Side.TheVariants.{White, Black}

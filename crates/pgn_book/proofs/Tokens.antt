@@ -5,7 +5,7 @@ use Rattle.std.specs.List.{AllByRecursion}
 use Rattle.std.specs.Option.{ForSome}
 use Rattle.std.proofs.lemmas.Fmt.{decimal_nonempty, length-decimal-le}
 use Rattle.std.proofs.lemmas.List.Elements.{recursion_from_All}
-use Rattle.dgt_frame.specs.declared.Hms.{Hms}
+use Rattle.chess_clock.specs.declared.Hms.{Hms}
 use Rattle.chess_rules.specs.declared.pieces.Kind.{Kind}
 use Rattle.chess_rules.specs.declared.pieces.Kind.TheVariants.{Pawn, Rook, Knight, Bishop, King, Queen}
 use Rattle.chess_rules.specs.declared.pieces.Side.{Side}

@@ -1,7 +1,7 @@
 -- What a game contains.
 use Rattle.std.specs.Prelude.{◌≤◌, List, Option, All}
 use Rattle.std.specs.Option.{ForSome}
-use Rattle.dgt_frame.specs.declared.Hms.{Hms}
+use Rattle.chess_clock.specs.declared.Hms.{Hms}
 use Rattle.chess_rules.specs.declared.parts.Parts.{Parts}
 use Rattle.chess_rules.specs.Valid.{Valid}
 use Rattle.settle_core.specs.declared.game.Outcome.{Outcome}

@@ -10,7 +10,7 @@ ghost use Rattle.pgn_book.specs.Games.{IsGame, IsTime, IsTimed, Result};
 use crate::tags::Tags;
 use crate::values::Tag;
 use chess_rules::{Position, Side, Status};
-use dgt_frame::Hms;
+use chess_clock::Hms;
 use settle_core::{Outcome, Ply};
 use std::marker::Model;
 

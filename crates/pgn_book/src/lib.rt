@@ -13,7 +13,7 @@ mod values;
 mod words;
 mod writing;
 
-pub use dgt_frame::{WriteFault, put};
+pub use watched_streams::{WriteFault, put};
 pub use game::{Game, result_at};
 pub use reading::{PgnError, read_pgn};
 pub use tags::Tags;

@@ -1,10 +1,10 @@
 //! Bytes of a text to a watched stream.
 ghost use Rattle.std.specs.Prelude.{◌≡◌};
-ghost use Rattle.dgt_frame.specs.Watch.{inner_of, has_failed};
+ghost use Rattle.watched_streams.specs.Watch.{inner_of, has_failed};
 ghost use Rattle.pgn_book.specs.Flow.{Adds};
 
 use crate::place::Place;
-use dgt_frame::{Watch, put};
+use watched_streams::{Watch, put};
 use std::io::Write;
 
 /// Writes the bytes behind what came, unless the stream has failed.

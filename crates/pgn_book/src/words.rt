@@ -4,7 +4,7 @@ ghost use Rattle.std.specs.Option.{ForSome};
 ghost use Rattle.pgn_book.specs.Games.{IsTime};
 ghost use Rattle.pgn_book.specs.Parse.{is_break as is_break_lem, words, words_behind, is_move as is_move_lem, is_comment as is_comment_lem, digit_at, clock_at};
 
-use dgt_frame::Hms;
+use chess_clock::Hms;
 
 fn is_break(b: u8) -> bool
     ensures { result ≡ is_break_lem b }

@@ -1,7 +1,7 @@
 //! Writing the export text of a game.
 ghost use Rattle.std.specs.Prelude.{◌≡◌, ◌↔◌, ◌≤◌, ℕ, List, ◌++◌, ◌∷◌, [], true, false, length, IsTrue, IfErr, OnOk, OnErr};
 ghost use Rattle.std.specs.Io.KnownBytes.{Appends};
-ghost use Rattle.dgt_frame.specs.Watch.{inner_of, has_failed};
+ghost use Rattle.watched_streams.specs.Watch.{inner_of, has_failed};
 ghost use Rattle.chess_rules.specs.Initial.{initial};
 ghost use Rattle.chess_rules.specs.Legal.{Legal};
 ghost use Rattle.chess_rules.specs.After.{is_white};
@@ -21,7 +21,8 @@ use arrayvec::ArrayString;
 use chess_rules::{Position, Side};
 use chess_text::laws::texts_are_plain;
 use chess_text::{write_fen, write_san};
-use dgt_frame::{Hms, Watch, WriteFault};
+use chess_clock::Hms;
+use watched_streams::{Watch, WriteFault};
 use itoa::Buffer;
 use settle_core::{Outcome, Ply};
 use std::io::Write;

@@ -6,7 +6,7 @@ use Rattle.dgt_frame.specs.declared.events.Message.TheVariants.{Dump, Update, Ti
 use Rattle.dgt_frame.specs.declared.events.Event.{Event}
 use Rattle.dgt_frame.specs.declared.events.Event.TheVariants.{Message as MessageEvent, Fault}
 use Rattle.dgt_frame.specs.declared.First.{First}
-use Rattle.dgt_frame.specs.declared.Reading.{Reading}
+use Rattle.chess_clock.specs.declared.Reading.{Reading}
 use Rattle.dgt_frame.specs.Restarts.{moved_on}
 use Rattle.dgt_frame.specs.Streams.{Timed}
 use Rattle.settle_core.specs.Entries.{Entry}

@@ -5,7 +5,7 @@ use Rattle.std.proofs.lemmas.Bool.{cases_Bool}
 use Rattle.std.proofs.lemmas.Slice.Eq.{bytes_eq-Decides}
 use Rattle.dgt_frame.specs.declared.events.Event.{Event}
 use Rattle.dgt_frame.specs.declared.First.{First}
-use Rattle.dgt_frame.specs.declared.Reading.{Reading}
+use Rattle.chess_clock.specs.declared.Reading.{Reading}
 use Rattle.dgt_frame.specs.declared.time.First.TheVariants.{White}
 use Rattle.chess_rules.specs.declared.parts.Parts.{Parts}
 use Rattle.chess_rules.specs.Legal.{Legal}

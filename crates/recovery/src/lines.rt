@@ -6,7 +6,7 @@ ghost use Rattle.chess_text.specs.San.{San};
 ghost use Rattle.pgn_book.specs.Movetext.{number_token};
 ghost use Rattle.recovery.specs.Weaving.{TellsRecovered};
 
-use board_listing::{GATHERED, Lines, add, add_number};
+use watched_streams::{GATHERED, Lines, add, add_number};
 use chess_rules::{Move, Position, Side};
 use chess_text::write_san;
 use unseen_pairs::Recovery;

@@ -12,7 +12,7 @@ ghost use Rattle.recovery.specs.Progress.{Concludes, HasBegun, IsPutIn};
 use crate::keeper::Keeper;
 use crate::lines::add_recovered;
 use arrayvec::ArrayVec;
-use board_listing::Lines;
+use watched_streams::Lines;
 use dgt_frame::{BLANK, Decoder, Event};
 use pair_frames::MOST;
 use pair_frames::laws::frames_are_put_in;

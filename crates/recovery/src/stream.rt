@@ -1,8 +1,8 @@
 //! Streams that are given on, with what is put in.
 ghost use Rattle.std.specs.Prelude.{◌≡◌, ◌<◌, ◌≤◌, ◌+◌, ◌^◌, ◌++◌, [], length, IfErr, OnOk, OnErr, Err, true, false};
 ghost use Rattle.std.specs.Io.KnownBytes.{Appends};
-ghost use Rattle.dgt_frame.specs.Watch.{inner_of, has_failed};
-ghost use Rattle.board_listing.specs.Listings.{ReadsWithin};
+ghost use Rattle.watched_streams.specs.Watch.{inner_of, has_failed};
+ghost use Rattle.watched_streams.specs.Input.{ReadsWithin};
 ghost use Rattle.board_session.specs.Recording.{AppendsPart};
 ghost use Rattle.board_session.specs.Settings.{Setting};
 ghost use Rattle.recovery.specs.Progress.{BreaksOff, GivesOn, HasBegun, IsPutIn, PutsPart};
@@ -11,9 +11,10 @@ ghost use Rattle.recovery.specs.Streams.{RecoversAll, RecoversFirst, RecoversFro
 use crate::keeper::Keeper;
 use crate::passer::{Frames, begin, conclude, pass};
 use crate::refusal::RecoverError;
-use board_listing::Lines;
+use watched_streams::Lines;
 use chess_rules::Position;
-use dgt_frame::{CHUNK, Decoder, First, LIMIT, Watch, put, read_chunk};
+use dgt_frame::{Decoder, First, LIMIT};
+use watched_streams::{CHUNK, Watch, put, read_chunk};
 use std::alloc::Global;
 use std::io::{Read, Write};
 

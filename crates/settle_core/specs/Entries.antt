@@ -1,7 +1,7 @@
 -- What was seen of a board. Entries are listed with the latest first.
 use Rattle.std.specs.Prelude.{ℕ, Bool, false, List, [], ◌∷◌, Option, Some, None, slice_set, if◌then◌else◌}
 use Rattle.std.specs.Str.{bytes_eq}
-use Rattle.dgt_frame.specs.declared.time.Reading.{Reading}
+use Rattle.chess_clock.specs.declared.times.Reading.{Reading}
 
 -- A picture, the codes of the 64 squares, and the clocks' reading that came with it.
 pub record Entry : Type 0 where

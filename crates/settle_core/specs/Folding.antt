@@ -1,7 +1,7 @@
 -- The game that entries show.
 use Rattle.std.specs.Prelude.{◌≡◌, ◌≢◌, ℕ, List, [], ◌∷◌, Option, Some, None, map, drop, reverse}
-use Rattle.dgt_frame.specs.declared.time.Hms.{Hms}
-use Rattle.dgt_frame.specs.declared.time.Reading.{Reading}
+use Rattle.chess_clock.specs.declared.times.Hms.{Hms}
+use Rattle.chess_clock.specs.declared.times.Reading.{Reading}
 use Rattle.chess_rules.specs.declared.pieces.Side.{Side}
 use Rattle.chess_rules.specs.declared.pieces.Side.TheVariants.{White, Black}
 use Rattle.chess_rules.specs.declared.chess_move.Move.{Move}

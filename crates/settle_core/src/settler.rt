@@ -17,7 +17,7 @@ use crate::game::{Outcome, Ply, Seen};
 use crate::masks::shown_in;
 use crate::signs::sign_of;
 use chess_rules::{Move, Position, Side, Square};
-use dgt_frame::{Hms, Reading};
+use chess_clock::{Hms, Reading};
 use std::alloc::{AllocError, Global};
 use std::marker::Model;
 

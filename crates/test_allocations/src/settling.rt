@@ -7,7 +7,8 @@ use crate::Outcome;
 use board_session::{Session, Taken};
 use chess_rules::{Move, Position, Square};
 use chess_text::read_fen;
-use dgt_frame::{Event, First, Hms, Message, Reading};
+use chess_clock::{Hms, Reading};
+use dgt_frame::{Event, First, Message};
 use settle_core::{Ply, Seen, Settler};
 use std::alloc::Global;
 

@@ -2,7 +2,8 @@
 
 use board_session::{Setup, record};
 use chess_rules::Position;
-use dgt_frame::{First, Watch};
+use dgt_frame::First;
+use watched_streams::Watch;
 use pgn_book::Tags;
 use std::alloc::Global;
 use test_streams::bytes::Bytes;

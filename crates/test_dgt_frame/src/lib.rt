@@ -5,5 +5,3 @@
 mod frames;
 #[cfg(test)]
 mod times;
-#[cfg(test)]
-mod watching;

@@ -1,7 +1,8 @@
 //! Readings of time messages, worked by hand from the rules.
 
 use crate::frames::expect_none;
-use dgt_frame::{First, Hms, Reading, read_time};
+use chess_clock::{Hms, Reading};
+use dgt_frame::{First, read_time};
 
 /// Hours, minutes and seconds of White's clock, and then of Black's.
 type Clocks = Option<[u8; 6]>;

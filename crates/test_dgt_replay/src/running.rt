@@ -1,6 +1,6 @@
 //! Runs of the program over streams in memory.
 
-use dgt_frame::Watch;
+use watched_streams::Watch;
 use dgt_replay::run;
 use std::alloc::{AllocError, Global};
 use test_streams::bytes::Bytes;

@@ -1,6 +1,6 @@
 //! Readings by their numbers.
 
-use dgt_frame::{Hms, Reading};
+use chess_clock::{Hms, Reading};
 
 /// Hours, minutes and seconds of White's clock, and of Black's; no clock is connected where there are none.
 pub type Clocks = Option<[u8; 6]>;

@@ -1,7 +1,7 @@
 //! Writers that fail.
 
 use crate::games::{EMPTY, game};
-use dgt_frame::Watch;
+use watched_streams::Watch;
 use pgn_book::{Game, WriteFault, write_pgn};
 use std::alloc::Global;
 use test_streams::streams::Sink;

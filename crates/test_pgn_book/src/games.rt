@@ -2,7 +2,8 @@
 
 use chess_rules::{Move, Position};
 use chess_text::{read_fen, read_san};
-use dgt_frame::{Hms, Watch};
+use chess_clock::Hms;
+use watched_streams::Watch;
 use pgn_book::{Game, Tags, write_pgn};
 use settle_core::{Outcome, Ply};
 use std::alloc::Global;

@@ -3,7 +3,8 @@ ghost use Rattle.std.specs.Prelude.{All, ◌<◌};
 
 use crate::games::{changed, has_moves, show};
 use chess_rules::{Position, Square};
-use dgt_frame::{First, Hms, read_time};
+use chess_clock::Hms;
+use dgt_frame::{First, read_time};
 use settle_core::Settler;
 use std::alloc::{AllocError, Global};
 use unseen_pairs::Recoverer;

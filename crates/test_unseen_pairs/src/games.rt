@@ -3,7 +3,7 @@ ghost use Rattle.std.specs.Prelude.{All, ◌<◌};
 
 use crate::answers::{Answer, WAITS, Way, recovered_of, shown_of, way_of};
 use chess_rules::{Position, Square};
-use dgt_frame::Reading;
+use chess_clock::Reading;
 use settle_core::{Outcome, Settler};
 use std::alloc::{AllocError, Global};
 use std::process::Abort;

@@ -1,7 +1,7 @@
 -- Pictures put in give the recovered score: the entries with those of a confirmed pair's two positions before its sequel fold, as
 -- entries do, to the score that the pair gives.
 use Rattle.std.proofs.Common.{◌≡◌, ℕ, Bool, true, false, List, [], ◌∷◌, Option, drop, refl, sym, subst}
-use Rattle.dgt_frame.specs.declared.time.Reading.{Reading}
+use Rattle.chess_clock.specs.declared.times.Reading.{Reading}
 use Rattle.chess_rules.specs.declared.chess_move.Move.{Move}
 use Rattle.chess_rules.specs.declared.parts.Parts.{Parts}
 use Rattle.chess_rules.specs.After.{after}

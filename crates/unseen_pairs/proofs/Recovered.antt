@@ -7,7 +7,7 @@ use Rattle.chess_rules.specs.declared.parts.Parts.{Parts}
 use Rattle.chess_rules.specs.After.{after}
 use Rattle.chess_rules.specs.Valid.{Valid}
 use Rattle.chess_rules.proofs.LawLemmas.{moves_stay_valid}
-use Rattle.dgt_frame.specs.declared.time.Reading.{Reading}
+use Rattle.chess_clock.specs.declared.times.Reading.{Reading}
 use Rattle.settle_core.specs.declared.game.Ply.{Ply}
 use Rattle.settle_core.specs.declared.game.Seen.{Seen}
 use Rattle.settle_core.specs.declared.game.Seen.TheVariants.{Waits}

@@ -10,7 +10,7 @@ ghost use Rattle.unseen_pairs.specs.Candidates.{IsOlder, IsOnlyOne, ShowsKing};
 use crate::pair::Pair;
 use crate::settled::settled_in;
 use chess_rules::Position;
-use dgt_frame::Reading;
+use chess_clock::Reading;
 use settle_core::{Seen, Settler};
 use std::alloc::{AllocError, Global};
 

@@ -10,7 +10,7 @@ use crate::confirming::{Candidate, Confirmed, only_one};
 use crate::pair::{Recovery, Told};
 use crate::waiting::{add_all, all_aged, copy};
 use chess_rules::Position;
-use dgt_frame::Reading;
+use chess_clock::Reading;
 use settle_core::{Seen, Settler};
 use std::alloc::{AllocError, Global};
 use std::marker::Model;

@@ -12,7 +12,7 @@ use crate::confirming::Candidate;
 use crate::explaining::{has_more, may_hide_two, pairs_that_explain, theirs_left};
 use crate::pair::{Pair, TwoPlies};
 use chess_rules::{Move, Position};
-use dgt_frame::Reading;
+use chess_clock::Reading;
 use settle_core::Settler;
 use std::alloc::{AllocError, Global};
 

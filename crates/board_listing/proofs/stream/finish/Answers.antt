@@ -1,6 +1,6 @@
 use Rattle.std.proofs.Common.{◌≡◌, ◌++◌, List, ℕ, length, take, ◌∙◌, ap, subst}
 use Rattle.std.specs.Io.KnownBytes.{Appends}
-use Rattle.dgt_frame.specs.Watch.{inner_of}
+use Rattle.watched_streams.specs.Watch.{inner_of}
 use Rattle.board_listing.specs.Listings.{last_line}
 use Rattle.board_listing.specs.Progress.{FinishBreaksOff, Finishes}
 use Rattle.board_listing.proofs.GatherLemmas.{front_of, on_fault, on_ok}

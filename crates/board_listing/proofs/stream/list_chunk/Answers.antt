@@ -1,7 +1,7 @@
 use Rattle.std.proofs.Common.{◌≡◌, ◌+◌, ◌-◌, ◌<◌, ◌≤◌, ◌++◌, List, ℕ, length, take, drop, sym, ap, ◌∙◌, subst, take_all, take-add, length-drop, arith, rules, IfSome, IfNone}
 use Rattle.std.proofs.lemmas.List.{length-take-le, take-append-drop}
 use Rattle.dgt_frame.specs.Decoder.{TakesAll, TakesUpTo}
-use Rattle.dgt_frame.specs.Watch.{inner_of}
+use Rattle.watched_streams.specs.Watch.{inner_of}
 use Rattle.board_listing.specs.Progress.{BreaksOff, ListsChunk}
 use Rattle.board_listing.proofs.ChunkLemmas.{breaks_end, breaks_event, lists_end, lists_event, lists_none, lists_start, taken_more}
 use Rattle.board_listing.proofs.stream.list_chunk.Goals as goal

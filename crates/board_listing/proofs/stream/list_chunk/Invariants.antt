@@ -1,5 +1,5 @@
 use Rattle.std.proofs.Common.{◌≡◌, ◌+◌, ◌-◌, ◌≤◌, length, take, false}
-use Rattle.dgt_frame.specs.Watch.{inner_of, has_failed}
+use Rattle.watched_streams.specs.Watch.{inner_of, has_failed}
 use Rattle.arrayvec.specs.ArrayVec.{array_vec_len}
 use Rattle.board_listing.specs.Printers.{HasBegun}
 use Rattle.board_listing.specs.Progress.{HasTaken, ListsChunk}

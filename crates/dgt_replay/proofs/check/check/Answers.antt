@@ -1,7 +1,7 @@
 use Rattle.std.proofs.Common.{◌≡◌, List, [], append-nil, ℕ, arith, length, codes, inl, inr, refl, rules, subst, sym, true, ◌∙◌, ◌++◌}
 use Rattle.std.proofs.KnownBytes.{Appends-kept}
 use Rattle.std.specs.Io.KnownBytes.{Appends}
-use Rattle.dgt_frame.specs.Watch.{inner_of, has_failed}
+use Rattle.watched_streams.specs.Watch.{inner_of, has_failed}
 use Rattle.board_session.specs.Recording.{AppendsPart}
 use Rattle.dgt_replay.specs.Checked.{RefusesText, summary_line}
 use Rattle.dgt_replay.proofs.CheckLemmas.{checked, checked_part, no_game}

@@ -1,8 +1,8 @@
 use Rattle.std.proofs.Common.{◌≡◌, ◌++◌, ◌∙◌, take, sym, arith, rules}
 use Rattle.std.proofs.KnownBytes.{Consumes-trans}
 use Rattle.std.specs.Io.KnownBytes.{Consumes}
-use Rattle.dgt_frame.specs.Input.{GivesChunk}
-use Rattle.dgt_frame.specs.Watch.{inner_of}
+use Rattle.watched_streams.specs.Input.{GivesChunk}
+use Rattle.watched_streams.specs.Watch.{inner_of}
 use Rattle.dgt_replay.proofs.CheckLemmas.{read_more, too_long}
 use Rattle.board_listing.proofs.StreamLemmas.{if_ok}
 use Rattle.dgt_replay.proofs.input.read_text.Goals as goal

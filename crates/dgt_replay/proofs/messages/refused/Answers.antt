@@ -1,4 +1,4 @@
-use Rattle.dgt_frame.specs.Watch.{inner_of, has_failed}
+use Rattle.watched_streams.specs.Watch.{inner_of, has_failed}
 use Rattle.dgt_replay.proofs.MessageLemmas.{says_put}
 use Rattle.dgt_replay.proofs.messages.refused.Goals as goal
 

@@ -7,7 +7,7 @@ use Rattle.replay_arguments.specs.Setups.{given}
 use Rattle.dgt_replay.specs.Refusals.{RefusesStart}
 use Rattle.dgt_replay.specs.Messages.{fen_message}
 use Rattle.dgt_replay.proofs.MessageLemmas.{tells_fault, tells_refused}
-use Rattle.dgt_frame.specs.Watch.{has_failed, inner_of}
+use Rattle.watched_streams.specs.Watch.{has_failed, inner_of}
 use Rattle.dgt_replay.proofs.EndLemmas.{true_or}
 use Rattle.dgt_replay.proofs.RefusalLemmas.{start_refused}
 use Rattle.board_listing.proofs.GatherLemmas.{at_err, at_ok}

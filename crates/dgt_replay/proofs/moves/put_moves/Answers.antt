@@ -1,5 +1,5 @@
 use Rattle.std.proofs.Common.{◌++◌, ◌∙◌, codes, rules, append_assoc, arith}
-use Rattle.dgt_frame.specs.Watch.{inner_of}
+use Rattle.watched_streams.specs.Watch.{inner_of}
 use Rattle.board_listing.specs.Listings.{Gathers}
 use Rattle.board_listing.proofs.GatherLemmas.{gathers_sent, on_ok}
 use Rattle.dgt_replay.proofs.MessageLemmas.{part_put}

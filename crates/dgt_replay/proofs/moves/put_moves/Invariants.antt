@@ -1,5 +1,5 @@
 use Rattle.std.proofs.Common.{◌≡◌, ℕ, List, take, false}
-use Rattle.dgt_frame.specs.Watch.{inner_of, has_failed}
+use Rattle.watched_streams.specs.Watch.{inner_of, has_failed}
 use Rattle.board_listing.specs.Listings.{Gathers}
 use Rattle.dgt_replay.specs.Printed.{TellsMoves}
 use Rattle.dgt_replay.proofs.moves.put_moves.Given as goal

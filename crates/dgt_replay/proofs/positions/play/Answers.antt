@@ -1,6 +1,6 @@
 use Rattle.std.proofs.Common.{◌≡◌, ◌∙◌, ◌<◌, length, Bool, Some, true, false, arith, codes, inl, refl, rules, subst, sym}
 use Rattle.std.specs.Prelude.{IfSome}
-use Rattle.dgt_frame.specs.Watch.{inner_of, has_failed}
+use Rattle.watched_streams.specs.Watch.{inner_of, has_failed}
 use Rattle.dgt_replay.specs.Messages.{Tells}
 use Rattle.dgt_replay.specs.Played.{RefusesMoves}
 use Rattle.dgt_replay.proofs.MessageLemmas.{ends_three, long_no_read, memory_no_read, never_done, tells_alike, tells_fault, tells_memory, tells_or_fault, tells_refused}

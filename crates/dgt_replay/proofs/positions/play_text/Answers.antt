@@ -1,6 +1,6 @@
 use Rattle.std.proofs.Common.{◌≡◌, ◌∙◌, Some, refl}
 use Rattle.std.proofs.KnownBytes.{Keeps-refl}
-use Rattle.dgt_frame.specs.Watch.{inner_of}
+use Rattle.watched_streams.specs.Watch.{inner_of}
 use Rattle.dgt_replay.specs.Played.{fen_lines}
 use Rattle.dgt_replay.proofs.PlayedLemmas.{part_none, tells_played}
 use Rattle.dgt_replay.proofs.positions.play_text.Goals as goal

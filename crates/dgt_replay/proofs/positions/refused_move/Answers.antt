@@ -1,6 +1,6 @@
 use Rattle.std.proofs.Common.{◌≡◌, ◌++◌, ◌∙◌, ℕ, List, ap, codes, refl, subst}
 use Rattle.std.specs.Prelude.{decimal}
-use Rattle.dgt_frame.specs.Watch.{inner_of, has_failed}
+use Rattle.watched_streams.specs.Watch.{inner_of, has_failed}
 use Rattle.dgt_replay.specs.Messages.{Says}
 use Rattle.dgt_replay.specs.Played.{word_message}
 use Rattle.dgt_replay.proofs.positions.refused_move.Goals as goal

@@ -1,6 +1,6 @@
 use Rattle.std.proofs.Common.{◌∙◌, inl, sym}
 use Rattle.std.proofs.KnownBytes.{Keeps-refl}
-use Rattle.dgt_frame.specs.Watch.{inner_of}
+use Rattle.watched_streams.specs.Watch.{inner_of}
 use Rattle.replay_arguments.specs.Setups.{given}
 use Rattle.dgt_replay.specs.Refusals.{RefusesStart}
 use Rattle.dgt_replay.specs.Messages.{fen_message}

@@ -1,6 +1,6 @@
 use Rattle.std.proofs.Common.{arith, ◌≡◌, ◌||◌, rules, Err, inr, sym, ◌∙◌, ap}
 use Rattle.std.specs.Prelude.{is_err}
-use Rattle.dgt_frame.specs.Watch.{inner_of, has_failed}
+use Rattle.watched_streams.specs.Watch.{inner_of, has_failed}
 use Rattle.board_listing.specs.declared.stream.ListError.TheVariants.{Read, Write}
 use Rattle.dgt_replay.proofs.EndLemmas.{ends_done, ends_in_fault, ends_refused, front_kept, read_kept, refused_not_done, tells_refused_listing, true_or}
 use Rattle.dgt_replay.proofs.program.list.Goals as goal

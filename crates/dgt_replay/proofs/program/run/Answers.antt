@@ -3,7 +3,7 @@ use Rattle.std.proofs.KnownBytes.{Keeps-refl}
 use Rattle.clap.specs.Values.{kind_of}
 use Rattle.clap.specs.Walk.{first_of}
 use Rattle.clap.specs.declared.error.kind.ErrorKind.TheVariants as kind
-use Rattle.dgt_frame.specs.Watch.{inner_of}
+use Rattle.watched_streams.specs.Watch.{inner_of}
 use Rattle.board_listing.specs.EventLines.{rest_line}
 use Rattle.board_listing.specs.OneText.{event_lines, no_line, picture_lines}
 use Rattle.board_listing.specs.declared.listing.Listing.TheVariants.{Game}

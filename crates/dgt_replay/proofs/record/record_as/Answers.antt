@@ -1,5 +1,5 @@
 use Rattle.std.proofs.Common.{◌≡◌, ◌++◌, ◌∙◌, List, ℕ, ap, arith, inl, inr, rules, subst}
-use Rattle.dgt_frame.specs.Watch.{inner_of}
+use Rattle.watched_streams.specs.Watch.{inner_of}
 use Rattle.board_session.specs.Recording.{AppendsPart}
 use Rattle.dgt_replay.specs.Recorded.{report_line}
 use Rattle.dgt_replay.proofs.MessageLemmas.{part_put}

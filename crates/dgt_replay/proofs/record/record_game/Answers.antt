@@ -1,6 +1,6 @@
 use Rattle.std.proofs.Common.{◌≡◌, inl}
 use Rattle.std.proofs.KnownBytes.{Keeps-refl}
-use Rattle.dgt_frame.specs.Watch.{inner_of}
+use Rattle.watched_streams.specs.Watch.{inner_of}
 use Rattle.dgt_replay.proofs.DoesLemmas.{records_memory}
 use Rattle.dgt_replay.proofs.RefusalLemmas.{refusal_status, says_memory, tells_refusal}
 use Rattle.dgt_replay.proofs.SetupLemmas.{met_by_none, one_setup, only_for_memory}

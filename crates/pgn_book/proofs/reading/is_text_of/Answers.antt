@@ -1,5 +1,5 @@
 use Rattle.std.proofs.Common.{◌≡◌, ◌++◌, ℕ, List, ap, sym, ◌∙◌, subst}
-use Rattle.dgt_frame.specs.Watch.{inner_of}
+use Rattle.watched_streams.specs.Watch.{inner_of}
 use Rattle.pgn_book.specs.Pgn.{Pgn}
 use Rattle.pgn_book.proofs.OneText.{one_text}
 use Rattle.pgn_book.proofs.reading.is_text_of.Goals as goal

@@ -1,5 +1,5 @@
 use Rattle.std.proofs.Common.{List, ℕ, drop}
-use Rattle.dgt_frame.specs.Watch.{inner_of, has_failed}
+use Rattle.watched_streams.specs.Watch.{inner_of, has_failed}
 use Rattle.settle_core.specs.Settling.{Line}
 use Rattle.settle_core.specs.Folding.{moves_of}
 use Rattle.pgn_book.specs.Flow.{Writes}

@@ -1,5 +1,5 @@
 use Rattle.std.proofs.Common.{◌≡◌, take}
-use Rattle.dgt_frame.specs.Watch.{inner_of, has_failed}
+use Rattle.watched_streams.specs.Watch.{inner_of, has_failed}
 use Rattle.pgn_book.specs.Flow.{Adds}
 use Rattle.pgn_book.specs.Pgn.{escaped}
 use Rattle.pgn_book.proofs.writing.put_value.Given as goal

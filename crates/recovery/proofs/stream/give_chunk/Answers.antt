@@ -3,7 +3,7 @@ use Rattle.std.proofs.lemmas.Bool.Decides.{nat_tests}
 use Rattle.std.proofs.lemmas.List.{length-take-le}
 use Rattle.board_listing.proofs.GatherLemmas.{on_ok}
 use Rattle.std.specs.Io.KnownBytes.{Appends}
-use Rattle.dgt_frame.specs.Watch.{inner_of}
+use Rattle.watched_streams.specs.Watch.{inner_of}
 use Rattle.board_session.specs.Recording.{AppendsPart}
 use Rattle.recovery.specs.declared.refusal.RecoverError.{RecoverError}
 use Rattle.recovery.specs.Passing.{Passes}

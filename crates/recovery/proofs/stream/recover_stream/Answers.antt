@@ -1,7 +1,7 @@
 use Rattle.std.proofs.Common.{◌≡◌, ◌∙◌, [], Err, take, subst, ap, inl, inr, arith, rules}
 use Rattle.std.specs.Io.KnownBytes.{Consumes, IsAtEnd}
-use Rattle.dgt_frame.specs.Input.{GivesChunk}
-use Rattle.dgt_frame.specs.Watch.{inner_of, has_failed}
+use Rattle.watched_streams.specs.Input.{GivesChunk}
+use Rattle.watched_streams.specs.Watch.{inner_of, has_failed}
 use Rattle.board_session.specs.Settings.{Setting}
 use Rattle.recovery.specs.declared.refusal.RecoverError.{RecoverError}
 use Rattle.recovery.specs.declared.refusal.RecoverError.TheVariants.{Read, TooLong, Memory}

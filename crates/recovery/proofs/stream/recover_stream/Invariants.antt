@@ -1,5 +1,5 @@
 use Rattle.std.proofs.Common.{◌≡◌, ◌-◌, ◌≤◌, false}
-use Rattle.dgt_frame.specs.Watch.{inner_of, has_failed}
+use Rattle.watched_streams.specs.Watch.{inner_of, has_failed}
 use Rattle.recovery.specs.Progress.{HasGiven}
 use Rattle.recovery.proofs.stream.recover_stream.Given as goal
 

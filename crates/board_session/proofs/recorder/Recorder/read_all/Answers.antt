@@ -2,8 +2,8 @@ use Rattle.std.proofs.Common.{[], rules, arith}
 use Rattle.std.proofs.lemmas.List.{length-take-le}
 use Rattle.std.proofs.lemmas.Result.{err_from_is_err_and}
 use Rattle.std.specs.Io.KnownBytes.{Consumes, IsAtEnd}
-use Rattle.dgt_frame.specs.Input.{GivesChunk}
-use Rattle.dgt_frame.specs.Watch.{inner_of}
+use Rattle.watched_streams.specs.Input.{GivesChunk}
+use Rattle.watched_streams.specs.Watch.{inner_of}
 use Rattle.board_session.proofs.ReadLemmas.{read_failed, read_ended, stopped_in_chunk, too_long, goes_on}
 use Rattle.board_session.proofs.recorder.Recorder.read_all.Goals as goal
 

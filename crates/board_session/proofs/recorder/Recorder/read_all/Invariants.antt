@@ -1,5 +1,5 @@
 use Rattle.std.proofs.Common.{◌≡◌, ◌-◌, ◌≤◌, false}
-use Rattle.dgt_frame.specs.Watch.{inner_of, has_failed}
+use Rattle.watched_streams.specs.Watch.{inner_of, has_failed}
 use Rattle.board_session.specs.Recorder.{IsFed, Reads, event_count}
 use Rattle.board_session.proofs.recorder.Recorder.read_all.Given as goal
 

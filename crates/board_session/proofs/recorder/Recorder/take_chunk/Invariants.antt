@@ -1,5 +1,5 @@
 use Rattle.std.proofs.Common.{◌≡◌, ◌+◌, ◌-◌, ◌≤◌, length, take, false, Ok}
-use Rattle.dgt_frame.specs.Watch.{inner_of, has_failed}
+use Rattle.watched_streams.specs.Watch.{inner_of, has_failed}
 use Rattle.board_session.specs.Recorder.{Hears, IsFed, event_count}
 use Rattle.board_session.proofs.recorder.Recorder.take_chunk.Given as goal
 

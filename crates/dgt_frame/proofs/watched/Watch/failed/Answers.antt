@@ -1,6 +1,0 @@
-use Prim.{search}
-use Rattle.std.proofs.Common.{rules}
-use Rattle.dgt_frame.proofs.watched.Watch.failed.Goals as goal
-
-pub returns : goal.returns
-returns g c = search rules

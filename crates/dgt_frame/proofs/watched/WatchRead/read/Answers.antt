@@ -1,9 +1,0 @@
-use Prim.{search}
-use Rattle.std.proofs.Common.{rules}
-use Rattle.dgt_frame.proofs.watched.WatchRead.read.Goals as goal
-
-pub returns-clause-failed : goal.returns-clause-failed
-returns-clause-failed g c = search rules
-
-pub returns-clause-bytes : goal.returns-clause-bytes
-returns-clause-bytes g c = search rules

@@ -1,6 +1,0 @@
-use Prim.{search}
-use Rattle.std.proofs.Common.{rules}
-use Rattle.dgt_frame.proofs.watched.WatchWrite.flush.Goals as goal
-
-pub returns-clause-failed : goal.returns-clause-failed
-returns-clause-failed g c = search rules

@@ -1,0 +1,5 @@
+//! Tests of the public calls of `watched_streams`.
+#![tactic(auto)]
+
+#[cfg(test)]
+mod watching;

@@ -1,0 +1,9 @@
+use Prim.{search}
+use Rattle.std.proofs.Common.{rules}
+use Rattle.watched_streams.proofs.watched.WatchWrite.write.Goals as goal
+
+pub returns-clause-bytes : goal.returns-clause-bytes
+returns-clause-bytes g c = search rules
+
+pub returns-clause-failed : goal.returns-clause-failed
+returns-clause-failed g c = search rules
