@@ -9,9 +9,9 @@ use Rattle.chess_text.specs.San.{San}
 use Rattle.dgt_frame.specs.declared.events.Event.{Event}
 use Rattle.chess_clock.specs.declared.times.Reading.{Reading}
 use Rattle.dgt_frame.specs.Streams.{Timed}
-use Rattle.settle_core.specs.declared.game.Ply.{Ply}
-use Rattle.settle_core.specs.declared.game.Seen.{Seen}
-use Rattle.settle_core.specs.declared.game.Seen.TheVariants.{Same, Moved, Sign, Replaced, Waits}
+use Rattle.settle_core.specs.declared.plies.Ply.{Ply}
+use Rattle.settle_core.specs.declared.plies.Seen.{Seen}
+use Rattle.settle_core.specs.declared.plies.Seen.TheVariants.{Same, Moved, Sign, Replaced, Waits}
 use Rattle.settle_core.specs.Entries.{Entry, repeats, deduplicated}
 use Rattle.settle_core.specs.Folding.{Folds, Replaces, Score, SeenAs, moves_of, played, score_after}
 use Rattle.settle_core.specs.Settling.{reached}

@@ -11,7 +11,7 @@ use Rattle.board_listing.specs.declared.listing.Listing.{Listing}
 use Rattle.board_listing.specs.Printers.{AddsLines, Follows}
 use Rattle.board_listing.specs.declared.stream.ListError.TheVariants.{Memory, Write}
 use Rattle.board_listing.specs.Progress.{BreaksLines, GathersEvent}
-use Rattle.board_listing.specs.Listings.{Gathers, Refuses, WritesFront}
+use Rattle.board_listing.specs.Listings.{Gathers, LacksMemory, WritesFront}
 
 pub on_err : {T E : Type 0} (P : Type 0) (r : Result T E) → P → OnErr r P
 on_err P (Ok v) p = tt
@@ -88,7 +88,7 @@ written_now begin written written' waiting text gathered sent =
 
 -- Memory ran out, and the lines of the events before were written.
 pub broken_memory : (old : Printer) (waiting : List ℕ) (x : Timed) (written written' : Option (List ℕ))
-    → ((listing : Listing) (events : List Timed) → Follows old listing events → Refuses listing events x) → Appends written written' waiting
+    → ((listing : Listing) (events : List Timed) → Follows old listing events → LacksMemory listing events x) → Appends written written' waiting
     → BreaksLines old written waiting x Memory written'
 broken_memory old waiting x written written' refuses sent listing events text begin follows lines gathered = record {
   taken = events;
@@ -102,7 +102,7 @@ broken_memory old waiting x written written' refuses sent listing events text be
 
 -- Memory ran out, and then the stream has failed.
 pub broken_both : (old : Printer) (waiting : List ℕ) (x : Timed) (n : ℕ) (written written' : Option (List ℕ))
-    → ((listing : Listing) (events : List Timed) → Follows old listing events → Refuses listing events x) → Appends written written' (take n waiting)
+    → ((listing : Listing) (events : List Timed) → Follows old listing events → LacksMemory listing events x) → Appends written written' (take n waiting)
     → BreaksLines old written waiting x Write written'
 broken_both old waiting x n written written' refuses took listing events text begin follows lines gathered = record {
   taken = events;

@@ -11,16 +11,16 @@ use Rattle.chess_rules.specs.Valid.{Valid}
 use Rattle.chess_text.specs.Laws.{IsSanByte, TextsArePlain, TextsTellMoves}
 use Rattle.chess_text.specs.San.{San}
 use Rattle.chess_clock.specs.declared.Hms.{Hms}
-use Rattle.settle_core.specs.declared.game.Outcome.{Outcome}
-use Rattle.settle_core.specs.declared.game.Outcome.TheVariants.{WhiteWins, BlackWins, Drawn}
-use Rattle.settle_core.specs.declared.game.Ply.{Ply}
+use Rattle.settle_core.specs.declared.plies.Outcome.{Outcome}
+use Rattle.settle_core.specs.declared.plies.Outcome.TheVariants.{WhiteWins, BlackWins, Drawn}
+use Rattle.settle_core.specs.declared.plies.Ply.{Ply}
 use Rattle.settle_core.specs.Folding.{moves_of}
 use Rattle.settle_core.specs.Settling.{Played, reached}
 use Rattle.settle_core.proofs.Stages.{valid_reached}
 use Rattle.pgn_book.specs.Movetext.{number_token}
 use Rattle.board_session.proofs.GameLemmas.{one_result}
 use Rattle.board_listing.specs.GameLines.{clock_words, move_words, result_words, squares_text, waiting_words}
-use Rattle.board_listing.specs.GivenGame.{AddsPly, Changes, CorrectsPly, GameLine, Gives, IsOther, LinesGiveOneGame, TellsLegal}
+use Rattle.board_listing.specs.GivenGame.{AddsPly, ChangesGame, CorrectsPly, GameLine, Gives, IsOther, LinesGiveOneGame, TellsLegal}
 
 -- ---- what stands before a space
 
@@ -165,7 +165,7 @@ corrects_once plain tell start (last ∷ earlier) words plies others valid playe
     is ∙ ap (λ ply. ply ∷ earlier) (ply_once plain tell start earlier (codes "correction") words a b (valid_reached start (moves_of earlier) valid played.1) x y) ∙ sym other
 
 changes_once : TextsArePlain → TextsTellMoves → (start : Parts) (before : List Ply) (old : Option Outcome) (words : List ℕ) (plies others : List Ply) (result other : Option Outcome)
-    → Valid start → Played start (moves_of before) → Changes start words before old plies result → Changes start words before old others other → (plies ≡ others) × (result ≡ other)
+    → Valid start → Played start (moves_of before) → ChangesGame start words before old plies result → ChangesGame start words before old others other → (plies ≡ others) × (result ≡ other)
 changes_once plain tell start before old words plies others result other valid played (inl x) (inl y) =
     (adds_once plain tell start before words plies others (valid_reached start (moves_of before) valid played) x.0 y.0, x.1 ∙ sym y.1)
 changes_once plain tell start before old words plies others result other valid played (inr (inl x)) (inr (inl y)) =
@@ -208,7 +208,7 @@ played_corrected start (last ∷ earlier) words after played (ply, is, told) =
     subst P (sym is) (told.legal, played.1)
 
 changes_played : (start : Parts) (before : List Ply) (old : Option Outcome) (words : List ℕ) (after : List Ply) (new : Option Outcome) → Played start (moves_of before)
-    → Changes start words before old after new → Played start (moves_of after)
+    → ChangesGame start words before old after new → Played start (moves_of after)
 changes_played start before old words after new played (inl ((ply, is, told), same)) =
     let P : List Ply → Type 0 = λ ps. Played start (moves_of ps) in
     subst P (sym is) (told.legal, played)
@@ -225,6 +225,6 @@ pub lines_give_one_game : TextsArePlain → TextsTellMoves → LinesGiveOneGame
 lines_give_one_game plain tell start [] plies others result other valid (a, x) (b, y) = (a ∙ sym b, one_result start None result other x y)
 lines_give_one_game plain tell start (told ∷ earlier) plies others result other valid (before, old, x, changes) (again, same, y, alike) =
     let one = lines_give_one_game plain tell start earlier before again old same valid x y in
-    let P : List Ply → Type 0 = λ ps. Changes start told.words ps same others other in
-    let Q : Option Outcome → Type 0 = λ r. Changes start told.words before r others other in
+    let P : List Ply → Type 0 = λ ps. ChangesGame start told.words ps same others other in
+    let Q : Option Outcome → Type 0 = λ r. ChangesGame start told.words before r others other in
     changes_once plain tell start before old told.words plies others result other valid (gives_played start earlier before old x) changes (subst Q (sym one.1) (subst P (sym one.0) alike))

@@ -7,7 +7,7 @@ use Rattle.board_session.specs.declared.view.View.{View}
 use Rattle.board_session.specs.Commands.{past_of}
 use Rattle.board_session.specs.Settings.{Setting}
 use Rattle.board_session.specs.declared.view.Change.TheVariants.{Nothing, Square, Picture}
-use Rattle.board_session.specs.Pictures.{Adds, Changes, IsLast, pictures}
+use Rattle.board_session.specs.Pictures.{Adds, ChangesPictures, IsLast, pictures}
 use Rattle.board_session.specs.View.{Views}
 use Rattle.board_session.proofs.HearLemmas.{past_more}
 use Rattle.chess_text.specs.declared.placement_text.PlacementText.{PlacementText}
@@ -45,7 +45,7 @@ pictures_by view new kept kept' x lines answer draws (Pictures rotated) events f
 -- No picture was shown.
 pub none_adds : (old : Printer) (view new : View) (kept : PlacementText) (x : Timed) (lines : List ℕ) → old ≡ EachPicture view kept
     → ((rotated : Bool) (past : List Event) → Views view rotated past → Views new rotated (x.event ∷ past))
-    → ((rotated : Bool) (past : List Event) → Views view rotated past → Changes Nothing (pictures rotated past) (pictures rotated (x.event ∷ past)))
+    → ((rotated : Bool) (past : List Event) → Views view rotated past → ChangesPictures Nothing (pictures rotated past) (pictures rotated (x.event ∷ past)))
     → AddsLines old lines x (EachPicture new kept) lines
 none_adds old view new kept x lines is views shown =
     let P : Printer → Type 0 = λ l. AddsLines l lines x (EachPicture new kept) lines in
@@ -65,7 +65,7 @@ is_last picture last earlier pictures is same = subst (IsLast picture) (sym is) 
 -- A square of the last picture changed.
 pub square_adds : (old : Printer) (view new : View) (kept kept' : PlacementText) (x : Timed) (lines : List ℕ) (square code : ℕ) → old ≡ EachPicture view kept
     → ((rotated : Bool) (past : List Event) → Views view rotated past → Views new rotated (x.event ∷ past))
-    → ((rotated : Bool) (past : List Event) → Views view rotated past → Changes (Square square code) (pictures rotated past) (pictures rotated (x.event ∷ past)))
+    → ((rotated : Bool) (past : List Event) → Views view rotated past → ChangesPictures (Square square code) (pictures rotated past) (pictures rotated (x.event ∷ past)))
     → picture_in kept' ≡ slice_set (picture_in kept) square code
     → AddsLines old lines x (EachPicture new kept') (lines ++ placement_line (picture_in kept'))
 square_adds old view new kept kept' x lines square code is views shown changed =
@@ -81,7 +81,7 @@ square_adds old view new kept kept' x lines square code is views shown changed =
 -- Another picture was shown.
 pub picture_adds : (old : Printer) (view new : View) (kept kept' : PlacementText) (x : Timed) (lines picture : List ℕ) → old ≡ EachPicture view kept
     → ((rotated : Bool) (past : List Event) → Views view rotated past → Views new rotated (x.event ∷ past))
-    → ((rotated : Bool) (past : List Event) → Views view rotated past → Changes Picture (pictures rotated past) (pictures rotated (x.event ∷ past)))
+    → ((rotated : Bool) (past : List Event) → Views view rotated past → ChangesPictures Picture (pictures rotated past) (pictures rotated (x.event ∷ past)))
     → ((rotated : Bool) (past : List Event) → Views new rotated past → IsLast picture (pictures rotated past))
     → picture_in kept' ≡ picture
     → AddsLines old lines x (EachPicture new kept') (lines ++ placement_line (picture_in kept'))

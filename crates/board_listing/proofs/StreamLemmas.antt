@@ -5,7 +5,7 @@ use Rattle.std.proofs.KnownBytes.{Appends-trans, Consumes-kept, Consumes-trans}
 use Rattle.std.proofs.lemmas.List.{length-take-le}
 use Rattle.std.specs.Io.KnownBytes.{Appends, Consumes, IsAtEnd, Keeps}
 use Rattle.dgt_frame.specs.declared.decode.Decoder.{Decoder}
-use Rattle.watched_streams.specs.declared.input.ReadChunk.{ReadChunk}
+use Rattle.watched_streams.specs.declared.chunks.ReadChunk.{ReadChunk}
 use Rattle.dgt_frame.specs.Decoder.{Decoded}
 use Rattle.watched_streams.specs.Input.{GivesChunk}
 use Rattle.dgt_frame.specs.Streams.{Shows, Timed}

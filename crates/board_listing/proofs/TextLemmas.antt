@@ -17,9 +17,9 @@ use Rattle.chess_text.specs.Squares.{square_text}
 use Rattle.chess_clock.specs.declared.Hms.{Hms}
 use Rattle.dgt_frame.specs.declared.events.FaultKind.{FaultKind}
 use Rattle.dgt_frame.specs.declared.events.FaultKind.TheVariants.{Cut, Stray, Size, Data}
-use Rattle.settle_core.specs.declared.game.Outcome.{Outcome}
-use Rattle.settle_core.specs.declared.game.Outcome.TheVariants.{WhiteWins, BlackWins, Drawn}
-use Rattle.settle_core.specs.declared.game.Ply.{Ply}
+use Rattle.settle_core.specs.declared.plies.Outcome.{Outcome}
+use Rattle.settle_core.specs.declared.plies.Outcome.TheVariants.{WhiteWins, BlackWins, Drawn}
+use Rattle.settle_core.specs.declared.plies.Ply.{Ply}
 use Rattle.settle_core.specs.Folding.{moves_of}
 use Rattle.settle_core.specs.Settling.{Played, reached}
 use Rattle.settle_core.proofs.Stages.{valid_reached}
@@ -27,7 +27,7 @@ use Rattle.pgn_book.specs.Movetext.{number_token}
 use Rattle.board_session.specs.Recording.{limit}
 use Rattle.board_listing.specs.EventLines.{kind_text, rest_line}
 use Rattle.board_listing.specs.GameLines.{clock_words, differing, result_words, squares_text, waiting_words}
-use Rattle.board_listing.specs.GivenGame.{AreInStream, Changes, CorrectsPly, EndsLines, GameLine, Gives, IsOther, LinesGiveOneGame, TellsLegal, TextTellsTheGame, TextTellsTheLines, text_of}
+use Rattle.board_listing.specs.GivenGame.{AreInStream, ChangesGame, CorrectsPly, EndsLines, GameLine, Gives, IsOther, LinesGiveOneGame, TellsLegal, TextTellsTheGame, TextTellsTheLines, text_of}
 use Rattle.board_listing.proofs.OffsetLemmas.{all_append}
 use Rattle.board_listing.proofs.OnceLemmas.{apart, gives_played}
 use Rattle.board_listing.proofs.SquareLemmas.{all_squares, differing_more, told}
@@ -171,7 +171,7 @@ corrected_printed plain start (last ∷ earlier) words after valid played (ply, 
     ply_printed plain start earlier (codes "correction") words ply (fixed (codes "correction") refl) (valid_reached start (moves_of earlier) valid played.1) t
 
 words_printed : TextsArePlain → (start : Parts) (before : List Ply) (old : Option Outcome) (words : List ℕ) (after : List Ply) (new : Option Outcome)
-    → Valid start → Played start (moves_of before) → Changes start words before old after new → Printed words
+    → Valid start → Played start (moves_of before) → ChangesGame start words before old after new → Printed words
 words_printed plain start before old words after new valid played (inl ((ply, is, t), same)) =
     ply_printed plain start before (codes "move") words ply (fixed (codes "move") refl) (valid_reached start (moves_of before) valid played) t
 words_printed plain start before old words after new valid played (inr (inl h)) = corrected_printed plain start before words after valid played h.0

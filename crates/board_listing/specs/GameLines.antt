@@ -4,7 +4,7 @@ use Rattle.std.specs.List.{flat_map, range_with_len}
 use Rattle.chess_clock.specs.declared.Hms.{Hms}
 use Rattle.chess_rules.specs.declared.parts.Parts.{Parts}
 use Rattle.chess_text.specs.Squares.{square_text}
-use Rattle.settle_core.specs.declared.game.Outcome.{Outcome}
+use Rattle.settle_core.specs.declared.plies.Outcome.{Outcome}
 use Rattle.pgn_book.specs.Movetext.{number_token, result_text, two_digits}
 
 -- a line: the offset of the byte at which the event came, and what is said of it

@@ -5,10 +5,10 @@ use Rattle.chess_rules.specs.Picture.{picture}
 use Rattle.chess_text.specs.San.{San}
 use Rattle.dgt_frame.specs.declared.events.Event.{Event}
 use Rattle.dgt_frame.specs.Streams.{Timed}
-use Rattle.settle_core.specs.declared.game.Outcome.{Outcome}
-use Rattle.settle_core.specs.declared.game.Ply.{Ply}
-use Rattle.settle_core.specs.declared.game.Seen.{Seen}
-use Rattle.settle_core.specs.declared.game.Seen.TheVariants.{Same, Moved, Sign, Replaced, Waits}
+use Rattle.settle_core.specs.declared.plies.Outcome.{Outcome}
+use Rattle.settle_core.specs.declared.plies.Ply.{Ply}
+use Rattle.settle_core.specs.declared.plies.Seen.{Seen}
+use Rattle.settle_core.specs.declared.plies.Seen.TheVariants.{Same, Moved, Sign, Replaced, Waits}
 use Rattle.settle_core.specs.GameResult.{IsResult}
 use Rattle.settle_core.specs.Entries.{Entry, repeats, deduplicated}
 use Rattle.settle_core.specs.Folding.{Folds, Score, SeenAs, moves_of, score_after}

@@ -8,8 +8,8 @@ use Rattle.chess_rules.specs.Picture.{picture}
 use Rattle.chess_text.specs.San.{San}
 use Rattle.dgt_frame.specs.declared.events.FaultKind.{FaultKind}
 use Rattle.dgt_frame.specs.Streams.{Timed}
-use Rattle.settle_core.specs.declared.game.Outcome.{Outcome}
-use Rattle.settle_core.specs.declared.game.Ply.{Ply}
+use Rattle.settle_core.specs.declared.plies.Outcome.{Outcome}
+use Rattle.settle_core.specs.declared.plies.Ply.{Ply}
 use Rattle.settle_core.specs.GameResult.{IsResult}
 use Rattle.settle_core.specs.Folding.{moves_of}
 use Rattle.settle_core.specs.Settling.{reached}
@@ -53,8 +53,8 @@ abbrev pub IsOther : Parts → List ℕ → Type 0
 IsOther p words = ((shown : List ℕ) × (words ≡ waiting_words (squares_text (picture p) shown))) ⊎ ((kind : FaultKind) × (words ≡ codes "fault " ++ kind_text kind))
 
 -- These words make the second plies and result of the first ones. Of a picture that waits, and of a fault, nothing changes.
-abbrev pub Changes : Parts → List ℕ → List Ply → Option Outcome → List Ply → Option Outcome → Type 0
-Changes start words before old after new = (AddsPly start before words after × (new ≡ old))
+abbrev pub ChangesGame : Parts → List ℕ → List Ply → Option Outcome → List Ply → Option Outcome → Type 0
+ChangesGame start words before old after new = (AddsPly start before words after × (new ≡ old))
     ⊎ ((CorrectsPly start before words after × (new ≡ old))
     ⊎ (((after ≡ before) × (words ≡ result_words new))
     ⊎ ((after ≡ before) × (new ≡ old) × IsOther (reached start (moves_of before)) words)))
@@ -64,7 +64,7 @@ Changes start words before old after new = (AddsPly start before words after × 
 abbrev pub Gives : Parts → List GameLine → List Ply → Option Outcome → Type 0
 Gives start [] plies result = (plies ≡ []) × IsResult start None result
 Gives start (told ∷ earlier) plies result = (before : List Ply) × (old : Option Outcome) × Gives start earlier before old
-    × Changes start told.words before old plies result
+    × ChangesGame start told.words before old plies result
 
 -- the text of lines
 abbrev pub text_of : List GameLine → List ℕ

@@ -28,15 +28,15 @@ last_line (Pictures rotated) rest = []
 last_line (Game start first rotated) rest = rest_line rest
 
 -- After these events the memory for the next one may be refused: under `follow`, where it gives a move.
-abbrev pub Refuses : Listing → List Timed → Timed → Type 0
-Refuses Events events x = ⊥
-Refuses (Pictures rotated) events x = ⊥
-Refuses (Game start first rotated) events x = WantsMemory (record { start = start; first = first; rotated = rotated }) (past_of events) x.event
+abbrev pub LacksMemory : Listing → List Timed → Timed → Type 0
+LacksMemory Events events x = ⊥
+LacksMemory (Pictures rotated) events x = ⊥
+LacksMemory (Game start first rotated) events x = WantsMemory (record { start = start; first = first; rotated = rotated }) (past_of events) x.event
 
 -- After these events no other was left out, or one for which memory ran out.
 abbrev pub Leaves : Listing → List Timed → List Timed → Type 0
 Leaves listing events [] = ⊤
-Leaves listing events (x ∷ []) = Refuses listing events x
+Leaves listing events (x ∷ []) = LacksMemory listing events x
 Leaves listing events (x ∷ y ∷ more) = ⊥
 
 -- All of the input was read, which is within the limit, and the text of what it shows was written.
@@ -74,7 +74,7 @@ ListsFront listing input input' written written' = (bytes after : List ℕ) × (
 -- events before it were written.
 abbrev pub ListsRefused : Listing → Option (List ℕ) → Option (List ℕ) → Option (List ℕ) → Option (List ℕ) → Type 0
 ListsRefused listing input input' written written' = (bytes after : List ℕ) × (events : List Timed) × (refused : Timed) × (rest : ℕ) × (text : List ℕ)
-    × Consumes input input' (bytes ++ after) × Shows bytes (events ++ refused ∷ []) rest × Refuses listing events refused × HasLines listing events text
+    × Consumes input input' (bytes ++ after) × Shows bytes (events ++ refused ∷ []) rest × LacksMemory listing events refused × HasLines listing events text
     × Appends written written' text
 
 -- Out of memory, nothing was read or written; or, under `follow`, a move was refused.

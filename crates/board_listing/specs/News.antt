@@ -2,12 +2,12 @@
 use Rattle.std.specs.Prelude.{◌≡◌, ℕ, List, [], ◌∷◌, ◌++◌, Option, ⊤}
 use Rattle.chess_rules.specs.declared.parts.Parts.{Parts}
 use Rattle.chess_rules.specs.Legal.{Legal}
-use Rattle.settle_core.specs.declared.game.Ply.{Ply}
-use Rattle.settle_core.specs.declared.game.Seen.{Seen}
-use Rattle.settle_core.specs.declared.game.Seen.TheVariants.{Same, Moved, Sign, Replaced, Waits}
+use Rattle.settle_core.specs.declared.plies.Ply.{Ply}
+use Rattle.settle_core.specs.declared.plies.Seen.{Seen}
+use Rattle.settle_core.specs.declared.plies.Seen.TheVariants.{Same, Moved, Sign, Replaced, Waits}
 use Rattle.settle_core.specs.Folding.{Score, moves_of}
 use Rattle.settle_core.specs.Settling.{reached}
-use Rattle.settle_core.specs.declared.game.Outcome.{Outcome}
+use Rattle.settle_core.specs.declared.plies.Outcome.{Outcome}
 use Rattle.board_listing.specs.GameText.{HasResult, TellsResult, TellsSeen}
 
 -- There is a latest ply, and it is legal where it stands.

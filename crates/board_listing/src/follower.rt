@@ -2,12 +2,12 @@
 ghost use Rattle.std.specs.Prelude.{◌≡◌, ◌≢◌, ◌↔◌, ◌≤◌, ◌+◌, ◌++◌, [], ℕ, List, IsTrue, OnErr, OnOk, Some, length};
 ghost use Rattle.arrayvec.specs.ArrayVec.{array_vec_len};
 ghost use Rattle.dgt_frame.specs.Streams.{HasFrame};
-ghost use Rattle.settle_core.specs.declared.game.Seen.{Seen as SeenOf};
+ghost use Rattle.settle_core.specs.declared.plies.Seen.{Seen as SeenOf};
 ghost use Rattle.board_listing.specs.GameText.{HasResult, TellsPly, TellsResult, TellsSeen};
 ghost use Rattle.board_listing.specs.News.{AddsNews, LastIsLegal, MayTell};
 
 use crate::events::add_line;
-use crate::game::{add_ply, add_result, add_waiting};
+use crate::game_lines::{add_ply, add_result, add_waiting};
 use watched_streams::{GATHERED, LONGEST, Lines};
 use board_session::Session;
 use chess_rules::Position;

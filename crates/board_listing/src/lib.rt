@@ -3,7 +3,7 @@
 
 mod events;
 mod follower;
-mod game;
+mod game_lines;
 pub mod laws;
 mod listing;
 mod pictures;

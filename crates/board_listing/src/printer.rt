@@ -3,7 +3,7 @@ ghost use Rattle.std.specs.Prelude.{◌≡◌, ◌≤◌, ◌+◌, ◌∷◌, []
 ghost use Rattle.arrayvec.specs.ArrayVec.{array_vec_len};
 ghost use Rattle.dgt_frame.specs.Streams.{HasFrame, Timed};
 ghost use Rattle.board_listing.specs.declared.listing.Listing.{Listing};
-ghost use Rattle.board_listing.specs.Listings.{Refuses, last_line};
+ghost use Rattle.board_listing.specs.Listings.{LacksMemory, last_line};
 ghost use Rattle.board_listing.specs.Printers.{AddsLines, Follows, HasBegun};
 
 use crate::events::{add_line, add_rest};
@@ -54,7 +54,7 @@ impl Printer {
         ensures ok { OnOk result (AddsLines self.old lines.old.items (record { offset = offset; event = event.now }) self.new lines.new.items) }
         ensures err { OnErr result (lines.new.items ≡ lines.old.items) }
         ensures memory { (listing : Listing) (events : List Timed) → Follows self.old listing events
-            → OnErr result (Refuses listing events (record { offset = offset; event = event.now })) }
+            → OnErr result (LacksMemory listing events (record { offset = offset; event = event.now })) }
     {
         match self {
             Printer::Events => {

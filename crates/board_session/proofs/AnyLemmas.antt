@@ -5,8 +5,8 @@ use Rattle.chess_rules.specs.declared.parts.Parts.{Parts}
 use Rattle.chess_rules.specs.Legal.{Mated, Stale}
 use Rattle.chess_rules.specs.Picture.{picture}
 use Rattle.dgt_frame.specs.declared.events.Event.{Event}
-use Rattle.settle_core.specs.declared.game.Outcome.{Outcome}
-use Rattle.settle_core.specs.declared.game.Ply.{Ply}
+use Rattle.settle_core.specs.declared.plies.Outcome.{Outcome}
+use Rattle.settle_core.specs.declared.plies.Ply.{Ply}
 use Rattle.settle_core.specs.AnyPlay.{AllShowBothKings, KeepsAllButLast as KeepsAllButLatest, WereShown as WereShownIn}
 use Rattle.settle_core.specs.Entries.{Entry, deduplicated, last_picture, repeats}
 use Rattle.settle_core.specs.Folding.{Folds, Score, moves_of, score_of, time_of}

@@ -9,8 +9,8 @@ use Rattle.dgt_frame.specs.declared.events.Message.TheVariants.{Dump}
 use Rattle.dgt_frame.specs.Frames.{Frame}
 use Rattle.dgt_frame.specs.Restarts.{RestartsAreShown, cut_at, moved_on}
 use Rattle.dgt_frame.specs.Streams.{Shows, Timed}
-use Rattle.settle_core.specs.declared.game.Outcome.{Outcome}
-use Rattle.settle_core.specs.declared.game.Ply.{Ply}
+use Rattle.settle_core.specs.declared.plies.Outcome.{Outcome}
+use Rattle.settle_core.specs.declared.plies.Ply.{Ply}
 use Rattle.settle_core.specs.Entries.{Entry, deduplicated, repeats}
 use Rattle.settle_core.specs.Folding.{Score, score_of}
 use Rattle.settle_core.specs.HonestPlay.{HasOneMore, HasWhole, IsFront, shown_plies}

@@ -6,14 +6,14 @@ use Rattle.dgt_frame.specs.declared.events.Message.TheVariants.{Dump, Update, Ti
 use Rattle.dgt_frame.specs.declared.events.Event.{Event}
 use Rattle.dgt_frame.specs.declared.events.Event.TheVariants.{Message as MessageEvent, Fault}
 use Rattle.dgt_frame.specs.declared.First.{First}
-use Rattle.settle_core.specs.declared.game.Seen.{Seen}
+use Rattle.settle_core.specs.declared.plies.Seen.{Seen}
 use Rattle.settle_core.specs.Entries.{Entry, changed, entry_of, last_picture}
 use Rattle.settle_core.specs.Settler.{Sheet, StandsFor as Settled, ReturnsSeen, GivesMove}
 use Rattle.board_session.specs.States.{State}
 use Rattle.board_session.specs.Settings.{Setting}
 use Rattle.board_session.specs.History.{is_trusted, picture_of, turned}
 use Rattle.board_session.specs.Entries.{entries, entry_at}
-use Rattle.board_session.specs.Session.{StandsFor, Takes, entries_in}
+use Rattle.board_session.specs.Session.{StandsFor, TakesInto, entries_in}
 use Rattle.board_session.proofs.PictureLemmas.{updated_picture}
 
 -- Of a trusted board the last entry has the present picture.
@@ -61,7 +61,7 @@ pub record RefusesEntry (old : Sheet) (start : Parts) (past : List Entry) (entry
 pub dump_taken : (old : State) (settler : Sheet) (codes picture : List ℕ) (seen : Seen)
     → ((past : List Event) → picture ≡ picture_of old.rotated (MessageEvent (Dump codes) ∷ past))
     → ((start : Parts) (past : List Entry) → SeesEntry old.settler settler start past (entry_of picture old.reading) seen)
-    → Takes old (MessageEvent (Dump codes)) (Ok (record { asks_dump = false; seen = Some seen })) (trusting settler old)
+    → TakesInto old (MessageEvent (Dump codes)) (Ok (record { asks_dump = false; seen = Some seen })) (trusting settler old)
 dump_taken old settler codes picture seen is sees = record {
   stands = λ setting past h.
       let shown : picture ≡ picture_of setting.rotated (MessageEvent (Dump codes) ∷ past) = is past ∙ ap (λ (r : Bool). picture_of r (MessageEvent (Dump codes) ∷ past)) h.rotated in
@@ -92,7 +92,7 @@ pub dump_refused : (old : State) (settler : Sheet) (codes picture : List ℕ) (e
     → ((past : List Event) → picture ≡ picture_of old.rotated (MessageEvent (Dump codes) ∷ past))
     → settler ≡ old.settler
     → ((start : Parts) (past : List Entry) → RefusesEntry old.settler start past (entry_of picture old.reading))
-    → Takes old (MessageEvent (Dump codes)) (Err error) (settling settler old)
+    → TakesInto old (MessageEvent (Dump codes)) (Err error) (settling settler old)
 dump_refused old settler codes picture error is kept refuses = record {
   stands = λ setting past h. tt;
   tells = λ setting past h. tt;
@@ -146,7 +146,7 @@ shown_again old setting past field code square found idle =
 pub update_taken : (old : State) (settler : Sheet) (field code square : ℕ) (seen : Seen) → field < 64 → old.trusted ≡ true
     → square ≡ turned old.rotated field
     → ((start : Parts) (before : Entry) (earlier : List Entry) → SeesEntry old.settler settler start (before ∷ earlier) (changed before square code old.reading) seen)
-    → Takes old (MessageEvent (Update field code)) (Ok (record { asks_dump = false; seen = Some seen })) (settling settler old)
+    → TakesInto old (MessageEvent (Update field code)) (Ok (record { asks_dump = false; seen = Some seen })) (settling settler old)
 update_taken old settler field code square seen f trusted turns sees = record {
   stands = λ setting past h.
       let found = last_of old setting past field code square f trusted turns h in
@@ -179,7 +179,7 @@ pub update_refused : (old : State) (settler : Sheet) (field code square : ℕ) (
     → square ≡ turned old.rotated field
     → settler ≡ old.settler
     → ((start : Parts) (before : Entry) (earlier : List Entry) → RefusesEntry old.settler start (before ∷ earlier) (changed before square code old.reading))
-    → Takes old (MessageEvent (Update field code)) (Err error) (settling settler old)
+    → TakesInto old (MessageEvent (Update field code)) (Err error) (settling settler old)
 update_refused old settler field code square error f trusted turns kept refuses = record {
   stands = λ setting past h. tt;
   tells = λ setting past h. tt;

@@ -8,7 +8,7 @@ use Rattle.chess_rules.specs.Legal.{Legal}
 use Rattle.chess_rules.specs.Picture.{picture}
 use Rattle.chess_rules.specs.Valid.{Valid}
 use Rattle.dgt_frame.specs.declared.events.Event.{Event}
-use Rattle.settle_core.specs.declared.game.Ply.{Ply}
+use Rattle.settle_core.specs.declared.plies.Ply.{Ply}
 use Rattle.settle_core.specs.Entries.{Entry, repeats, deduplicated}
 use Rattle.settle_core.specs.Folding.{Folds, Score, moves_of, score_of}
 use Rattle.settle_core.specs.Laws.{HasAnotherLast as HasAnotherLastPly}

@@ -14,7 +14,7 @@ use Rattle.board_session.specs.History.{is_trusted, picture_of, turned}
 use Rattle.board_session.specs.Entries.{entries, entry_at}
 use Rattle.board_session.specs.declared.view.Change.{Change}
 use Rattle.board_session.specs.declared.view.Change.TheVariants.{Nothing, Square, Picture}
-use Rattle.board_session.specs.Pictures.{Adds, Changes, IsLast, pictures}
+use Rattle.board_session.specs.Pictures.{Adds, ChangesPictures, IsLast, pictures}
 use Rattle.board_session.specs.View.{Views, last_of}
 use Rattle.board_session.proofs.PictureLemmas.{length-picture_of, updated_picture}
 use Rattle.board_session.proofs.TakeLemmas.{entries_updated, seen_before, some_same}
@@ -114,7 +114,7 @@ shows_other old rotated past event views added differ =
 -- A square of a trusted board's picture has another code.
 pub square_changed : (old : View) (rotated : Bool) (past : List Event) (field code square : ℕ) → field < 64 → Views old rotated past → old.trusted ≡ true
     → square ≡ turned old.rotated field → (old.picture ≡ slice_set old.picture square code → ⊥)
-    → Changes (Square square code) (pictures rotated past) (pictures rotated (MessageEvent (Update field code) ∷ past))
+    → ChangesPictures (Square square code) (pictures rotated past) (pictures rotated (MessageEvent (Update field code) ∷ past))
 square_changed old rotated past field code square inside views trusted square_is differ =
     let event = MessageEvent (Update field code) in
     let trust : is_trusted past ≡ true = sym views.trust ∙ trusted in
@@ -142,7 +142,7 @@ other_picture_shown view rotated past square code any within views trusted other
     other (ap (λ (l : List ℕ). get_or l square any) same ∙ get_or-set_same view.picture square code any (omega (arith, long)))
 
 -- What changed is what the last picture shows.
-pub adds_changed : (change : Change) (picture : List ℕ) (old new : List (List ℕ)) → Changes change old new → (change ≡ Nothing → ⊥) → IsLast picture new → new ≡ picture ∷ old
+pub adds_changed : (change : Change) (picture : List ℕ) (old new : List (List ℕ)) → ChangesPictures change old new → (change ≡ Nothing → ⊥) → IsLast picture new → new ≡ picture ∷ old
 adds_changed Nothing picture old new changes other last = absurd (other refl)
 adds_changed (Square square code) picture old new changes other last =
     let is : picture ≡ slice_set changes.0 square code = subst (IsLast picture) changes.3 last in

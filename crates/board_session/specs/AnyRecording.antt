@@ -6,8 +6,8 @@ use Rattle.dgt_frame.specs.declared.events.Event.{Event}
 use Rattle.dgt_frame.specs.declared.events.Message.TheVariants.{Dump}
 use Rattle.dgt_frame.specs.Frames.{Frame}
 use Rattle.dgt_frame.specs.Streams.{Shows, Timed}
-use Rattle.settle_core.specs.declared.game.Outcome.{Outcome}
-use Rattle.settle_core.specs.declared.game.Ply.{Ply}
+use Rattle.settle_core.specs.declared.plies.Outcome.{Outcome}
+use Rattle.settle_core.specs.declared.plies.Ply.{Ply}
 use Rattle.settle_core.specs.AnyHands.{ShownEachInTheEnd}
 use Rattle.settle_core.specs.AnyPlay.{AllShowBothKings}
 use Rattle.settle_core.specs.Endings.{IsEnd}

@@ -7,8 +7,8 @@ use Rattle.chess_rules.specs.After.{after}
 use Rattle.chess_rules.specs.Picture.{picture}
 use Rattle.chess_rules.specs.Valid.{Valid}
 use Rattle.dgt_frame.specs.declared.events.Event.{Event}
-use Rattle.settle_core.specs.declared.game.Outcome.{Outcome}
-use Rattle.settle_core.specs.declared.game.Ply.{Ply}
+use Rattle.settle_core.specs.declared.plies.Outcome.{Outcome}
+use Rattle.settle_core.specs.declared.plies.Ply.{Ply}
 use Rattle.settle_core.specs.AnyPlay.{AllShowBothKings}
 use Rattle.settle_core.specs.Entries.{Entry, deduplicated, last_picture}
 use Rattle.settle_core.specs.Folding.{moves_of, time_of}

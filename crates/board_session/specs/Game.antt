@@ -2,7 +2,7 @@
 use Rattle.std.specs.Prelude.{◌≡◌, ◌+◌, ◌≤◌, List, [], ◌∷◌, Option, length, ⊤}
 use Rattle.chess_rules.specs.declared.parts.Parts.{Parts}
 use Rattle.dgt_frame.specs.declared.events.Event.{Event}
-use Rattle.settle_core.specs.declared.game.Outcome.{Outcome}
+use Rattle.settle_core.specs.declared.plies.Outcome.{Outcome}
 use Rattle.settle_core.specs.Entries.{Entry, deduplicated}
 use Rattle.settle_core.specs.Folding.{Folds, Score, moves_of, score_of}
 use Rattle.settle_core.specs.Settling.{Line}

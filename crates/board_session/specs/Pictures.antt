@@ -17,10 +17,10 @@ Adds None old new = new ≡ old
 Adds (Some picture) old new = new ≡ picture ∷ old
 
 -- These pictures are those; or those, and the last one with another code on a square; or those, and one more.
-abbrev pub Changes : Change → List (List ℕ) → List (List ℕ) → Type 0
-Changes Nothing old new = new ≡ old
-Changes (Square square code) old new = (picture : List ℕ) × (earlier : List (List ℕ)) × (old ≡ picture ∷ earlier) × (new ≡ slice_set picture square code ∷ old)
-Changes Picture old new = (picture : List ℕ) × (new ≡ picture ∷ old)
+abbrev pub ChangesPictures : Change → List (List ℕ) → List (List ℕ) → Type 0
+ChangesPictures Nothing old new = new ≡ old
+ChangesPictures (Square square code) old new = (picture : List ℕ) × (earlier : List (List ℕ)) × (old ≡ picture ∷ earlier) × (new ≡ slice_set picture square code ∷ old)
+ChangesPictures Picture old new = (picture : List ℕ) × (new ≡ picture ∷ old)
 
 -- The square that changes is on the board.
 abbrev pub IsOnBoard : Change → Type 0

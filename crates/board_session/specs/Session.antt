@@ -35,7 +35,7 @@ WantsMemory setting past event = (is_entry event past ≡ true)
     × GivesMove setting.start (entries_in setting past) (picture_of setting.rotated (event ∷ past))
 
 -- From the one session to the other, this event was taken with this result.
-pub record Takes (old : State) (event : Event) (answer : Result Taken AllocError) (new : State) : Type 0 where
+pub record TakesInto (old : State) (event : Event) (answer : Result Taken AllocError) (new : State) : Type 0 where
   pub stands : (setting : Setting) (past : List Event) → StandsFor old setting past → OnOk answer (StandsFor new setting (event ∷ past))
   pub tells : (setting : Setting) (past : List Event) → StandsFor old setting past → IfOk answer (TellsTaken setting past event)
   pub idle : (setting : Setting) (past : List Event) → StandsFor old setting past

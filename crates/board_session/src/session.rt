@@ -9,7 +9,7 @@ ghost use Rattle.board_session.specs.Settings.{Setting};
 ghost use Rattle.board_session.specs.History.{IsInRange, is_trusted, picture_of, reading_at, turned};
 ghost use Rattle.board_session.specs.Entries.{Idle};
 ghost use Rattle.board_session.specs.Game.{IsGameOf};
-ghost use Rattle.board_session.specs.Session.{StandsFor, Takes, TellsTaken, WantsMemory, entries_in};
+ghost use Rattle.board_session.specs.Session.{StandsFor, TakesInto, TellsTaken, WantsMemory, entries_in};
 
 use chess_rules::{Position, Square};
 use chess_clock::Reading;
@@ -105,7 +105,7 @@ impl Session {
     #[inline(always)]
     pub fn take_ref(&mut self, event: &Event) -> Result<Taken, AllocError>
         requires { IsInRange event.now }
-        ensures { Takes self.old event.now result self.new }
+        ensures { TakesInto self.old event.now result self.new }
     {
         match event {
             Event::Message(Message::Dump(codes)) => self.take_dump(*codes),
@@ -128,7 +128,7 @@ impl Session {
     #[inline(always)]
     fn take_dump(&mut self, codes: [u8; 64]) -> Result<Taken, AllocError>
         requires { All (λ code. code < 16) codes }
-        ensures { Takes self.old (Event.Message (Message.Dump codes)) result self.new }
+        ensures { TakesInto self.old (Event.Message (Message.Dump codes)) result self.new }
     {
         let picture = picture_of(self.rotated, codes);
         let seen = self.settler.see(&picture, self.reading)?;
@@ -143,7 +143,7 @@ impl Session {
     fn take_update(&mut self, field: u8, code: u8) -> Result<Taken, AllocError>
         requires field { field < 64 }
         requires code { code < 16 }
-        ensures { Takes self.old (Event.Message (Message.Update field code)) result self.new }
+        ensures { TakesInto self.old (Event.Message (Message.Update field code)) result self.new }
     {
         if !self.trusted {
             return Ok(NOTHING);
@@ -157,7 +157,7 @@ impl Session {
     }
 
     fn take_time(&mut self, times: [u8; 7])
-        ensures { Takes self.old (Event.Message (Message.Time times)) (Ok (record { asks_dump = false; seen = None })) self.new }
+        ensures { TakesInto self.old (Event.Message (Message.Time times)) (Ok (record { asks_dump = false; seen = None })) self.new }
     {
         self.reading = read_time(&times, self.first, self.reading);
     }

@@ -56,8 +56,8 @@ timed offset None = []
 timed offset (Some event) = record { offset = offset; event = event } ∷ []
 
 -- Whatever the decoder was given, it has now been given this byte too, and has returned this.
-abbrev pub Takes : Decoder → ℕ → Option Event → Decoder → Type 0
-Takes old byte answer new = (bytes : List ℕ) (events : List Timed) → Decoded old bytes events
+abbrev pub TakesByte : Decoder → ℕ → Option Event → Decoder → Type 0
+TakesByte old byte answer new = (bytes : List ℕ) (events : List Timed) → Decoded old bytes events
     → Decoded new (bytes ++ byte ∷ []) (events ++ timed (length bytes) answer)
 
 -- The same of several bytes, at none of which an event came.

@@ -67,7 +67,7 @@ pub struct Decoder {
 }
 
 impl Decoder {
-    ghost use Rattle.dgt_frame.specs.Decoder.{Decoded, Takes, TakesAll, TakesUpTo, event_at_byte, timed};
+    ghost use Rattle.dgt_frame.specs.Decoder.{Decoded, TakesByte, TakesAll, TakesUpTo, event_at_byte, timed};
 
     /// A decoder that was given no byte.
     pub fn new() -> Decoder
@@ -168,7 +168,7 @@ impl Decoder {
     }
 
     fn step(&mut self, byte: u8) -> Progress
-        ensures { Takes self.old byte (event_at_byte result self.new.stored) self.new }
+        ensures { TakesByte self.old byte (event_at_byte result self.new.stored) self.new }
     {
         if byte >= TOP_BIT {
             return self.begin(byte);
@@ -198,7 +198,7 @@ impl Decoder {
 
     fn begin(&mut self, id: u8) -> Progress
         requires { 128 ≤ id }
-        ensures { Takes self.old id (event_at_byte result self.new.stored) self.new }
+        ensures { TakesByte self.old id (event_at_byte result self.new.stored) self.new }
     {
         let before = self.state;
         self.state = State::Identified { id };
@@ -211,7 +211,7 @@ impl Decoder {
     fn measure(&mut self, id: u8, high: u8, low: u8) -> Progress
         requires state { self.old.state ≡ State.Measured id high }
         requires low { low < 128 }
-        ensures { Takes self.old low (event_at_byte result self.new.stored) self.new }
+        ensures { TakesByte self.old low (event_at_byte result self.new.stored) self.new }
     {
         let size = u16::from(high) * 128 + u16::from(low);
         if !fits_size(id, size) {
@@ -229,7 +229,7 @@ impl Decoder {
         requires state { self.old.state ≡ State.Filling id size count }
         requires room { count + 3 < size }
         requires byte { byte < 128 }
-        ensures { Takes self.old byte (event_at_byte result self.new.stored) self.new }
+        ensures { TakesByte self.old byte (event_at_byte result self.new.stored) self.new }
     {
         if byte >= byte_limit(id, count) {
             return self.fail(FaultKind::Data);

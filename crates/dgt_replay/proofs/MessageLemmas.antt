@@ -3,7 +3,7 @@ use Rattle.std.proofs.Common.{inl, inr, ◌≡◌, ◌⊎◌, ℕ, ◌<◌, List
 use Rattle.std.proofs.lemmas.List.{take-append-drop}
 use Rattle.std.proofs.KnownBytes.{Keeps-refl}
 use Rattle.std.specs.Io.KnownBytes.{Appends, Keeps}
-use Rattle.watched_streams.specs.declared.output.WriteFault.{WriteFault}
+use Rattle.watched_streams.specs.declared.putting.WriteFault.{WriteFault}
 use Rattle.board_session.specs.Recording.{AppendsPart}
 use Rattle.dgt_replay.specs.Messages.{GivesText, Says, Tells}
 use Rattle.dgt_replay.specs.declared.input.TextError.{TextError}

@@ -9,7 +9,7 @@ use Rattle.chess_text.specs.Fen.{RefusedFirst}
 use Rattle.pgn_book.specs.declared.values.Tag.{Tag}
 use Rattle.pgn_book.specs.declared.values.TagError.{TagError}
 use Rattle.pgn_book.specs.declared.values.TagError.TheVariants.{Text as NoText, Long, Date as NoDate, Memory}
-use Rattle.pgn_book.specs.Values.{Refuses}
+use Rattle.pgn_book.specs.Values.{RefusesText}
 use Rattle.replay_arguments.specs.declared.setup.Refusal.{Refusal}
 use Rattle.replay_arguments.specs.declared.setup.Refusal.TheVariants.{Fen, Tag as OfTag}
 use Rattle.replay_arguments.specs.declared.arguments.RecordArguments.{RecordArguments}
@@ -40,7 +40,7 @@ tells_value options tag error status said said' err_failed value first one says 
         tag,
         tagged.2,
         tagged.3,
-        match_map (tag_text options tag) (λ text. Refuses tag text error) (λ text. (e : TagError) × (e ≢ Memory) × Refuses tag text e × (tag_message tag error ≡ tag_message tag e))
+        match_map (tag_text options tag) (λ text. RefusesText tag text error) (λ text. (e : TagError) × (e ≢ Memory) × RefusesText tag text e × (tag_message tag error ≡ tag_message tag e))
             (λ text refused. (error, value, refused, refl)) tagged.4,
       ),
     )) says

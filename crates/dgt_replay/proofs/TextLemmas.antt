@@ -5,14 +5,14 @@ use Rattle.dgt_frame.specs.Streams.{Shows, Timed}
 use Rattle.board_listing.specs.declared.listing.Listing.{Listing}
 use Rattle.board_listing.specs.declared.listing.Listing.TheVariants.{Events, Pictures}
 use Rattle.board_listing.specs.EventLines.{rest_line}
-use Rattle.board_listing.specs.Listings.{EndsForMemory, HasLines, Leaves, ListingEnds, ListsAll, ListsFirst, ListsFront, ListsRead, Refuses, WritesFront, last_line}
+use Rattle.board_listing.specs.Listings.{EndsForMemory, HasLines, Leaves, ListingEnds, ListsAll, ListsFirst, ListsFront, ListsRead, LacksMemory, WritesFront, last_line}
 use Rattle.board_listing.specs.OneText.{TextEnds, WritesAll, WritesFirst, WritesPart, WritesRead, event_lines, no_line, picture_lines}
 
 -- What is listed has one text, and memory runs out at no event.
 record HasOneText (listing : Listing) (lines : List Timed → List ℕ) (last : ℕ → List ℕ) : Type 0 where
   text : (events : List Timed) (text : List ℕ) → HasLines listing events text → text ≡ lines events
   ending : (rest : ℕ) → last_line listing rest ≡ last rest
-  granted : (events : List Timed) (x : Timed) → Refuses listing events x → ⊥
+  granted : (events : List Timed) (x : Timed) → LacksMemory listing events x → ⊥
   memory : (input input' written written' : Option (List ℕ)) → EndsForMemory listing input input' written written' → Keeps input input' × Keeps written written'
 
 whole_text : (listing : Listing) (lines : List Timed → List ℕ) (last : ℕ → List ℕ) → HasOneText listing lines last → (events : List Timed) (rest : ℕ) (text : List ℕ) → HasLines listing events text

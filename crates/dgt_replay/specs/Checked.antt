@@ -2,7 +2,7 @@
 use Rattle.std.specs.Prelude.{◌≡◌, ℕ, ◌<◌, ◌≤◌, ◌⊎◌, List, ◌++◌, codes, decimal, length, Option, IfSome}
 use Rattle.std.specs.Io.KnownBytes.{Appends, Keeps}
 use Rattle.board_session.specs.Recording.{AppendsPart}
-use Rattle.settle_core.specs.declared.game.Outcome.{Outcome}
+use Rattle.settle_core.specs.declared.plies.Outcome.{Outcome}
 use Rattle.pgn_book.specs.Games.{Content}
 use Rattle.pgn_book.specs.Movetext.{result_text}
 use Rattle.pgn_book.specs.Pgn.{Pgn}

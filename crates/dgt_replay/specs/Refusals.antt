@@ -7,7 +7,7 @@ use Rattle.chess_text.specs.Fen.{RefusedFirst}
 use Rattle.pgn_book.specs.declared.values.Tag.{Tag}
 use Rattle.pgn_book.specs.declared.values.TagError.{TagError}
 use Rattle.pgn_book.specs.declared.values.TagError.TheVariants.{Memory}
-use Rattle.pgn_book.specs.Values.{Refuses}
+use Rattle.pgn_book.specs.Values.{RefusesText}
 use Rattle.replay_arguments.specs.declared.setup.Refusal.{Refusal}
 use Rattle.replay_arguments.specs.declared.setup.Refusal.TheVariants.{Fen, Tag as OfTag}
 use Rattle.replay_arguments.specs.Setups.{MayHave, StartsAt, tags}
@@ -19,7 +19,7 @@ RefusesStart fen message = MatchOption fen ⊥ (λ text. (error : FenError) × R
 
 -- The message about a refused value of a tag.
 abbrev pub RefusesValue : Tag → Option Text → List ℕ → Type 0
-RefusesValue tag text message = MatchOption text ⊥ (λ value. (error : TagError) × (error ≢ Memory) × Refuses tag value error × (message ≡ tag_message tag error))
+RefusesValue tag text message = MatchOption text ⊥ (λ value. (error : TagError) × (error ≢ Memory) × RefusesText tag value error × (message ≡ tag_message tag error))
 
 -- The message about refused values of tags: it names the first that a tag may not have, in the order of the tags.
 abbrev pub RefusesTags : (Tag → Option Text) → List ℕ → Type 0

@@ -10,9 +10,9 @@ use Rattle.chess_rules.specs.Valid.{Valid}
 use Rattle.chess_rules.proofs.Staying.{valid_after}
 use Rattle.chess_text.specs.Fen.{whole}
 use Rattle.chess_text.specs.Laws.{TextsArePlain, TextsTellMoves, MovesTellTexts, TextsTellPositions}
-use Rattle.settle_core.specs.declared.game.Outcome.{Outcome}
-use Rattle.settle_core.specs.declared.game.Outcome.TheVariants.{WhiteWins, BlackWins, Drawn}
-use Rattle.settle_core.specs.declared.game.Ply.{Ply}
+use Rattle.settle_core.specs.declared.plies.Outcome.{Outcome}
+use Rattle.settle_core.specs.declared.plies.Outcome.TheVariants.{WhiteWins, BlackWins, Drawn}
+use Rattle.settle_core.specs.declared.plies.Ply.{Ply}
 use Rattle.settle_core.specs.Settling.{Line}
 use Rattle.settle_core.specs.Folding.{moves_of}
 use Rattle.settle_core.specs.GameResult.{IsResult}

@@ -8,9 +8,9 @@ use Rattle.chess_rules.specs.Initial.{initial}
 use Rattle.chess_rules.specs.After.{after}
 use Rattle.chess_text.specs.Fen.{fen}
 use Rattle.chess_text.specs.Laws.{TextsArePlain, TextsTellMoves, TextsTellPositions}
-use Rattle.settle_core.specs.declared.game.Outcome.{Outcome}
-use Rattle.settle_core.specs.declared.game.Outcome.TheVariants.{WhiteWins, BlackWins, Drawn}
-use Rattle.settle_core.specs.declared.game.Ply.{Ply}
+use Rattle.settle_core.specs.declared.plies.Outcome.{Outcome}
+use Rattle.settle_core.specs.declared.plies.Outcome.TheVariants.{WhiteWins, BlackWins, Drawn}
+use Rattle.settle_core.specs.declared.plies.Ply.{Ply}
 use Rattle.settle_core.specs.Settling.{Line}
 use Rattle.settle_core.specs.Folding.{moves_of}
 use Rattle.pgn_book.specs.Values.{TagValues}

@@ -5,7 +5,7 @@ use Rattle.std.proofs.lemmas.List.Elements.{All-push}
 use Rattle.chess_rules.specs.declared.parts.Parts.{Parts}
 use Rattle.chess_rules.specs.After.{after}
 use Rattle.chess_rules.specs.Legal.{Legal}
-use Rattle.settle_core.specs.declared.game.Ply.{Ply}
+use Rattle.settle_core.specs.declared.plies.Ply.{Ply}
 use Rattle.settle_core.specs.Settling.{Line, position_after}
 use Rattle.settle_core.specs.Folding.{moves_of}
 use Rattle.pgn_book.specs.Games.{IsTimed}

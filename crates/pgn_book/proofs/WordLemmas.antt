@@ -14,8 +14,8 @@ use Rattle.chess_clock.specs.declared.Hms.{Hms}
 use Rattle.chess_rules.specs.declared.pieces.Side.{Side}
 use Rattle.chess_rules.specs.declared.pieces.Side.TheVariants.{White, Black}
 use Rattle.chess_text.specs.Laws.{IsSanByte, IsSanText}
-use Rattle.settle_core.specs.declared.game.Outcome.{Outcome}
-use Rattle.settle_core.specs.declared.game.Outcome.TheVariants.{WhiteWins, BlackWins, Drawn}
+use Rattle.settle_core.specs.declared.plies.Outcome.{Outcome}
+use Rattle.settle_core.specs.declared.plies.Outcome.TheVariants.{WhiteWins, BlackWins, Drawn}
 use Rattle.pgn_book.specs.Games.{IsTime}
 use Rattle.pgn_book.specs.Lines.{IsToken}
 use Rattle.pgn_book.specs.Flow.{piece, column, flow}

@@ -85,8 +85,8 @@ abbrev pub AreValues : TagValues → Type 0
 AreValues values = (tag : Tag) → IsValue tag (value_of tag values)
 
 -- why a value is refused, the first reason that holds
-abbrev pub Refuses : Tag → List ℕ → TagError → Type 0
-Refuses tag value Text = ¬ IsText value
-Refuses tag value Long = IsText value × ¬ IsShort value
-Refuses tag value NoDate = IsText value × IsShort value × (tag ≡ Date) × ¬ IsDate value
-Refuses tag value Memory = IsValue tag value
+abbrev pub RefusesText : Tag → List ℕ → TagError → Type 0
+RefusesText tag value Text = ¬ IsText value
+RefusesText tag value Long = IsText value × ¬ IsShort value
+RefusesText tag value NoDate = IsText value × IsShort value × (tag ≡ Date) × ¬ IsDate value
+RefusesText tag value Memory = IsValue tag value

@@ -3,7 +3,7 @@
 
 mod game;
 pub mod laws;
-mod output;
+mod appending;
 mod parts;
 mod place;
 mod reading;

@@ -3,7 +3,7 @@ ghost use Rattle.std.specs.Prelude.{◌≡◌, ◌↔◌, ◌≢◌, false, List
 ghost use Rattle.chess_rules.specs.declared.parts.Parts.{Parts as PartsOf};
 ghost use Rattle.chess_rules.specs.Legal.{Legal};
 ghost use Rattle.chess_rules.specs.Valid.{Valid};
-ghost use Rattle.settle_core.specs.declared.game.Ply.{Ply as PlyOf};
+ghost use Rattle.settle_core.specs.declared.plies.Ply.{Ply as PlyOf};
 ghost use Rattle.settle_core.specs.Settling.{Line};
 ghost use Rattle.settle_core.specs.Folding.{moves_of as moves_in};
 ghost use Rattle.pgn_book.specs.Values.{TagValues, AreValues, IsValue, with_value};

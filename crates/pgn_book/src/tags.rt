@@ -1,6 +1,6 @@
 //! The values of a game's tags.
 ghost use Rattle.std.specs.Prelude.{◌≡◌, OnOk, OnErr, IfErr};
-ghost use Rattle.pgn_book.specs.Values.{AreValues, IsValue, Refuses, unknown_values, value_of, value_or, with_value};
+ghost use Rattle.pgn_book.specs.Values.{AreValues, IsValue, RefusesText, unknown_values, value_of, value_or, with_value};
 
 use crate::values::{Tag, TagError, check_value};
 use std::alloc::Global;
@@ -76,7 +76,7 @@ impl Tags {
     pub fn set(&mut self, tag: Tag, value: &str) -> Result<(), TagError>
         ensures set { OnOk result (self.new ≡ with_value tag value.now self.old) }
         ensures valid { OnOk result (IsValue tag value.now) }
-        ensures refused { IfErr result (Refuses tag value.now) }
+        ensures refused { IfErr result (RefusesText tag value.now) }
         ensures kept { OnErr result (self.new ≡ self.old) }
     {
         match check_value(tag, value.as_bytes()) {

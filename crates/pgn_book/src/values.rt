@@ -1,6 +1,6 @@
 //! The tags that a user sets, and which values they may have.
 ghost use Rattle.std.specs.Prelude.{◌≡◌, ◌≢◌, ◌<◌, ◌↔◌, ℕ, IsTrue, IfErr, OnOk, Err, length, slice_index};
-ghost use Rattle.pgn_book.specs.Values.{IsText, IsDate, IsDateDigit, IsValue, Refuses};
+ghost use Rattle.pgn_book.specs.Values.{IsText, IsDate, IsDateDigit, IsValue, RefusesText};
 
 use thiserror::Error;
 
@@ -82,7 +82,7 @@ fn suits(tag: Tag, value: &[u8]) -> bool
 /// Whether the tag may have the value, and if not, why.
 pub fn check_value(tag: Tag, value: &[u8]) -> Result<(), TagError>
     ensures ok { OnOk result (IsValue tag value.now) }
-    ensures err { IfErr result (Refuses tag value.now) }
+    ensures err { IfErr result (RefusesText tag value.now) }
     ensures cause { result ≢ Err TagError.Memory }
 {
     if !is_text(value) {

@@ -13,7 +13,7 @@ ghost use Rattle.pgn_book.specs.Written.{AppendsFront};
 ghost use Rattle.pgn_book.specs.Flow.{Adds, Writes, flow};
 
 use crate::game::Game;
-use crate::output::add;
+use crate::appending::add;
 use crate::parts::same_parts;
 use crate::place::Place;
 use crate::values::Tag;

@@ -9,7 +9,7 @@ use Rattle.chess_clock.specs.declared.Reading.{Reading}
 use Rattle.dgt_frame.specs.declared.time.First.TheVariants.{White}
 use Rattle.chess_rules.specs.declared.parts.Parts.{Parts}
 use Rattle.chess_rules.specs.Legal.{Legal}
-use Rattle.settle_core.specs.declared.game.Seen.TheVariants.{Same}
+use Rattle.settle_core.specs.declared.plies.Seen.TheVariants.{Same}
 use Rattle.settle_core.specs.Entries.{Entry, entry_of, last_picture, repeats}
 use Rattle.settle_core.specs.Settler.{StandsFor}
 use Rattle.unseen_pairs.specs.declared.pair.Recovery.{Recovery}

@@ -4,7 +4,7 @@ use Rattle.std.proofs.KnownBytes.{Appends-nil, Appends-trans, Consumes-kept, Con
 use Rattle.std.proofs.lemmas.List.{length-take-le}
 use Rattle.std.specs.Io.KnownBytes.{Appends, Consumes, IsAtEnd, Keeps}
 use Rattle.dgt_frame.specs.declared.decode.Decoder.{Decoder}
-use Rattle.watched_streams.specs.declared.input.ReadChunk.{ReadChunk}
+use Rattle.watched_streams.specs.declared.chunks.ReadChunk.{ReadChunk}
 use Rattle.watched_streams.specs.Input.{GivesChunk}
 use Rattle.board_session.specs.Recording.{limit}
 use Rattle.board_session.specs.Settings.{Setting}

@@ -1,7 +1,7 @@
 -- What is recovered of a list of events. Events and entries are listed with the latest first.
 use Rattle.std.specs.Prelude.{◌≡◌, true, List, ◌∷◌, Option, Some, None, if◌then◌else◌}
 use Rattle.dgt_frame.specs.declared.events.Event.{Event}
-use Rattle.settle_core.specs.declared.game.Seen.{Seen}
+use Rattle.settle_core.specs.declared.plies.Seen.{Seen}
 use Rattle.settle_core.specs.Entries.{Entry}
 use Rattle.unseen_pairs.specs.declared.pair.Recovery.{Recovery}
 use Rattle.unseen_pairs.specs.declared.pair.Told.TheVariants.{Shown, Recovered}

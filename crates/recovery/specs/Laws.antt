@@ -2,7 +2,7 @@
 use Rattle.std.specs.Prelude.{◌≡◌, ℕ, List, [], Option}
 use Rattle.chess_rules.specs.Valid.{Valid}
 use Rattle.dgt_frame.specs.Streams.{Shows, Timed}
-use Rattle.settle_core.specs.declared.game.Outcome.{Outcome}
+use Rattle.settle_core.specs.declared.plies.Outcome.{Outcome}
 use Rattle.settle_core.specs.Entries.{Entry, deduplicated}
 use Rattle.settle_core.specs.Folding.{score_of}
 use Rattle.unseen_pairs.specs.Laws.{ConfirmNone}

@@ -13,7 +13,7 @@ use Rattle.pgn_book.specs.declared.values.Tag.{Tag}
 use Rattle.pgn_book.specs.declared.values.Tag.TheVariants.{Event, Site, Date, Round, White, Black}
 use Rattle.pgn_book.specs.declared.values.TagError.{TagError}
 use Rattle.pgn_book.specs.declared.values.TagError.TheVariants.{Text as NoText, Long, Date as NoDate, Memory}
-use Rattle.pgn_book.specs.Values.{Refuses, TagValues, unknown_of, unknown_values, value_of}
+use Rattle.pgn_book.specs.Values.{RefusesText, TagValues, unknown_of, unknown_values, value_of}
 use Rattle.board_session.specs.Recording.{setting_of}
 use Rattle.replay_arguments.specs.declared.setup.Refusal.{Refusal}
 use Rattle.replay_arguments.specs.declared.setup.Refusal.TheVariants.{Fen, Tag as OfTag}
@@ -60,7 +60,7 @@ wants_tags rows options event site date round white black White = white
 wants_tags rows options event site date round white black Black = black
 
 -- a text that a tag refuses
-pub value_refused : (tag : Tag) (text : List ℕ) (error : TagError) → Refuses tag text error → (error ≡ Memory) ⊎ HasNoValue tag (Some text)
+pub value_refused : (tag : Tag) (text : List ℕ) (error : TagError) → RefusesText tag text error → (error ≡ Memory) ⊎ HasNoValue tag (Some text)
 value_refused tag text NoText refuses = inr (λ value has. refuses has.1.text)
 value_refused tag text Long refuses = inr (λ value has. refuses.1 has.1.short)
 value_refused tag text NoDate refuses = inr (λ value has. refuses.3 (has.1.date refuses.2))
@@ -153,10 +153,10 @@ none_may text = All-nil (λ t. MayHave t (text t))
 
 -- A tag is refused, and those before it aren't.
 pub first_tag : (text : Tag → Option Text) (before after : List Tag) (tag : Tag) (refusal : Refusal) → tags ≡ before ++ tag ∷ after → BeforeMay text before
-    → ((error : TagError) × (refusal ≡ OfTag tag error) × MatchOption (text tag) ⊥ (λ value. Refuses tag value error)) → OfFirstTag text refusal
+    → ((error : TagError) × (refusal ≡ OfTag tag error) × MatchOption (text tag) ⊥ (λ value. RefusesText tag value error)) → OfFirstTag text refusal
 first_tag text before after tag refusal is may (error, refusal_is, refused) = let P : Refusal → Type 0 = λ r. OfFirstTag text r in subst P (sym refusal_is) (before, after, is, may, refused)
 
-value_none : (tag : Tag) (text : Option Text) (error : TagError) → MatchOption text ⊥ (λ value. Refuses tag value error) → (error ≡ Memory) ⊎ HasNoValue tag text
+value_none : (tag : Tag) (text : Option Text) (error : TagError) → MatchOption text ⊥ (λ value. RefusesText tag value error) → (error ≡ Memory) ⊎ HasNoValue tag text
 value_none tag None error refused = absurd refused
 value_none tag (Some text) error refused = value_refused tag text error refused
 

@@ -12,7 +12,7 @@ use Rattle.dgt_frame.specs.declared.time.First.TheVariants as first
 use Rattle.pgn_book.specs.declared.values.Tag.{Tag}
 use Rattle.pgn_book.specs.declared.values.Tag.TheVariants.{Event, Site, Date, Round, White, Black}
 use Rattle.pgn_book.specs.declared.values.TagError.TheVariants.{Memory}
-use Rattle.pgn_book.specs.Values.{IsValue, Refuses, TagValues, unknown_of, unknown_values, value_of, with_value}
+use Rattle.pgn_book.specs.Values.{IsValue, RefusesText, TagValues, unknown_of, unknown_values, value_of, with_value}
 use Rattle.board_session.specs.declared.recording.Setup.{Setup}
 use Rattle.board_session.specs.Settings.{Setting}
 use Rattle.replay_arguments.specs.declared.setup.Refusal.{Refusal}
@@ -147,7 +147,7 @@ ForMemory (OfTag tag error) = error ≡ Memory
 abbrev pub OfFirstTag : (Tag → Option Text) → Refusal → Type 0
 OfFirstTag text (Fen error) = ⊥
 OfFirstTag text (OfTag tag error) = (before after : List Tag) × (tags ≡ before ++ tag ∷ after)
-    × All (λ t. MayHave t (text t)) before × MatchOption (text tag) ⊥ (λ value. Refuses tag value error)
+    × All (λ t. MayHave t (text t)) before × MatchOption (text tag) ⊥ (λ value. RefusesText tag value error)
 
 -- The refusal is the first one.
 abbrev pub IsFirst : RecordArguments → Refusal → Type 0

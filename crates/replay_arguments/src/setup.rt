@@ -1,7 +1,7 @@
 //! The setup of a recording.
 ghost use Rattle.std.specs.Prelude.{◌≡◌, ◌⊎◌, IfErr, OnOk, MatchOption, MatchResult};
 ghost use Rattle.pgn_book.specs.declared.values.TagError.{TagError as ErrorOf};
-ghost use Rattle.pgn_book.specs.Values.{Refuses};
+ghost use Rattle.pgn_book.specs.Values.{RefusesText};
 ghost use Rattle.replay_arguments.specs.Setups.{ForMemory, HasValues, IsFirst, MayHave, Meets, MeetsNothing, OfFirstTag, given, tag_text, with_given};
 
 use crate::arguments::RecordArguments;
@@ -24,7 +24,7 @@ fn set(tags: &mut Tags, tag: Tag, value: Option<&str>) -> Result<(), Refusal>
     ensures set { OnOk result (tags.new ≡ with_given tag (given value.entry) tags.old) }
     ensures may { OnOk result (MayHave tag (given value.entry)) }
     ensures refused { IfErr result (λ refusal. (error : ErrorOf) × (refusal ≡ Refusal.Tag tag error)
-        × MatchOption (given value.entry) ⊥ (λ value. Refuses tag value error)) }
+        × MatchOption (given value.entry) ⊥ (λ value. RefusesText tag value error)) }
 {
     match value {
         None => Ok(()),

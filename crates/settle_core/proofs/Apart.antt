@@ -14,7 +14,7 @@ use Rattle.chess_rules.specs.Legal.{Legal}
 use Rattle.chess_rules.specs.Valid.{Valid, HasOneKing}
 use Rattle.chess_rules.specs.Picture.{code_of_piece, picture}
 use Rattle.chess_rules.proofs.LawLemmas.{moves_stay_valid}
-use Rattle.settle_core.specs.declared.game.Outcome.{Outcome}
+use Rattle.settle_core.specs.declared.plies.Outcome.{Outcome}
 use Rattle.settle_core.specs.Sign.{InCentre, IsSign}
 use Rattle.settle_core.specs.HonestPlay.{HasKingsApart, IsPartial, IsUnderWay}
 use Rattle.settle_core.proofs.Boards.{other-other, king_no_pawn}

@@ -7,7 +7,7 @@ use Rattle.chess_rules.specs.Legal.{Legal}
 use Rattle.chess_rules.specs.Picture.{picture}
 use Rattle.chess_rules.specs.Valid.{Valid}
 use Rattle.chess_rules.proofs.LawLemmas.{moves_stay_valid}
-use Rattle.settle_core.specs.declared.game.Ply.{Ply}
+use Rattle.settle_core.specs.declared.plies.Ply.{Ply}
 use Rattle.settle_core.specs.AnyHands.{AllHoldOne, IsOfThePiece, OneHandStops}
 use Rattle.settle_core.specs.Entries.{Entry}
 use Rattle.settle_core.specs.HonestPlay.{HasOneMore, HoldsOne, IsAmong, shown_plies}

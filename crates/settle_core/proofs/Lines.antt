@@ -8,7 +8,7 @@ use Rattle.chess_rules.specs.After.{after}
 use Rattle.chess_rules.specs.Legal.{Legal}
 use Rattle.chess_rules.specs.Picture.{picture}
 use Rattle.chess_rules.specs.Valid.{Valid}
-use Rattle.settle_core.specs.declared.game.Ply.{Ply}
+use Rattle.settle_core.specs.declared.plies.Ply.{Ply}
 use Rattle.settle_core.specs.Entries.{Entry, repeats, deduplicated}
 use Rattle.settle_core.specs.Settling.{reached, Line}
 use Rattle.settle_core.specs.Folding.{Score, Folds, moves_of, played, time_of}

@@ -6,7 +6,7 @@ use Rattle.chess_rules.specs.declared.chess_move.Move.{Move}
 use Rattle.chess_rules.specs.declared.parts.Parts.{Parts}
 use Rattle.chess_rules.specs.Picture.{picture}
 use Rattle.chess_rules.specs.Valid.{Valid}
-use Rattle.settle_core.specs.declared.game.Ply.{Ply}
+use Rattle.settle_core.specs.declared.plies.Ply.{Ply}
 use Rattle.settle_core.specs.AnyPlay.{HonestPlayResumes, KingsEndResumedPlay, ResumedPlayStops}
 use Rattle.settle_core.specs.Entries.{Entry, deduplicated, last_picture}
 use Rattle.settle_core.specs.Settling.{Line, position_after, reached}

@@ -15,9 +15,9 @@ use Rattle.chess_rules.specs.Valid.{Valid}
 use Rattle.chess_rules.specs.Picture.{picture}
 use Rattle.chess_rules.specs.Laws.{PicturesTellMoves}
 use Rattle.settle_core.specs.declared.compared.Compared.{Compared}
-use Rattle.settle_core.specs.declared.game.Ply.{Ply}
-use Rattle.settle_core.specs.declared.game.Seen.{Seen}
-use Rattle.settle_core.specs.declared.game.Seen.TheVariants.{Same, Moved, Sign, Replaced, Waits}
+use Rattle.settle_core.specs.declared.plies.Ply.{Ply}
+use Rattle.settle_core.specs.declared.plies.Seen.{Seen}
+use Rattle.settle_core.specs.declared.plies.Seen.TheVariants.{Same, Moved, Sign, Replaced, Waits}
 use Rattle.settle_core.specs.Entries.{Entry, entry_of, repeats, deduplicated}
 use Rattle.settle_core.specs.Settling.{Settles, reached, Played}
 use Rattle.settle_core.specs.Folding.{Score, Folds, SeenAs, Replaces, moves_of, score_after}

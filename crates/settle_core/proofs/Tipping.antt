@@ -6,10 +6,10 @@ use Rattle.std.proofs.lemmas.Bool.{cond-true, cond-false}
 use Rattle.chess_rules.specs.declared.chess_move.Move.{Move}
 use Rattle.chess_rules.specs.declared.parts.Parts.{Parts}
 use Rattle.chess_rules.specs.After.{after}
-use Rattle.settle_core.specs.declared.game.Outcome.{Outcome}
-use Rattle.settle_core.specs.declared.game.Ply.{Ply}
-use Rattle.settle_core.specs.declared.game.Seen.{Seen}
-use Rattle.settle_core.specs.declared.game.Seen.TheVariants.{Same, Moved, Sign, Replaced, Waits}
+use Rattle.settle_core.specs.declared.plies.Outcome.{Outcome}
+use Rattle.settle_core.specs.declared.plies.Ply.{Ply}
+use Rattle.settle_core.specs.declared.plies.Seen.{Seen}
+use Rattle.settle_core.specs.declared.plies.Seen.TheVariants.{Same, Moved, Sign, Replaced, Waits}
 use Rattle.settle_core.specs.declared.tips.Last.{Last}
 use Rattle.settle_core.specs.declared.tips.Tip.{Tip}
 use Rattle.settle_core.specs.Entries.{Entry, repeats, deduplicated}

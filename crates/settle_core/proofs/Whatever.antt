@@ -5,9 +5,9 @@ use Rattle.chess_rules.specs.declared.parts.Parts.{Parts}
 use Rattle.chess_rules.specs.After.{after}
 use Rattle.chess_rules.specs.Valid.{Valid}
 use Rattle.chess_rules.proofs.LawLemmas.{moves_stay_valid}
-use Rattle.settle_core.specs.declared.game.Ply.{Ply}
-use Rattle.settle_core.specs.declared.game.Seen.{Seen}
-use Rattle.settle_core.specs.declared.game.Seen.TheVariants.{Same, Moved, Sign, Replaced, Waits}
+use Rattle.settle_core.specs.declared.plies.Ply.{Ply}
+use Rattle.settle_core.specs.declared.plies.Seen.{Seen}
+use Rattle.settle_core.specs.declared.plies.Seen.TheVariants.{Same, Moved, Sign, Replaced, Waits}
 use Rattle.settle_core.specs.AnyPlay.{KeepsAllButLast, KingsInCentreKeepThePlies, KingsInCentreMakeNoMove, NothingIsInvented, OnlyTheLastPlyMayChange, ShowsBothKings, WereShown}
 use Rattle.settle_core.specs.Entries.{Entry}
 use Rattle.settle_core.specs.Settling.{Settles, reached}

@@ -7,8 +7,8 @@ use Rattle.chess_rules.specs.declared.pieces.Kind.TheVariants.{King}
 use Rattle.chess_rules.specs.After.{after}
 use Rattle.chess_rules.specs.Picture.{code_of_piece, picture}
 use Rattle.chess_rules.specs.Valid.{Valid}
-use Rattle.settle_core.specs.declared.game.Outcome.{Outcome}
-use Rattle.settle_core.specs.declared.game.Ply.{Ply}
+use Rattle.settle_core.specs.declared.plies.Outcome.{Outcome}
+use Rattle.settle_core.specs.declared.plies.Ply.{Ply}
 use Rattle.settle_core.specs.Entries.{Entry, deduplicated, last_picture}
 use Rattle.settle_core.specs.Settling.{Line, Played, Settles, position_after, reached}
 use Rattle.settle_core.specs.Folding.{Folds, Replaces, Score, moves_of, time_of}

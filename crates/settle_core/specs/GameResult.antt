@@ -5,8 +5,8 @@ use Rattle.chess_rules.specs.declared.pieces.Side.TheVariants.{White, Black}
 use Rattle.chess_rules.specs.declared.parts.Parts.{Parts}
 use Rattle.chess_rules.specs.Board.{other}
 use Rattle.chess_rules.specs.Legal.{Mated, Stale}
-use Rattle.settle_core.specs.declared.game.Outcome.{Outcome}
-use Rattle.settle_core.specs.declared.game.Outcome.TheVariants.{WhiteWins, BlackWins, Drawn}
+use Rattle.settle_core.specs.declared.plies.Outcome.{Outcome}
+use Rattle.settle_core.specs.declared.plies.Outcome.TheVariants.{WhiteWins, BlackWins, Drawn}
 
 abbrev pub win_of : Side → Outcome
 win_of White = WhiteWins

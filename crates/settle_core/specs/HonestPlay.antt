@@ -13,14 +13,14 @@ use Rattle.chess_rules.specs.Board.{on, piece_of, other}
 use Rattle.chess_rules.specs.After.{after}
 use Rattle.chess_rules.specs.Legal.{Legal, Captures, Castles, TakesEnPassant}
 use Rattle.chess_rules.specs.Picture.{code, code_of_piece, picture}
-use Rattle.settle_core.specs.declared.game.Ply.{Ply}
+use Rattle.settle_core.specs.declared.plies.Ply.{Ply}
 use Rattle.settle_core.specs.Entries.{Entry}
 use Rattle.settle_core.specs.Folding.{time_of}
 use Rattle.settle_core.specs.Settling.{position_after}
 use Rattle.settle_core.specs.Sign.{InCentre}
 
 -- The move takes a piece: one of the other side stands there before it, and not after it.
-pub record Takes (p : Parts) (m : Move) : Type 0 where
+pub record Captures (p : Parts) (m : Move) : Type 0 where
   pub square : ℕ
   pub kind : Kind
   pub stood : on p.board square ≡ piece_of (other p.side) kind
@@ -37,7 +37,7 @@ HasKingsApart seen = (white black : ℕ) → InCentre white → InCentre black
 pub record IsInHand (p : Parts) (seen : List ℕ) : Type 0 where
   pub theirs : (s : ℕ) (kind : Kind) → s < 64 → slice_index seen s ≡ code_of_piece (other p.side) kind → on p.board s ≡ piece_of (other p.side) kind
   pub kings : HasKingsApart seen
-  pub no_capture : (n : Move) → Legal p n → Takes p n → seen ≢ picture (after p n)
+  pub no_capture : (n : Move) → Legal p n → Captures p n → seen ≢ picture (after p n)
 
 -- The code of one side's king stands nowhere.
 pub record LacksKing (seen : List ℕ) : Type 0 where
@@ -65,8 +65,8 @@ AllRest p [] = Unit {0}
 AllRest p (entry ∷ more) = MayRest p entry.picture × AllRest p more
 
 -- the move changes what stands on s
-abbrev pub Changes : Parts → Move → ℕ → Type 0
-Changes p m s = on p.board s ≢ on (after p m).board s
+abbrev pub ChangesSquare : Parts → Move → ℕ → Type 0
+ChangesSquare p m s = on p.board s ≢ on (after p m).board s
 
 -- what a square that the move changes may show: what stood there, what stands there after the move, nothing, or, where a
 -- promotion ends, the mover's pawn
@@ -79,14 +79,14 @@ pub record LiftsAnother (p : Parts) (m : Move) (seen : List ℕ) : Type 0 where
   pub square : ℕ
   pub kind : Kind
   pub stands : on p.board square ≡ piece_of p.side kind
-  pub stays : ¬ Changes p m square
+  pub stays : ¬ ChangesSquare p m square
   pub lifted : slice_index seen square ≡ 0
 
 -- A piece of the mover shows on s, and none that the move leaves where it is stands there: it is taken for one that is moved.
 pub record ShowsMoved (p : Parts) (m : Move) (seen : List ℕ) (s : ℕ) (kind : Kind) : Type 0 where
   pub low : s < 64
   pub shows : slice_index seen s ≡ code_of_piece p.side kind
-  pub moved : (own : Kind) → on p.board s ≡ piece_of p.side own → Changes p m s
+  pub moved : (own : Kind) → on p.board s ≡ piece_of p.side own → ChangesSquare p m s
 
 -- one is a king, the other a rook
 abbrev pub AreKingAndRook : Kind → Kind → Type 0
@@ -102,8 +102,8 @@ HoldsOne p m seen = LiftsAnother p m seen
 -- The picture shows the move on its way: every square that it does not change is as it was.
 pub record IsPartial (p : Parts) (m : Move) (seen : List ℕ) : Type 0 where
   pub squares : length seen ≡ 64
-  pub changed : (s : ℕ) → s < 64 → Changes p m s → MayShow p m s (slice_index seen s)
-  pub unchanged : (s : ℕ) → s < 64 → ¬ Changes p m s → slice_index seen s ≡ code (on p.board s)
+  pub changed : (s : ℕ) → s < 64 → ChangesSquare p m s → MayShow p m s (slice_index seen s)
+  pub unchanged : (s : ℕ) → s < 64 → ¬ ChangesSquare p m s → slice_index seen s ≡ code (on p.board s)
 
 -- The picture shows the move's piece tried on another square: it is that after another legal move of the piece, which captures
 -- nothing.
@@ -160,7 +160,7 @@ pub record IsAmong (entries : List Entry) (seen : List ℕ) : Type 0 where
 pub record HasOneMore (p : Parts) (plies : List Ply) (part : List Entry) (made : List Ply) : Type 0 where
   pub ply : Ply
   pub legal : Legal p ply.mv
-  pub no_capture : ¬ Takes p ply.mv
+  pub no_capture : ¬ Captures p ply.mv
   pub seen : IsAmong part (picture (after p ply.mv))
   pub is : made ≡ plies ++ ply ∷ []
 

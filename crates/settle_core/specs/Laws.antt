@@ -9,9 +9,9 @@ use Rattle.chess_rules.specs.Legal.{Legal, Castles}
 use Rattle.chess_rules.specs.Picture.{picture}
 use Rattle.chess_rules.specs.Valid.{Valid}
 use Rattle.settle_core.specs.Entries.{Entry, repeats, deduplicated}
-use Rattle.settle_core.specs.declared.game.Outcome.{Outcome}
-use Rattle.settle_core.specs.declared.game.Ply.{Ply}
-use Rattle.settle_core.specs.declared.game.Seen.TheVariants.{Waits}
+use Rattle.settle_core.specs.declared.plies.Outcome.{Outcome}
+use Rattle.settle_core.specs.declared.plies.Ply.{Ply}
+use Rattle.settle_core.specs.declared.plies.Seen.TheVariants.{Waits}
 use Rattle.settle_core.specs.Settling.{Settles, Line, Played, position_after, reached}
 use Rattle.settle_core.specs.Sign.{IsSign}
 use Rattle.settle_core.specs.Folding.{Score, Folds, Replaces, SeenAs, moves_of, score_of}

@@ -3,12 +3,12 @@
 
 mod candidate;
 mod compared;
-mod game;
+mod plies;
 pub mod laws;
 mod masks;
 mod settler;
 mod signs;
 mod tips;
 
-pub use game::{Outcome, Ply, Seen};
+pub use plies::{Outcome, Ply, Seen};
 pub use settler::Settler;

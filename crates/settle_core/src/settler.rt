@@ -5,7 +5,7 @@ ghost use Rattle.chess_rules.specs.declared.parts.Parts.{Parts as PartsOf};
 ghost use Rattle.chess_rules.specs.Legal.{Legal};
 ghost use Rattle.settle_core.specs.Entries.{Entry, entry_of, changed, deduplicated};
 ghost use Rattle.chess_rules.specs.Picture.{picture};
-ghost use Rattle.settle_core.specs.declared.game.Ply.{Ply as PlyOf};
+ghost use Rattle.settle_core.specs.declared.plies.Ply.{Ply as PlyOf};
 ghost use Rattle.settle_core.specs.Masks.{IsDiff};
 ghost use Rattle.settle_core.specs.Settling.{Settles, Line, position_after, reached};
 ghost use Rattle.settle_core.specs.Folding.{Folds, Replaces, SeenAs, moves_of, played, score_after, score_of, time_of as time_in};
@@ -13,7 +13,7 @@ ghost use Rattle.settle_core.specs.Settler.{StandsFor, ReturnsSeen, GivesMove, h
 ghost use Rattle.settle_core.specs.Kept.{CanReplace, IsComparedIn, IsLastSet, last_of, position_in};
 
 use crate::compared::{Compared, copy, shown_after};
-use crate::game::{Outcome, Ply, Seen};
+use crate::plies::{Outcome, Ply, Seen};
 use crate::masks::shown_in;
 use crate::signs::sign_of;
 use chess_rules::{Move, Position, Side, Square};

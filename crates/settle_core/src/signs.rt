@@ -3,12 +3,12 @@ ghost use Rattle.std.specs.Prelude.{◌≡◌, ◌<◌, ◌↔◌, ℕ, IsTrue, 
 ghost use Rattle.chess_rules.specs.declared.pieces.Kind.TheVariants.{King};
 ghost use Rattle.chess_rules.specs.Board.{on};
 ghost use Rattle.chess_rules.specs.Picture.{code, code_of_piece};
-ghost use Rattle.settle_core.specs.declared.game.Outcome.{Outcome as OutcomeOf};
+ghost use Rattle.settle_core.specs.declared.plies.Outcome.{Outcome as OutcomeOf};
 ghost use Rattle.settle_core.specs.Kept.{IsCompared};
 ghost use Rattle.settle_core.specs.Sign.{IsSign, InCentre, IsLight, HasKingOn, IsElseAs, IsAs, Means};
 
 use crate::compared::Compared;
-use crate::game::Outcome;
+use crate::plies::Outcome;
 use chess_rules::Side;
 
 fn king_code(side: Side) -> u8

@@ -10,10 +10,10 @@ use Rattle.chess_rules.specs.After.{after}
 use Rattle.chess_rules.specs.Valid.{Valid}
 use Rattle.chess_rules.specs.Legal.{Legal}
 use Rattle.chess_rules.specs.Picture.{picture}
-use Rattle.settle_core.specs.declared.game.Seen.TheVariants.{Waits}
+use Rattle.settle_core.specs.declared.plies.Seen.TheVariants.{Waits}
 use Rattle.settle_core.specs.Entries.{Entry}
 use Rattle.settle_core.specs.Settling.{Played, reached}
-use Rattle.settle_core.specs.declared.game.Ply.{Ply}
+use Rattle.settle_core.specs.declared.plies.Ply.{Ply}
 use Rattle.settle_core.specs.Folding.{SeenAs, moves_of}
 use Rattle.settle_core.proofs.Stages.{valid_reached}
 use Rattle.unseen_pairs.specs.declared.pair.Pair.{Pair}

@@ -10,8 +10,8 @@ use Rattle.chess_rules.specs.Legal.{Legal}
 use Rattle.chess_rules.specs.Valid.{Valid}
 use Rattle.chess_rules.specs.Picture.{picture}
 use Rattle.chess_rules.proofs.LawLemmas.{moves_stay_valid}
-use Rattle.settle_core.specs.declared.game.Seen.{Seen}
-use Rattle.settle_core.specs.declared.game.Seen.TheVariants.{Same, Moved, Sign, Replaced, Waits}
+use Rattle.settle_core.specs.declared.plies.Seen.{Seen}
+use Rattle.settle_core.specs.declared.plies.Seen.TheVariants.{Same, Moved, Sign, Replaced, Waits}
 use Rattle.settle_core.specs.Entries.{Entry, entry_of, deduplicated, last_picture, repeats}
 use Rattle.settle_core.specs.Settler.{ReturnsNewSeen, ReturnsSeen, Sheet, StandsFor}
 use Rattle.settle_core.specs.Settling.{Played, reached}

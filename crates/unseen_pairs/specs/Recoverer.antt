@@ -5,7 +5,7 @@ use Rattle.chess_rules.specs.Picture.{picture}
 use Rattle.settle_core.specs.Entries.{Entry, entry_of, last_picture, repeats, deduplicated}
 use Rattle.settle_core.specs.Settler.{Sheet, StandsFor}
 use Rattle.settle_core.specs.Folding.{Score, Folds, SeenAs, moves_of}
-use Rattle.settle_core.specs.declared.game.Seen.TheVariants.{Same, Moved, Sign, Replaced, Waits}
+use Rattle.settle_core.specs.declared.plies.Seen.TheVariants.{Same, Moved, Sign, Replaced, Waits}
 use Rattle.unseen_pairs.specs.declared.confirming.Candidate.{Candidate}
 use Rattle.unseen_pairs.specs.declared.pair.Told.{Told}
 use Rattle.unseen_pairs.specs.declared.pair.Told.TheVariants.{Shown, Recovered}

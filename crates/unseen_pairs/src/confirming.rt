@@ -1,7 +1,7 @@
 // Which pair a picture confirms.
 ghost use Rattle.std.specs.Prelude.{◌≡◌, ◌<◌, ◌↔◌, [], ℕ, List, All, IfOk, IfSome, IfNone, IsTrue};
 ghost use Rattle.chess_rules.specs.declared.parts.Parts.{Parts as PartsOf};
-ghost use Rattle.settle_core.specs.declared.game.Seen.{Seen as SeenOf};
+ghost use Rattle.settle_core.specs.declared.plies.Seen.{Seen as SeenOf};
 ghost use Rattle.settle_core.specs.Folding.{SeenAs};
 ghost use Rattle.unseen_pairs.specs.Pairs.{GoesOn};
 ghost use Rattle.unseen_pairs.specs.declared.confirming.Confirmed.{Confirmed as ConfirmedOf};

@@ -2,8 +2,8 @@
 ghost use Rattle.std.specs.Prelude.{◌≡◌, ◌<◌, ◌∷◌, [], true, List, Some, IfOk, OnOk};
 ghost use Rattle.chess_rules.specs.After.{after};
 ghost use Rattle.chess_rules.specs.Legal.{Legal};
-ghost use Rattle.settle_core.specs.declared.game.Ply.{Ply as PlyOf};
-ghost use Rattle.settle_core.specs.declared.game.Seen.{Seen as SeenOf};
+ghost use Rattle.settle_core.specs.declared.plies.Ply.{Ply as PlyOf};
+ghost use Rattle.settle_core.specs.declared.plies.Seen.{Seen as SeenOf};
 ghost use Rattle.settle_core.specs.Folding.{SeenAs, moves_of};
 ghost use Rattle.settle_core.specs.Settling.{Played, reached};
 ghost use Rattle.unseen_pairs.specs.Candidates.{AreAdded, AreAllAdded, AreAged, IsNew};

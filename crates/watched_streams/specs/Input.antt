@@ -1,7 +1,7 @@
 -- What a read up to a limit leaves.
 use Rattle.std.specs.Prelude.{◌≡◌, ℕ, ◌+◌, ◌<◌, ◌≤◌, List, [], ◌++◌, length, take, true, false, Option, Some, None, Result, Ok, Err}
 use Rattle.std.specs.Io.KnownBytes.{Consumes, IsAtEnd, Keeps}
-use Rattle.watched_streams.specs.declared.input.ReadChunk.{ReadChunk}
+use Rattle.watched_streams.specs.declared.chunks.ReadChunk.{ReadChunk}
 
 -- The next bytes of the input are the first of the buffer, at most as many as were left up to the limit; and where the limit is
 -- passed, one more was read.

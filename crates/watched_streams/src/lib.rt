@@ -2,12 +2,12 @@
 //! whole; and lines that are gathered until they are written.
 #![tactic(auto)]
 
-mod input;
+mod chunks;
 mod lines;
-mod output;
+mod putting;
 mod watched;
 
-pub use input::{CHUNK, ReadChunk, read_chunk};
+pub use chunks::{CHUNK, ReadChunk, read_chunk};
 pub use lines::{GATHERED, LONGEST, Lines, add, add_number};
-pub use output::{WriteFault, put};
+pub use putting::{WriteFault, put};
 pub use watched::Watch;

@@ -1,6 +1,6 @@
 use Rattle.std.proofs.Common.{◌∙◌, All, List, sym, subst, arith}
 use Rattle.std.proofs.lemmas.List.{take_all}
-use Rattle.settle_core.specs.declared.game.Ply.{Ply}
+use Rattle.settle_core.specs.declared.plies.Ply.{Ply}
 use Rattle.pgn_book.specs.Games.{IsTimed}
 use Rattle.pgn_book.proofs.Plies.{line_at, position_at, timed_more}
 use Rattle.pgn_book.proofs.game.last_position.Goals as goal

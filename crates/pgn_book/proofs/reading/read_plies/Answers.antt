@@ -1,6 +1,6 @@
 use Rattle.std.proofs.Common.{◌++◌, [], List, sym, ◌∙◌, ap, subst}
 use Rattle.std.proofs.lemmas.List.{append-nil}
-use Rattle.settle_core.specs.declared.game.Ply.{Ply}
+use Rattle.settle_core.specs.declared.plies.Ply.{Ply}
 use Rattle.settle_core.specs.Settling.{Line}
 use Rattle.settle_core.specs.Folding.{moves_of}
 use Rattle.pgn_book.specs.Parse.{Turn, AreTurns, turns_at, words_behind, clock_at}

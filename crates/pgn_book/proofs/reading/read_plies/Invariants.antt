@@ -1,5 +1,5 @@
 use Rattle.std.proofs.Common.{◌≡◌, ◌++◌, List, length}
-use Rattle.settle_core.specs.declared.game.Ply.{Ply}
+use Rattle.settle_core.specs.declared.plies.Ply.{Ply}
 use Rattle.settle_core.specs.Settling.{Line}
 use Rattle.settle_core.specs.Folding.{moves_of}
 use Rattle.pgn_book.specs.Parse.{words, words_behind, turns_at, AreTurns}

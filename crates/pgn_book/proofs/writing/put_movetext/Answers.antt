@@ -1,5 +1,5 @@
 use Rattle.std.proofs.Common.{◌++◌, ◌∷◌, [], ℕ, List, true, ap, subst, ◌∙◌}
-use Rattle.settle_core.specs.declared.game.Ply.{Ply}
+use Rattle.settle_core.specs.declared.plies.Ply.{Ply}
 use Rattle.chess_rules.specs.declared.parts.Parts.{Parts}
 use Rattle.watched_streams.specs.Watch.{inner_of, has_failed}
 use Rattle.pgn_book.specs.Movetext.{AreShown, tokens_of, result_text}

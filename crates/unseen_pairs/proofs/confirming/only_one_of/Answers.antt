@@ -1,5 +1,5 @@
 use Rattle.std.proofs.Common.{◌+◌, Option, IfSome, sym, subst}
-use Rattle.settle_core.specs.declared.game.Seen.{Seen}
+use Rattle.settle_core.specs.declared.plies.Seen.{Seen}
 use Rattle.unseen_pairs.specs.declared.confirming.Confirmed.{Confirmed}
 use Rattle.unseen_pairs.specs.Pairs.{GoesOn}
 use Rattle.unseen_pairs.specs.Candidates.{FoundBelow}

@@ -46,6 +46,7 @@ chunks-preserved g c =
       count = omega (arith, c.in_ok-take_chunk.ensures.count, c.chunks.invariant.count, length-take-le c.in-Some.chunk.within c.read_chunk.new.buffer gives.fits);
       reading = search rules;
       working = search rules;
+      flushed = λ was. c.take_chunk.ensures.flushed (c.chunks.invariant.flushed was);
       reads = λ setting before h.
           let reads = c.chunks.invariant.reads setting before h in
           let hears = c.in_ok-take_chunk.ensures.hears setting before reads.0 reads.1 reads.4 in

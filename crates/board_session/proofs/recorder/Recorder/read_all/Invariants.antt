@@ -1,5 +1,5 @@
 use Rattle.std.proofs.Common.{◌≡◌, ◌-◌, ◌≤◌, false}
-use Rattle.watched_streams.specs.Watch.{inner_of, has_failed}
+use Rattle.watched_streams.specs.Watch.{IsFlushed, inner_of, has_failed}
 use Rattle.board_session.specs.Recorder.{IsFed, Reads, event_count}
 use Rattle.board_session.proofs.recorder.Recorder.read_all.Given as goal
 
@@ -10,6 +10,7 @@ invariant-chunks g l = record {
   count : event_count l.self ≤ l.total;
   reading : has_failed l.reader ≡ false;
   working : has_failed l.board ≡ false;
+  flushed : IsFlushed l.fn.board → IsFlushed l.board;
   reads : Reads l.fn.self l.self l.total (g.R.Read.remaining (inner_of l.fn.reader)) (g.R.Read.remaining (inner_of l.reader)) (g.B.Write.contents (inner_of l.fn.board)) (g.B.Write.contents (inner_of l.board));
 }
 

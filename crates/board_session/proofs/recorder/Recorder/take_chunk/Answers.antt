@@ -11,6 +11,7 @@ events-init g c = record {
   inside = omega arith;
   fed = c.requires.fed;
   working = c.requires.working;
+  flushed = λ was. was;
   count = omega arith;
   hears = λ setting before bytes taken live. (
     [],
@@ -39,6 +40,7 @@ events-preserved g c =
       inside = omega (arith, inside, length-drop at chunk);
       fed = (_, _, rw (← c.take_event.ensures.decoder) at (takes fed.0 fed.1 fed.2));
       working = c.in_ok-take_event.ensures.working;
+      flushed = λ was. c.take_event.ensures.flushed (c.events.invariant.flushed was);
       count = omega (arith, c.take_event.ensures.count, c.events.invariant.count, any);
       hears = λ setting before bytes taken h.
           let live = c.events.invariant.hears setting before bytes taken h in

@@ -1,6 +1,6 @@
 use Rattle.std.proofs.Common.{List, ap, ◌∙◌, subst, All}
 use Rattle.chess_rules.specs.declared.parts.Parts.{Parts}
-use Rattle.settle_core.specs.declared.game.Ply.{Ply}
+use Rattle.settle_core.specs.declared.plies.Ply.{Ply}
 use Rattle.settle_core.specs.Folding.{moves_of}
 use Rattle.settle_core.specs.Settling.{position_after}
 use Rattle.settle_core.specs.GameResult.{IsResult}

@@ -5,7 +5,7 @@ use Rattle.unseen_pairs.specs.Recoverer.{Desk, StandsForRecovered}
 use Rattle.board_session.specs.declared.view.Change.{Change}
 use Rattle.board_session.specs.declared.view.View.{View}
 use Rattle.board_session.specs.History.{reading_at}
-use Rattle.board_session.specs.Pictures.{Changes, pictures}
+use Rattle.board_session.specs.Pictures.{ChangesPictures, pictures}
 use Rattle.board_session.specs.Session.{entries_in}
 use Rattle.board_session.specs.View.{Views}
 use Rattle.board_session.proofs.ViewLemmas.{adds_changed}
@@ -21,7 +21,7 @@ returns-in-Nothing c = λ setting past written k.
     c.hear.ensures.reading past (k.reading ∙ ap (λ (f : First). reading_at f past) (sym k.first)) ∙ ap (λ (f : First). reading_at f (event ∷ past)) k.first in
     let stands : StandsForRecovered c.hear.new.self.recoverer setting.start (entries_in setting past) written =
     subst (λ (d : Desk). StandsForRecovered d setting.start (entries_in setting past) written) (sym c.hear.ensures.recoverer) k.recoverer in
-    let C : Change → Type 0 = λ change. Changes change (pictures setting.rotated past) (pictures setting.rotated (event ∷ past)) in
+    let C : Change → Type 0 = λ change. ChangesPictures change (pictures setting.rotated past) (pictures setting.rotated (event ∷ past)) in
     kept_same _ setting past event written (c.see.ensures.views setting.rotated past before) read (c.hear.ensures.first ∙ k.first) (c.hear.ensures.rotated ∙ k.rotated)
     stands (subst C c.in-Nothing.is (c.see.ensures.shown setting.rotated past before))
 

@@ -4,7 +4,7 @@ use Rattle.chess_rules.specs.declared.chess_move.Move.{Move}
 use Rattle.chess_rules.specs.declared.parts.Parts.{Parts}
 use Rattle.chess_rules.specs.After.{after}
 use Rattle.chess_rules.specs.Legal.{Legal}
-use Rattle.settle_core.specs.declared.game.Ply.{Ply}
+use Rattle.settle_core.specs.declared.plies.Ply.{Ply}
 use Rattle.settle_core.specs.Settling.{reached}
 use Rattle.settle_core.specs.Folding.{moves_of, played, time_of}
 use Rattle.settle_core.specs.Kept.{last_of}

@@ -1,6 +1,6 @@
 use Rattle.std.proofs.Common.{◌≡◌, ◌-◌, ℕ, List, Some, length, reverse, sym, ap, subst, ◌∙◌}
 use Rattle.std.specs.List.{slice_get}
-use Rattle.settle_core.specs.declared.game.Ply.{Ply}
+use Rattle.settle_core.specs.declared.plies.Ply.{Ply}
 use Rattle.settle_core.specs.Folding.{Replaces, moves_of}
 use Rattle.settle_core.specs.Settler.{Sheet}
 use Rattle.settle_core.proofs.Steps.{replaces_but, last_from, last_is, some_map, none_map}

@@ -2,8 +2,8 @@ use Rattle.std.proofs.Common.{◌≡◌, ℕ, List, drop, reverse, refl, ap, sub
 use Rattle.chess_rules.specs.declared.chess_move.Move.{Move}
 use Rattle.chess_rules.specs.declared.parts.Parts.{Parts}
 use Rattle.chess_rules.specs.Picture.{picture}
-use Rattle.settle_core.specs.declared.game.Outcome.{Outcome}
-use Rattle.settle_core.specs.declared.game.Seen.TheVariants.{Waits}
+use Rattle.settle_core.specs.declared.plies.Outcome.{Outcome}
+use Rattle.settle_core.specs.declared.plies.Seen.TheVariants.{Waits}
 use Rattle.settle_core.specs.Settling.{Settles, reached}
 use Rattle.settle_core.specs.Sign.{IsSign}
 use Rattle.settle_core.specs.Folding.{SeenAs, moves_of, played}

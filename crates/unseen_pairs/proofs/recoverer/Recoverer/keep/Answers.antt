@@ -7,7 +7,7 @@ use Rattle.settle_core.specs.Entries.{Entry, deduplicated, entry_of}
 use Rattle.settle_core.specs.Masks.{IsDiff}
 use Rattle.settle_core.proofs.Once.{folds_played}
 use Rattle.settle_core.proofs.Stages.{valid_reached}
-use Rattle.settle_core.specs.declared.game.Seen.TheVariants.{Waits}
+use Rattle.settle_core.specs.declared.plies.Seen.TheVariants.{Waits}
 use Rattle.settle_core.specs.Settling.{Played, reached}
 use Rattle.settle_core.specs.Folding.{SeenAs, moves_of}
 use Rattle.unseen_pairs.specs.declared.confirming.Candidate.{Candidate}

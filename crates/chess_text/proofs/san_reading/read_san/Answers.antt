@@ -4,7 +4,7 @@ use Rattle.chess_rules.specs.declared.parts.Parts.{Parts}
 use Rattle.chess_text.specs.Aim.{aim_at}
 use Rattle.chess_text.proofs.Answering.{aims_none, none_from, ok_is, err_is}
 use Rattle.chess_text.proofs.Plain.{texts_plain}
-use Rattle.chess_text.proofs.reading.read_san.Goals as goal
+use Rattle.chess_text.proofs.san_reading.read_san.Goals as goal
 
 pub returns-then-text-gt-MOST_BYTES-clause-named : goal.returns-then-text-gt-MOST_BYTES-clause-named
 returns-then-text-gt-MOST_BYTES-clause-named c =

@@ -2,7 +2,7 @@ use Prim.{search}
 use Rattle.std.proofs.Common.{arith, length, take, drop, ◌-◌, rules}
 use Rattle.watched_streams.specs.Watch.{inner_of, has_failed}
 use Rattle.watched_streams.proofs.PutLemmas.{appends_on, within_on, works_on}
-use Rattle.watched_streams.proofs.output.put.Goals as goal
+use Rattle.watched_streams.proofs.putting.put.Goals as goal
 
 pub loop-at-preserved : goal.loop-at-preserved
 loop-at-preserved g c = record {

@@ -2,7 +2,7 @@ use Rattle.std.proofs.Common.{◌++◌, codes, decimal, sym, ap, ◌∙◌, subs
 use Rattle.settle_core.specs.Masks.{IsDiff}
 use Rattle.board_listing.specs.GameLines.{line, squares_text, waiting_words}
 use Rattle.board_listing.proofs.SquareLemmas.{line_added, more_added, no_square, some_waiting}
-use Rattle.board_listing.proofs.game.add_waiting.Goals as goal
+use Rattle.board_listing.proofs.game_lines.add_waiting.Goals as goal
 
 pub returns-then-differs-eq0-clause-told : goal.returns-then-differs-eq0-clause-told
 returns-then-differs-eq0-clause-told c stands seen diff =

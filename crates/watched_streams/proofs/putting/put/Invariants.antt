@@ -1,7 +1,7 @@
 use Rattle.std.proofs.Common.{◌≡◌, ◌≤◌, ◌-◌, length, take, false}
 use Rattle.std.specs.Io.KnownBytes.{Appends}
 use Rattle.watched_streams.specs.Watch.{inner_of, has_failed}
-use Rattle.watched_streams.proofs.output.put.Given as goal
+use Rattle.watched_streams.proofs.putting.put.Given as goal
 
 abbrev pub invariant-loop-at : goal.invariant-loop-at
 invariant-loop-at g l = record {

@@ -1,7 +1,7 @@
 use Rattle.std.proofs.Common.{◌≡◌, ◌++◌, sym, ◌∙◌, ap, append-nil, arith}
 use Rattle.board_listing.specs.GameLines.{differing}
 use Rattle.board_listing.proofs.SquareLemmas.{all_squares, differs_there, more_added, skipped_to}
-use Rattle.board_listing.proofs.game.add_squares.Goals as goal
+use Rattle.board_listing.proofs.game_lines.add_squares.Goals as goal
 
 pub squares-init : goal.squares-init
 squares-init c = record {

@@ -2,7 +2,7 @@ use Rattle.std.proofs.Common.{◌≡◌, ◌+◌, ◌-◌, ◌*◌, ◌≤◌, �
 use Rattle.arrayvec.specs.ArrayVec.{array_vec_len}
 use Rattle.settle_core.specs.Masks.{IsDiff}
 use Rattle.board_listing.specs.GameLines.{differing}
-use Rattle.board_listing.proofs.game.add_squares.Given as goal
+use Rattle.board_listing.proofs.game_lines.add_squares.Given as goal
 
 abbrev pub invariant-squares : goal.invariant-squares
 invariant-squares l = record {

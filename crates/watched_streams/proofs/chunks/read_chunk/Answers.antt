@@ -1,7 +1,7 @@
 use Rattle.std.proofs.Common.{◌+◌, ◌≤◌, length, arith, rules}
 use Rattle.watched_streams.specs.Watch.{inner_of}
 use Rattle.watched_streams.proofs.InputLemmas.{gives_chunk}
-use Rattle.watched_streams.proofs.input.read_chunk.Goals as goal
+use Rattle.watched_streams.proofs.chunks.read_chunk.Goals as goal
 
 pub returns-in-Ok-clause-bytes : goal.returns-in-Ok-clause-bytes
 returns-in-Ok-clause-bytes g c =

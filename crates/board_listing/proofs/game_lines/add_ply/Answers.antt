@@ -1,7 +1,7 @@
 use Rattle.std.proofs.Common.{rules, ◌≡◌, ◌++◌}
 use Rattle.pgn_book.specs.Movetext.{number_token}
 use Rattle.board_listing.proofs.SquareLemmas.{words_added}
-use Rattle.board_listing.proofs.game.add_ply.Goals as goal
+use Rattle.board_listing.proofs.game_lines.add_ply.Goals as goal
 
 pub returns-clause-told : goal.returns-clause-told
 returns-clause-told c =

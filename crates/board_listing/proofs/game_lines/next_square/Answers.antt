@@ -1,6 +1,6 @@
 use Rattle.std.proofs.Common.{◌/◌, ◌^◌, ◌<◌, arith}
 use Rattle.board_listing.proofs.SquareLemmas.{clear_rest, lowest_from}
-use Rattle.board_listing.proofs.game.next_square.Goals as goal
+use Rattle.board_listing.proofs.game_lines.next_square.Goals as goal
 
 pub returns-then-rest-eq0-clause-clear : goal.returns-then-rest-eq0-clause-clear
 returns-then-rest-eq0-clause-clear c = λ s from below. clear_rest c.args.mask c.args.square c.if-rest-eq0.true s from
