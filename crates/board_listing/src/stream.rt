@@ -55,8 +55,8 @@ impl ListError {
     }
 }
 
-// Adds the lines of an event, and writes those that wait where there is no room for another's. Where memory runs out, those
-// of the events before it are written.
+/// Adds the lines of an event, and writes those that wait where there is no room for another's. Where memory runs out, those
+/// of the events before it are written.
 fn gather<O: Write>(
     printer: &mut Printer,
     lines: &mut Lines,
@@ -92,7 +92,7 @@ fn gather<O: Write>(
     Ok(())
 }
 
-// Gives the decoder a chunk of the stream, and writes the lines of its events.
+/// Gives the decoder a chunk of the stream, and writes the lines of its events.
 fn list_chunk<O: Write>(
     decoder: &mut Decoder,
     printer: &mut Printer,

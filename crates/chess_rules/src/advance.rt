@@ -1,4 +1,4 @@
-// The position after a move.
+//! The position after a move.
 ghost use Rattle.std.specs.Prelude.{◌≡◌, ◌<◌, Some, ◌||◌, ◌/◌, ◌+◌, if◌then◌else◌, None, is_some};
 ghost use Rattle.chess_rules.specs.Board.{on};
 ghost use Rattle.chess_rules.specs.Attack.{gap};

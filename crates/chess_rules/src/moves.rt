@@ -1,4 +1,4 @@
-// The legal moves of a position: every piece of the mover, every square that it may reach.
+//! The legal moves of a position: every piece of the mover, every square that it may reach.
 ghost use Rattle.std.specs.Prelude.{◌≡◌, ◌≢◌, ◌<◌, ◌+◌, IfSome, IfNone, IfOk, OnOk, OnErr, IsTrue, ◌↔◌};
 ghost use Rattle.chess_rules.specs.Board.{on, piece_of, file, row};
 ghost use Rattle.chess_rules.specs.Attack.{gap};

@@ -1,4 +1,4 @@
-// The parts of a position, and how a game stands in one.
+//! The parts of a position, and how a game stands in one.
 
 use crate::pieces::{Piece, Side};
 use crate::square::Square;

@@ -1,4 +1,4 @@
-// Valid positions.
+//! Valid positions.
 ghost use Rattle.std.specs.Prelude.{◌≡◌, ◌<◌, ◌↔◌, All, IsTrue, IsOk, IfOk, IfErr, OnErr, length};
 ghost use Rattle.chess_rules.specs.Board.{on, other};
 ghost use Rattle.chess_rules.specs.Attack.{InCheck};

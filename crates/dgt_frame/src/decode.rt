@@ -285,7 +285,7 @@ fn byte_limit(id: u8, index: u16) -> u8
     }
 }
 
-// The message of a whole frame, whose data is stored.
+/// The message of a whole frame, whose data is stored.
 fn message(id: u8, size: u16, stored: &[u8; 64]) -> Message
     ensures { result ≡ message_stored id size stored.now }
 {

@@ -30,7 +30,7 @@ fn number(byte: u8) -> u8
     tens(byte) * 10 + byte % 16
 }
 
-// The group from `start` on, where it is a time.
+/// The group from `start` on, where it is a time.
 fn group(bytes: &[u8; 7], start: usize) -> Option<Hms>
     requires { start ≤ 4 }
     ensures { result ≡ group_read bytes.now start }

@@ -1,4 +1,4 @@
-// Frames that lie whole at the front of bytes.
+//! Frames that lie whole at the front of bytes.
 ghost use Rattle.std.specs.Prelude.{IfSome};
 ghost use Rattle.dgt_frame.specs.Whole.{IsWhole};
 

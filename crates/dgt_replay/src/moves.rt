@@ -22,7 +22,7 @@ use replay_arguments::start_of;
 use std::alloc::Global;
 use std::io::Write;
 
-// Adds a legal move in SAN, as a line.
+/// Adds a legal move in SAN, as a line.
 fn add_san(lines: &mut Lines, position: &Position, m: Move)
     requires room { array_vec_len lines.old + LONGEST ≤ GATHERED }
     requires legal { Legal position.now m }
@@ -32,7 +32,7 @@ fn add_san(lines: &mut Lines, position: &Position, m: Move)
     add(lines, b"\n");
 }
 
-// Writes one SAN move a line.
+/// Writes one SAN move a line.
 fn put_moves<O: Write>(
     position: &Position,
     moves: &[Move],

@@ -33,7 +33,7 @@ use replay_arguments::{BoardArguments, Subcommand, read_arguments, start_of};
 use std::alloc::Global;
 use std::io::{Read, Write};
 
-// Writes the text of `clap`, and returns its status.
+/// Writes the text of `clap`, and returns its status.
 fn refused_arguments<O: Write, E: Write>(
     alloc: Global,
     error: &Error,
@@ -94,7 +94,7 @@ fn list<R: Read, O: Write, E: Write>(
     }
 }
 
-// Lists what each event makes of a game.
+/// Lists what each event makes of a game.
 fn follow<R: Read, O: Write, E: Write>(
     alloc: Global,
     options: &BoardArguments<'_>,
@@ -126,7 +126,7 @@ fn follow<R: Read, O: Write, E: Write>(
     }
 }
 
-// Does what the subcommand asks for.
+/// Does what the subcommand asks for.
 fn dispatch<R: Read, O: Write, E: Write>(
     alloc: Global,
     subcommand: &Subcommand<'_>,

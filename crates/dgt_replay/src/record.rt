@@ -19,7 +19,7 @@ use replay_arguments::{RecordArguments, Refusal, setup_of};
 use std::alloc::Global;
 use std::io::{Read, Write};
 
-// Says why a recording can't be set up, and returns the status.
+/// Says why a recording can't be set up, and returns the status.
 fn refused_setup<E: Write>(err: &mut Watch<E>, refusal: Refusal) -> u8
     ensures memory { ForMemory refusal → result ≡ 4 }
     ensures refused { ¬ ForMemory refusal → result ≡ 1 }
@@ -31,7 +31,7 @@ fn refused_setup<E: Write>(err: &mut Watch<E>, refusal: Refusal) -> u8
     }
 }
 
-// Adds the line about a recording, which begins a new line after the bytes for the board.
+/// Adds the line about a recording, which begins a new line after the bytes for the board.
 fn add_report(lines: &mut Lines, report: &Report)
     requires { array_vec_len lines.old + LONGEST ≤ GATHERED }
     ensures { lines.new.items ≡ lines.old.items ++ report_line report.now }
@@ -47,7 +47,7 @@ fn add_report(lines: &mut Lines, report: &Report)
     add(lines, b"\n");
 }
 
-// Records the game that is set up so, and returns the status.
+/// Records the game that is set up so, and returns the status.
 fn record_as<R: Read, O: Write, E: Write>(
     alloc: Global,
     setup: Setup,

@@ -15,7 +15,7 @@ use replay_arguments::{BoardArguments, start_of};
 use std::alloc::Global;
 use std::io::{Read, Write};
 
-// Gives on a stream that begins in this position, and returns the status.
+/// Gives on a stream that begins in this position, and returns the status.
 fn recover_from<R: Read, O: Write, E: Write>(
     alloc: Global,
     start: Position,

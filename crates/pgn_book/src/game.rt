@@ -36,7 +36,7 @@ impl Model for Game {
     ghost invariant = { λ g. IsGame (content_in g) };
 }
 
-// A reading of a clock is in range.
+/// A reading of a clock is in range.
 fn count_clock(clock: &Option<Hms>)
     ensures { ForSome clock.now IsTime }
 {

@@ -1,4 +1,4 @@
-// How a move is read off two pictures.
+//! How a move is read off two pictures.
 ghost use Rattle.std.specs.Prelude.{◌≡◌, ◌≢◌, ◌<◌, ◌≤◌, ℕ, List, IfSome, IfNone, Some, None, true, false, slice_index};
 ghost use Rattle.std.specs.Int.RustNames.{count_ones};
 ghost use Rattle.chess_rules.specs.declared.chess_move.Move.{Move as MoveOf};

@@ -1,4 +1,4 @@
-// The sign of a result.
+//! The sign of a result.
 ghost use Rattle.std.specs.Prelude.{◌≡◌, ◌<◌, ◌↔◌, ℕ, IsTrue, IfSome, IfNone, Some, None};
 ghost use Rattle.chess_rules.specs.declared.pieces.Kind.TheVariants.{King};
 ghost use Rattle.chess_rules.specs.Board.{on};
