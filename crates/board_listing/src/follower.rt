@@ -99,7 +99,7 @@ impl Follower {
     pub fn new(alloc: Global, start: Position, first: First, rotated: bool) -> Follower
         ensures { let setting : Setting = record { start = start; first = first; rotated = rotated } in HasFollowed result setting [] }
     {
-        // A position is valid.
+        // For its clause: the start is valid.
         start.parts();
         let told = result_at(&start, None);
         Follower {

@@ -182,7 +182,7 @@ pub fn list_stream<R: Read, O: Write>(
     let mut total: u32 = 0;
     'chunks: loop {
         let Ok(read) = read_chunk(reader, &mut buffer, (LIMIT - total) as usize) else {
-            // Only for its clause: the bytes taken show some events.
+            // For its clause: the bytes taken show some events.
             decoder.pending();
             return Err(ListError::Read);
         };
@@ -191,12 +191,12 @@ pub fn list_stream<R: Read, O: Write>(
         };
         let bytes = &buffer[..chunk.within];
         if let Err(error) = list_chunk(&mut decoder, &mut printer, total, bytes, out) {
-            // Only for its clause: the bytes taken show some events.
+            // For its clause: the bytes taken show some events.
             decoder.pending();
             return Err(error);
         }
         if chunk.past {
-            // Only for its clause: the bytes taken show some events.
+            // For its clause: the bytes taken show some events.
             decoder.pending();
             return Err(ListError::TooLong);
         }

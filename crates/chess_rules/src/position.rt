@@ -31,6 +31,7 @@ pub fn is_legal_in(parts: &Parts, m: &Move) -> bool
     requires { Valid parts.now }
     ensures { IsTrue result ↔ Legal parts.now m.now }
 {
+    // For its clause: a square is below 64.
     let _to = m.to.number();
     if !goes(parts, m) {
         return false;
@@ -195,7 +196,7 @@ impl Position {
         ensures valid { IfOk result Valid }
         ensures err { IfErr result (FailsFirst parts) }
     {
-        // A board has 64 squares.
+        // For its clause: a board has 64 squares.
         count_squares(&parts.board);
         if !has_counters(&parts) {
             return Err(Invalid::Counters);

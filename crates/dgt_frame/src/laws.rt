@@ -27,7 +27,7 @@ pub fn shows_some(bytes: &[u8])
     for byte in bytes {
         decoder.push(*byte);
     }
-    // The bytes show the events so far and this rest: only that is wanted.
+    // For its clause: the bytes show the events so far and this rest.
     decoder.pending();
 }
 

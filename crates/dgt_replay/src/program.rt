@@ -236,7 +236,7 @@ pub fn run<R: Read, O: Write, E: Write>(
     ensures known { result ≤ 4 }
     ensures usage { result ≡ 2 → IsRefused (map string_bytes arguments.now) }
 {
-    // What arguments without options mean.
+    // For its clause: what arguments without options mean.
     without_options();
     match read_arguments(alloc, arguments) {
         Err(error) => refused_arguments(alloc, &error, out, err),

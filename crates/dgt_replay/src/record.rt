@@ -101,7 +101,7 @@ pub fn record_game<R: Read, O: Write, E: Write>(
     ensures known { result ≤ 4 }
     ensures status { result ≢ 2 }
 {
-    // No two setups are as the arguments say, since no two positions share a FEN.
+    // For its clause: no two setups are as the arguments say, since no two positions share a FEN.
     texts_tell_positions();
     match setup_of(alloc, options) {
         Ok(setup) => record_as(alloc, setup, reader, out, err),

@@ -53,7 +53,7 @@ fn last_position(start: &Position, plies: &[Ply]) -> Position
 {
     let mut position = *start;
     for ply in plies {
-        // A reading of a clock is in range.
+        // For its clause: a reading of a clock is in range.
         count_clock(&ply.clock);
         position = position.play(ply.mv);
     }
@@ -106,7 +106,7 @@ impl Game {
     {
         let last = last_position(&start, &plies);
         let result = result_at(&last, sign);
-        // What the tags and the start are by their invariants.
+        // For its clause: what the tags and the start are by their types' invariants.
         tags.get(Tag::Event);
         start.parts();
         Game {

@@ -67,7 +67,7 @@ fn is_else_as(compared: &Compared, picture: &[u8; 64]) -> bool
     requires { IsCompared compared.now picture.now }
     ensures { IsTrue result ↔ IsElseAs compared.now.position picture.now }
 {
-    // The position is valid.
+    // For its clause: the position is valid.
     compared.position.parts();
     for square in 0..64u8 {
         if !in_centre(square)
