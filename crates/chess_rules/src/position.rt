@@ -14,7 +14,7 @@ use crate::chess_move::Move;
 use crate::initial::first_board;
 use crate::lines::Wing;
 use crate::moves::{legal_moves_in, status_of};
-use crate::parts::{Invalid, Parts, Rights, Status};
+use crate::parts::{Invalid, MOST_COUNTED, Parts, Rights, Status};
 use crate::picture::codes_of;
 use crate::pieces::{Piece, Side};
 use crate::rules::{
@@ -43,7 +43,7 @@ pub fn is_legal_in(parts: &Parts, m: &Move) -> bool
 fn has_counters(parts: &Parts) -> bool
     ensures { IsTrue result ↔ HasCounters parts.now }
 {
-    parts.halfmove <= 9999 && parts.fullmove <= 9999 && parts.fullmove > 0
+    parts.halfmove <= MOST_COUNTED && parts.fullmove <= MOST_COUNTED && parts.fullmove > 0
 }
 
 fn has_one_king(board: &Board, side: Side) -> bool

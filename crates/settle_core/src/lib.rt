@@ -2,6 +2,7 @@
 #![tactic(auto)]
 
 mod candidate;
+mod codes;
 mod compared;
 mod plies;
 pub mod laws;
