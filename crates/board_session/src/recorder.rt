@@ -13,9 +13,9 @@ use crate::refusal::RecordError;
 use crate::session::Session;
 use chess_rules::Position;
 use dgt_frame::{BLANK, Decoder, Event, First, LIMIT};
-use watched_streams::{CHUNK, Watch, put, read_chunk};
 use std::alloc::Global;
 use std::io::{Read, Write};
+use watched_streams::{CHUNK, Watch, put, read_chunk};
 
 /// The command that asks the board for a dump.
 const SEND_DUMP: u8 = 0x42;

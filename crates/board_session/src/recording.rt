@@ -13,11 +13,11 @@ use crate::recorder::Recorder;
 use crate::refusal::RecordError;
 use chess_rules::Position;
 use dgt_frame::{First, LIMIT};
-use watched_streams::Watch;
 use pgn_book::laws::one_game;
 use pgn_book::{Game, Tags, write_pgn};
 use std::alloc::Global;
 use std::io::{Read, Write};
+use watched_streams::Watch;
 
 /// How a recording is set up.
 #[derive(Drop)]
