@@ -16,7 +16,7 @@ use Rattle.settle_core.specs.Settling.{reached}
 use Rattle.pgn_book.specs.Games.{Content}
 use Rattle.pgn_book.specs.Values.{TagValues}
 use Rattle.chess_rules.specs.Valid.{Valid}
-use Rattle.board_session.specs.declared.recording.Report.{Report}
+use Rattle.board_session.specs.declared.recorder.Report.{Report}
 use Rattle.board_session.specs.declared.recording.Setup.{Setup}
 use Rattle.board_session.specs.Game.{IsGameOf}
 use Rattle.board_session.specs.Recording.{RecordsGame, limit}
