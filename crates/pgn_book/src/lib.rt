@@ -5,9 +5,9 @@
 //! games. A call marked `For its clause` changes nothing: the proof needs what its contract says.
 #![tactic(auto)]
 
+mod appending;
 mod game;
 pub mod laws;
-mod appending;
 mod parts;
 mod place;
 mod reading;

@@ -9,9 +9,9 @@
 mod candidate;
 mod codes;
 mod compared;
-mod plies;
 pub mod laws;
 mod masks;
+mod plies;
 mod settler;
 mod signs;
 mod tips;
