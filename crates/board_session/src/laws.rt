@@ -77,8 +77,8 @@ pub fn honest_play_is_written()
     shows_once();
 }
 
-/// Wherever a recording of honest play ends, and by whatever: the game has all moves that were shown whole, and at most one try
-/// that takes no piece.
+/// Wherever a recording of honest play ends, and by whatever: the game has all moves that were shown whole, and at most one
+/// try that takes no piece.
 pub fn honest_front_is_written()
     ensures { HonestFrontIsWritten }
 {
@@ -130,7 +130,8 @@ pub fn kings_in_centre_make_no_move()
     ensures written { KingsInCentreWriteNoMove }
 {}
 
-/// Honest play with its end, pieces put away or the kings in the centre, is recorded; and so it is where this is broken off anywhere.
+/// Honest play with its end, pieces put away or the kings in the centre, is recorded; and so it is where this is broken off
+/// anywhere.
 pub fn honest_end_is_recorded()
     ensures ends { HonestEndIsRecorded }
     ensures stops { HonestStopAnywhereIsRecorded }

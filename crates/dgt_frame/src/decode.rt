@@ -120,9 +120,9 @@ impl Decoder {
         }
     }
 
-    /// Takes bytes up to the first at which an event comes, or all of them where none comes and the result is `None`. It does what
-    /// `push` does byte by byte, in less time. The event is put where the caller wants it, and the result is how many bytes were
-    /// taken up to it, its own among them, and at least 1. Where none comes, `event` says nothing.
+    /// Takes bytes up to the first at which an event comes, or all of them where none comes and the result is `None`. It
+    /// does what `push` does byte by byte, in less time. The event is put where the caller wants it, and the result is how
+    /// many bytes were taken up to it, its own among them, and at least 1. Where none comes, `event` says nothing.
     pub fn push_into(&mut self, bytes: &[u8], event: &mut Event) -> Option<usize>
         ensures none { IfNone result (TakesAll self.old bytes.now self.new) }
         ensures some { IfSome result (λ taken. TakesUpTo self.old bytes.now taken event.new self.new) }

@@ -95,8 +95,8 @@ impl Game {
         true
     }
 
-    /// The game of a legal line. Its result is the winner at checkmate (FIDE 5.1.1), a draw at stalemate (FIDE 5.2.1), else the
-    /// sign, if any.
+    /// The game of a legal line. Its result is the winner at checkmate (FIDE 5.1.1), a draw at stalemate (FIDE 5.2.1), else
+    /// the sign, if any.
     pub fn new(tags: Tags, start: Position, plies: Vec<Ply>, sign: Option<Outcome>) -> Game
         requires { Line start (moves_of plies.items) }
         ensures tags { result.tags ≡ tags }

@@ -13,8 +13,8 @@ use crate::codes::{BLACK_KING, BLACK_PAWN, EMPTY, WHITE_KING, WHITE_PAWN};
 use crate::masks::{first_square, landed, shown_in, without};
 use chess_rules::{Kind, Move, Side, Square};
 
-/// The one move that the squares on which two pictures differ can show: where a position has the first picture and a move of it
-/// settles the second, it is that move. None where they differ on fewer squares than two, or on more than four.
+/// The one move that the squares on which two pictures differ can show: where a position has the first picture and a move
+/// of it settles the second, it is that move. None where they differ on fewer squares than two, or on more than four.
 pub fn candidate(before: &[u8; 64], after: &[u8; 64], mask: u64) -> Option<Move>
     requires { IsDiff mask before.now after.now }
     ensures finds { (p : PartsOf) (m : MoveOf) → Valid p → before.now ≡ picture p → Settles p after.now m → result ≡ Some m }
