@@ -151,7 +151,11 @@ fn rights_left(parts: &Parts, m: &Move) -> Rights
 fn count(n: u16) -> u16
     ensures { result ≡ counted n }
 {
-    if n < MOST_COUNTED { n + 1 } else { MOST_COUNTED }
+    if n < MOST_COUNTED {
+        n + 1
+    } else {
+        MOST_COUNTED
+    }
 }
 
 fn passed_square(parts: &Parts, m: &Move) -> Option<Square>
