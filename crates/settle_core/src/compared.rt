@@ -86,7 +86,7 @@ impl Compared {
         requires { IsCompared self.now seen.now }
         ensures { IsTrue result ↔ Loses self.now.position seen.now side }
     {
-        // The position is valid.
+        // For its clause: the position is valid.
         self.position.parts();
         lost(false, side, &self.picture, seen, self.mask).is_some()
     }
@@ -96,7 +96,7 @@ impl Compared {
         requires { IsCompared self.now seen.now }
         ensures { IsTrue result ↔ Bares self.now.position seen.now side }
     {
-        // The position is valid.
+        // For its clause: the position is valid.
         self.position.parts();
         lost(true, side, &self.picture, seen, self.mask).is_some()
     }
@@ -106,7 +106,7 @@ impl Compared {
     fn settles(&self, seen: &[u8; 64], m: &Move) -> bool
         ensures { IsTrue result ↔ Settles self.now.position seen.now m.now }
     {
-        // The position is valid, and no other legal move gives the same picture.
+        // For its clause: the position is valid, and no other legal move gives the same picture.
         self.position.parts();
         pictures_tell_moves();
         self.position.is_legal(copy(m)) && self.position.play(copy(m)).picture() == *seen
@@ -128,7 +128,7 @@ impl Compared {
         requires shown { IsShown shown seen.now }
         ensures { (m : MoveOf) → Settles self.now.position seen.now m → result ≡ Some m }
     {
-        // The position is valid.
+        // For its clause: the position is valid.
         self.position.parts();
         candidate_among(&self.picture, seen, self.mask, shown)
     }
@@ -141,7 +141,7 @@ impl Compared {
         ensures none { IfNone result ((m : MoveOf) → ¬ Settles self.now.position seen.now m) }
     {
         let Some(landed) = self.landed(seen, shown) else {
-            // The position is valid.
+            // For its clause: the position is valid.
             self.position.parts();
             return None;
         };
@@ -175,7 +175,7 @@ impl Compared {
         ensures none { IfNone result ((m : MoveOf) → Settles self.now.position seen.now m → m ≡ last.now) }
     {
         let Some(landed) = self.landed(seen, shown) else {
-            // The position is valid.
+            // For its clause: the position is valid.
             self.position.parts();
             return None;
         };

@@ -226,7 +226,7 @@ impl Settler {
             → OnErr result ((m : MoveOf) × Settles (position_of self.old) picture m) }
     {
         let Some(landed) = self.here.landed(&self.picture, self.shown) else {
-            // The start is valid, and so is each position of the line.
+            // For its clause: the start is valid, and so is each position of the line.
             self.start.parts();
             return Ok(Seen::Waits);
         };
