@@ -96,12 +96,12 @@ pub fn pass(
     ensures taken { IfOk result (λ taken. IfSome taken (λ count. (0 < count) × (count ≤ length bytes.now))) }
 {
     frames_are_put_in();
-    // Only for its clause: what the bytes given so far show.
+    // For its clause: what the bytes given so far show.
     conclude(decoder, keeper);
     let Some(taken) = decoder.push_into(bytes, event) else {
         return Ok(None);
     };
-    // Only for its clause: the bytes taken show the events so far.
+    // For its clause: the bytes taken show the events so far.
     decoder.pending();
     let last = start + (taken - 1) as u32;
     match hear(alloc, keeper, last, event, frames, line) {
@@ -114,7 +114,7 @@ pub fn pass(
 pub fn conclude(decoder: &Decoder, keeper: &Keeper)
     ensures { Concludes decoder.now keeper.now }
 {
-    // Only for its clause: the bytes show the events so far.
+    // For its clause: the bytes show the events so far.
     decoder.pending();
 }
 

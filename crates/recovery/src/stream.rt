@@ -105,7 +105,7 @@ fn give_chunk<O: Write, E: Write>(
             };
         };
         let Some(more) = passed else {
-            // Only for its clause: what the bytes given so far show.
+            // For its clause: what the bytes given so far show.
             conclude(decoder, keeper);
             return send(out, &chunk[sent..]);
         };
@@ -114,7 +114,7 @@ fn give_chunk<O: Write, E: Write>(
             continue;
         }
         if let Err(error) = put_pair(&chunk[sent..taken], &frames, &line, out, err) {
-            // Only for its clause: what the bytes given so far show.
+            // For its clause: what the bytes given so far show.
             conclude(decoder, keeper);
             return Err(error);
         }
@@ -174,18 +174,18 @@ pub fn recover_stream<R: Read, O: Write, E: Write>(
 {
     let mut decoder = Decoder::new();
     let mut keeper = Keeper::new(alloc, start, first, rotated);
-    // Only for its clause: nothing was given yet.
+    // For its clause: nothing was given yet.
     begin(&decoder, &keeper);
     let mut buffer = [0u8; CHUNK];
     let mut total: u32 = 0;
     'chunks: loop {
         let Ok(read) = read_chunk(reader, &mut buffer, (LIMIT - total) as usize) else {
-            // Only for its clause: what the bytes given so far show.
+            // For its clause: what the bytes given so far show.
             conclude(&decoder, &keeper);
             return Err(RecoverError::Read);
         };
         let Some(chunk) = read else {
-            // Only for its clause: what the bytes given so far show.
+            // For its clause: what the bytes given so far show.
             conclude(&decoder, &keeper);
             return Ok(());
         };
@@ -194,7 +194,7 @@ pub fn recover_stream<R: Read, O: Write, E: Write>(
             return Err(error);
         }
         if chunk.past {
-            // Only for its clause: what the bytes given so far show.
+            // For its clause: what the bytes given so far show.
             conclude(&decoder, &keeper);
             return Err(RecoverError::TooLong);
         }
