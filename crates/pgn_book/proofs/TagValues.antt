@@ -20,7 +20,7 @@ tag_at Round = refl
 tag_at White = refl
 tag_at Black = refl
 
-pub index_below : (tag : Tag) → tag_index tag < 6
+pub index_below : (tag : Tag) → tag_index tag < length all_tags
 index_below Event = omega arith
 index_below Site = omega arith
 index_below Date = omega arith
@@ -28,7 +28,7 @@ index_below Round = omega arith
 index_below White = omega arith
 index_below Black = omega arith
 
-same_tag : (tag other : Tag) → is_tag tag other ≡ true → tag ≡ other
+pub same_tag : (tag other : Tag) → is_tag tag other ≡ true → tag ≡ other
 same_tag tag other is = sym (tag_at tag) ∙ ap (λ k. get_or all_tags k Event) (eqb-true (tag_index tag) (tag_index other) is) ∙ tag_at other
 
 -- ---- values are those of the tags

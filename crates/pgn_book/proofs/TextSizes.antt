@@ -121,11 +121,10 @@ lines_short values (tag ∷ tags) all =
       lines_short values tags all,
     )
 
-roster_short : (values : TagValues) (result : List ℕ) → AreValues values → length result ≤ 7 → length (roster values result) ≤ 1292
+roster_short : (values : TagValues) (result : List ℕ) → AreValues values → length result ≤ 7 → length (roster values result) ≤ 211 * length all_tags + 26
 unfolding roster
 roster_short values result all short =
-    let lines : length (tag_lines values all_tags) ≤ 1266 = lines_short values all_tags all in
-    omega (arith, length-append (tag_lines values all_tags) (tag_line (codes "Result") result), lines, line_short (codes "Result") result)
+    omega (arith, length-append (tag_lines values all_tags) (tag_line (codes "Result") result), lines_short values all_tags all, line_short (codes "Result") result)
 
 set_up_short : FensArePlain → (start : Parts) (lines : List ℕ) → Valid start → IsSetUp start lines → length lines ≤ 204
 set_up_short plain start lines valid (at_initial is none) = omega (arith, ap length none)

@@ -1,4 +1,4 @@
-use Rattle.std.proofs.Common.{◌≡◌, ◌<◌, ◌+◌, ◌∙◌, [], ℕ, false, List, ap, arith, drop, get_or, subst, sym}
+use Rattle.std.proofs.Common.{◌≡◌, ◌<◌, ◌+◌, ◌∙◌, [], ℕ, false, List, ap, arith, drop, get_or, subst, sym, length}
 use Rattle.std.proofs.lemmas.List.{drop_all, drop_more}
 use Rattle.pgn_book.specs.declared.values.Tag.{Tag}
 use Rattle.pgn_book.specs.declared.values.Tag.TheVariants.{Event}
@@ -11,7 +11,7 @@ use Rattle.pgn_book.proofs.reading.read_tags.Goals as goal
 pub returns-in-Err : goal.returns-in-Err
 returns-in-Err c = λ values all have.
     let l = c.loop-tag in
-    let lt : l.tag-index < 6 = omega arith in
+    let lt : l.tag-index < length all_tags = omega arith in
     let tag = get_or all_tags l.tag-index Event in
     let left = drop (l.tag-index + 1) all_tags in
     let R : List Tag → Type 0 = λ tags. Reads values tags l.rest.now l.tags in
@@ -23,7 +23,7 @@ returns-in-Err c = λ values all have.
 pub loop-tag-preserved : goal.loop-tag-preserved
 loop-tag-preserved c = λ values all have.
     let l = c.loop-tag in
-    let lt : l.tag-index < 6 = omega arith in
+    let lt : l.tag-index < length all_tags = omega arith in
     let tag = get_or all_tags l.tag-index Event in
     let left = drop (l.tag-index + 1) all_tags in
     let R : List Tag → Type 0 = λ tags. Reads values tags l.rest.now l.tags in

@@ -1,4 +1,4 @@
-use Rattle.std.proofs.Common.{◌≡◌, ◌<◌, ◌+◌, ◌++◌, ◌∙◌, ◌∷◌, [], ℕ, List, ap, arith, get_or, sym, take}
+use Rattle.std.proofs.Common.{◌≡◌, ◌<◌, ◌+◌, ◌++◌, ◌∙◌, ◌∷◌, [], ℕ, List, ap, arith, get_or, sym, take, length}
 use Rattle.std.proofs.lemmas.List.{take_more, append-nil}
 use Rattle.std.proofs.lemmas.List.Concat.{flat_map-append}
 use Rattle.pgn_book.specs.declared.values.Tag.{Tag}
@@ -12,7 +12,7 @@ use Rattle.pgn_book.proofs.writing.put_tags.Goals as goal
 pub loop-tag-preserved : goal.loop-tag-preserved
 loop-tag-preserved g c =
     let l = c.loop-tag in
-    let lt : l.tag-index < 6 = omega arith in
+    let lt : l.tag-index < length all_tags = omega arith in
     let values = c.args.tags.now in
     let tag = get_or all_tags l.tag-index Event in
     let lines = tag_lines values (take l.tag-index all_tags) in
