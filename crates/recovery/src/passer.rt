@@ -22,7 +22,7 @@ use watched_streams::Lines;
 /// The frames that are put in behind an event.
 pub type Frames = ArrayVec<u8, MOST>;
 
-// What is put in for the pair that was recovered last, and its line: apart, since few events recover one.
+/// What is put in for the pair that was recovered last, and its line: apart, since few events recover one.
 #[inline(never)]
 fn tell(keeper: &Keeper, offset: u32, frames: &mut Frames, line: &mut Lines)
     requires told { (setting : Setting) × (past : List EventOf) × (event : EventOf) × (written : List Entry)

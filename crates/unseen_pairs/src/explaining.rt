@@ -1,4 +1,4 @@
-// The pairs of plies that explain a picture.
+//! The pairs of plies that explain a picture.
 ghost use Rattle.std.specs.Prelude.{◌≡◌, ◌<◌, ◌↔◌, ◌^◌, ℕ, List, Contains, count_ones, IfOk, OnOk, IsTrue, slice_index};
 ghost use Rattle.chess_rules.specs.declared.chess_move.Move.{Move as MoveOf};
 ghost use Rattle.chess_rules.specs.declared.parts.Parts.{Parts as PartsOf};

@@ -1,4 +1,4 @@
-// The recoverer: it takes pictures, and keeps the line that they show, with the pairs that no picture showed ply by ply.
+//! The recoverer: it takes pictures, and keeps the line that they show, with the pairs that no picture showed ply by ply.
 ghost use Rattle.std.specs.Prelude.{◌≡◌, ◌<◌, ◌↔◌, ◌^◌, ℕ, List, [], ◌∷◌, All, IfOk, OnOk, IsTrue, true, slice_index, slice_set};
 ghost use Rattle.chess_rules.specs.declared.parts.Parts.{Parts as PartsOf};
 ghost use Rattle.settle_core.specs.Entries.{Entry, entry_of};
@@ -136,7 +136,7 @@ impl Recoverer {
         self.candidates.is_empty() && hides_none(&self.settler)
     }
 
-    // As `wait`: apart, since few pictures come so far.
+    /// As `wait`: apart, since few pictures come so far.
     #[inline(never)]
     fn wait_for(
         &mut self,
@@ -156,7 +156,7 @@ impl Recoverer {
         self.wait_among(alloc, picture, clock, found)
     }
 
-    // The same of some candidates: apart, since fewer do.
+    /// The same of some candidates: apart, since fewer do.
     #[inline(never)]
     fn wait_among(
         &mut self,

@@ -1,4 +1,4 @@
-// The candidates of the entries that wait.
+//! The candidates of the entries that wait.
 ghost use Rattle.std.specs.Prelude.{◌≡◌, ◌<◌, ◌∷◌, [], true, false, List, Some, IfOk, IsTrue, OnOk};
 ghost use Rattle.chess_rules.specs.After.{after};
 ghost use Rattle.chess_rules.specs.Legal.{Legal};
@@ -31,7 +31,7 @@ fn copy_move(m: &Move) -> Move
     *m
 }
 
-// The same of some candidates: apart, since a picture seldom meets any.
+/// The same of some candidates: apart, since a picture seldom meets any.
 #[inline(never)]
 fn aged_each(alloc: Global, candidates: &[Candidate]) -> Result<Vec<Candidate>, AllocError>
     ensures { IfOk result (λ aged. AreAged candidates.now aged.items) }
@@ -85,7 +85,7 @@ fn candidate_of(
     }
 }
 
-// The same where some may: apart, since few pictures come so far.
+/// The same where some may: apart, since few pictures come so far.
 #[inline(never)]
 fn add_explaining(
     alloc: Global,
