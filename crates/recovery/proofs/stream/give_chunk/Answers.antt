@@ -20,6 +20,7 @@ events-init g c =
       behind = omega arith;
       working = c.requires.working;
       telling = c.requires.telling;
+      told = λ was. was;
       begun = subst (HasBegun c.args.decoder.now c.args.keeper.now) at c.requires.begun;
       given = gives_start c.args.decoder.now c.args.keeper.now c.args.start _ _;
     }
@@ -44,6 +45,7 @@ events-preserved-then-is_empty g c =
       behind = omega (arith, c.events.invariant.behind);
       working = c.events.invariant.working;
       telling = c.events.invariant.telling;
+      told = c.events.invariant.told;
       begun = subst (λ n. HasBegun c.pass.new.decoder c.pass.new.keeper (c.args.start + n)) long (begun_on c.args.decoder.now c.pass.new.decoder c.args.keeper.now c.pass.new.keeper c.args.start (take (c.events.taken + c.in-Some.more) chunk) _ _ _ _ _ c.requires.begun given);
       given = given;
     }
@@ -66,6 +68,7 @@ events-preserved g c =
       behind = omega arith;
       working = c.in_default-put_pair.ensures.working.0;
       telling = c.in_default-put_pair.ensures.working.1;
+      told = λ was. c.put_pair.ensures.told;
       begun = subst (λ n. HasBegun c.pass.new.decoder c.pass.new.keeper (c.args.start + n)) long (begun_on c.args.decoder.now c.pass.new.decoder c.args.keeper.now c.pass.new.keeper c.args.start (take (c.events.taken + c.in-Some.more) chunk) _ _ _ _ _ c.requires.begun given);
       given = given;
     }
