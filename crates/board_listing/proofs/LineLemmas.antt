@@ -6,7 +6,8 @@ use Rattle.std.proofs.lemmas.List.{map-append, reverse-append}
 use Rattle.dgt_frame.specs.Streams.{Timed}
 use Rattle.dgt_frame.specs.declared.events.Event.{Event}
 use Rattle.board_session.specs.Commands.{past_of}
-use Rattle.board_session.specs.Pictures.{Adds, pictures}
+use Rattle.board_session.specs.Pictures.{pictures}
+use Rattle.board_session.proofs.ViewLemmas.{Adds}
 use Rattle.board_session.specs.Settings.{Setting}
 use Rattle.board_listing.specs.GameText.{TellsEvent, TellsEvents}
 use Rattle.board_session.proofs.HearLemmas.{past_more}

@@ -7,7 +7,8 @@ use Rattle.board_session.specs.declared.view.View.{View}
 use Rattle.board_session.specs.Commands.{past_of}
 use Rattle.board_session.specs.Settings.{Setting}
 use Rattle.board_session.specs.declared.view.Change.TheVariants.{Nothing, Square, Picture}
-use Rattle.board_session.specs.Pictures.{Adds, ChangesPictures, IsLast, pictures}
+use Rattle.board_session.specs.Pictures.{ChangesPictures, IsLast, pictures}
+use Rattle.board_session.proofs.ViewLemmas.{Adds}
 use Rattle.board_session.specs.View.{Views}
 use Rattle.board_session.proofs.HearLemmas.{past_more}
 use Rattle.chess_text.specs.declared.placement_text.PlacementText.{PlacementText}

@@ -14,7 +14,7 @@ use Rattle.board_session.specs.History.{is_trusted, picture_of, turned}
 use Rattle.board_session.specs.Entries.{entries, entry_at}
 use Rattle.board_session.specs.declared.view.Change.{Change}
 use Rattle.board_session.specs.declared.view.Change.TheVariants.{Nothing, Square, Picture}
-use Rattle.board_session.specs.Pictures.{Adds, ChangesPictures, IsLast, pictures}
+use Rattle.board_session.specs.Pictures.{ChangesPictures, IsLast, pictures}
 use Rattle.board_session.specs.View.{Views, last_of}
 use Rattle.board_session.proofs.PictureLemmas.{length-picture_of, updated_picture}
 use Rattle.board_session.proofs.TakeLemmas.{entries_updated, seen_before, some_same}
@@ -31,6 +31,11 @@ same_picture picture before same = let d = bytes_eq-Decides picture before in d.
 
 other_picture : (picture before : List ℕ) → (Some before ≡ Some picture → ⊥) → bytes_eq picture before ≡ false
 other_picture picture before differ = false_from_ne_true (bytes_eq picture before) (λ e. let d = bytes_eq-Decides picture before in differ (ap Some (sym (d.0 e))))
+
+-- These pictures are those, and the one that was returned.
+abbrev pub Adds : Option (List ℕ) → List (List ℕ) → List (List ℕ) → Type 0
+Adds None old new = new ≡ old
+Adds (Some picture) old new = new ≡ picture ∷ old
 
 adds_next : (entry : Entry) (past : List Entry) (picture : List ℕ) (answer : Option (List ℕ)) → entry.picture ≡ picture → Answered picture (last_picture past) answer
     → Adds answer (pictures_in past) (pictures_in (entry ∷ past))
@@ -140,16 +145,6 @@ pub other_picture_shown : (view : View) (rotated : Bool) (past : List Event) (sq
 other_picture_shown view rotated past square code any within views trusted other same =
     let long : length view.picture ≡ 64 = (let t = trusted_last view rotated past views trusted in ap length t.1 ∙ length-picture_of rotated past) in
     other (ap (λ (l : List ℕ). get_or l square any) same ∙ get_or-set_same view.picture square code any (omega (arith, long)))
-
--- What changed is what the last picture shows.
-pub adds_changed : (change : Change) (picture : List ℕ) (old new : List (List ℕ)) → ChangesPictures change old new → (change ≡ Nothing → ⊥) → IsLast picture new → new ≡ picture ∷ old
-adds_changed Nothing picture old new changes other last = absurd (other refl)
-adds_changed (Square square code) picture old new changes other last =
-    let is : picture ≡ slice_set changes.0 square code = subst (IsLast picture) changes.3 last in
-    changes.3 ∙ ap (λ p. p ∷ old) (sym is)
-adds_changed Picture picture old new changes other last =
-    let is : picture ≡ changes.0 = subst (IsLast picture) changes.1 last in
-    changes.1 ∙ ap (λ p. p ∷ old) (sym is)
 
 pub zero_codes : (k any : ℕ) → k < 64 → get_or (replicate 64 0) k any < 16
 zero_codes k any lt = let zero : get_or (replicate 64 0) k any ≡ 0 = get_or-replicate 64 k 0 any lt in omega (arith, zero)

@@ -76,7 +76,7 @@ impl Session {
         }
     }
 
-    /// Takes the next event. Codes are at most 15 and fields at most 63, as the decoder gives them.
+    /// Takes the next event, for callers who have it by value. Codes are at most 15 and fields at most 63, as the decoder gives them.
     ///
     /// # Errors
     ///
@@ -162,14 +162,14 @@ impl Session {
         self.reading = read_time(&times, self.first, self.reading);
     }
 
-    /// Whether updates count: a dump was taken, and no fault after it.
+    /// Whether updates count: a dump was taken, and no fault after it. For callers who show a session while it goes on.
     pub fn trusted(&self) -> bool
         ensures { (setting : Setting) (past : List Event) → StandsFor self.now setting past → result ≡ is_trusted past }
     {
         self.trusted
     }
 
-    /// What the clocks show, by the last time message that counts.
+    /// What the clocks show, by the last time message that counts. For such callers too.
     pub fn reading(&self) -> Option<Reading>
         ensures { (setting : Setting) (past : List Event) → StandsFor self.now setting past → result ≡ reading_at setting.first past }
     {

@@ -1,9 +1,9 @@
 //! The pictures that events show, without a game.
-ghost use Rattle.std.specs.Prelude.{◌≡◌, [], ◌∷◌, List, Bool, All, ◌<◌, IfSome};
+ghost use Rattle.std.specs.Prelude.{◌≡◌, [], ◌∷◌, List, Bool, All, ◌<◌};
 ghost use Rattle.dgt_frame.specs.declared.events.Event.{Event};
 ghost use Rattle.dgt_frame.specs.declared.events.Message.{Message};
 ghost use Rattle.board_session.specs.History.{IsInRange};
-ghost use Rattle.board_session.specs.Pictures.{Adds, pictures};
+ghost use Rattle.board_session.specs.Pictures.{pictures};
 
 use crate::session::{picture_of, square_of};
 use dgt_frame::{Event, Message};
@@ -31,7 +31,7 @@ pub struct View {
 }
 
 impl View {
-    ghost use Rattle.board_session.specs.Pictures.{Changes, IsLast, IsOnBoard};
+    ghost use Rattle.board_session.specs.Pictures.{ChangesPictures, IsLast, IsOnBoard};
     ghost use Rattle.board_session.specs.View.{Views};
 
     /// A view that has taken no event.
@@ -46,28 +46,13 @@ impl View {
         }
     }
 
-    /// Takes the next event, and returns the picture that it shows where this differs from the one before it. Codes are at
-    /// most 15 and fields at most 63, as the decoder gives them.
-    pub fn take(&mut self, event: Event) -> Option<[u8; 64]>
-        requires { IsInRange event }
-        ensures views { (rotated : Bool) (past : List Event) → Views self.old rotated past → Views self.new rotated (event ∷ past) }
-        ensures shown { (rotated : Bool) (past : List Event) → Views self.old rotated past
-            → Adds result (pictures rotated past) (pictures rotated (event ∷ past)) }
-        ensures codes { IfSome result (λ picture. All (λ code. code < 16) picture) }
-    {
-        match self.see(&event) {
-            Change::Nothing => None,
-            _ => Some(self.picture),
-        }
-    }
-
     /// Takes the next event, and says what it does to the picture; `picture` has what it shows. Codes are at most 15 and
     /// fields at most 63, as the decoder gives them.
     pub fn see(&mut self, event: &Event) -> Change
         requires { IsInRange event.now }
         ensures views { (rotated : Bool) (past : List Event) → Views self.old rotated past → Views self.new rotated (event.now ∷ past) }
         ensures shown { (rotated : Bool) (past : List Event) → Views self.old rotated past
-            → Changes result (pictures rotated past) (pictures rotated (event.now ∷ past)) }
+            → ChangesPictures result (pictures rotated past) (pictures rotated (event.now ∷ past)) }
         ensures inside { IsOnBoard result }
     {
         match event {
@@ -94,7 +79,7 @@ impl View {
         ensures views { (rotated : Bool) (past : List Event) → Views self.old rotated past
             → Views self.new rotated (Event.Message (Message.Dump codes.now) ∷ past) }
         ensures shown { (rotated : Bool) (past : List Event) → Views self.old rotated past
-            → Changes result (pictures rotated past) (pictures rotated (Event.Message (Message.Dump codes.now) ∷ past)) }
+            → ChangesPictures result (pictures rotated past) (pictures rotated (Event.Message (Message.Dump codes.now) ∷ past)) }
         ensures inside { IsOnBoard result }
     {
         let picture = picture_of(self.rotated, *codes);
@@ -113,7 +98,7 @@ impl View {
         ensures views { (rotated : Bool) (past : List Event) → Views self.old rotated past
             → Views self.new rotated (Event.Message (Message.Update field code) ∷ past) }
         ensures shown { (rotated : Bool) (past : List Event) → Views self.old rotated past
-            → Changes result (pictures rotated past) (pictures rotated (Event.Message (Message.Update field code) ∷ past)) }
+            → ChangesPictures result (pictures rotated past) (pictures rotated (Event.Message (Message.Update field code) ∷ past)) }
         ensures inside { IsOnBoard result }
     {
         if !self.trusted {

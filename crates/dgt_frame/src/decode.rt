@@ -37,15 +37,6 @@ enum State {
 /// What a place for events holds before one is put there.
 pub const BLANK: Event = Event::Fault(FaultKind::Stray);
 
-/// An event among several bytes.
-#[derive(Clone, Copy, Debug, PartialEq, Eq)]
-pub struct Arrival {
-    /// How many bytes were taken up to the event, its own among them: at least 1.
-    pub taken: usize,
-    /// What came at the last of them.
-    pub event: Event,
-}
-
 /// What one byte does.
 #[derive(Clone, Copy, Debug)]
 enum Progress {
@@ -107,21 +98,9 @@ impl Decoder {
         }
     }
 
-    /// Takes bytes up to the first at which an event comes, or all of them where none comes and the result is `None`. It
-    /// does what `push` does byte by byte, in less time.
-    pub fn push_until(&mut self, bytes: &[u8]) -> Option<Arrival>
-        ensures none { IfNone result (TakesAll self.old bytes.now self.new) }
-        ensures some { IfSome result (λ arrival. TakesUpTo self.old bytes.now arrival.taken arrival.event self.new) }
-        ensures taken { IfSome result (λ arrival. (0 < arrival.taken) × (arrival.taken ≤ length bytes.now)) }
-        ensures frame { (before : List ℕ) (events : List Timed) → Decoded self.old before events → IfSome result (λ arrival. HasFrame arrival.event) }
-    {
-        let mut event = BLANK;
-        let taken = self.push_into(bytes, &mut event)?;
-        Some(Arrival { taken, event })
-    }
-
-    /// The same, with the event put where the caller wants it: the result is how many bytes were taken up to it, its own among
-    /// them, and at least 1. Where none comes, `event` says nothing.
+    /// Takes bytes up to the first at which an event comes, or all of them where none comes and the result is `None`. It does what
+    /// `push` does byte by byte, in less time. The event is put where the caller wants it, and the result is how many bytes were
+    /// taken up to it, its own among them, and at least 1. Where none comes, `event` says nothing.
     pub fn push_into(&mut self, bytes: &[u8], event: &mut Event) -> Option<usize>
         ensures none { IfNone result (TakesAll self.old bytes.now self.new) }
         ensures some { IfSome result (λ taken. TakesUpTo self.old bytes.now taken event.new self.new) }

@@ -1,5 +1,5 @@
-//! Laws of what a stream shows: each stream shows exactly one list of events, its first bytes the first of them, and one that is
-//! broken off and begun again those of its two parts.
+//! Laws of what a stream shows: each stream shows exactly one list of events, its first bytes the first of them, one that is broken
+//! off and begun again those of its two parts, and one that has lost a few bytes a fault.
 ghost use Rattle.std.specs.Prelude.{◌≡◌, ◌++◌, ℕ, List};
 ghost use Rattle.dgt_frame.specs.Losses.{SmallLossesShow};
 ghost use Rattle.dgt_frame.specs.Restarts.{RestartsAreShown};

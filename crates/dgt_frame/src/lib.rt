@@ -9,7 +9,7 @@ pub mod laws;
 pub mod time;
 mod whole;
 
-pub use decode::{Arrival, BLANK, Decoder};
+pub use decode::{BLANK, Decoder};
 pub use encoding::encode;
 pub use events::{Event, FaultKind, LIMIT, Message};
 pub use time::{First, read_time};

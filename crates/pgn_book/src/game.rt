@@ -81,7 +81,7 @@ pub fn result_at(last: &Position, sign: Option<Outcome>) -> Option<Outcome>
 }
 
 impl Game {
-    /// Whether each ply's move is legal in the position after those before it.
+    /// Whether each ply's move is legal in the position after those before it: the condition of `new`, for callers to ask.
     pub fn is_line(start: &Position, plies: &[Ply]) -> bool
         ensures { IsTrue result ↔ Line start.now (moves_of plies.now) }
     {

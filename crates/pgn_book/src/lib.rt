@@ -13,9 +13,11 @@ mod values;
 mod words;
 mod writing;
 
-pub use watched_streams::{WriteFault, put};
 pub use game::{Game, result_at};
 pub use reading::{PgnError, read_pgn};
 pub use tags::Tags;
 pub use values::{Tag, TagError};
 pub use writing::{result_str, write_pgn};
+
+// What `write_pgn` returns, and what it writes with: callers who write texts of their own find both here.
+pub use watched_streams::{WriteFault, put};

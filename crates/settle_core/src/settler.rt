@@ -294,7 +294,7 @@ impl Settler {
         self.sign = None;
     }
 
-    /// The plies, in their order.
+    /// The plies, in their order: each move with its clock. Callers know it by this name.
     pub fn moves(&self) -> &[Ply]
         ensures plies { result.now ≡ plies_of self.now }
         // Each move is legal where it stands.
@@ -344,7 +344,7 @@ impl Settler {
         self.here.mask
     }
 
-    /// The result whose sign was seen, if no move was made after it.
+    /// The result whose sign was seen, if no move was made or corrected after it.
     pub fn sign(&self) -> Option<Outcome>
         ensures { result ≡ self.now.score.sign }
     {

@@ -2,7 +2,7 @@
 ghost use Rattle.dgt_frame.specs.Encoding.{IsEncodable};
 
 use arrayvec::ArrayVec;
-use dgt_frame::{Arrival, Decoder, Event, FaultKind, Message, encode};
+use dgt_frame::{BLANK, Decoder, Event, FaultKind, Message, encode};
 use std::process::Abort;
 
 /// Fails with the number of the first row that isn't as it says, if there is one.
@@ -58,33 +58,27 @@ fn comes_at(expected: Option<&(usize, Event)>, offset: usize, event: Event) -> b
     }
 }
 
-/// Whether `push_until` arrives at each of these events and at no other, and `pending` is the rest.
-fn push_until_shows(bytes: &[u8], events: &[(usize, Event)], rest: u16) -> bool {
+/// Whether `push_into` comes to each of these events and to no other, and `pending` is the rest.
+fn push_into_shows(bytes: &[u8], events: &[(usize, Event)], rest: u16) -> bool {
     let mut decoder = Decoder::new();
     let mut start = 0usize;
     for (offset, event) in events {
         let taken = offset.saturating_add(1).saturating_sub(start);
-        let arrival = arrival_from(&mut decoder, bytes, start);
-        if !is_arrival(arrival, taken, *event) {
+        if next_from(&mut decoder, bytes, start) != Some((taken, *event)) {
             return false;
         }
         start = offset.saturating_add(1);
     }
     start <= bytes.len()
-        && arrival_from(&mut decoder, bytes, start).is_none()
+        && next_from(&mut decoder, bytes, start).is_none()
         && decoder.pending() == rest
 }
 
-/// Where the decoder arrives with the bytes from this offset on.
-fn arrival_from(decoder: &mut Decoder, bytes: &[u8], start: usize) -> Option<Arrival> {
-    decoder.push_until(bytes.get(start..)?)
-}
-
-fn is_arrival(arrival: Option<Arrival>, taken: usize, event: Event) -> bool {
-    match arrival {
-        Some(arrival) => arrival.taken == taken && arrival.event == event,
-        None => false,
-    }
+/// How many bytes the decoder takes from this offset on up to the next event, and the event.
+fn next_from(decoder: &mut Decoder, bytes: &[u8], start: usize) -> Option<(usize, Event)> {
+    let mut event = BLANK;
+    let taken = decoder.push_into(bytes.get(start..)?, &mut event)?;
+    Some((taken, event))
 }
 
 const FIRST_UPDATE: Event = Event::Message(Message::Update { field: 52, code: 0 });
@@ -138,10 +132,10 @@ fn first_not_pushed(streams: &[Stream<'_>]) -> Option<usize> {
     None
 }
 
-/// The same of `push_until`.
-fn first_not_pushed_until(streams: &[Stream<'_>]) -> Option<usize> {
+/// The same of `push_into`.
+fn first_not_pushed_into(streams: &[Stream<'_>]) -> Option<usize> {
     for (i, (bytes, events, rest)) in streams.iter().enumerate() {
-        if !push_until_shows(bytes, events, *rest) {
+        if !push_into_shows(bytes, events, *rest) {
             return Some(i);
         }
     }
@@ -151,17 +145,17 @@ fn first_not_pushed_until(streams: &[Stream<'_>]) -> Option<usize> {
 #[test]
 fn streams_show_their_events(rt: HostRuntime) {
     expect_none(&rt, first_not_pushed(&STREAMS));
-    expect_none(&rt, first_not_pushed_until(&STREAMS));
+    expect_none(&rt, first_not_pushed_into(&STREAMS));
 }
 
-/// Whether `push` and `push_until` show this message with the byte at this offset, which is the last, and nothing before it.
+/// Whether `push` and `push_into` show this message with the byte at this offset, which is the last, and nothing before it.
 fn is_message(bytes: &[u8], message: Message, last: u16) -> bool {
     let events = [(last as usize, Event::Message(message))];
     match bytes.get(..last as usize) {
         Some(short) => push_shows(bytes, &events, 0)
-            && push_until_shows(bytes, &events, 0)
+            && push_into_shows(bytes, &events, 0)
             && push_shows(short, &[], last)
-            && push_until_shows(short, &[], last),
+            && push_into_shows(short, &[], last),
         None => false,
     }
 }

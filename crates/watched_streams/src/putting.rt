@@ -9,6 +9,7 @@ use std::io::Write;
 /// A write failed or took no byte; so many bytes were taken before it. The count stands still at 2^64 - 1.
 #[derive(Clone, Copy, Debug, PartialEq, Eq)]
 pub struct WriteFault {
+    /// For callers who want to know what stands: the program tells only that it failed.
     pub written: u64,
 }
 
