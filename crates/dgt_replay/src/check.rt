@@ -9,13 +9,12 @@ ghost use Rattle.dgt_replay.specs.Messages.{Tells};
 
 use crate::input::{TextError, read_text};
 use crate::messages::{refused, refused_run};
-use watched_streams::{GATHERED, LONGEST, Lines, add};
-use watched_streams::{Watch, put};
 use itoa::Buffer;
 use pgn_book::{PgnError, read_pgn, result_str};
 use settle_core::Outcome;
 use std::alloc::Global;
 use std::io::{Read, Write};
+use watched_streams::{GATHERED, LONGEST, Lines, Watch, add, put};
 
 /// The most bytes of a PGN text.
 pub const TEXT_LIMIT: usize = 268_435_456;

@@ -3,9 +3,9 @@ ghost use Rattle.std.specs.Prelude.{◌≡◌, ◌<◌, ◌≤◌, Err, IfOk, On
 ghost use Rattle.watched_streams.specs.Watch.{inner_of, has_failed};
 ghost use Rattle.watched_streams.specs.Input.{ReadsWithin};
 
-use watched_streams::{CHUNK, Watch, read_chunk};
 use std::alloc::Global;
 use std::io::Read;
+use watched_streams::{CHUNK, Watch, read_chunk};
 
 /// Why a text could not be read.
 pub enum TextError {

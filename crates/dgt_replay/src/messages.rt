@@ -4,11 +4,10 @@ ghost use Rattle.std.specs.Io.KnownBytes.{Keeps};
 ghost use Rattle.watched_streams.specs.Watch.{IsFlushed, inner_of, has_failed};
 ghost use Rattle.dgt_replay.specs.Messages.{Says, fen_message, tag_name, tag_message};
 
-use watched_streams::{Lines, add};
 use chess_text::FenError;
-use watched_streams::{Watch, put};
 use pgn_book::{Tag, TagError};
 use std::io::Write;
+use watched_streams::{Lines, Watch, add, put};
 
 /// Writes the message about a refusal, unless standard error has failed before, and returns its status.
 pub fn refused<E: Write>(err: &mut Watch<E>, message: &[u8], status: u8) -> u8

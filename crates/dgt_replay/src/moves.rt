@@ -14,13 +14,12 @@ ghost use Rattle.dgt_replay.specs.Refusals.{RefusesStart};
 ghost use Rattle.dgt_replay.specs.Messages.{Tells};
 
 use crate::messages::{refused, refused_fen, refused_run};
-use watched_streams::{GATHERED, LONGEST, Lines, add};
 use chess_rules::{Move, Position};
 use chess_text::write_san;
-use watched_streams::{Watch, WriteFault, put};
 use replay_arguments::start_of;
 use std::alloc::Global;
 use std::io::Write;
+use watched_streams::{GATHERED, LONGEST, Lines, Watch, WriteFault, add, put};
 
 // Adds a legal move in SAN, as a line.
 fn add_san(lines: &mut Lines, position: &Position, m: Move)

@@ -19,14 +19,13 @@ ghost use Rattle.dgt_replay.specs.Words.{is_blank as is_blank_lem, len_behind, p
 
 use crate::input::{TextError, read_text};
 use crate::messages::{refused, refused_fen, refused_run};
-use watched_streams::{Lines, add};
 use chess_rules::Position;
 use chess_text::{read_san, write_fen};
-use watched_streams::{Watch, put};
 use itoa::Buffer;
 use replay_arguments::start_of;
 use std::alloc::{AllocError, Global};
 use std::io::{Read, Write};
+use watched_streams::{Lines, Watch, add, put};
 
 /// The most bytes of the moves.
 pub const LINE_LIMIT: usize = 1_048_576;

@@ -28,11 +28,11 @@ use crate::recover::recover;
 use board_listing::{Listing, list_stream};
 use clap::Error;
 use clap::error::ErrorKind;
-use watched_streams::{Watch, put};
 use replay_arguments::laws::without_options;
 use replay_arguments::{BoardArguments, Subcommand, read_arguments, start_of};
 use std::alloc::Global;
 use std::io::{Read, Write};
+use watched_streams::{Watch, put};
 
 // Writes the text of `clap`, and returns its status.
 fn refused_arguments<O: Write, E: Write>(

@@ -11,13 +11,12 @@ ghost use Rattle.dgt_replay.specs.Refusals.{RefusesSetup, refusal_message};
 ghost use Rattle.dgt_replay.specs.Streams.{streams};
 
 use crate::messages::{refused, refused_fen, refused_tag};
-use watched_streams::{GATHERED, LONGEST, Lines, add, add_number};
 use board_session::{RecordError, Report, Setup, record};
 use chess_text::laws::texts_tell_positions;
-use watched_streams::{Watch, put};
 use replay_arguments::{RecordArguments, Refusal, setup_of};
 use std::alloc::Global;
 use std::io::{Read, Write};
+use watched_streams::{GATHERED, LONGEST, Lines, Watch, add, add_number, put};
 
 // Says why a recording can't be set up, and returns the status.
 fn refused_setup<E: Write>(err: &mut Watch<E>, refusal: Refusal) -> u8

@@ -9,11 +9,11 @@ ghost use Rattle.replay_arguments.specs.Setups.{HasNoStart, MeetsBoard, given};
 
 use crate::messages::{refused, refused_fen};
 use chess_rules::Position;
-use watched_streams::Watch;
 use recovery::recover_stream;
 use replay_arguments::{BoardArguments, start_of};
 use std::alloc::Global;
 use std::io::{Read, Write};
+use watched_streams::Watch;
 
 // Gives on a stream that begins in this position, and returns the status.
 fn recover_from<R: Read, O: Write, E: Write>(

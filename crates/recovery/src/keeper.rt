@@ -8,8 +8,8 @@ ghost use Rattle.board_session.specs.History.{IsInRange, reading_at};
 
 use arrayvec::ArrayVec;
 use board_session::{Change, View};
-use chess_rules::Position;
 use chess_clock::Reading;
+use chess_rules::Position;
 use dgt_frame::{Event, First, Message, read_time};
 use pair_frames::{MOST, put_in};
 use std::alloc::{AllocError, Global};

@@ -6,10 +6,10 @@ ghost use Rattle.chess_text.specs.San.{San};
 ghost use Rattle.pgn_book.specs.Movetext.{number_token};
 ghost use Rattle.recovery.specs.Weaving.{TellsRecovered};
 
-use watched_streams::{GATHERED, Lines, add, add_number};
 use chess_rules::{Move, Position, Side};
 use chess_text::write_san;
 use unseen_pairs::Recovery;
+use watched_streams::{GATHERED, Lines, add, add_number};
 
 // Adds the move's number and its SAN.
 fn add_move(lines: &mut Lines, position: &Position, m: &Move)

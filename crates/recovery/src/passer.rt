@@ -12,11 +12,11 @@ ghost use Rattle.recovery.specs.Progress.{Concludes, HasBegun, IsPutIn};
 use crate::keeper::Keeper;
 use crate::lines::add_recovered;
 use arrayvec::ArrayVec;
-use watched_streams::Lines;
 use dgt_frame::{BLANK, Decoder, Event};
 use pair_frames::MOST;
 use pair_frames::laws::frames_are_put_in;
 use std::alloc::{AllocError, Global};
+use watched_streams::Lines;
 
 /// The frames that are put in behind an event.
 pub type Frames = ArrayVec<u8, MOST>;

@@ -11,12 +11,11 @@ ghost use Rattle.recovery.specs.Streams.{RecoversAll, RecoversFirst, RecoversFro
 use crate::keeper::Keeper;
 use crate::passer::{Frames, begin, conclude, pass};
 use crate::refusal::RecoverError;
-use watched_streams::Lines;
 use chess_rules::Position;
 use dgt_frame::{Decoder, First, LIMIT};
-use watched_streams::{CHUNK, Watch, put, read_chunk};
 use std::alloc::Global;
 use std::io::{Read, Write};
+use watched_streams::{CHUNK, Lines, Watch, put, read_chunk};
 
 /// Writes bytes at once.
 fn send<O: Write>(out: &mut Watch<O>, bytes: &[u8]) -> Result<(), RecoverError>
