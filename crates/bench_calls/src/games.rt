@@ -3,15 +3,15 @@
 ghost use Rattle.std.specs.Prelude.{◌≡◌};
 
 use crate::rules::MIDDLE_GAME;
+use chess_clock::Hms;
 use chess_rules::{Kind, Move, Position, Square};
 use chess_text::read_fen;
-use chess_clock::Hms;
-use watched_streams::Watch;
 use pgn_book::{Game, Tag, Tags, write_pgn};
 use settle_core::{Outcome, Ply};
 use std::alloc::{AllocError, Global};
 use std::io;
 use std::io::{BufWriter, Write};
+use watched_streams::Watch;
 
 /// Where games begin: the initial position, and positions with castling, en passant, promotion and Black to move.
 const STARTS: [&str; 5] = [

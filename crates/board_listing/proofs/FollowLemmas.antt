@@ -26,7 +26,8 @@ use Rattle.board_session.specs.States.{State}
 use Rattle.board_listing.specs.declared.follower.Follower.{Follower}
 use Rattle.dgt_frame.specs.declared.events.Event.TheVariants.{Message, Fault}
 use Rattle.board_listing.specs.EventLines.{line_of}
-use Rattle.board_listing.specs.GameLines.{line, move_words}
+use Rattle.watched_streams.specs.Lines.{line}
+use Rattle.board_listing.specs.GameLines.{move_words}
 use Rattle.board_listing.specs.Followers.{HasFollowed}
 use Rattle.board_listing.specs.GameText.{HasResult, TellsEvent, TellsPly}
 use Rattle.board_listing.specs.News.{AddsNews, LastIsLegal, MayTell}

@@ -17,10 +17,6 @@ pub on_err : {T E : Type 0} (P : Type 0) (r : Result T E) → P → OnErr r P
 on_err P (Ok v) p = tt
 on_err P (Err e) p = p
 
-pub on_ok : {T E : Type 0} (P Q : Type 0) (r : Result T E) → OnOk r P → (P → Q) → OnOk r Q
-on_ok P Q (Ok v) p k = k p
-on_ok P Q (Err e) p k = tt
-
 -- What follows from the bytes that a write took before it failed.
 pub on_fault : {T : Type 0} (P : Type 0) (whole : ℕ) (Q : ℕ → Type 0) (r : Result T WriteFault) → IfErr r (λ fault. (fault.written < whole) × Q fault.written)
     → ((n : ℕ) → Q n → P) → OnErr r P
@@ -113,14 +109,6 @@ broken_both old waiting x n written written' refuses took listing events text be
   lines = lines;
   stops = front_written begin written written' waiting text n gathered took;
 }
-
-pub at_err : {T E : Type 0} (P : Type 0) (r : Result T E) → is_err r ≡ true → OnErr r P → P
-at_err P (Ok v) h p = absurd (cc)
-at_err P (Err e) h p = p
-
-pub at_ok : {T E : Type 0} (P : Type 0) (r : Result T E) → is_err r ≡ false → OnOk r P → P
-at_ok P (Ok v) h p = p
-at_ok P (Err e) h p = absurd (cc)
 
 -- what a failed write took
 pub at_fault : (whole : ℕ) (Q : ℕ → Type 0) {T : Type 0} (r : Result T WriteFault) → is_err r ≡ true → IfErr r (λ fault. (fault.written < whole) × Q fault.written) → (n : ℕ) × Q n

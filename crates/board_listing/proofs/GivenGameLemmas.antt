@@ -32,10 +32,11 @@ use Rattle.board_session.specs.Session.{entries_in}
 use Rattle.board_session.proofs.GameLemmas.{one_result}
 use Rattle.board_listing.specs.GameText.{HasResult, TellsEntry, TellsEvent, TellsEvents, TellsPly, TellsResult, TellsSeen, reached_by}
 use Rattle.board_listing.specs.GivenGame.{AreInStream, FollowTellsTheGame, GameLine, Gives, LinesGiveTheGame, text_of}
-use Rattle.board_listing.specs.GameLines.{line, move_words, result_words, squares_text, waiting_words}
+use Rattle.watched_streams.specs.Lines.{line}
+use Rattle.board_listing.specs.GameLines.{move_words, result_words, squares_text, waiting_words}
 use Rattle.board_listing.specs.EventLines.{kind_text, line_of, rest_line}
 use Rattle.board_listing.proofs.FollowLemmas.{clash, entries_new, entries_same, fault_gives_none, without_repeats}
-use Rattle.board_listing.proofs.LineLemmas.{map-reverse}
+use Rattle.settle_core.proofs.Lines.{map-reverse}
 use Rattle.board_listing.proofs.OffsetLemmas.{offsets_inside, reversed}
 
 abbrev ShowsOnce : Type 0

@@ -10,6 +10,7 @@ use Rattle.board_session.specs.Pictures.{pictures}
 use Rattle.board_session.proofs.ViewLemmas.{Adds}
 use Rattle.board_session.specs.Settings.{Setting}
 use Rattle.board_listing.specs.GameText.{TellsEvent, TellsEvents}
+use Rattle.settle_core.proofs.Lines.{map-reverse}
 use Rattle.board_session.proofs.HearLemmas.{past_more}
 use Rattle.board_listing.specs.declared.listing.Listing.TheVariants.{Events, Pictures}
 use Rattle.board_listing.specs.EventLines.{line_of}
@@ -42,10 +43,6 @@ pictures_added rotated events x (Some picture) text adds is =
     ∙ drawn-append (picture ∷ []) (pictures rotated (past_of events))
     ∙ ap (λ t. drawn (pictures rotated (past_of events)) ++ t) (append-nil (placement_line picture)) in
     ap (λ t. t ++ placement_line picture) is ∙ sym next
-
-pub map-reverse : {X A : Type 0} (f : X → A) (xs : List X) → map f (reverse xs) ≡ reverse (map f xs)
-map-reverse f [] = refl
-map-reverse f (x ∷ xs) = ap (map f) (reverse-append (x ∷ []) xs) ∙ map-append f (reverse xs) (x ∷ []) ∙ ap (λ l. l ++ f x ∷ []) (map-reverse f xs) ∙ sym (reverse-append (f x ∷ []) (map f xs))
 
 pub game_more : (setting : Setting) (events : List Timed) (x : Timed) (text more : List ℕ) → TellsEvents setting (reverse events) text
     → TellsEvent setting (past_of events) x more → TellsEvents setting (reverse (events ++ x ∷ [])) (text ++ more)

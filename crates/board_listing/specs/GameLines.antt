@@ -7,10 +7,6 @@ use Rattle.chess_text.specs.Squares.{square_text}
 use Rattle.settle_core.specs.declared.plies.Outcome.{Outcome}
 use Rattle.pgn_book.specs.Movetext.{number_token, result_text, two_digits}
 
--- a line: the offset of the byte at which the event came, and what is said of it
-abbrev pub line : ℕ → List ℕ → List ℕ
-line offset words = decimal offset ++ codes " " ++ words ++ codes "\n"
-
 -- h:mm:ss
 abbrev pub time_text : Hms → List ℕ
 time_text time = (48 + time.hours) ∷ 58 ∷ [] ++ (two_digits time.minutes ++ (58 ∷ two_digits time.seconds))

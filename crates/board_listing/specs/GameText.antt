@@ -17,7 +17,8 @@ use Rattle.board_session.specs.Entries.{entry_at, is_entry}
 use Rattle.board_session.specs.History.{is_fault}
 use Rattle.board_session.specs.Settings.{Setting}
 use Rattle.board_session.specs.Session.{entries_in}
-use Rattle.board_listing.specs.GameLines.{line, move_words, result_words, squares_text, waiting_words}
+use Rattle.watched_streams.specs.Lines.{line}
+use Rattle.board_listing.specs.GameLines.{move_words, result_words, squares_text, waiting_words}
 use Rattle.board_listing.specs.EventLines.{line_of}
 
 -- the position that a score has reached

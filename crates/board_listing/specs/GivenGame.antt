@@ -16,14 +16,15 @@ use Rattle.settle_core.specs.Settling.{reached}
 use Rattle.pgn_book.specs.Games.{Content}
 use Rattle.pgn_book.specs.Values.{TagValues}
 use Rattle.chess_rules.specs.Valid.{Valid}
-use Rattle.board_session.specs.declared.recording.Report.{Report}
+use Rattle.board_session.specs.declared.recorder.Report.{Report}
 use Rattle.board_session.specs.declared.recording.Setup.{Setup}
 use Rattle.board_session.specs.Game.{IsGameOf}
 use Rattle.board_session.specs.Recording.{RecordsGame, limit}
 use Rattle.board_session.specs.Settings.{Setting}
 use Rattle.board_listing.specs.declared.listing.Listing.TheVariants.{Game}
 use Rattle.board_listing.specs.GameText.{TellsEvents}
-use Rattle.board_listing.specs.GameLines.{line, move_words, result_words, squares_text, waiting_words}
+use Rattle.watched_streams.specs.Lines.{line}
+use Rattle.board_listing.specs.GameLines.{move_words, result_words, squares_text, waiting_words}
 use Rattle.board_listing.specs.EventLines.{kind_text, rest_line}
 use Rattle.board_listing.specs.Listings.{ListsAll}
 

@@ -6,8 +6,8 @@ ghost use Rattle.dgt_frame.specs.Streams.{HasFrame};
 ghost use Rattle.arrayvec.specs.ArrayVec.{array_vec_len};
 ghost use Rattle.board_listing.specs.EventLines.{hex_digit, two_hex_digits, kind_text, message_text, event_text, line_of, rest_line};
 
-use watched_streams::{GATHERED, LONGEST, Lines, add, add_number};
 use dgt_frame::{Event, FaultKind, Message};
+use watched_streams::{GATHERED, LONGEST, Lines, add, add_number};
 
 fn hex_digit(n: u8) -> u8
     requires { n < 16 }

@@ -8,13 +8,13 @@ ghost use Rattle.board_listing.specs.News.{AddsNews, LastIsLegal, MayTell};
 
 use crate::events::add_line;
 use crate::game_lines::{add_ply, add_result, add_waiting};
-use watched_streams::{GATHERED, LONGEST, Lines};
 use board_session::Session;
 use chess_rules::Position;
 use dgt_frame::{Event, First};
 use pgn_book::result_at;
 use settle_core::{Outcome, Seen, Settler};
 use std::alloc::{AllocError, Global};
+use watched_streams::{GATHERED, LONGEST, Lines};
 
 // Adds the line of the latest ply, with this word before it.
 fn add_last(lines: &mut Lines, offset: u32, word: &[u8], settler: &Settler)

@@ -6,14 +6,15 @@ ghost use Rattle.chess_rules.specs.Legal.{Legal};
 ghost use Rattle.chess_text.specs.San.{San};
 ghost use Rattle.settle_core.specs.Masks.{IsDiff};
 ghost use Rattle.pgn_book.specs.Movetext.{number_token};
-ghost use Rattle.board_listing.specs.GameLines.{clock_words, line, move_words, result_words, squares_text, time_text, waiting_words};
+ghost use Rattle.watched_streams.specs.Lines.{line};
+ghost use Rattle.board_listing.specs.GameLines.{clock_words, move_words, result_words, squares_text, time_text, waiting_words};
 
-use watched_streams::{GATHERED, Lines, add, add_number};
+use chess_clock::Hms;
 use chess_rules::{Position, Side};
 use chess_text::write_san;
-use chess_clock::Hms;
 use pgn_book::result_str;
 use settle_core::{Outcome, Ply};
+use watched_streams::{GATHERED, Lines, add, add_number};
 
 // Adds the offset of an event, behind which it is told.
 fn add_offset(lines: &mut Lines, offset: u32)

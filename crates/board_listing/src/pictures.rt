@@ -4,8 +4,8 @@ ghost use Rattle.arrayvec.specs.ArrayVec.{array_vec_len};
 ghost use Rattle.chess_text.specs.KeptRanks.{picture_in};
 ghost use Rattle.board_listing.specs.PictureLines.{placement_line};
 
-use watched_streams::{GATHERED, LONGEST, Lines};
 use chess_text::PlacementText;
+use watched_streams::{GATHERED, LONGEST, Lines};
 
 /// Adds the placement of a picture, as a line.
 pub fn add_placement(lines: &mut Lines, placement: &PlacementText)

@@ -10,11 +10,11 @@ use crate::events::{add_line, add_rest};
 use crate::follower::Follower;
 use crate::listing::Listing;
 use crate::pictures::add_placement;
-use watched_streams::{GATHERED, LONGEST, Lines};
 use board_session::{Change, View};
 use chess_text::PlacementText;
 use dgt_frame::Event;
 use std::alloc::{AllocError, Global};
+use watched_streams::{GATHERED, LONGEST, Lines};
 
 /// Follows the events of a stream, and makes the lines that are listed of them.
 #[derive(Drop)]

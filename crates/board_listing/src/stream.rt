@@ -11,11 +11,10 @@ ghost use Rattle.board_listing.specs.Status.{status_of, message_of};
 
 use crate::listing::Listing;
 use crate::printer::Printer;
-use watched_streams::{GATHERED, LONGEST, Lines};
 use dgt_frame::{BLANK, Decoder, Event, LIMIT};
-use watched_streams::{CHUNK, Watch, WriteFault, put, read_chunk};
 use std::alloc::Global;
 use std::io::{Read, Write};
+use watched_streams::{CHUNK, GATHERED, LONGEST, Lines, Watch, WriteFault, put, read_chunk};
 
 /// Why a listing gave up.
 #[derive(Clone, Copy, Debug, PartialEq, Eq)]

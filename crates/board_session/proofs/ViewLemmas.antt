@@ -148,3 +148,13 @@ other_picture_shown view rotated past square code any within views trusted other
 
 pub zero_codes : (k any : ℕ) → k < 64 → get_or (replicate 64 0) k any < 16
 zero_codes k any lt = let zero : get_or (replicate 64 0) k any ≡ 0 = get_or-replicate 64 k 0 any lt in omega (arith, zero)
+
+-- What changed is what the last picture shows.
+pub adds_changed : (change : Change) (picture : List ℕ) (old new : List (List ℕ)) → ChangesPictures change old new → (change ≡ Nothing → ⊥) → IsLast picture new → new ≡ picture ∷ old
+adds_changed Nothing picture old new changes other last = absurd (other refl)
+adds_changed (Square square code) picture old new changes other last =
+    let is : picture ≡ slice_set changes.0 square code = subst (IsLast picture) changes.3 last in
+    changes.3 ∙ ap (λ p. p ∷ old) (sym is)
+adds_changed Picture picture old new changes other last =
+    let is : picture ≡ changes.0 = subst (IsLast picture) changes.1 last in
+    changes.1 ∙ ap (λ p. p ∷ old) (sym is)

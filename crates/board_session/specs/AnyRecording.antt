@@ -20,7 +20,7 @@ use Rattle.settle_core.specs.Sign.{IsSign}
 use Rattle.pgn_book.specs.Games.{Content, Result}
 use Rattle.pgn_book.specs.Values.{TagValues}
 use Rattle.board_session.specs.declared.refusal.RecordError.{RecordError}
-use Rattle.board_session.specs.declared.recording.Report.{Report}
+use Rattle.board_session.specs.declared.recorder.Report.{Report}
 use Rattle.board_session.specs.declared.recording.Setup.{Setup}
 use Rattle.board_session.specs.AnyStream.{Agrees, GivesOn, KeepsAllButLast, ShowsOn, WereShown, end_of}
 use Rattle.board_session.specs.Commands.{past_of}

@@ -24,7 +24,7 @@ use Rattle.pgn_book.specs.Games.{Content, Result}
 use Rattle.pgn_book.specs.Pgn.{Pgn}
 use Rattle.pgn_book.specs.Values.{TagValues}
 use Rattle.board_session.specs.declared.refusal.RecordError.{RecordError}
-use Rattle.board_session.specs.declared.recording.Report.{Report}
+use Rattle.board_session.specs.declared.recorder.Report.{Report}
 use Rattle.board_session.specs.declared.recording.Setup.{Setup}
 use Rattle.board_session.specs.Commands.{asks, past_of}
 use Rattle.board_session.specs.Entries.{Idle}

@@ -10,7 +10,7 @@ use Rattle.pgn_book.specs.Pgn.{Pgn}
 use Rattle.pgn_book.specs.Values.{TagValues}
 use Rattle.board_session.specs.declared.refusal.RecordError.{RecordError}
 use Rattle.board_session.specs.declared.refusal.RecordError.TheVariants.{Memory, Read, Board, Write, TooLong}
-use Rattle.board_session.specs.declared.recording.Report.{Report}
+use Rattle.board_session.specs.declared.recorder.Report.{Report}
 use Rattle.board_session.specs.declared.recorder.Recorder.{Recorder}
 use Rattle.board_session.specs.Commands.{asked, commands, faults_in, messages_in, past_of}
 use Rattle.board_session.specs.Game.{IsGameOf}

@@ -9,7 +9,8 @@ mod refusal;
 mod session;
 mod view;
 
-pub use recording::{Report, Setup, record};
+pub use recorder::Report;
+pub use recording::{Setup, record};
 pub use refusal::RecordError;
 pub use session::{Session, Taken};
 pub use view::{Change, View};

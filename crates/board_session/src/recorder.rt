@@ -1,21 +1,23 @@
 //! The recorder: bytes of a board in, its session and the bytes for the board out.
-ghost use Rattle.std.specs.Prelude.{◌≡◌, ◌≢◌, ◌<◌, ◌≤◌, ◌+◌, ◌^◌, ◌∷◌, [], List, ℕ, Option, OnOk, OnErr, IfErr, Ok, Err, true, false, length, if◌then◌else◌};
+ghost use Rattle.std.specs.Prelude.{◌≡◌, ◌≢◌, ◌<◌, ◌≤◌, ◌+◌, ◌^◌, ◌⊎◌, ◌∷◌, [], List, ℕ, Option, MatchResult, OnOk, OnErr, IfErr, IsOk, Ok, Err, true, false, length, if◌then◌else◌};
 ghost use Rattle.std.specs.Io.KnownBytes.{Appends};
 ghost use Rattle.dgt_frame.specs.Decoder.{Decoded};
 ghost use Rattle.dgt_frame.specs.Streams.{HasFrame, Timed};
 ghost use Rattle.watched_streams.specs.Watch.{IsFlushed, inner_of, has_failed};
+ghost use Rattle.pgn_book.specs.Pgn.{Pgn};
 ghost use Rattle.board_session.specs.Settings.{Setting};
 ghost use Rattle.board_session.specs.History.{is_fault};
 ghost use Rattle.board_session.specs.Recording.{AppendsPart};
-ghost use Rattle.board_session.specs.Recorder.{Hears, IsFed, IsRefusal, Kept, Listened, Live, TakesEvent, event_count};
+ghost use Rattle.board_session.specs.Recorder.{Finished, Hears, IsFed, IsRefusal, Kept, Listened, Live, TakesEvent, event_count};
 
 use crate::refusal::RecordError;
 use crate::session::Session;
 use chess_rules::Position;
 use dgt_frame::{BLANK, Decoder, Event, First, LIMIT};
-use watched_streams::{CHUNK, Watch, put, read_chunk};
+use pgn_book::{Game, Tags, write_pgn};
 use std::alloc::Global;
 use std::io::{Read, Write};
+use watched_streams::{CHUNK, Watch, put, read_chunk};
 
 /// The command that asks the board for a dump.
 const SEND_DUMP: u8 = 0x42;
@@ -26,10 +28,23 @@ const SEND_UPDATES: u8 = 0x4B;
 /// Takes bytes, keeps the session of their events, and counts them.
 #[derive(Drop)]
 pub struct Recorder {
-    pub decoder: Decoder,
-    pub session: Session,
+    decoder: Decoder,
+    session: Session,
+    messages: u32,
+    faults: u32,
+}
+
+/// What a recording counted.
+#[derive(Clone, Copy, Debug, PartialEq, Eq)]
+pub struct Report {
+    /// The well-formed frames, those of other messages too.
     pub messages: u32,
+    /// The places where the bytes are no frame; the board was asked for a dump at each of them.
     pub faults: u32,
+    /// The plies of the game.
+    pub moves: u32,
+    /// The bytes of an unfinished frame at the end.
+    pub rest: u16,
 }
 
 /// Sends bytes to the board at once.
@@ -44,6 +59,23 @@ fn send<B: Write>(board: &mut Watch<B>, bytes: &[u8]) -> Result<(), RecordError>
 {
     if put(board, bytes).is_err() || board.flush().is_err() {
         return Err(RecordError::Board);
+    }
+    Ok(())
+}
+
+/// Writes the text of the game at once.
+fn write_game<W: Write>(game: &Game, out: &mut Watch<W>) -> Result<(), RecordError>
+    requires { has_failed out.old ≡ false }
+    ensures text { MatchResult result
+        (λ _. (text : List ℕ) × Pgn game.now text × Appends (W.contents (inner_of out.old)) (W.contents (inner_of out.new)) text)
+        (λ _. (text : List ℕ) × Pgn game.now text × AppendsPart (W.contents (inner_of out.old)) (W.contents (inner_of out.new)) text) }
+    ensures working { OnOk result (has_failed out.new ≡ false) }
+    ensures failed { OnErr result (has_failed out.new ≡ true) }
+    ensures cause { IfErr result (λ error. error ≡ RecordError.Write) }
+    ensures flushed { IsFlushed out.new }
+{
+    if write_pgn(game, out).is_err() || out.flush().is_err() {
+        return Err(RecordError::Write);
     }
     Ok(())
 }
@@ -196,5 +228,45 @@ impl Recorder {
     {
         send(board, &[SEND_DUMP, SEND_UPDATES])?;
         self.read_all(reader, board)
+    }
+
+    /// Writes the text of what the recorder has taken, and returns what came of it.
+    pub fn finish<W: Write>(
+        self,
+        tags: Tags,
+        ending: Result<(), RecordError>,
+        out: &mut Watch<W>,
+    ) -> Result<Report, RecordError>
+        requires working { has_failed out.old ≡ false }
+        requires count { event_count self ≤ LIMIT }
+        requires kept { (setting : Setting) × (taken : List Timed) × Kept self setting taken }
+        ensures finished { (setting : Setting) (front : List ℕ) (events taken : List Timed) → Decoded self.decoder front events → Kept self setting taken
+            → Finished result ending setting tags front events taken (W.contents (inner_of out.old)) (W.contents (inner_of out.new)) }
+        ensures working { OnOk result (has_failed out.new ≡ false) }
+        ensures ended { OnOk result (IsOk ending) }
+        ensures read { result ≡ Err RecordError.Read → ending ≡ Err RecordError.Read }
+        ensures board { result ≡ Err RecordError.Board → ending ≡ Err RecordError.Board }
+        ensures failed { ending ≢ Err RecordError.Write → result ≡ Err RecordError.Write → has_failed out.new ≡ true }
+        ensures written { result ≢ Err RecordError.Write → has_failed out.new ≡ false }
+        ensures blamed { IfErr ending (λ error. (result ≡ Err error) ⊎ (result ≡ Err RecordError.Write)) }
+        ensures flushed { IsFlushed out.new }
+    {
+        let Recorder {
+            decoder,
+            session,
+            messages,
+            faults,
+        } = self;
+        let rest = decoder.pending();
+        let game = session.into_game(tags);
+        let moves = game.plies().len() as u32;
+        write_game(&game, out)?;
+        ending?;
+        Ok(Report {
+            messages,
+            faults,
+            moves,
+            rest,
+        })
     }
 }

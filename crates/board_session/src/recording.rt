@@ -1,23 +1,17 @@
 //! Recordings: the game of a stream of board bytes, as PGN text.
-ghost use Rattle.std.specs.Prelude.{◌≡◌, ◌≢◌, ◌≤◌, ◌⊎◌, List, ℕ, MatchResult, OnOk, OnErr, IfErr, IfOk, IsOk, Err, true, false};
-ghost use Rattle.std.specs.Io.KnownBytes.{Appends};
-ghost use Rattle.dgt_frame.specs.Decoder.{Decoded};
-ghost use Rattle.dgt_frame.specs.Streams.{Timed};
+ghost use Rattle.std.specs.Prelude.{◌≡◌, ◌≢◌, ◌⊎◌, OnOk, IfOk, Err, true, false};
 ghost use Rattle.watched_streams.specs.Watch.{IsFlushed, inner_of, has_failed};
-ghost use Rattle.pgn_book.specs.Pgn.{Pgn};
-ghost use Rattle.board_session.specs.Settings.{Setting};
-ghost use Rattle.board_session.specs.Recording.{AppendsPart, Leaves, RecordsAll};
-ghost use Rattle.board_session.specs.Recorder.{Finished, Kept, event_count};
+ghost use Rattle.board_session.specs.Recording.{Leaves, RecordsAll};
 
-use crate::recorder::Recorder;
+use crate::recorder::{Recorder, Report};
 use crate::refusal::RecordError;
 use chess_rules::Position;
-use dgt_frame::{First, LIMIT};
-use watched_streams::Watch;
+use dgt_frame::First;
+use pgn_book::Tags;
 use pgn_book::laws::one_game;
-use pgn_book::{Game, Tags, write_pgn};
 use std::alloc::Global;
 use std::io::{Read, Write};
+use watched_streams::Watch;
 
 /// How a recording is set up.
 #[derive(Drop)]
@@ -30,76 +24,6 @@ pub struct Setup {
     pub rotated: bool,
     /// The tags of the text.
     pub tags: Tags,
-}
-
-/// What a recording counted.
-#[derive(Clone, Copy, Debug, PartialEq, Eq)]
-pub struct Report {
-    /// The well-formed frames, those of other messages too.
-    pub messages: u32,
-    /// The places where the bytes are no frame; the board was asked for a dump at each of them.
-    pub faults: u32,
-    /// The plies of the game.
-    pub moves: u32,
-    /// The bytes of an unfinished frame at the end.
-    pub rest: u16,
-}
-
-/// Writes the text of the game at once.
-fn write_game<W: Write>(game: &Game, out: &mut Watch<W>) -> Result<(), RecordError>
-    requires { has_failed out.old ≡ false }
-    ensures text { MatchResult result
-        (λ _. (text : List ℕ) × Pgn game.now text × Appends (W.contents (inner_of out.old)) (W.contents (inner_of out.new)) text)
-        (λ _. (text : List ℕ) × Pgn game.now text × AppendsPart (W.contents (inner_of out.old)) (W.contents (inner_of out.new)) text) }
-    ensures working { OnOk result (has_failed out.new ≡ false) }
-    ensures failed { OnErr result (has_failed out.new ≡ true) }
-    ensures cause { IfErr result (λ error. error ≡ RecordError.Write) }
-    ensures flushed { IsFlushed out.new }
-{
-    if write_pgn(game, out).is_err() || out.flush().is_err() {
-        return Err(RecordError::Write);
-    }
-    Ok(())
-}
-
-/// Writes the text of what the recorder has taken, and returns what came of it.
-fn finish<W: Write>(
-    recorder: Recorder,
-    tags: Tags,
-    ending: Result<(), RecordError>,
-    out: &mut Watch<W>,
-) -> Result<Report, RecordError>
-    requires working { has_failed out.old ≡ false }
-    requires count { event_count recorder ≤ LIMIT }
-    requires kept { (setting : Setting) × (taken : List Timed) × Kept recorder setting taken }
-    ensures finished { (setting : Setting) (front : List ℕ) (events taken : List Timed) → Decoded recorder.decoder front events → Kept recorder setting taken
-        → Finished result ending setting tags front events taken (W.contents (inner_of out.old)) (W.contents (inner_of out.new)) }
-    ensures working { OnOk result (has_failed out.new ≡ false) }
-    ensures ended { OnOk result (IsOk ending) }
-    ensures read { result ≡ Err RecordError.Read → ending ≡ Err RecordError.Read }
-    ensures board { result ≡ Err RecordError.Board → ending ≡ Err RecordError.Board }
-    ensures failed { ending ≢ Err RecordError.Write → result ≡ Err RecordError.Write → has_failed out.new ≡ true }
-    ensures written { result ≢ Err RecordError.Write → has_failed out.new ≡ false }
-    ensures blamed { IfErr ending (λ error. (result ≡ Err error) ⊎ (result ≡ Err RecordError.Write)) }
-    ensures flushed { IsFlushed out.new }
-{
-    let Recorder {
-        decoder,
-        session,
-        messages,
-        faults,
-    } = recorder;
-    let rest = decoder.pending();
-    let game = session.into_game(tags);
-    let moves = game.plies().len() as u32;
-    write_game(&game, out)?;
-    ending?;
-    Ok(Report {
-        messages,
-        faults,
-        moves,
-        rest,
-    })
 }
 
 /// Records the game of a stream of board bytes (DGT Electronic Board Protocol) as PGN export text on `out`.
@@ -156,5 +80,5 @@ pub fn record<R: Read, B: Write, W: Write>(
     } = setup;
     let mut recorder = Recorder::new(alloc, start, first, rotated);
     let ending = recorder.listen(reader, board);
-    finish(recorder, tags, ending, out)
+    recorder.finish(tags, ending, out)
 }

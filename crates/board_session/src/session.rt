@@ -11,8 +11,8 @@ ghost use Rattle.board_session.specs.Entries.{Idle};
 ghost use Rattle.board_session.specs.Game.{IsGameOf};
 ghost use Rattle.board_session.specs.Session.{StandsFor, TakesInto, TellsTaken, WantsMemory, entries_in};
 
-use chess_rules::{Position, Square};
 use chess_clock::Reading;
+use chess_rules::{Position, Square};
 use dgt_frame::{Event, First, Message, read_time};
 use pgn_book::{Game, Tags};
 use settle_core::{Seen, Settler};

@@ -11,12 +11,12 @@ pub mod laws;
 mod placement;
 mod placement_text;
 mod rank_text;
-mod san_reading;
 mod san;
+mod san_reading;
 mod squares;
 
 pub use fen::{FenError, read_fen, write_fen};
 pub use placement::write_placement;
 pub use placement_text::PlacementText;
-pub use san_reading::{SanError, read_san};
 pub use san::write_san;
+pub use san_reading::{SanError, read_san};

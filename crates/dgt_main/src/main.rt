@@ -1,10 +1,10 @@
 //! Runs `dgt_replay` on the standard streams.
 #![tactic(auto)]
 
-use watched_streams::Watch;
 use dgt_replay::run;
 use std::env;
 use std::process::ExitCode;
+use watched_streams::Watch;
 
 fn main(rt: HostRuntime) -> ExitCode {
     let alloc = rt.alloc();

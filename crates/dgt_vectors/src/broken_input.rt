@@ -4,11 +4,11 @@ use crate::recording::{Recording, recorded, report_of};
 use crate::recordings::text_without_move;
 use crate::row::{OPENING, Row, commands};
 use crate::rows::rows_by_subject;
-use watched_streams::Watch;
 use pgn_book::{Game, read_pgn, write_pgn};
 use std::alloc::Global;
 use test_streams::bytes::Bytes;
 use test_streams::streams::Sink;
+use watched_streams::Watch;
 
 /// Damage to the 77 bytes of a dump, e2 lifted and e4 put down.
 #[derive(Clone, Copy)]

@@ -4,11 +4,11 @@ use crate::row::Row;
 use board_session::{RecordError, Report, Setup, record};
 use chess_rules::Position;
 use chess_text::{FenError, read_fen};
-use watched_streams::Watch;
 use pgn_book::Tags;
 use std::alloc::Global;
 use test_streams::bytes::Bytes;
 use test_streams::streams::{Sink, Source};
+use watched_streams::Watch;
 
 pub fn start_of(row: &Row<'_>) -> Result<Position, FenError> {
     if row.start.is_empty() {

@@ -12,8 +12,8 @@ ghost use Rattle.pair_frames.specs.PutIn.{ShowsWhole, digits, dump_of, group_of,
 ghost use Rattle.pair_frames.specs.Laws.{IsRead, IsReadBehind, IsTime};
 
 use arrayvec::ArrayVec;
-use dgt_frame::laws::restarts_are_shown;
 use chess_clock::Reading;
+use dgt_frame::laws::restarts_are_shown;
 use dgt_frame::{First, Message, encode};
 use unseen_pairs::Recovery;
 

@@ -4,8 +4,8 @@ ghost use Rattle.watched_streams.specs.Watch.{inner_of, has_failed};
 ghost use Rattle.pgn_book.specs.Flow.{Adds};
 
 use crate::place::Place;
-use watched_streams::{Watch, put};
 use std::io::Write;
+use watched_streams::{Watch, put};
 
 /// Writes the bytes behind what came, unless the stream has failed.
 pub fn add<W: Write>(out: &mut Watch<W>, at: &mut Place, bytes: &[u8])

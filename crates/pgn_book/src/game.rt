@@ -9,8 +9,8 @@ ghost use Rattle.pgn_book.specs.Games.{IsGame, IsTime, IsTimed, Result};
 
 use crate::tags::Tags;
 use crate::values::Tag;
-use chess_rules::{Position, Side, Status};
 use chess_clock::Hms;
+use chess_rules::{Position, Side, Status};
 use settle_core::{Outcome, Ply};
 use std::marker::Model;
 

@@ -1,9 +1,9 @@
 //! Games as PGN export text (PGN Specification and Implementation Guide, 1994), both ways.
 #![tactic(auto)]
 
+mod appending;
 mod game;
 pub mod laws;
-mod appending;
 mod parts;
 mod place;
 mod reading;

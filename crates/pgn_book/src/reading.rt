@@ -18,14 +18,14 @@ use crate::tags::Tags;
 use crate::values::{Tag, TagError};
 use crate::words::{clock_behind, first_word, is_move};
 use crate::writing::write_pgn;
+use chess_clock::Hms;
 use chess_rules::{Move, Position};
 use chess_text::laws::{fens_are_plain, moves_tell_texts, texts_are_plain};
 use chess_text::{read_fen, read_san};
-use chess_clock::Hms;
-use watched_streams::Watch;
 use settle_core::Ply;
 use std::alloc::{AllocError, Global};
 use thiserror::Error;
+use watched_streams::Watch;
 
 /// Why a text is no game.
 #[derive(Clone, Copy, Debug, PartialEq, Eq, Error)]

@@ -12,20 +12,20 @@ ghost use Rattle.pgn_book.specs.Pgn.{Pgn, IsSetUp, escape, escaped, roster, tag_
 ghost use Rattle.pgn_book.specs.Written.{AppendsFront};
 ghost use Rattle.pgn_book.specs.Flow.{Adds, Writes, flow};
 
-use crate::game::Game;
 use crate::appending::add;
+use crate::game::Game;
 use crate::parts::same_parts;
 use crate::place::Place;
 use crate::values::Tag;
 use arrayvec::ArrayString;
+use chess_clock::Hms;
 use chess_rules::{Position, Side};
 use chess_text::laws::texts_are_plain;
 use chess_text::{write_fen, write_san};
-use chess_clock::Hms;
-use watched_streams::{Watch, WriteFault};
 use itoa::Buffer;
 use settle_core::{Outcome, Ply};
 use std::io::Write;
+use watched_streams::{Watch, WriteFault};
 
 /// The most characters in a line of the movetext (PGN standard, export format).
 const LINE: usize = 79;

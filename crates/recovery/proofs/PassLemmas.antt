@@ -1,7 +1,7 @@
 -- What stands after more bytes.
 use Rattle.std.proofs.Common.{◌≡◌, ◌<◌, ◌≤◌, ◌+◌, ◌-◌, ℕ, true, List, [], ◌∷◌, ◌++◌, length, take, map, reverse, Option, Some, None, refl, sym, ap, subst, arith, ◌∙◌, append-nil, length-append}
 use Rattle.std.proofs.lemmas.List.{length-take-le, reverse-append}
-use Rattle.board_listing.proofs.LineLemmas.{map-reverse}
+use Rattle.settle_core.proofs.Lines.{map-reverse}
 use Rattle.dgt_frame.specs.declared.decode.Decoder.{Decoder}
 use Rattle.dgt_frame.specs.declared.events.Event.{Event}
 use Rattle.dgt_frame.specs.declared.events.Event.TheVariants.{Message as MessageEvent, Fault}

@@ -8,7 +8,7 @@ use Rattle.settle_core.specs.Folding.{score_of}
 use Rattle.unseen_pairs.specs.Laws.{ConfirmNone}
 use Rattle.unseen_pairs.specs.Recovering.{FoldsRecovering}
 use Rattle.pgn_book.specs.Games.{Content, Result}
-use Rattle.board_session.specs.declared.recording.Report.{Report}
+use Rattle.board_session.specs.declared.recorder.Report.{Report}
 use Rattle.board_session.specs.declared.recording.Setup.{Setup}
 use Rattle.board_session.specs.Commands.{past_of}
 use Rattle.board_session.specs.Recording.{RecordsGame, setting_of}

@@ -13,7 +13,7 @@ use Rattle.board_session.specs.Commands.{past_of}
 use Rattle.board_session.specs.Entries.{entry_at}
 use Rattle.board_session.specs.Settings.{Setting}
 use Rattle.board_session.specs.Session.{entries_in}
-use Rattle.board_listing.specs.GameLines.{line}
+use Rattle.watched_streams.specs.Lines.{line}
 use Rattle.pair_frames.specs.PutIn.{ShowsWhole, put_in}
 use Rattle.recovery.specs.Keeping.{RecoversAt}
 

@@ -1,7 +1,7 @@
 -- Honest play of a line of moves folds to this line.
-use Rattle.std.proofs.Common.{◌≡◌, ℕ, inl, inr, List, [], ◌∷◌, ◌++◌, None, false, reverse, refl, sym, ap, subst, ◌∙◌}
+use Rattle.std.proofs.Common.{◌≡◌, ℕ, inl, inr, List, [], ◌∷◌, ◌++◌, None, false, map, reverse, refl, sym, ap, subst, ◌∙◌}
 use mathlib.Core.List.{reverse_aux}
-use Rattle.std.proofs.lemmas.List.{reverse-reverse}
+use Rattle.std.proofs.lemmas.List.{map-append, reverse-append, reverse-reverse}
 use Rattle.chess_rules.specs.declared.chess_move.Move.{Move}
 use Rattle.chess_rules.specs.declared.parts.Parts.{Parts}
 use Rattle.chess_rules.specs.After.{after}
@@ -15,6 +15,10 @@ use Rattle.settle_core.specs.Folding.{Score, Folds, moves_of, played, time_of}
 use Rattle.settle_core.specs.HonestPlay.{Shown, ShownEach, last_reading, shown_plies}
 use Rattle.settle_core.specs.Laws.{joined, HonestPlayFolds, HonestPlayIsKept, HonestPlayKeepsClocks}
 use Rattle.settle_core.proofs.Stages.{IsSound, IsOpen, NotYet, Opens, Gives, Ends, now, differ_false, not_repeated, entry_open, entry_end, opens}
+
+pub map-reverse : {X A : Type 0} (f : X → A) (xs : List X) → map f (reverse xs) ≡ reverse (map f xs)
+map-reverse f [] = refl
+map-reverse f (x ∷ xs) = ap (map f) (reverse-append (x ∷ []) xs) ∙ map-append f (reverse xs) (x ∷ []) ∙ ap (λ l. l ++ f x ∷ []) (map-reverse f xs) ∙ sym (reverse-append (f x ∷ []) (map f xs))
 
 -- no sign stands after these entries
 abbrev pub HasNoSign : Parts → List Entry → Type 0

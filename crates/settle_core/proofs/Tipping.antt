@@ -142,7 +142,7 @@ ends_in entries pictures picture h =
     let s = split_end entries pictures picture h in
     record { front = s.0; entry = s.1; is = ap reverse s.2 ∙ reverse-append s.0 (s.1 ∷ []); before = s.3; shows = s.4 }
 
-moves_of_drop : (plies : List Ply) → moves_of (drop 1 plies) ≡ drop 1 (moves_of plies)
+pub moves_of_drop : (plies : List Ply) → moves_of (drop 1 plies) ≡ drop 1 (moves_of plies)
 moves_of_drop [] = refl
 moves_of_drop (ply ∷ plies) = refl
 

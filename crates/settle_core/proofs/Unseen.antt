@@ -26,7 +26,7 @@ use Rattle.settle_core.proofs.Stages.{valid_reached}
 use Rattle.settle_core.proofs.Pawns.{Advances, NextRow, pawn_attack_row, pawn_advances, pawn_stood, one_back, passed, no_half, no_target, not_back, not_beside, not_between}
 
 -- the same side by another name
-as_side : (b : Board) (s : ℕ) (k : Kind) (x y : Side) → x ≡ y → on b s ≡ piece_of x k → on b s ≡ piece_of y k
+pub as_side : (b : Board) (s : ℕ) (k : Kind) (x y : Side) → x ≡ y → on b s ≡ piece_of x k → on b s ≡ piece_of y k
 as_side b s k x y e h = h ∙ ap (λ (z : Side). piece_of z k) e
 
 -- what each legal move does
@@ -55,13 +55,35 @@ went p m v l =
     ]
 
 -- a piece of the mover that has not come stood there
-one_only :
+pub one_only :
     (p : Parts) (m : Move) (o : MovesOnePiece p m) (s : ℕ) (k : Kind)
     → s ≢ m.to → on (after p m).board s ≡ piece_of p.side k → on p.board s ≡ piece_of p.side k
 one_only p m o s k nt h =
     let nf : s ≢ m.from = empty_differs (after p m).board s m.from p.side k h o.left in
     let nx : s ≢ o.taken = empty_differs (after p m).board s o.taken p.side k h o.gone in
     sym (o.others s nf nt nx) ∙ h
+
+-- where the move takes a piece: on the square of arrival, or en passant
+pub taken_on :
+    (p : Parts) (m : Move) (o : MovesOnePiece p m) (s : ℕ) (k : Kind)
+    → on p.board s ≡ piece_of (other p.side) k
+    → on (after p m).board s ≢ piece_of (other p.side) k
+    → (s ≡ m.to) ⊎ ((s ≡ o.taken) × TakesEnPassant p m × (on p.board s ≡ piece_of (other p.side) Pawn) × Ahead (forward (other p.side)) 1 m.to s)
+taken_on p m o s k h gone =
+    let nf : s ≢ m.from = λ e. sides_differ p.side (ap side_of (sym o.stands ∙ ap (on p.board) (sym e) ∙ h)) in
+    let A : ℕ → Type 0 = λ t. Ahead (forward (other p.side)) 1 m.to t in
+    elim (cases_eq s m.to) [
+      | inl e ↦ inl e
+      | inr nt ↦
+          elim (cases_eq s o.taken) [
+            | inr nx ↦ absurd (gone (o.others s nf nt nx ∙ h))
+            | inl e ↦
+                elim o.passes [
+                  | inl from ↦ absurd (nf (e ∙ from))
+                  | inr x ↦ inr (e, x.0, ap (on p.board) e ∙ x.1, subst A (sym e) x.2)
+                ]
+          ]
+    ]
 
 -- how a move takes the piece on s
 record TakenAt (p : Parts) (m : Move) (s : ℕ) : Type 0 where
@@ -77,21 +99,7 @@ taken_at :
 taken_at p m s k v l h gone =
     elim (moves_move_pieces p m v l) [
       | inr c ↦ absurd (gone (castled_quiet p m c s k h))
-      | inl o ↦
-          let nf : s ≢ m.from = λ e. sides_differ p.side (ap side_of (sym o.stands ∙ ap (on p.board) (sym e) ∙ h)) in
-          let A : ℕ → Type 0 = λ t. Ahead (forward (other p.side)) 1 m.to t in
-          elim (cases_eq s m.to) [
-            | inl e ↦ record { one = o; way = inl e }
-            | inr nt ↦
-                elim (cases_eq s o.taken) [
-                  | inr nx ↦ absurd (gone (o.others s nf nt nx ∙ h))
-                  | inl e ↦
-                      elim o.passes [
-                        | inl from ↦ absurd (nf (e ∙ from))
-                        | inr x ↦ record { one = o; way = inr (e, x.0, ap (on p.board) e ∙ x.1, subst A (sym e) x.2) }
-                      ]
-                ]
-          ]
+      | inl o ↦ record { one = o; way = taken_on p m o s k h gone }
     ]
 
 -- a right that stands after a move stood before

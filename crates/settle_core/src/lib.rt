@@ -3,9 +3,9 @@
 
 mod candidate;
 mod compared;
-mod plies;
 pub mod laws;
 mod masks;
+mod plies;
 mod settler;
 mod signs;
 mod tips;

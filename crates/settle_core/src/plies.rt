@@ -1,6 +1,6 @@
 // Plies, signs of a result, and what a picture shows.
-use chess_rules::Move;
 use chess_clock::Hms;
+use chess_rules::Move;
 
 /// How a game ended, as the kings in the centre say: e4 and d5 White wins, d4 and e5 Black wins, one light and one dark
 /// square a draw.

@@ -13,11 +13,11 @@ ghost use Rattle.settle_core.specs.Settler.{StandsFor, ReturnsSeen, GivesMove, h
 ghost use Rattle.settle_core.specs.Kept.{CanReplace, IsComparedIn, IsLastSet, last_of, position_in};
 
 use crate::compared::{Compared, copy, shown_after};
-use crate::plies::{Outcome, Ply, Seen};
 use crate::masks::shown_in;
+use crate::plies::{Outcome, Ply, Seen};
 use crate::signs::sign_of;
-use chess_rules::{Move, Position, Side, Square};
 use chess_clock::{Hms, Reading};
+use chess_rules::{Move, Position, Side, Square};
 use std::alloc::{AllocError, Global};
 use std::marker::Model;
 

@@ -5,9 +5,9 @@ ghost use Rattle.settle_core.specs.Settler.{has_seen};
 
 use crate::Outcome;
 use board_session::{Session, Taken};
+use chess_clock::{Hms, Reading};
 use chess_rules::{Move, Position, Square};
 use chess_text::read_fen;
-use chess_clock::{Hms, Reading};
 use dgt_frame::{Event, First, Message};
 use settle_core::{Ply, Seen, Settler};
 use std::alloc::Global;

@@ -3,11 +3,11 @@
 use board_session::{Setup, record};
 use chess_rules::Position;
 use dgt_frame::First;
-use watched_streams::Watch;
 use pgn_book::Tags;
 use std::alloc::Global;
 use test_streams::bytes::Bytes;
 use test_streams::streams::{Sink, Source};
+use watched_streams::Watch;
 
 /// These bytes are recorded from the start, White's time first, as this text. Nothing is asked of the board but at the start.
 pub fn leaves(alloc: Global, start: Position, bytes: &Bytes, text: &Bytes) -> bool {

@@ -1,10 +1,10 @@
 //! Runs of the program over streams in memory.
 
-use watched_streams::Watch;
 use dgt_replay::run;
 use std::alloc::{AllocError, Global};
 use test_streams::bytes::Bytes;
 use test_streams::streams::{Sink, Source};
+use watched_streams::Watch;
 
 /// What a run has left.
 #[derive(Drop)]

@@ -1,15 +1,15 @@
 //! Games and their export texts. The texts are those of the PGN standard's export form, worked out by hand from known games.
 
+use chess_clock::Hms;
 use chess_rules::{Move, Position};
 use chess_text::{read_fen, read_san};
-use chess_clock::Hms;
-use watched_streams::Watch;
 use pgn_book::{Game, Tags, write_pgn};
 use settle_core::{Outcome, Ply};
 use std::alloc::Global;
 use std::process::Abort;
 use test_streams::bytes::Bytes;
 use test_streams::texts::text_of;
+use watched_streams::Watch;
 
 /// Fails with the number of the first row that isn't as it says, if there is one.
 pub fn expect_none(rt: &impl Abort, first: Option<usize>) {

@@ -3,8 +3,8 @@
 use crate::games::with_pawn_on;
 use crate::told::{Told, WAITS, told_of};
 use crate::ways::{E2_E3, E2_E4};
-use chess_rules::{Position, Square};
 use chess_clock::Hms;
+use chess_rules::{Position, Square};
 use dgt_frame::{First, read_time};
 use settle_core::Settler;
 use std::alloc::{AllocError, Global};

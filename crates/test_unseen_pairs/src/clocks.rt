@@ -2,8 +2,8 @@
 ghost use Rattle.std.specs.Prelude.{All, ◌<◌};
 
 use crate::games::{changed, has_moves, show};
-use chess_rules::{Position, Square};
 use chess_clock::Hms;
+use chess_rules::{Position, Square};
 use dgt_frame::{First, read_time};
 use settle_core::Settler;
 use std::alloc::{AllocError, Global};

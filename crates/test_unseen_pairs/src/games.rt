@@ -2,8 +2,8 @@
 ghost use Rattle.std.specs.Prelude.{All, ◌<◌};
 
 use crate::answers::{Answer, WAITS, Way, recovered_of, shown_of, way_of};
-use chess_rules::{Position, Square};
 use chess_clock::Reading;
+use chess_rules::{Position, Square};
 use settle_core::{Outcome, Settler};
 use std::alloc::{AllocError, Global};
 use std::process::Abort;

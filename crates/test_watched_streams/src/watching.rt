@@ -1,9 +1,9 @@
 //! Streams that fail as a script says: what a `Watch` tells of them, what is read of them and what is written.
 ghost use Rattle.std.specs.Prelude.{◌≤◌, IfOk};
 
-use watched_streams::{CHUNK, ReadChunk, Watch, WriteFault, put, read_chunk};
 use std::io::{self, ErrorKind, Read, Write};
 use std::process::Abort;
+use watched_streams::{CHUNK, ReadChunk, Watch, WriteFault, put, read_chunk};
 
 /// Fails with the number of the first row that isn't as it says, if there is one.
 fn expect_none(rt: &impl Abort, first: Option<usize>) {

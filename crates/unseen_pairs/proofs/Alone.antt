@@ -25,6 +25,7 @@ use Rattle.settle_core.proofs.Hands.{lacking_no_picture, lacking_no_sign, no_sig
 use Rattle.settle_core.proofs.Lines.{reverse_aux-append}
 use Rattle.settle_core.proofs.Pieces.{no_new_after, no_new_partial, picture_moves, settles_end, shown_on, shown_still}
 use Rattle.settle_core.proofs.Stages.{EndsAt, lacking_replaces, no_replace, valid_reached}
+use Rattle.settle_core.proofs.Tipping.{moves_of_drop}
 use Rattle.unseen_pairs.specs.declared.pair.Recovery.{Recovery}
 use Rattle.unseen_pairs.specs.declared.pair.Told.{Told}
 use Rattle.unseen_pairs.specs.declared.pair.Told.TheVariants.{Shown, Recovered}
@@ -195,10 +196,6 @@ none_instead :
     → IsNext start earlier m → MayCome (reached start earlier) m seen → ¬ Replaces start earlier seen n
 none_instead start earlier m seen n s (inl way) h = no_replace start earlier n seen s.valid s.played way.nowhere_else h
 none_instead start earlier m seen n s (inr lacks) h = lacking_replaces start earlier seen n s.valid s.played lacks h
-
-moves_of_drop : (plies : List Ply) → moves_of (drop 1 plies) ≡ drop 1 (moves_of plies)
-moves_of_drop [] = refl
-moves_of_drop (ply ∷ plies) = refl
 
 none_came : (p : Parts) (m : Move) → AllCame p m []
 none_came p m place entry e = absurd (let never : ⊥ = cc in never)

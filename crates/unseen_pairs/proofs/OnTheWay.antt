@@ -16,11 +16,8 @@ use Rattle.chess_rules.proofs.LawLemmas.{moves_move_pieces, moves_stay_valid, pi
 use Rattle.settle_core.proofs.Boards.{side_of, kind_of, none_piece, sides_differ, other-other, king_no_pawn, same_unless, on_board, empty_differs, one_kept, castled_quiet}
 use Rattle.settle_core.proofs.Pawns.{one_back, passed, no_target, pawn_stood}
 use Rattle.settle_core.proofs.Pieces.{on_shown, shown_on, piece_or_not, theirs_stood}
+use Rattle.settle_core.proofs.Unseen.{as_side, one_only, taken_on}
 use Rattle.unseen_pairs.specs.HonestHands.{IsOff, IsOnTheWay}
-
--- the same side by another name
-as_side : (b : Board) (s : ℕ) (k : Kind) (x y : Side) → x ≡ y → on b s ≡ piece_of x k → on b s ≡ piece_of y k
-as_side b s k x y e h = h ∙ ap (λ (z : Side). piece_of z k) e
 
 -- this side's move takes a piece of it from one square to another, on which none of it stood
 record Carries (side : Side) (m : Move) (old new : Board) : Type 0 where
@@ -46,37 +43,6 @@ stood_before :
     → other p.side ≡ side → Valid p → Legal p m → on (after p m).board s ≡ piece_of side k → on p.board s ≡ piece_of side k
 stood_before p m side s k e v l h =
     as_side p.board s k (other p.side) side e (theirs_stood p m s k v l (as_side (after p m).board s k side (other p.side) (sym e) h))
-
--- a piece of the mover that has not come stood there
-only_came :
-    (p : Parts) (m : Move) (o : MovesOnePiece p m) (s : ℕ) (k : Kind)
-    → s ≢ m.to → on (after p m).board s ≡ piece_of p.side k → on p.board s ≡ piece_of p.side k
-only_came p m o s k nt h =
-    let nf : s ≢ m.from = empty_differs (after p m).board s m.from p.side k h o.left in
-    let nx : s ≢ o.taken = empty_differs (after p m).board s o.taken p.side k h o.gone in
-    sym (o.others s nf nt nx) ∙ h
-
--- where the move takes a piece: on the square of arrival, or en passant
-taken_on :
-    (p : Parts) (m : Move) (o : MovesOnePiece p m) (s : ℕ) (k : Kind)
-    → on p.board s ≡ piece_of (other p.side) k
-    → on (after p m).board s ≢ piece_of (other p.side) k
-    → (s ≡ m.to) ⊎ ((s ≡ o.taken) × TakesEnPassant p m × (on p.board s ≡ piece_of (other p.side) Pawn) × Ahead (forward (other p.side)) 1 m.to s)
-taken_on p m o s k h gone =
-    let nf : s ≢ m.from = λ e. sides_differ p.side (ap side_of (sym o.stands ∙ ap (on p.board) (sym e) ∙ h)) in
-    let A : ℕ → Type 0 = λ t. Ahead (forward (other p.side)) 1 m.to t in
-    elim (cases_eq s m.to) [
-      | inl e ↦ inl e
-      | inr nt ↦
-          elim (cases_eq s o.taken) [
-            | inr nx ↦ absurd (gone (o.others s nf nt nx ∙ h))
-            | inl e ↦
-                elim o.passes [
-                  | inl from ↦ absurd (nf (e ∙ from))
-                  | inr x ↦ inr (e, x.0, ap (on p.board) e ∙ x.1, subst A (sym e) x.2)
-                ]
-          ]
-    ]
 
 -- a move en passant goes to an empty square
 passes_empty : (p : Parts) (m : Move) (k : Kind) → Valid p → TakesEnPassant p m → on p.board m.to ≢ piece_of (other p.side) k
@@ -213,7 +179,7 @@ no_own_pair p m k n r seen now v l lk ln lr h is h' is' =
                 none_piece (sym o.left ∙ stood_before a n side k.from o.kind (other-other side) va ln in_q) in
                 let in_a : on a.board r.from ≡ piece_of side z.was = stood_before a n side r.from z.was (other-other side) va ln z.stood in
                 let ne : r.from ≢ k.to = λ e. sides_differ side (ap side_of (sym z.stood ∙ ap (on q.board) (e ∙ sym to) ∙ y.came)) in
-                let in_p : on p.board r.from ≡ piece_of side z.was = only_came p k o r.from z.was ne in_a in
+                let in_p : on p.board r.from ≡ piece_of side z.was = one_only p k o r.from z.was ne in_a in
                 let next_left : on (after p m).board r.from ≢ piece_of side z.was =
                 λ stays.
                 let low_r : r.from < 64 = rw (← v.squares) (on_board p.board r.from side z.was in_p) in

@@ -9,8 +9,8 @@ ghost use Rattle.unseen_pairs.specs.Candidates.{IsOlder, IsOnlyOne, ShowsKing};
 
 use crate::pair::Pair;
 use crate::settled::settled_in;
-use chess_rules::Position;
 use chess_clock::Reading;
+use chess_rules::Position;
 use settle_core::{Seen, Settler};
 use std::alloc::{AllocError, Global};
 

@@ -1,6 +1,6 @@
 // Pairs of plies, and what a picture tells of them.
-use chess_rules::{Move, Position};
 use chess_clock::Reading;
+use chess_rules::{Move, Position};
 use settle_core::Seen;
 
 /// Two plies.

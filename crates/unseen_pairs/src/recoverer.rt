@@ -9,8 +9,8 @@ ghost use Rattle.unseen_pairs.specs.Recoverer.{HasTold, IsWaiting, ReturnsTold, 
 use crate::confirming::{Candidate, Confirmed, only_one};
 use crate::pair::{Recovery, Told};
 use crate::waiting::{add_all, all_aged, copy};
-use chess_rules::Position;
 use chess_clock::Reading;
+use chess_rules::Position;
 use settle_core::{Seen, Settler};
 use std::alloc::{AllocError, Global};
 use std::marker::Model;

@@ -11,8 +11,8 @@ ghost use Rattle.unseen_pairs.specs.Candidates.{AreAdded, AreAllAdded, AreAged, 
 use crate::confirming::Candidate;
 use crate::explaining::{has_more, may_hide_two, pairs_that_explain, theirs_left};
 use crate::pair::{Pair, TwoPlies};
-use chess_rules::{Move, Position};
 use chess_clock::Reading;
+use chess_rules::{Move, Position};
 use settle_core::Settler;
 use std::alloc::{AllocError, Global};
 

@@ -1,6 +1,7 @@
 use Rattle.std.proofs.Common.{◌++◌, codes, decimal, sym, ap, ◌∙◌, subst, arith}
 use Rattle.settle_core.specs.Masks.{IsDiff}
-use Rattle.board_listing.specs.GameLines.{line, squares_text, waiting_words}
+use Rattle.watched_streams.specs.Lines.{line}
+use Rattle.board_listing.specs.GameLines.{squares_text, waiting_words}
 use Rattle.board_listing.proofs.SquareLemmas.{line_added, more_added, no_square, some_waiting}
 use Rattle.board_listing.proofs.game_lines.add_waiting.Goals as goal
 

@@ -8,7 +8,7 @@ use Rattle.dgt_replay.proofs.CheckLemmas.{checked, checked_part, no_game}
 use Rattle.pgn_book.specs.Pgn.{Pgn}
 use Rattle.dgt_replay.proofs.EndLemmas.{true_or}
 use Rattle.dgt_replay.proofs.MessageLemmas.{never_done, part_put, tells_fault, tells_memory, tells_or_fault, tells_refused}
-use Rattle.board_listing.proofs.GatherLemmas.{at_err, at_ok}
+use Rattle.watched_streams.proofs.ResultLemmas.{at_err, at_ok}
 use Rattle.dgt_replay.proofs.check.check.Goals as goal
 use Rattle.dgt_replay.proofs.check.check.Goals.{then-is_err-via-then-is_err, then-is_err-via-else-is_err+then-is_err-2}
 

@@ -10,7 +10,7 @@ use Rattle.dgt_replay.proofs.MessageLemmas.{tells_fault, tells_refused}
 use Rattle.watched_streams.specs.Watch.{has_failed, inner_of}
 use Rattle.dgt_replay.proofs.EndLemmas.{true_or}
 use Rattle.dgt_replay.proofs.RefusalLemmas.{start_refused}
-use Rattle.board_listing.proofs.GatherLemmas.{at_err, at_ok}
+use Rattle.watched_streams.proofs.ResultLemmas.{at_err, at_ok}
 use Rattle.dgt_replay.proofs.MoveLemmas.{prints_part}
 use Rattle.dgt_replay.proofs.SetupLemmas.{ok_same}
 use Rattle.dgt_replay.proofs.moves.moves.Goals as goal

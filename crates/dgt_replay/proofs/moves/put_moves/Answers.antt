@@ -1,7 +1,8 @@
 use Rattle.std.proofs.Common.{◌++◌, ◌∙◌, codes, rules, append_assoc, arith}
 use Rattle.watched_streams.specs.Watch.{inner_of}
 use Rattle.board_listing.specs.Listings.{Gathers}
-use Rattle.board_listing.proofs.GatherLemmas.{gathers_sent, on_ok}
+use Rattle.watched_streams.proofs.ResultLemmas.{on_ok}
+use Rattle.board_listing.proofs.GatherLemmas.{gathers_sent}
 use Rattle.dgt_replay.proofs.MessageLemmas.{part_put}
 use Rattle.dgt_replay.proofs.MoveLemmas.{all_written, gathers_more, part_told, told_more, told_to_end}
 use Rattle.dgt_replay.proofs.moves.put_moves.Goals as goal

@@ -2,7 +2,7 @@ use Rattle.std.proofs.Common.{◌∙◌, [], append-nil, sym}
 use Rattle.std.proofs.KnownBytes.{Appends-kept}
 use Rattle.std.specs.Io.KnownBytes.{Appends}
 use Rattle.watched_streams.specs.Watch.{inner_of}
-use Rattle.board_listing.proofs.GatherLemmas.{at_err, at_ok}
+use Rattle.watched_streams.proofs.ResultLemmas.{at_err, at_ok}
 use Rattle.dgt_replay.proofs.EndLemmas.{true_or}
 use Rattle.dgt_replay.proofs.MessageLemmas.{part_put}
 use Rattle.dgt_replay.proofs.positions.put_positions.Goals as goal

@@ -1,6 +1,6 @@
 use Rattle.std.proofs.Common.{refl, decimal, codes}
 use Rattle.pgn_book.specs.Movetext.{number_token}
-use Rattle.board_listing.specs.GameLines.{line}
+use Rattle.watched_streams.specs.Lines.{line}
 use Rattle.recovery.specs.Weaving.{recovered_words}
 use Rattle.recovery.proofs.WordLemmas.{line_added}
 use Rattle.recovery.proofs.lines.add_recovered.Goals as goal

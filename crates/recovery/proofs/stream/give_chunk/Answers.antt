@@ -1,7 +1,7 @@
 use Rattle.std.proofs.Common.{◌≡◌, ◌<◌, ◌≤◌, ◌+◌, ◌-◌, ℕ, [], Option, IfNone, IfSome, length, take, drop, sym, subst, take_all, length-drop, arith}
 use Rattle.std.proofs.lemmas.Bool.Decides.{nat_tests}
 use Rattle.std.proofs.lemmas.List.{length-take-le}
-use Rattle.board_listing.proofs.GatherLemmas.{on_ok}
+use Rattle.watched_streams.proofs.ResultLemmas.{on_ok}
 use Rattle.std.specs.Io.KnownBytes.{Appends}
 use Rattle.watched_streams.specs.Watch.{inner_of}
 use Rattle.board_session.specs.Recording.{AppendsPart}

@@ -1,6 +1,6 @@
 use Rattle.std.proofs.Common.{sym, ◌∙◌}
 use Rattle.std.proofs.KnownBytes.{Appends-kept, Keeps-refl}
-use Rattle.board_listing.proofs.GatherLemmas.{at_ok}
+use Rattle.watched_streams.proofs.ResultLemmas.{at_ok}
 use Rattle.board_session.proofs.StreamLemmas.{part_flushed, part_put}
 use Rattle.recovery.proofs.GiveLemmas.{part_behind, part_longer}
 use Rattle.recovery.proofs.stream.put_pair.Goals as goal

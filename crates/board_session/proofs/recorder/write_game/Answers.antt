@@ -1,8 +1,8 @@
 use Prim.{search}
 use Rattle.std.proofs.Common.{rules, sym, ◌∙◌}
 use Rattle.board_session.proofs.StreamLemmas.{text_flushed, text_put}
-use Rattle.board_session.proofs.recording.write_game.Goals as goal
-use Rattle.board_session.proofs.recording.write_game.Goals.{then-is_err-via-then-is_err, then-is_err-via-else-is_err+then-is_err-2}
+use Rattle.board_session.proofs.recorder.write_game.Goals as goal
+use Rattle.board_session.proofs.recorder.write_game.Goals.{then-is_err-via-then-is_err, then-is_err-via-else-is_err+then-is_err-2}
 
 pub returns-then-is_err-clause-text : goal.returns-then-is_err-clause-text
 returns-then-is_err-clause-text g c =

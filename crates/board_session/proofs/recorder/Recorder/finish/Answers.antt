@@ -3,10 +3,10 @@ use Rattle.std.proofs.lemmas.Result.{err_from_is_err_and}
 use Rattle.board_session.specs.Commands.{past_of}
 use Rattle.board_session.proofs.CountLemmas.{few_moves}
 use Rattle.board_session.proofs.RecordLemmas.{ended, unwritten}
-use Rattle.board_session.proofs.recording.finish.Goals as goal
+use Rattle.board_session.proofs.recorder.Recorder.finish.Goals as goal
 
 pub overflow_cast-moves : goal.overflow_cast-moves
-overflow_cast-moves g c = let few : length c.into_game-game.result.plies ≤ 67108864 = few_moves c.args.recorder c.requires.kept.0 c.requires.kept.1 _
+overflow_cast-moves g c = let few : length c.into_game-game.result.plies ≤ 67108864 = few_moves c.args.self c.requires.kept.0 c.requires.kept.1 _
     c.requires.kept.2 c.requires.count (c.into_game-game.ensures.count c.requires.kept.0 _ c.requires.kept.2.session) in
     rw c.plies.ensures.plies (omega (arith, few))
 
