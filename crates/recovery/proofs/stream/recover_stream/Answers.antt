@@ -1,4 +1,4 @@
-use Rattle.std.proofs.Common.{◌≡◌, ◌∙◌, [], Err, take, subst, ap, inl, inr, arith, rules}
+use Rattle.std.proofs.Common.{◌≡◌, ◌∙◌, [], Err, sym, take, subst, ap, inl, inr, arith, rules}
 use Rattle.std.specs.Io.KnownBytes.{Consumes, IsAtEnd}
 use Rattle.watched_streams.specs.Input.{GivesChunk}
 use Rattle.watched_streams.specs.Watch.{inner_of, has_failed}
@@ -128,6 +128,9 @@ returns-in-Err-clause-err_blamed g c failed =
     let never = no_other c.in-Err.error c.chunks.decoder c.chunks.keeper setting c.chunks.total heard (g.R.Read.remaining (inner_of c.args.reader.now)) (g.R.Read.remaining (inner_of c.chunks.reader)) (g.O.Write.contents (inner_of c.args.out.now)) (g.O.Write.contents (inner_of c.chunks.out)) (g.O.Write.contents (inner_of c.give_chunk.new.out)) (g.E.Write.contents (inner_of c.args.err.now)) (g.E.Write.contents (inner_of c.chunks.err)) (g.E.Write.contents (inner_of c.give_chunk.new.err))
     c.chunks.invariant.given c.in-Err.ensures.broken in
     ap Err (line_fails c.in-Err.error (has_failed c.give_chunk.new.err) never (λ e. (c.give_chunk.ensures.write (c.in-Err.is ∙ ap Err e)).1) (λ e. (c.give_chunk.ensures.memory (c.in-Err.is ∙ ap Err e)).0) failed)
+
+pub returns-in-Err-clause-flushed : goal.returns-in-Err-clause-flushed
+returns-in-Err-clause-flushed g c other was = c.give_chunk.ensures.flushed (λ e. other (sym c.in-Err.is ∙ e))
 
 pub returns-then-chunk-clause-long : goal.returns-then-chunk-clause-long
 returns-then-chunk-clause-long g c same =
