@@ -1,4 +1,4 @@
-// Games of random legal moves, to compare: their texts, one after another, or their moves by their squares, a game a line.
+//! Games of random legal moves, to compare: their texts, one after another, or their moves by their squares, a game a line.
 
 ghost use Rattle.std.specs.Prelude.{◌≡◌};
 

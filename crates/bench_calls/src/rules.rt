@@ -1,4 +1,4 @@
-// Lines of legal moves of two known positions, counted depth by depth.
+//! Lines of legal moves of two known positions, counted depth by depth.
 
 use chess_rules::Position;
 use chess_text::read_fen;

@@ -1,4 +1,4 @@
-// Work for settlers, in numbers of pictures.
+//! Work for settlers, in numbers of pictures.
 use chess_rules::{Move, Position, Square};
 use settle_core::{Seen, Settler};
 use std::alloc::{AllocError, Global};

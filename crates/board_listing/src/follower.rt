@@ -16,7 +16,7 @@ use settle_core::{Outcome, Seen, Settler};
 use std::alloc::{AllocError, Global};
 use watched_streams::{GATHERED, LONGEST, Lines};
 
-// Adds the line of the latest ply, with this word before it.
+/// Adds the line of the latest ply, with this word before it.
 fn add_last(lines: &mut Lines, offset: u32, word: &[u8], settler: &Settler)
     requires room { array_vec_len lines.old + 128 ≤ GATHERED }
     requires short { length word.now ≤ 16 }
@@ -31,7 +31,7 @@ fn add_last(lines: &mut Lines, offset: u32, word: &[u8], settler: &Settler)
     add_ply(lines, offset, word, &last.0, &last.1);
 }
 
-// Adds the line of what the last picture showed, where there is one.
+/// Adds the line of what the last picture showed, where there is one.
 fn add_seen(lines: &mut Lines, offset: u32, seen: &Seen, settler: &Settler)
     requires room { array_vec_len lines.old + 224 ≤ GATHERED }
     requires may { MayTell settler.now.start settler.now.score seen.now }
@@ -48,7 +48,7 @@ fn add_seen(lines: &mut Lines, offset: u32, seen: &Seen, settler: &Settler)
     }
 }
 
-// The result of the game so far. A picture that waits leaves what was told.
+/// The result of the game so far. A picture that waits leaves what was told.
 fn result_now(settler: &Settler, seen: &Seen, told: Option<Outcome>) -> Option<Outcome>
     ensures { (seen.now ≡ SeenOf.Waits → HasResult settler.now.start settler.now.score told)
         → HasResult settler.now.start settler.now.score result }
@@ -65,7 +65,7 @@ fn is_same(a: Option<Outcome>, b: Option<Outcome>) -> bool
     a == b
 }
 
-// Adds the line of the result, where it has become another one.
+/// Adds the line of the result, where it has become another one.
 fn add_new_result(lines: &mut Lines, offset: u32, old: Option<Outcome>, new: Option<Outcome>)
     requires { array_vec_len lines.old + 32 ≤ GATHERED }
     ensures { (text : List ℕ) × TellsResult offset old new text × (lines.new.items ≡ lines.old.items ++ text) }
@@ -99,7 +99,7 @@ impl Follower {
     pub fn new(alloc: Global, start: Position, first: First, rotated: bool) -> Follower
         ensures { let setting : Setting = record { start = start; first = first; rotated = rotated } in HasFollowed result setting [] }
     {
-        // A position is valid.
+        // For its clause: the start is valid.
         start.parts();
         let told = result_at(&start, None);
         Follower {
@@ -137,7 +137,7 @@ impl Follower {
         Ok(())
     }
 
-    // Adds the lines of what the last picture showed.
+    /// Adds the lines of what the last picture showed.
     fn tell(&mut self, lines: &mut Lines, offset: u32, seen: Seen)
         requires room { array_vec_len lines.old + LONGEST ≤ GATHERED }
         requires may { seen ≢ SeenOf.Same → MayTell self.old.session.settler.start self.old.session.settler.score seen }

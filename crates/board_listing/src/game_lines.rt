@@ -16,7 +16,7 @@ use pgn_book::result_str;
 use settle_core::{Outcome, Ply};
 use watched_streams::{GATHERED, Lines, add, add_number};
 
-// Adds the offset of an event, behind which it is told.
+/// Adds the offset of an event, behind which it is told.
 fn add_offset(lines: &mut Lines, offset: u32)
     requires { array_vec_len lines.old + 11 ≤ GATHERED }
     ensures items { lines.new.items ≡ lines.old.items ++ decimal offset ++ codes " " }
@@ -100,7 +100,7 @@ pub fn add_result(lines: &mut Lines, offset: u32, ending: Option<Outcome>)
     add(lines, b"\n");
 }
 
-// The first square of a mask from this one on, or 64.
+/// The first square of a mask from this one on, or 64.
 fn next_square(mask: u64, square: u8) -> u8
     requires { square < 64 }
     ensures range { result ≤ 64 }
@@ -115,7 +115,7 @@ fn next_square(mask: u64, square: u8) -> u8
     square + rest.trailing_zeros() as u8
 }
 
-// Adds the squares of a mask, each behind a space.
+/// Adds the squares of a mask, each behind a space.
 fn add_squares(lines: &mut Lines, mask: u64)
     requires { array_vec_len lines.old + 192 ≤ GATHERED }
     ensures items { (stands seen : List ℕ) → IsDiff mask stands seen → lines.new.items ≡ lines.old.items ++ squares_text stands seen }

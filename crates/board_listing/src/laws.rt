@@ -14,7 +14,7 @@ pub fn lines_give_the_game()
 pub fn follow_tells_the_game()
     ensures { FollowTellsTheGame }
 {
-    // The law that this one rests on.
+    // For its clause: the law that this one rests on.
     shows_once();
 }
 
@@ -22,7 +22,7 @@ pub fn follow_tells_the_game()
 pub fn lines_give_one_game()
     ensures { LinesGiveOneGame }
 {
-    // The laws that this one rests on.
+    // For its clause: the laws that this one rests on.
     texts_are_plain();
     texts_tell_moves();
 }
@@ -32,7 +32,7 @@ pub fn lines_give_one_game()
 pub fn text_tells_the_lines()
     ensures { TextTellsTheLines }
 {
-    // The law that this one rests on.
+    // For its clause: the law that this one rests on.
     texts_are_plain();
 }
 
@@ -40,7 +40,7 @@ pub fn text_tells_the_lines()
 pub fn text_tells_the_game()
     ensures { TextTellsTheGame }
 {
-    // The laws that this one rests on.
+    // For its clause: the laws that this one rests on.
     text_tells_the_lines();
     lines_give_one_game();
 }

@@ -54,8 +54,8 @@ impl ListError {
     }
 }
 
-// Adds the lines of an event, and writes those that wait where there is no room for another's. Where memory runs out, those
-// of the events before it are written.
+/// Adds the lines of an event, and writes those that wait where there is no room for another's. Where memory runs out, those
+/// of the events before it are written.
 fn gather<O: Write>(
     printer: &mut Printer,
     lines: &mut Lines,
@@ -91,7 +91,7 @@ fn gather<O: Write>(
     Ok(())
 }
 
-// Gives the decoder a chunk of the stream, and writes the lines of its events.
+/// Gives the decoder a chunk of the stream, and writes the lines of its events.
 fn list_chunk<O: Write>(
     decoder: &mut Decoder,
     printer: &mut Printer,
@@ -181,7 +181,7 @@ pub fn list_stream<R: Read, O: Write>(
     let mut total: u32 = 0;
     'chunks: loop {
         let Ok(read) = read_chunk(reader, &mut buffer, (LIMIT - total) as usize) else {
-            // Only for its clause: the bytes taken show some events.
+            // For its clause: the bytes taken show some events.
             decoder.pending();
             return Err(ListError::Read);
         };
@@ -190,12 +190,12 @@ pub fn list_stream<R: Read, O: Write>(
         };
         let bytes = &buffer[..chunk.within];
         if let Err(error) = list_chunk(&mut decoder, &mut printer, total, bytes, out) {
-            // Only for its clause: the bytes taken show some events.
+            // For its clause: the bytes taken show some events.
             decoder.pending();
             return Err(error);
         }
         if chunk.past {
-            // Only for its clause: the bytes taken show some events.
+            // For its clause: the bytes taken show some events.
             decoder.pending();
             return Err(ListError::TooLong);
         }

@@ -73,16 +73,16 @@ pub fn three_unseen_add_nothing()
 pub fn honest_play_is_written()
     ensures { HonestPlayIsWritten }
 {
-    // The law that this one rests on.
+    // For its clause: the law that this one rests on.
     shows_once();
 }
 
-/// Wherever a recording of honest play ends, and by whatever: the game has all moves that were shown whole, and at most one try
-/// that takes no piece.
+/// Wherever a recording of honest play ends, and by whatever: the game has all moves that were shown whole, and at most one
+/// try that takes no piece.
 pub fn honest_front_is_written()
     ensures { HonestFrontIsWritten }
 {
-    // The law that this one rests on.
+    // For its clause: the law that this one rests on.
     fronts_show_fronts();
 }
 
@@ -90,7 +90,7 @@ pub fn honest_front_is_written()
 pub fn kings_end_is_written()
     ensures { KingsEndIsWritten }
 {
-    // The law that this one rests on.
+    // For its clause: the law that this one rests on.
     shows_once();
 }
 
@@ -105,7 +105,7 @@ pub fn only_the_last_ply_may_change()
     ensures recorded { OnlyTheLastPlyMayChange }
     ensures written { OnlyTheLastPlyIsRewritten }
 {
-    // The law that the second one rests on.
+    // For its clause: the law that the second clause rests on.
     fronts_show_fronts();
 }
 
@@ -130,7 +130,8 @@ pub fn kings_in_centre_make_no_move()
     ensures written { KingsInCentreWriteNoMove }
 {}
 
-/// Honest play with its end, pieces put away or the kings in the centre, is recorded; and so it is where this is broken off anywhere.
+/// Honest play with its end, pieces put away or the kings in the centre, is recorded; and so it is where this is broken off
+/// anywhere.
 pub fn honest_end_is_recorded()
     ensures ends { HonestEndIsRecorded }
     ensures stops { HonestStopAnywhereIsRecorded }
@@ -140,7 +141,7 @@ pub fn honest_end_is_recorded()
 pub fn honest_end_is_written()
     ensures { HonestEndIsWritten }
 {
-    // The law that this one rests on.
+    // For its clause: the law that this one rests on.
     shows_once();
 }
 
@@ -148,7 +149,7 @@ pub fn honest_end_is_written()
 pub fn honest_stop_anywhere_is_written()
     ensures { HonestStopAnywhereIsWritten }
 {
-    // The law that this one rests on.
+    // For its clause: the law that this one rests on.
     fronts_show_fronts();
 }
 
@@ -157,7 +158,7 @@ pub fn moves_may_be_made_again()
     ensures recorded { MadeAgainIsRecorded }
     ensures written { MadeAgainIsWritten }
 {
-    // The law that the second one rests on.
+    // For its clause: the law that the second clause rests on.
     shows_once();
 }
 
@@ -166,7 +167,7 @@ pub fn restarts_are_recorded()
     ensures recorded { RestartsAreRecorded }
     ensures written { RestartsAreWritten }
 {
-    // The laws that these rest on.
+    // For its clause: the laws that these rest on.
     shows_once();
     fronts_show_fronts();
     restarts_are_shown();

@@ -70,7 +70,7 @@ pub fn record<R: Read, B: Write, W: Write>(
     // Nothing waits for a flush on a stream that works: each request has left, and so has the text.
     ensures flushed { IsFlushed board.new × IsFlushed out.new }
 {
-    // The text's game is the only one: no two games have one text.
+    // For its clause: the text's game is the only one, since no two games have one text.
     one_game();
     let Setup {
         start,

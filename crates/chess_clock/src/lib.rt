@@ -1,4 +1,4 @@
-//! The times of a chess clock.
+//! The times of a chess clock: that of one side (`Hms`), and those of both (`Reading`). All of it is in `times.rt`.
 #![tactic(auto)]
 
 mod times;

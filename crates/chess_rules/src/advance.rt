@@ -1,4 +1,4 @@
-// The position after a move.
+//! The position after a move.
 ghost use Rattle.std.specs.Prelude.{◌≡◌, ◌<◌, Some, ◌||◌, ◌/◌, ◌+◌, if◌then◌else◌, None, is_some};
 ghost use Rattle.chess_rules.specs.Board.{on};
 ghost use Rattle.chess_rules.specs.Attack.{gap};
@@ -6,7 +6,7 @@ ghost use Rattle.chess_rules.specs.After.{after, board_after as board_of, moved,
 
 use crate::chess_move::Move;
 use crate::lines::Wing;
-use crate::parts::{Parts, Rights};
+use crate::parts::{MOST_COUNTED, Parts, Rights};
 use crate::pieces::{Kind, Piece, Side};
 use crate::rules::{crossed_of, holds_right, other_side, rook_home_of};
 use crate::square::Square;
@@ -151,7 +151,11 @@ fn rights_left(parts: &Parts, m: &Move) -> Rights
 fn count(n: u16) -> u16
     ensures { result ≡ counted n }
 {
-    if n < 9999 { n + 1 } else { 9999 }
+    if n < MOST_COUNTED {
+        n + 1
+    } else {
+        MOST_COUNTED
+    }
 }
 
 fn passed_square(parts: &Parts, m: &Move) -> Option<Square>

@@ -1,4 +1,4 @@
-// Moves.
+//! Moves.
 
 use crate::pieces::Kind;
 use crate::square::Square;

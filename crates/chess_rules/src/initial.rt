@@ -1,4 +1,4 @@
-// The board of the initial position.
+//! The board of the initial position.
 ghost use Rattle.std.specs.Prelude.{◌≡◌};
 ghost use Rattle.chess_rules.specs.Initial.{initial_board};
 

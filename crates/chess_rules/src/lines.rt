@@ -1,4 +1,4 @@
-// The eight directions of the board, and the two wings of castling.
+//! The eight directions of the board, and the two wings of castling.
 
 /// A direction on the board: north is towards rank 8, east towards the h-file.
 #[derive(Clone, Copy, PartialEq, Eq, Debug)]

@@ -1,4 +1,4 @@
-// The legal moves of a position: every piece of the mover, every square that it may reach.
+//! The legal moves of a position: every piece of the mover, every square that it may reach.
 ghost use Rattle.std.specs.Prelude.{◌≡◌, ◌≢◌, ◌<◌, ◌+◌, IfSome, IfNone, IfOk, OnOk, OnErr, IsTrue, ◌↔◌};
 ghost use Rattle.chess_rules.specs.Board.{on, piece_of, file, row};
 ghost use Rattle.chess_rules.specs.Attack.{gap};
@@ -64,6 +64,7 @@ fn may_go(parts: &Parts, kind: Kind, from: Square, to: Square) -> bool
     ensures { ¬ IsTrue result
         → HasNone parts.now (first_place from to) (first_place from to + 5) }
 {
+    // For its clause: a square is below 64.
     let _to = to.number();
     if !may_reach(kind, from, to) {
         return false;
@@ -81,6 +82,7 @@ fn promotes(parts: &Parts, kind: Kind, from: Square, to: Square) -> bool
     ensures { ¬ IsTrue result
         → HasNone parts.now (first_place from to + 1) (first_place from to + 5) }
 {
+    // For its clause: a square is below 64.
     let _from = from.number();
     may_promote(parts.side, kind, to)
 }
@@ -108,6 +110,7 @@ fn push_legal(
         (ListsBelow parts.now moves.new.items (first_place from to + promotion_place promotion + 1)) }
     ensures memory { OnErr result ((m : Move) × Legal parts.now m) }
 {
+    // For its clause: squares are below 64.
     let _numbers = (from.number(), to.number());
     let m = Move {
         from,
@@ -184,6 +187,7 @@ fn has_legal(parts: &Parts, from: Square, to: Square, promotion: Option<Kind>) -
     ensures none { let n = first_place from to + promotion_place promotion in
         ¬ IsTrue result → HasNone parts.now n (n + 1) }
 {
+    // For its clause: squares are below 64.
     let _numbers = (from.number(), to.number());
     let m = Move {
         from,

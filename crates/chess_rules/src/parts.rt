@@ -1,7 +1,10 @@
-// The parts of a position, and how a game stands in one.
+//! The parts of a position, and how a game stands in one.
 
 use crate::pieces::{Piece, Side};
 use crate::square::Square;
+
+/// The most that a counter of a position is: there it stands still.
+pub const MOST_COUNTED: u16 = 9999;
 
 /// The castling rights (Article 3.8.2): by side, with the rook on the king side (h1, h8) or the queen side (a1, a8).
 #[derive(Clone, Copy, PartialEq, Eq, Debug)]

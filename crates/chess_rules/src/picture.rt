@@ -1,4 +1,4 @@
-// The codes that the board sends for a position.
+//! The codes that the board sends for a position.
 ghost use Rattle.std.specs.Prelude.{◌≡◌, ◌<◌, All, map};
 ghost use Rattle.chess_rules.specs.Picture.{code, code_of_piece};
 

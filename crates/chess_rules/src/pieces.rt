@@ -1,4 +1,4 @@
-// The pieces, and the two sides.
+//! The pieces, and the two sides.
 ghost use Rattle.std.specs.Prelude.{◌≡◌, IsTrue, ◌↔◌};
 
 /// One of the two players (Article 1).

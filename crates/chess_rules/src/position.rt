@@ -1,4 +1,4 @@
-// Valid positions.
+//! Valid positions.
 ghost use Rattle.std.specs.Prelude.{◌≡◌, ◌<◌, ◌↔◌, All, IsTrue, IsOk, IfOk, IfErr, OnErr, length};
 ghost use Rattle.chess_rules.specs.Board.{on, other};
 ghost use Rattle.chess_rules.specs.Attack.{InCheck};
@@ -14,7 +14,7 @@ use crate::chess_move::Move;
 use crate::initial::first_board;
 use crate::lines::Wing;
 use crate::moves::{legal_moves_in, status_of};
-use crate::parts::{Invalid, Parts, Rights, Status};
+use crate::parts::{Invalid, MOST_COUNTED, Parts, Rights, Status};
 use crate::picture::codes_of;
 use crate::pieces::{Piece, Side};
 use crate::rules::{
@@ -31,6 +31,7 @@ pub fn is_legal_in(parts: &Parts, m: &Move) -> bool
     requires { Valid parts.now }
     ensures { IsTrue result ↔ Legal parts.now m.now }
 {
+    // For its clause: a square is below 64.
     let _to = m.to.number();
     if !goes(parts, m) {
         return false;
@@ -42,7 +43,7 @@ pub fn is_legal_in(parts: &Parts, m: &Move) -> bool
 fn has_counters(parts: &Parts) -> bool
     ensures { IsTrue result ↔ HasCounters parts.now }
 {
-    parts.halfmove <= 9999 && parts.fullmove <= 9999 && parts.fullmove > 0
+    parts.halfmove <= MOST_COUNTED && parts.fullmove <= MOST_COUNTED && parts.fullmove > 0
 }
 
 fn has_one_king(board: &Board, side: Side) -> bool
@@ -195,7 +196,7 @@ impl Position {
         ensures valid { IfOk result Valid }
         ensures err { IfErr result (FailsFirst parts) }
     {
-        // A board has 64 squares.
+        // For its clause: a board has 64 squares.
         count_squares(&parts.board);
         if !has_counters(&parts) {
             return Err(Invalid::Counters);

@@ -1,4 +1,4 @@
-// Which moves are legal, tested case by case.
+//! Which moves are legal, tested case by case.
 ghost use Rattle.std.specs.Prelude.{◌≡◌, ◌≢◌, ◌<◌, ◌↔◌, ℕ, IfSome, IfNone, IsTrue, None, ◌≤◌, ◌⊎◌};
 ghost use Rattle.chess_rules.specs.Board.{Ahead, on, piece_of, other, forward, second_row, last_row};
 ghost use Rattle.chess_rules.specs.Attack.{Attacks, InCheck};

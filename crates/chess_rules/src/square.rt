@@ -1,4 +1,4 @@
-// The squares of the board.
+//! The squares of the board.
 ghost use Rattle.std.specs.Prelude.{◌≡◌, ℕ, ◌+◌, ◌/◌, ◌%◌, ◌<◌, ◌≤◌, IfSome, IsSome, ◌↔◌};
 
 use std::marker::Model;

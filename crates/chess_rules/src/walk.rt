@@ -1,4 +1,4 @@
-// Looking outwards from a square: which pieces of a side attack it.
+//! Looking outwards from a square: which pieces of a side attack it.
 ghost use Rattle.std.specs.Prelude.{◌≡◌, ◌≢◌, ◌+◌, ◌%◌, ◌/◌, ◌<◌, ◌↔◌, IsNone, IfSome, IfNone, IsTrue};
 ghost use Rattle.chess_rules.specs.Board.{Ahead, on, piece_of};
 ghost use Rattle.chess_rules.specs.Attack.{Attacks, AttacksFrom, Ranges, IsJump, IsPawnDiagonal};

@@ -1,4 +1,4 @@
-// Bytes.
+//! Bytes.
 ghost use Rattle.std.specs.Prelude.{◌≡◌, ◌↔◌, IsTrue};
 
 /// Whether both are the same bytes.

@@ -1,4 +1,4 @@
-// Whether a move takes a piece.
+//! Whether a move takes a piece.
 ghost use Rattle.std.specs.Prelude.{◌≡◌};
 ghost use Rattle.chess_text.specs.San.{is_capture as capture_test};
 

@@ -1,4 +1,4 @@
-// FEN: the text of a position.
+//! FEN: the text of a position.
 ghost use Rattle.std.specs.Prelude.{◌≡◌, ◌++◌, ◌+◌, ◌≤◌, ◌<◌, ◌↔◌, length, decimal, Ok, Err, IfOk, IfErr};
 ghost use Rattle.arrayvec.specs.ArrayString.{array_string_len};
 ghost use Rattle.chess_rules.specs.declared.parts.Parts.{Parts as PartsOf};

@@ -1,4 +1,4 @@
-// The text of the fields between the placement and the counters.
+//! The text of the fields between the placement and the counters.
 ghost use Rattle.std.specs.Prelude.{◌≡◌};
 ghost use Rattle.chess_text.specs.Fen.{castling_text, target_text, side_text};
 

@@ -1,4 +1,4 @@
-// The fields of a FEN.
+//! The fields of a FEN.
 ghost use Rattle.std.specs.Prelude.{◌≡◌, ◌∷◌, ◌++◌, ◌+◌, ◌*◌, ◌-◌, ◌<◌, ◌≤◌, ◌↔◌, [], ℕ, List, length, IfSome, IfNone, IsTrue, decimal, All, Option, false};
 ghost use Rattle.std.specs.List.{slice_split};
 ghost use Rattle.chess_rules.specs.declared.pieces.Side.{Side};

@@ -1,4 +1,8 @@
 //! The texts of chess: positions as FEN, moves as SAN, pictures as placements.
+//!
+//! Begin with `fen.rt`, over `fields.rt` and `placement.rt`, and with `san.rt`, which writes, and `san_reading.rt`, which
+//! reads by trying the moves that `aim.rt` leaves. `placement_text.rt` follows a picture that changes. `laws.rt` has what
+//! holds of all texts.
 #![tactic(auto)]
 
 mod aim;

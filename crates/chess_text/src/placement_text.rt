@@ -6,7 +6,7 @@ ghost use Rattle.chess_text.specs.Placement.{placement};
 use crate::rank_text::RankText;
 use arrayvec::ArrayVec;
 
-// A remembered rank for each code of each square.
+/// A remembered rank for each code of each square.
 const REMEMBERED: usize = 1024;
 
 /// A picture whose ranks' texts are kept, so that after a change of one square only its rank is written anew; and not that one
@@ -32,7 +32,7 @@ impl PlacementText {
         }
     }
 
-    // The rank with these codes, which may be remembered in this place.
+    /// The rank with these codes, which may be remembered in this place.
     #[inline(always)]
     fn rank_of(&mut self, codes: [u8; 8], place: usize) -> RankText
         requires { place < 1024 }

@@ -1,4 +1,4 @@
-// The text of a rank, kept beside its codes.
+//! The text of a rank, kept beside its codes.
 ghost use Rattle.std.specs.Prelude.{◌≡◌, ◌≤◌, length, take};
 ghost use Rattle.chess_text.specs.Placement.{rank_text};
 

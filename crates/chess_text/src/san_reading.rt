@@ -1,4 +1,4 @@
-// Reading SAN.
+//! Reading SAN.
 ghost use Rattle.std.specs.Prelude.{◌≡◌, ◌<◌, ◌↔◌, Ok, IfOk, IfSome, IfNone, IsTrue};
 ghost use Rattle.chess_rules.specs.Board.{on, piece_of};
 ghost use Rattle.chess_rules.specs.Legal.{Legal};

@@ -1,4 +1,4 @@
-// Squares by number, and their text.
+//! Squares by number, and their text.
 ghost use Rattle.std.specs.Prelude.{◌≡◌, ◌<◌};
 ghost use Rattle.chess_text.specs.Squares.{file_byte as file_byte_lem, rank_byte as rank_byte_lem};
 

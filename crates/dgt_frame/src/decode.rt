@@ -9,13 +9,35 @@ ghost use Rattle.dgt_frame.specs.Layout.{fixed_size, byte_limit, FitsData, FitsS
 use crate::events::{Event, FaultKind, Message};
 use crate::whole::whole;
 
-const TOP_BIT: u8 = 0x80;
+/// The top bit of a byte, which the first byte of a frame alone has set.
+pub(crate) const TOP_BIT: u8 = 0x80;
 
+/// The identifier of a dump.
 pub(crate) const DUMP: u8 = 0x86;
 
+/// The identifier of a field update.
 pub(crate) const UPDATE: u8 = 0x8E;
 
+/// The identifier of a time message.
 pub(crate) const TIME: u8 = 0x8D;
+
+/// The size of a dump's frame.
+pub(crate) const DUMP_SIZE: u8 = 67;
+
+/// The size of an update's frame.
+pub(crate) const UPDATE_SIZE: u8 = 5;
+
+/// The size of a time message's frame.
+pub(crate) const TIME_SIZE: u8 = 10;
+
+/// How many fields a board has. Each field's number is below it.
+pub(crate) const FIELDS: u8 = 64;
+
+/// Each piece code is below it.
+pub(crate) const CODES: u8 = 16;
+
+/// The size of a frame without data.
+const NO_DATA: u16 = 3;
 
 /// The most data bytes of a frame whose data matters.
 const STORED: u16 = 64;
@@ -98,9 +120,9 @@ impl Decoder {
         }
     }
 
-    /// Takes bytes up to the first at which an event comes, or all of them where none comes and the result is `None`. It does what
-    /// `push` does byte by byte, in less time. The event is put where the caller wants it, and the result is how many bytes were
-    /// taken up to it, its own among them, and at least 1. Where none comes, `event` says nothing.
+    /// Takes bytes up to the first at which an event comes, or all of them where none comes and the result is `None`. It
+    /// does what `push` does byte by byte, in less time. The event is put where the caller wants it, and the result is how
+    /// many bytes were taken up to it, its own among them, and at least 1. Where none comes, `event` says nothing.
     pub fn push_into(&mut self, bytes: &[u8], event: &mut Event) -> Option<usize>
         ensures none { IfNone result (TakesAll self.old bytes.now self.new) }
         ensures some { IfSome result (λ taken. TakesUpTo self.old bytes.now taken event.new self.new) }
@@ -196,7 +218,7 @@ impl Decoder {
         if !fits_size(id, size) {
             return self.fail(FaultKind::Size);
         }
-        if size == 3 {
+        if size == NO_DATA {
             self.state = State::Idle;
             return Progress::Ends { id, size };
         }
@@ -231,9 +253,9 @@ fn fixed_size(id: u8) -> u8
     ensures { result ≡ fixed_size id }
 {
     match id {
-        DUMP => 67,
-        UPDATE => 5,
-        TIME => 10,
+        DUMP => DUMP_SIZE,
+        UPDATE => UPDATE_SIZE,
+        TIME => TIME_SIZE,
         _ => 0,
     }
 }
@@ -242,7 +264,7 @@ fn fits_size(id: u8, size: u16) -> bool
     ensures { IsTrue result ↔ FitsSize id size }
 {
     let fixed = u16::from(fixed_size(id));
-    size >= 3 && (fixed == 0 || size == fixed)
+    size >= NO_DATA && (fixed == 0 || size == fixed)
 }
 
 fn store(stored: &mut [u8; 64], index: u16, byte: u8)
@@ -258,13 +280,13 @@ fn byte_limit(id: u8, index: u16) -> u8
     ensures { result ≡ byte_limit id index }
 {
     match id {
-        DUMP => 16,
-        UPDATE => { if index == 0 { 64 } else { 16 } }
-        _ => 128,
+        DUMP => CODES,
+        UPDATE => { if index == 0 { FIELDS } else { CODES } }
+        _ => TOP_BIT,
     }
 }
 
-// The message of a whole frame, whose data is stored.
+/// The message of a whole frame, whose data is stored.
 fn message(id: u8, size: u16, stored: &[u8; 64]) -> Message
     ensures { result ≡ message_stored id size stored.now }
 {

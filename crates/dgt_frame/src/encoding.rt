@@ -3,6 +3,7 @@ ghost use Rattle.std.specs.Prelude.{◌≡◌, ◌++◌, length, ◌+◌, ◌≤
 ghost use Rattle.dgt_frame.specs.Frames.{Frame};
 ghost use Rattle.dgt_frame.specs.Encoding.{IsEncodable};
 
+use crate::decode::{DUMP, DUMP_SIZE, TIME, TIME_SIZE, UPDATE, UPDATE_SIZE};
 use crate::events::Message;
 use arrayvec::ArrayVec;
 
@@ -16,12 +17,12 @@ pub fn encode(message: &Message, out: &mut ArrayVec<u8, 67>)
     out.clear();
     match message {
         Message::Dump(codes) => {
-            add(out, &[0x86, 0x00, 0x43]);
+            add(out, &[DUMP, 0, DUMP_SIZE]);
             add(out, codes);
         }
-        Message::Update { field, code } => add(out, &[0x8E, 0x00, 0x05, *field, *code]),
+        Message::Update { field, code } => add(out, &[UPDATE, 0, UPDATE_SIZE, *field, *code]),
         Message::Time(times) => {
-            add(out, &[0x8D, 0x00, 0x0A]);
+            add(out, &[TIME, 0, TIME_SIZE]);
             add(out, times);
         }
         Message::Other { .. } => unreachable!(),

@@ -12,6 +12,9 @@ pub enum First {
     Black,
 }
 
+/// In the place of a group's hours: the message acknowledges a command to the clock, and is no time.
+const ACKNOWLEDGES: u8 = 10;
+
 fn tens(byte: u8) -> u8
     ensures { result ≡ tens byte }
 {
@@ -30,7 +33,7 @@ fn number(byte: u8) -> u8
     tens(byte) * 10 + byte % 16
 }
 
-// The group from `start` on, where it is a time.
+/// The group from `start` on, where it is a time.
 fn group(bytes: &[u8; 7], start: usize) -> Option<Hms>
     requires { start ≤ 4 }
     ensures { result ≡ group_read bytes.now start }
@@ -55,7 +58,7 @@ fn group(bytes: &[u8; 7], start: usize) -> Option<Hms>
 pub fn read_time(bytes: &[u8; 7], first: First, old: Option<Reading>) -> Option<Reading>
     ensures { result ≡ reading_after first bytes.now old }
 {
-    if bytes[0] % 16 == 10 || bytes[3] % 16 == 10 {
+    if bytes[0] % 16 == ACKNOWLEDGES || bytes[3] % 16 == ACKNOWLEDGES {
         return old;
     }
     if bytes[6] / 32 % 2 == 1 {

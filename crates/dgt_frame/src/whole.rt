@@ -1,8 +1,8 @@
-// Frames that lie whole at the front of bytes.
+//! Frames that lie whole at the front of bytes.
 ghost use Rattle.std.specs.Prelude.{IfSome};
 ghost use Rattle.dgt_frame.specs.Whole.{IsWhole};
 
-use crate::decode::{DUMP, TIME, UPDATE};
+use crate::decode::{CODES, DUMP, FIELDS, TIME, TOP_BIT, UPDATE};
 use crate::events::{Event, Message};
 use std::simd::prelude::*;
 
@@ -14,7 +14,7 @@ fn dump(bytes: &[u8], event: &mut Event) -> Option<usize>
         return None;
     }
     let codes = u8x64::from_slice(&bytes[3..]);
-    if codes.simd_ge(u8x64::splat(16)).to_bitmask() == 0 {
+    if codes.simd_ge(u8x64::splat(CODES)).to_bitmask() == 0 {
         *event = Event::Message(Message::Dump(codes.to_array()));
         Some(67)
     } else {
@@ -31,7 +31,7 @@ fn update(bytes: &[u8], event: &mut Event) -> Option<usize>
     }
     let field = bytes[3];
     let code = bytes[4];
-    if field < 64 && code < 16 {
+    if field < FIELDS && code < CODES {
         *event = Event::Message(Message::Update { field, code });
         Some(5)
     } else {
@@ -49,13 +49,13 @@ fn time(bytes: &[u8], event: &mut Event) -> Option<usize>
     let times = [
         bytes[3], bytes[4], bytes[5], bytes[6], bytes[7], bytes[8], bytes[9],
     ];
-    if times[0] < 128
-        && times[1] < 128
-        && times[2] < 128
-        && times[3] < 128
-        && times[4] < 128
-        && times[5] < 128
-        && times[6] < 128
+    if times[0] < TOP_BIT
+        && times[1] < TOP_BIT
+        && times[2] < TOP_BIT
+        && times[3] < TOP_BIT
+        && times[4] < TOP_BIT
+        && times[5] < TOP_BIT
+        && times[6] < TOP_BIT
     {
         *event = Event::Message(Message::Time(times));
         Some(10)

@@ -19,7 +19,7 @@ use watched_streams::{GATHERED, LONGEST, Lines, Watch, add, put};
 /// The most bytes of a PGN text.
 pub const TEXT_LIMIT: usize = 268_435_456;
 
-// Adds how many moves a game has, and its result.
+/// Adds how many moves a game has, and its result.
 fn add_summary(lines: &mut Lines, moves: u64, outcome: Option<Outcome>)
     requires { array_vec_len lines.old + LONGEST ≤ GATHERED }
     ensures { lines.new.items ≡ lines.old.items ++ summary_line moves outcome }

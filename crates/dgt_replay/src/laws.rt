@@ -9,7 +9,7 @@ pub fn written_texts_pass()
     ensures within { WrittenTextsAreWithin }
     ensures pass { WrittenTextsPass }
 {
-    // The laws that these rest on.
+    // For its clause: the laws that these rest on.
     moves_take_ten_bytes();
     texts_are_short();
 }

@@ -21,7 +21,7 @@ use std::alloc::Global;
 use std::io::Write;
 use watched_streams::{GATHERED, LONGEST, Lines, Watch, WriteFault, add, put};
 
-// Adds a legal move in SAN, as a line.
+/// Adds a legal move in SAN, as a line.
 fn add_san(lines: &mut Lines, position: &Position, m: Move)
     requires room { array_vec_len lines.old + LONGEST ≤ GATHERED }
     requires legal { Legal position.now m }
@@ -31,7 +31,7 @@ fn add_san(lines: &mut Lines, position: &Position, m: Move)
     add(lines, b"\n");
 }
 
-// Writes one SAN move a line.
+/// Writes one SAN move a line.
 fn put_moves<O: Write>(
     position: &Position,
     moves: &[Move],

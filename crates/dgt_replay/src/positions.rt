@@ -36,7 +36,7 @@ fn is_blank(b: u8) -> bool
     b == b' ' || b == b'\t' || b == b'\r' || b == b'\n'
 }
 
-// What stands before the first blank, and what stands behind it.
+/// What stands before the first blank, and what stands behind it.
 fn first_part(text: &[u8]) -> (&[u8], Option<&[u8]>)
     ensures parts { parts text.now ≡ result.0.now ∷ parts_behind result.1 }
     ensures len { length result.0.now + len_behind result.1 ≡ length text.now }
@@ -49,7 +49,7 @@ fn first_part(text: &[u8]) -> (&[u8], Option<&[u8]>)
     (text, None)
 }
 
-// The position after the legal move whose SAN the word is.
+/// The position after the legal move whose SAN the word is.
 fn position_named(position: &Position, word: &[u8]) -> Option<Position>
     ensures named { IfSome result (λ next. (m : Move) × Legal position.now m × San position.now m word.now × (next ≡ after position.now m)) }
     ensures none { IfNone result (NamesNoMove position.now word.now) }
@@ -60,7 +60,7 @@ fn position_named(position: &Position, word: &[u8]) -> Option<Position>
     }
 }
 
-// Adds the FEN of a position, as a line.
+/// Adds the FEN of a position, as a line.
 fn add_position(lines: &mut Vec<u8>, position: &Position) -> Result<(), AllocError>
     ensures { OnOk result (lines.new.items ≡ lines.old.items ++ fen_of position.now ++ codes "\n") }
 {
@@ -68,7 +68,7 @@ fn add_position(lines: &mut Vec<u8>, position: &Position) -> Result<(), AllocErr
     lines.extend_from_slice(b"\n")
 }
 
-// Adds the position at the start, and that after each move, up to the first word that is no move, whose number it returns.
+/// Adds the position at the start, and that after each move, up to the first word that is no move, whose number it returns.
 fn play_words(
     start: Position,
     text: &[u8],
@@ -98,7 +98,7 @@ fn play_words(
     }
 }
 
-// Says which word is no move, and returns the status.
+/// Says which word is no move, and returns the status.
 fn refused_move<E: Write>(err: &mut Watch<E>, number: usize) -> u8
     ensures status { result ≡ 1 }
     ensures says { Says (E.contents (inner_of err.old)) (E.contents (inner_of err.new)) (has_failed err.new) (word_message number) }
@@ -111,7 +111,7 @@ fn refused_move<E: Write>(err: &mut Watch<E>, number: usize) -> u8
     refused(err, line.as_slice(), 1)
 }
 
-// Writes the lines of the positions, says which word is no move, where one isn't, and returns the status.
+/// Writes the lines of the positions, says which word is no move, where one isn't, and returns the status.
 fn put_positions<O: Write, E: Write>(
     lines: &[u8],
     stopped: Option<usize>,
@@ -137,7 +137,7 @@ fn put_positions<O: Write, E: Write>(
     }
 }
 
-// Plays the words of a text from the start, and returns the status.
+/// Plays the words of a text from the start, and returns the status.
 fn play_text<O: Write, E: Write>(
     alloc: Global,
     start: Position,
@@ -164,7 +164,7 @@ fn play_text<O: Write, E: Write>(
     }
 }
 
-// Plays the moves of the input from the start, and returns the status.
+/// Plays the moves of the input from the start, and returns the status.
 fn play<R: Read, O: Write, E: Write>(
     alloc: Global,
     start: Position,

@@ -34,7 +34,7 @@ use std::alloc::Global;
 use std::io::{Read, Write};
 use watched_streams::{Watch, put};
 
-// Writes the text of `clap`, and returns its status.
+/// Writes the text of `clap`, and returns its status.
 fn refused_arguments<O: Write, E: Write>(
     alloc: Global,
     error: &Error,
@@ -97,7 +97,7 @@ fn list<R: Read, O: Write, E: Write>(
     }
 }
 
-// Lists what each event makes of a game.
+/// Lists what each event makes of a game.
 fn follow<R: Read, O: Write, E: Write>(
     alloc: Global,
     options: &BoardArguments<'_>,
@@ -130,7 +130,7 @@ fn follow<R: Read, O: Write, E: Write>(
     }
 }
 
-// Does what the subcommand asks for.
+/// Does what the subcommand asks for.
 fn dispatch<R: Read, O: Write, E: Write>(
     alloc: Global,
     subcommand: &Subcommand<'_>,
@@ -164,9 +164,10 @@ fn dispatch<R: Read, O: Write, E: Write>(
     }
 }
 
-/// Does what the arguments ask for, of which the first is the program's name, and returns the exit status: 0 where all was done, or
-/// help or the version was asked for, 1 where the input is refused, 2 where the arguments are, 3 where a stream has failed, 4 where
-/// memory ran out. Under `record` the bytes for the board go to `err`, under `recover` the lines. No stream may have failed before.
+/// Does what the arguments ask for, of which the first is the program's name, and returns the exit status: 0 where all was
+/// done, or help or the version was asked for, 1 where the input is refused, 2 where the arguments are, 3 where a stream
+/// has failed, 4 where memory ran out. Under `record` the bytes for the board go to `err`, under `recover` the lines. No
+/// stream may have failed before.
 pub fn run<R: Read, O: Write, E: Write>(
     alloc: Global,
     arguments: &[String],
@@ -194,16 +195,16 @@ pub fn run<R: Read, O: Write, E: Write>(
         → Refuses (RefusesSetup (first_of (codes "fen") rows) (λ tag. first_of (option_of tag) rows)) result
         (streams R.remaining O.contents E.contents reader.old reader.new out.old out.new err.old err.new) }
 
-    // `follow` with any options: the lines of what each event makes of the game, from the start that they say. Where no position
-    // has the FEN, the reason is said.
+    // `follow` with any options: the lines of what each event makes of the game, from the start that they say. Where no
+    // position has the FEN, the reason is said.
     ensures follow { (setting : Setting) → AsksToFollow (map string_bytes arguments.now) setting → Lists (Listing.Game setting.start setting.first setting.rotated) result
         (streams R.remaining O.contents E.contents reader.old reader.new out.old out.new err.old err.new) }
     ensures follow_refuses { (rows : List Row) → Asks (map string_bytes arguments.now) (codes "follow") rows → HasNoStart (first_of (codes "fen") rows)
         → Refuses (RefusesStart (first_of (codes "fen") rows)) result
         (streams R.remaining O.contents E.contents reader.old reader.new out.old out.new err.old err.new) }
 
-    // `recover` with any options: the bytes with what is put in, and its lines, from the start that they say. Where no position has
-    // the FEN, the reason is said.
+    // `recover` with any options: the bytes with what is put in, and its lines, from the start that they say. Where no
+    // position has the FEN, the reason is said.
     ensures recover { (setting : Setting) → AsksToRecover (map string_bytes arguments.now) setting → Recovers setting result
         (streams R.remaining O.contents E.contents reader.old reader.new out.old out.new err.old err.new) }
     ensures recover_refuses { (rows : List Row) → Asks (map string_bytes arguments.now) (codes "recover") rows → HasNoStart (first_of (codes "fen") rows)
@@ -218,16 +219,16 @@ pub fn run<R: Read, O: Write, E: Write>(
         (streams R.remaining O.contents E.contents reader.old reader.new out.old out.new err.old err.new) }
     ensures moves_unread { (rows : List Row) → Asks (map string_bytes arguments.now) (codes "moves") rows → reader.new ≡ reader.old }
 
-    // `positions` with any options: the position that they say, and that after each move of the input, as FEN. Where no position
-    // has the FEN, the reason is said.
+    // `positions` with any options: the position that they say, and that after each move of the input, as FEN. Where no
+    // position has the FEN, the reason is said.
     ensures positions { (rows : List Row) → Asks (map string_bytes arguments.now) (codes "positions") rows → (start : PartsOf) → StartsAt (first_of (codes "fen") rows) start
         → Plays start result (streams R.remaining O.contents E.contents reader.old reader.new out.old out.new err.old err.new) }
     ensures positions_refuses { (rows : List Row) → Asks (map string_bytes arguments.now) (codes "positions") rows → HasNoStart (first_of (codes "fen") rows)
         → Refuses (RefusesStart (first_of (codes "fen") rows)) result
         (streams R.remaining O.contents E.contents reader.old reader.new out.old out.new err.old err.new) }
 
-    // Mistaken arguments: nothing is read, nothing is written to the output, and the reason alone is said. Help and the version
-    // read nothing.
+    // Mistaken arguments: nothing is read, nothing is written to the output, and the reason alone is said. Help and the
+    // version read nothing.
     ensures mistaken { AreMistaken (map string_bytes arguments.now) → (reader.new ≡ reader.old) × ((out.new ≡ out.old)
         × RefusesArguments result (E.contents (inner_of err.old)) (E.contents (inner_of err.new)) (has_failed err.new)) }
     ensures help { AsksForHelp (map string_bytes arguments.now) → (reader.new ≡ reader.old) × GivesText result (O.contents (inner_of out.old)) (O.contents (inner_of out.new))
@@ -247,7 +248,7 @@ pub fn run<R: Read, O: Write, E: Write>(
     ensures known { result ≤ 4 }
     ensures usage { result ≡ 2 → IsRefused (map string_bytes arguments.now) }
 {
-    // What arguments without options mean.
+    // For its clause: what arguments without options mean.
     without_options();
     match read_arguments(alloc, arguments) {
         Err(error) => refused_arguments(alloc, &error, out, err),

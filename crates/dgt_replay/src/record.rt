@@ -18,7 +18,7 @@ use std::alloc::Global;
 use std::io::{Read, Write};
 use watched_streams::{GATHERED, LONGEST, Lines, Watch, add, add_number, put};
 
-// Says why a recording can't be set up, and returns the status.
+/// Says why a recording can't be set up, and returns the status.
 fn refused_setup<E: Write>(err: &mut Watch<E>, refusal: Refusal) -> u8
     ensures memory { ForMemory refusal → result ≡ 4 }
     ensures refused { ¬ ForMemory refusal → result ≡ 1 }
@@ -30,7 +30,7 @@ fn refused_setup<E: Write>(err: &mut Watch<E>, refusal: Refusal) -> u8
     }
 }
 
-// Adds the line about a recording, which begins a new line after the bytes for the board.
+/// Adds the line about a recording, which begins a new line after the bytes for the board.
 fn add_report(lines: &mut Lines, report: &Report)
     requires { array_vec_len lines.old + LONGEST ≤ GATHERED }
     ensures { lines.new.items ≡ lines.old.items ++ report_line report.now }
@@ -46,7 +46,7 @@ fn add_report(lines: &mut Lines, report: &Report)
     add(lines, b"\n");
 }
 
-// Records the game that is set up so, and returns the status.
+/// Records the game that is set up so, and returns the status.
 fn record_as<R: Read, O: Write, E: Write>(
     alloc: Global,
     setup: Setup,
@@ -102,7 +102,7 @@ pub fn record_game<R: Read, O: Write, E: Write>(
     ensures status { result ≢ 2 }
     ensures flushed { IsFlushed out.old → IsFlushed out.new }
 {
-    // No two setups are as the arguments say, since no two positions share a FEN.
+    // For its clause: no two setups are as the arguments say, since no two positions share a FEN.
     texts_tell_positions();
     match setup_of(alloc, options) {
         Ok(setup) => record_as(alloc, setup, reader, out, err),

@@ -15,7 +15,7 @@ use std::alloc::Global;
 use std::io::{Read, Write};
 use watched_streams::Watch;
 
-// Gives on a stream that begins in this position, and returns the status.
+/// Gives on a stream that begins in this position, and returns the status.
 fn recover_from<R: Read, O: Write, E: Write>(
     alloc: Global,
     start: Position,
@@ -53,8 +53,8 @@ fn recover_from<R: Read, O: Write, E: Write>(
     }
 }
 
-/// Gives on the bytes of a board, with the moves put in that two hands hid, and returns the status. The line of each pair goes to
-/// `err`.
+/// Gives on the bytes of a board, with the moves put in that two hands hid, and returns the status. The line of each pair
+/// goes to `err`.
 pub fn recover<R: Read, O: Write, E: Write>(
     alloc: Global,
     options: &BoardArguments<'_>,

@@ -1,5 +1,5 @@
-//! Captures built in code with the texts expected of them, recordings over streams in memory, and the conformance tests over the
-//! public calls of the other crates. No contract rests on these helpers.
+//! Captures built in code with the texts expected of them, recordings over streams in memory, and the conformance tests
+//! over the public calls of the other crates. No contract rests on these helpers.
 #![tactic(auto)]
 
 #[cfg(test)]

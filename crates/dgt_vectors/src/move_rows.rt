@@ -1,5 +1,5 @@
-//! Captures in which pieces are moved, with what is recorded of them. All expected values are worked by hand from the protocol,
-//! the laws and PGN.
+//! Captures in which pieces are moved, with what is recorded of them. All expected values are worked by hand from the
+//! protocol, the laws and PGN.
 
 use crate::captures::INITIAL;
 use crate::captures::Signal::{Dump, Lift, Put};

@@ -1,4 +1,5 @@
-//! The frames that are put in behind an entry that confirmed a pair of plies.
+//! The frames that are put in behind an entry that confirmed a pair of plies. Begin with `frames.rt`; `laws.rt` has what they
+//! do to a stream.
 #![tactic(auto)]
 
 mod frames;

@@ -36,7 +36,7 @@ impl Model for Game {
     ghost invariant = { λ g. IsGame (content_in g) };
 }
 
-// A reading of a clock is in range.
+/// A reading of a clock is in range.
 fn count_clock(clock: &Option<Hms>)
     ensures { ForSome clock.now IsTime }
 {
@@ -53,7 +53,7 @@ fn last_position(start: &Position, plies: &[Ply]) -> Position
 {
     let mut position = *start;
     for ply in plies {
-        // A reading of a clock is in range.
+        // For its clause: a reading of a clock is in range.
         count_clock(&ply.clock);
         position = position.play(ply.mv);
     }
@@ -95,8 +95,8 @@ impl Game {
         true
     }
 
-    /// The game of a legal line. Its result is the winner at checkmate (FIDE 5.1.1), a draw at stalemate (FIDE 5.2.1), else the
-    /// sign, if any.
+    /// The game of a legal line. Its result is the winner at checkmate (FIDE 5.1.1), a draw at stalemate (FIDE 5.2.1), else
+    /// the sign, if any.
     pub fn new(tags: Tags, start: Position, plies: Vec<Ply>, sign: Option<Outcome>) -> Game
         requires { Line start (moves_of plies.items) }
         ensures tags { result.tags ≡ tags }
@@ -106,7 +106,7 @@ impl Game {
     {
         let last = last_position(&start, &plies);
         let result = result_at(&last, sign);
-        // What the tags and the start are by their invariants.
+        // For its clause: what the tags and the start are by their types' invariants.
         tags.get(Tag::Event);
         start.parts();
         Game {

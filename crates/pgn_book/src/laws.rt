@@ -9,7 +9,7 @@ use chess_text::laws::{
 pub fn one_game()
     ensures { TextsTellGames }
 {
-    // The laws that this one rests on.
+    // For its clause: the laws that this one rests on.
     texts_are_plain();
     texts_tell_moves();
     texts_tell_positions();
@@ -19,7 +19,7 @@ pub fn one_game()
 pub fn one_text()
     ensures { GamesTellTexts }
 {
-    // The laws that this one rests on.
+    // For its clause: the laws that this one rests on.
     texts_are_plain();
     moves_tell_texts();
 }
@@ -28,7 +28,7 @@ pub fn one_text()
 pub fn texts_are_short()
     ensures { TextsAreShort }
 {
-    // The laws that this one rests on.
+    // For its clause: the laws that this one rests on.
     texts_are_plain();
     fens_are_plain();
 }

@@ -1,4 +1,8 @@
 //! Games as PGN export text (PGN Specification and Implementation Guide, 1994), both ways.
+//!
+//! Begin with `game.rt`, and with `values.rt` and `tags.rt` for its tags. `writing.rt` writes a game, over `place.rt` and
+//! `appending.rt`; `reading.rt` reads one, over `sections.rt` (tags) and `words.rt` (moves). `laws.rt` has what holds of all
+//! games. A call marked `For its clause` changes nothing: the proof needs what its contract says.
 #![tactic(auto)]
 
 mod appending;

@@ -113,7 +113,7 @@ fn read_plies(alloc: Global, start: &Position, bytes: &[u8]) -> Result<Vec<Ply>,
 fn read_start(set_up: &[u8]) -> Option<Position>
     ensures { (start : PartsOf) → Valid start → StartsAt start (fen_at set_up.now) → result ≡ Some start }
 {
-    // A FEN has no quotation mark and no backslash.
+    // For its clause: a FEN has no quotation mark and no backslash.
     fens_are_plain();
     if !has_fen(set_up) {
         return Some(Position::initial());
@@ -204,7 +204,7 @@ fn is_text_of(alloc: Global, game: &Game, text: &[u8]) -> Result<bool, PgnError>
     ensures ok { IfOk result (λ is. IsTrue is ↔ Pgn game.now text.now) }
     ensures err { result ≢ Err PgnError.NotExport }
 {
-    // A move has 2 to 7 printable characters, and no space.
+    // For its clause: a move has 2 to 7 printable characters, and no space.
     texts_are_plain();
     moves_tell_texts();
     let mut written = Watch::new(Vec::new(alloc));
@@ -223,7 +223,7 @@ pub fn read_pgn(alloc: Global, text: &[u8]) -> Result<Game, PgnError>
     // A game whose text it is is found, unless memory runs out: NotExport comes only where no game has the text.
     ensures only { (game : Content) → Pgn game text.now → MatchResult result (λ read. read ≡ game) (λ error. error ≡ PgnError.Memory) }
 {
-    // A move has 2 to 7 printable characters, and no space.
+    // For its clause: a move has 2 to 7 printable characters, and no space.
     texts_are_plain();
     let game = match parse(alloc, text) {
         Ok(game) => game,

@@ -31,7 +31,7 @@ fn keep(value: &mut ArrayString<100>, byte: u8) -> bool
     ensures kept { OnTrue result ((value.new.bytes ≡ value.old.bytes ++ byte ∷ []) × (31 < byte) × (byte < 127) × (length value.old.bytes < 100)) }
     ensures refused { OnFalse result ((31 < byte) × (byte < 127) × (length value.old.bytes < 100) → ⊥) }
 {
-    if byte < 32 || byte > 126 || value.is_full() {
+    if byte < b' ' || byte > b'~' || value.is_full() {
         return false;
     }
     value.push(byte as char);

@@ -4,6 +4,9 @@ ghost use Rattle.pgn_book.specs.Values.{IsText, IsDate, IsDateDigit, IsValue, Re
 
 use thiserror::Error;
 
+/// The most characters of a tag's value.
+const MOST_CHARACTERS: usize = 100;
+
 /// The six tags that a user sets, in the order of the text (PGN standard, seven tag roster).
 #[derive(Clone, Copy, Debug, PartialEq, Eq)]
 pub enum Tag {
@@ -88,7 +91,7 @@ pub fn check_value(tag: Tag, value: &[u8]) -> Result<(), TagError>
     if !is_text(value) {
         return Err(TagError::Text);
     }
-    if value.len() > 100 {
+    if value.len() > MOST_CHARACTERS {
         return Err(TagError::Long);
     }
     if !suits(tag, value) {

@@ -48,7 +48,7 @@ fn digit(bytes: &[u8], i: usize) -> u16
     ensures small { result < 256 }
 {
     if i < bytes.len() {
-        u16::from(bytes[i].saturating_sub(48))
+        u16::from(bytes[i].saturating_sub(b'0'))
     } else {
         0
     }

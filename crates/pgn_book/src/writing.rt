@@ -243,7 +243,7 @@ fn put_game<W: Write>(out: &mut Watch<W>, at: &mut Place, game: &Game)
     ensures { (text : List ℕ) × Pgn game.now text
         × Adds (W.contents (inner_of out.old)) (W.contents (inner_of out.new)) (has_failed out.old) (has_failed out.new) at.old at.new text }
 {
-    // A move has 2 to 7 printable characters, and no space.
+    // For its clause: a move has 2 to 7 printable characters, and no space.
     texts_are_plain();
     put_roster(out, at, game);
     put_set_up(out, at, game.start());

@@ -1,4 +1,8 @@
 //! Streams in which pairs of plies are recovered that no picture showed whole.
+//!
+//! Begin with `stream.rt`, the loop over a stream. `keeper.rt` says at which event a pair is recovered, `passer.rt` gives the
+//! bytes on with what is put in behind that event, `lines.rt` has the line of a pair, `refusal.rt` why it gave up, and
+//! `laws.rt` what holds of all streams.
 #![tactic(auto)]
 
 mod keeper;

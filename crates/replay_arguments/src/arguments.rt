@@ -81,7 +81,7 @@ fn side_named(name: &str) -> Option<First>
     }
 }
 
-// The side that the text names, or White.
+/// The side that the text names, or White.
 fn side_of(text: Option<&str>) -> Option<First>
     ensures { result ≡ side_in (option_map (λ text. text.now) text.entry) }
 {
@@ -165,7 +165,7 @@ fn subcommand_in<'a>(matches: &ArgMatches<'a>) -> Option<Subcommand<'a>>
     }
 }
 
-// What is said of a side that is neither.
+/// What is said of a side that is neither.
 fn unknown_side<'a>(command: &mut Command<'a>) -> Error
     ensures { (kind_of result ≡ ErrorKind.OutOfMemory) ⊎ (kind_of result ≡ ErrorKind.InvalidValue) }
 {

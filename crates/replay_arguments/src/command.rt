@@ -9,7 +9,7 @@ use std::alloc::{AllocError, Global};
 /// The version of the program.
 const VERSION: &str = "0.1.0";
 
-// The command with a flag more. Where memory ran out before, it stays so.
+/// The command with a flag more. Where memory ran out before, it stays so.
 fn with_rotated<'a>(
     alloc: Global,
     command: Result<Command<'a>, AllocError>,
@@ -24,7 +24,7 @@ fn with_rotated<'a>(
     command.arg(rotated)
 }
 
-// The command with an option more, which has a value. Where memory ran out before, it stays so.
+/// The command with an option more, which has a value. Where memory ran out before, it stays so.
 fn with_text<'a>(
     alloc: Global,
     command: Result<Command<'a>, AllocError>,
@@ -42,7 +42,7 @@ fn with_text<'a>(
     command.arg(text)
 }
 
-// The command with a subcommand more. Where memory ran out before, for either, it stays so.
+/// The command with a subcommand more. Where memory ran out before, for either, it stays so.
 fn with_subcommand<'a>(
     command: Result<Command<'a>, AllocError>,
     subcommand: Result<Command<'a>, AllocError>,
@@ -53,7 +53,7 @@ fn with_subcommand<'a>(
     command.subcommand(subcommand?)
 }
 
-// A command of this name, without arguments.
+/// A command of this name, without arguments.
 fn named<'a>(alloc: Global, name: &'a str, about: &'a str) -> Command<'a>
     ensures { IsApp result (new_app name.entry.now) }
 {
@@ -101,7 +101,7 @@ fn with_tags<'a>(
     with_text(alloc, command, "black", "TEXT", "The tag Black")
 }
 
-// The command with the options that say how a board stands and where its game starts.
+/// The command with the options that say how a board stands and where its game starts.
 fn with_board<'a>(
     alloc: Global,
     command: Result<Command<'a>, AllocError>,

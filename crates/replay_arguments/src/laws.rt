@@ -5,10 +5,10 @@ ghost use Rattle.chess_rules.specs.Initial.{initial};
 ghost use Rattle.replay_arguments.specs.Setups.{plain_setup};
 ghost use Rattle.replay_arguments.specs.Subcommands.{AreMistaken, AsksForHelp, AsksForMoves, AsksForPictures, AsksForPositions, AsksForVersion, AsksToCheck, AsksToFollow, AsksToRecord, AsksToRecover, AsksToShow, IsCheck, IsFollow, IsHelp, IsMoves, IsPictures, IsPositions, IsRecord, IsRecover, IsShow, IsVersion};
 
-/// `record` asks for a recording from the initial position, with White's time first and unknown tags, turned where `--rotated`
-/// is given; `follow` asks that a game be followed that is set up so, and `recover` that one be recovered; `moves` asks for those
-/// of the initial position, and `positions` for those of a line from it; `show`, `pictures` and `check` ask for what they are
-/// called.
+/// `record` asks for a recording from the initial position, with White's time first and unknown tags, turned where
+/// `--rotated` is given; `follow` asks that a game be followed that is set up so, and `recover` that one be recovered;
+/// `moves` asks for those of the initial position, and `positions` for those of a line from it; `show`, `pictures` and
+/// `check` ask for what they are called.
 pub fn without_options()
     ensures shows { (arguments : List (List ℕ)) → IsShow arguments → AsksToShow arguments }
     ensures pictures { (rotated : Bool) (arguments : List (List ℕ)) → IsPictures rotated arguments → AsksForPictures rotated arguments }

@@ -1,4 +1,4 @@
-// How a move is read off two pictures.
+//! How a move is read off two pictures.
 ghost use Rattle.std.specs.Prelude.{◌≡◌, ◌≢◌, ◌<◌, ◌≤◌, ℕ, List, IfSome, IfNone, Some, None, true, false, slice_index};
 ghost use Rattle.std.specs.Int.RustNames.{count_ones};
 ghost use Rattle.chess_rules.specs.declared.chess_move.Move.{Move as MoveOf};
@@ -9,11 +9,12 @@ ghost use Rattle.settle_core.specs.Settling.{Settles};
 ghost use Rattle.settle_core.specs.Masks.{IsDiff, IsNoMove, IsShown};
 ghost use Rattle.settle_core.specs.Candidate.{is_king_code, is_owned_code, side_number, lands as lands_test, leaves as leaves_test, officer_of, promotion_between};
 
+use crate::codes::{BLACK_KING, BLACK_PAWN, EMPTY, WHITE_KING, WHITE_PAWN};
 use crate::masks::{first_square, landed, shown_in, without};
 use chess_rules::{Kind, Move, Side, Square};
 
-/// The one move that the squares on which two pictures differ can show: where a position has the first picture and a move of it
-/// settles the second, it is that move. None where they differ on fewer squares than two, or on more than four.
+/// The one move that the squares on which two pictures differ can show: where a position has the first picture and a move
+/// of it settles the second, it is that move. None where they differ on fewer squares than two, or on more than four.
 pub fn candidate(before: &[u8; 64], after: &[u8; 64], mask: u64) -> Option<Move>
     requires { IsDiff mask before.now after.now }
     ensures finds { (p : PartsOf) (m : MoveOf) → Valid p → before.now ≡ picture p → Settles p after.now m → result ≡ Some m }
@@ -122,13 +123,13 @@ fn leaving(code: u8, before: &[u8; 64], after: &[u8; 64], mask: u64) -> Option<u
 fn lands(kings: bool, before: u8, after: u8) -> bool
     ensures { result ≡ lands_test kings before after }
 {
-    before != after && after != 0 && (!kings || is_king(after))
+    before != after && after != EMPTY && (!kings || is_king(after))
 }
 
 fn leaves(code: u8, before: u8, after: u8) -> bool
     ensures { result ≡ leaves_test code before after }
 {
-    after == 0
+    after == EMPTY
         && if is_king(code) {
             before == code
         } else {
@@ -149,9 +150,9 @@ pub fn is_owned(side: Side, code: u8) -> bool
 fn side_of(code: u8) -> u8
     ensures { result ≡ side_number code }
 {
-    if code == 0 {
+    if code == EMPTY {
         0
-    } else if code < 7 {
+    } else if code < BLACK_PAWN {
         1
     } else {
         2
@@ -161,13 +162,13 @@ fn side_of(code: u8) -> u8
 fn is_king(code: u8) -> bool
     ensures { result ≡ is_king_code code }
 {
-    code == 5 || code == 11
+    code == WHITE_KING || code == BLACK_KING
 }
 
 fn promotion(before: u8, after: u8) -> Option<Kind>
     ensures { result ≡ promotion_between before after }
 {
-    if before == 1 || before == 7 {
+    if before == WHITE_PAWN || before == BLACK_PAWN {
         officer(after)
     } else {
         None

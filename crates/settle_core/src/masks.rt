@@ -1,4 +1,4 @@
-// Masks of squares: bit n is square n.
+//! Masks of squares: bit n is square n.
 ghost use Rattle.std.specs.Prelude.{◌≡◌, ◌≢◌, ◌<◌, ℕ, List};
 ghost use Rattle.std.specs.Int.{bit_at};
 ghost use Rattle.settle_core.specs.Masks.{IsDiff, IsLanded, IsShown};

@@ -1,4 +1,4 @@
-// Plies, signs of a result, and what a picture shows.
+//! Plies, signs of a result, and what a picture shows.
 use chess_clock::Hms;
 use chess_rules::Move;
 

@@ -1,4 +1,4 @@
-// The sign of a result.
+//! The sign of a result.
 ghost use Rattle.std.specs.Prelude.{◌≡◌, ◌<◌, ◌↔◌, ℕ, IsTrue, IfSome, IfNone, Some, None};
 ghost use Rattle.chess_rules.specs.declared.pieces.Kind.TheVariants.{King};
 ghost use Rattle.chess_rules.specs.Board.{on};
@@ -7,6 +7,7 @@ ghost use Rattle.settle_core.specs.declared.plies.Outcome.{Outcome as OutcomeOf}
 ghost use Rattle.settle_core.specs.Kept.{IsCompared};
 ghost use Rattle.settle_core.specs.Sign.{IsSign, InCentre, IsLight, HasKingOn, IsElseAs, IsAs, Means};
 
+use crate::codes::{BLACK_KING, EMPTY, WHITE_KING};
 use crate::compared::Compared;
 use crate::plies::Outcome;
 use chess_rules::Side;
@@ -15,8 +16,8 @@ fn king_code(side: Side) -> u8
     ensures { result ≡ code_of_piece side King }
 {
     match side {
-        Side::White => 5,
-        Side::Black => 11,
+        Side::White => WHITE_KING,
+        Side::Black => BLACK_KING,
     }
 }
 
@@ -55,8 +56,8 @@ fn king_on(picture: &[u8; 64], side: Side) -> Option<u8>
 fn is_as(stands: u8, shown: u8) -> bool
     ensures { IsTrue result ↔ IsAs stands shown }
 {
-    if stands == 5 || stands == 11 {
-        shown == 0
+    if stands == WHITE_KING || stands == BLACK_KING {
+        shown == EMPTY
     } else {
         shown == stands
     }
@@ -67,7 +68,7 @@ fn is_else_as(compared: &Compared, picture: &[u8; 64]) -> bool
     requires { IsCompared compared.now picture.now }
     ensures { IsTrue result ↔ IsElseAs compared.now.position picture.now }
 {
-    // The position is valid.
+    // For its clause: the position is valid.
     compared.position.parts();
     for square in 0..64u8 {
         if !in_centre(square)

@@ -66,7 +66,8 @@ fn runs_whole(alloc: Global) -> bool {
     }
 }
 
-/// Out of memory has a status and a text of its own; run again the program does all. The arguments themselves can be refused too.
+/// Out of memory has a status and a text of its own; run again the program does all. The arguments themselves can be
+/// refused too.
 pub fn recovers(alloc: Global) -> Outcome {
     let Some(left) = run(alloc) else {
         return Outcome::refused(runs_whole(alloc));

@@ -153,7 +153,8 @@ fn runs_whole(alloc: Global, case: &Case<'_>) -> bool {
     }
 }
 
-/// Out of memory has a status and a text of its own; run again the program does all. The arguments themselves can be refused too.
+/// Out of memory has a status and a text of its own; run again the program does all. The arguments themselves can be
+/// refused too.
 pub fn runs(alloc: Global, case: &Case<'_>) -> Outcome {
     let Some(left) = run_of(alloc, case) else {
         return Outcome::refused(runs_whole(alloc, case));

@@ -1,4 +1,4 @@
-// Known positions, from outside the proofs.
+//! Known positions, from outside the proofs.
 ghost use Rattle.std.specs.Prelude.{◌≡◌};
 
 use chess_rules::{Invalid, Kind, Move, Parts, Piece, Position, Rights, Side, Square, Status};

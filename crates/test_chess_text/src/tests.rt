@@ -1,4 +1,4 @@
-// Worked positions. The positions and texts are those of the PGN standard, of known games, or worked out by hand.
+//! Worked positions. The positions and texts are those of the PGN standard, of known games, or worked out by hand.
 use chess_rules::{Kind, Move, Position, Square};
 use chess_text::{FenError, SanError, read_fen, read_san, write_fen, write_san};
 use std::alloc::{AllocError, Global};

@@ -38,7 +38,8 @@ fn run_on(alloc: Global, arguments: &[&str], input: &[u8], zeros: u32) -> Option
     )
 }
 
-/// With these arguments the program has status 2 and something on standard error, and no output, and none of the zeros is read.
+/// With these arguments the program has status 2 and something on standard error, and no output, and none of the zeros is
+/// read.
 fn are_refused(alloc: Global, arguments: &[&str], input: &[u8], zeros: u32) -> bool {
     match run_on(alloc, arguments, input, zeros) {
         Some(left) => left.status == 2

@@ -128,8 +128,8 @@ fn tells_each(game: &Game<'_>) -> bool {
     }
 }
 
-/// Shows the update with these numbers to each settler, and changes the picture by it; nothing is returned where the numbers are
-/// those of no square or no code.
+/// Shows the update with these numbers to each settler, and changes the picture by it; nothing is returned where the
+/// numbers are those of no square or no code.
 fn update(
     by_pictures: &mut Settler,
     by_updates: &mut Settler,

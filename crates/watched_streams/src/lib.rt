@@ -1,5 +1,7 @@
-//! Streams that remember whether a call on them has failed and whether something waits for a flush, read in chunks and written
-//! whole; and lines that are gathered until they are written.
+//! Streams that remember whether a call on them has failed and whether something waits for a flush.
+//!
+//! Begin with `watched.rt`. `chunks.rt` reads such a stream up to a limit, `putting.rt` writes whole texts to one, and
+//! `lines.rt` gathers lines until they are written.
 #![tactic(auto)]
 
 mod chunks;

@@ -53,7 +53,7 @@ impl<T> Watch<T> {
         &self.inner
     }
 
-    // Remembers that a call has failed, if it has.
+    /// Remembers that a call has failed, if it has.
     fn note(&mut self, failed: bool)
         ensures inner { inner_of self.new ≡ inner_of self.old }
         ensures failed { has_failed self.new ≡ has_failed self.old || failed }
