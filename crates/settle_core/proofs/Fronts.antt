@@ -11,7 +11,7 @@ use Rattle.settle_core.specs.declared.plies.Ply.{Ply}
 use Rattle.settle_core.specs.Entries.{Entry, deduplicated}
 use Rattle.settle_core.specs.Settling.{reached, position_after, Line}
 use Rattle.settle_core.specs.Folding.{Score, Folds, moves_of}
-use Rattle.settle_core.specs.HonestPlay.{Captures, AllPass, Shown, ShownEach, shown_plies, IsAmong, HasOneMore, IsFront}
+use Rattle.settle_core.specs.HonestPlay.{IsCapture, AllPass, Shown, ShownEach, shown_plies, IsAmong, HasOneMore, IsFront}
 use Rattle.settle_core.specs.Laws.{joined, GivesScore, HonestPlayStops, FrontsOfHonestPlay}
 use Rattle.settle_core.proofs.Stages.{IsSound, StandsIn, Opens, entry_open, opens, IsOpen}
 use Rattle.settle_core.proofs.Lines.{open_no_sign, MakesMove, line_ends, moves_shown, reverse_aux-append}
@@ -57,7 +57,7 @@ pub one_more :
     → HasOneMore p plies part (reverse score.plies)
 one_more start p plies part score at i =
     let L : Parts → Type 0 = λ x. Legal x (i.ply).mv in
-    let T : Parts → Type 0 = λ x. ¬ Captures x (i.ply).mv in
+    let T : Parts → Type 0 = λ x. ¬ IsCapture x (i.ply).mv in
     let S : Parts → Type 0 = λ x. IsAmong part (picture (after x (i.ply).mv)) in
     record {
       ply = i.ply;

@@ -12,7 +12,7 @@ use Rattle.chess_rules.proofs.LawLemmas.{moves_stay_valid}
 use Rattle.settle_core.specs.declared.plies.Outcome.{Outcome}
 use Rattle.settle_core.specs.Settling.{Settles}
 use Rattle.settle_core.specs.Sign.{IsSign}
-use Rattle.settle_core.specs.HonestPlay.{Captures, HasKingsApart, IsInHand, LacksKing}
+use Rattle.settle_core.specs.HonestPlay.{IsCapture, HasKingsApart, IsInHand, LacksKing}
 use Rattle.settle_core.specs.Laws.{UnderWayIsInHand}
 use Rattle.settle_core.proofs.Boards.{on_board}
 use Rattle.settle_core.proofs.Pieces.{ShowsNoNew, takes_unless, quiet_under_way, settles_end, no_new_under_way, shown_on}
@@ -23,7 +23,7 @@ pub no_sign_apart : (seen : List ℕ) → HasKingsApart seen → (p : Parts) (ou
 no_sign_apart seen apart p outcome h = apart h.white_king h.black_king h.white.centre h.black.centre h.white.stands h.black.stands
 
 -- what a picture with pieces in hand settles takes no piece
-pub in_hand_quiet : (p : Parts) (k : Move) (seen : List ℕ) → IsInHand p seen → Settles p seen k → ¬ Captures p k
+pub in_hand_quiet : (p : Parts) (k : Move) (seen : List ℕ) → IsInHand p seen → Settles p seen k → ¬ IsCapture p k
 in_hand_quiet p k seen hand h t = hand.no_capture k h.legal t h.shows
 
 pub in_hand_no_new : (p : Parts) (seen : List ℕ) → IsInHand p seen → ShowsNoNew p seen

@@ -25,6 +25,7 @@ pub mod Trying
 pub mod Skipping
 pub mod Lacking
 pub mod Replying
+pub mod Gone
 pub mod Whatever
 pub mod Resuming
 pub mod Ending

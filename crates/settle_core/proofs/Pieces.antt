@@ -18,7 +18,7 @@ use Rattle.chess_rules.specs.Laws.{MovesOnePiece}
 use Rattle.chess_rules.proofs.LawLemmas.{codes_tell_pieces, pieces_tell_moves, moves_move_pieces, moves_stay_valid, pictures_tell_moves}
 use Rattle.settle_core.proofs.Boards.{Own, on_board, same_unless, side_of, kind_of, sides_differ, other-other, none_piece, one_kept, one_theirs, castled_theirs, castled_quiet}
 use Rattle.settle_core.specs.Settling.{Settles}
-use Rattle.settle_core.specs.HonestPlay.{Captures, IsPartial, IsUnderWay}
+use Rattle.settle_core.specs.HonestPlay.{IsCapture, IsPartial, IsUnderWay}
 
 -- a piece of the side to move, and one of the other side
 abbrev pub Mine : Parts → Board → ℕ → Kind → Type 0
@@ -284,14 +284,14 @@ pub piece_or_not : (a b : Option Piece) → (a ≡ b) ⊎ (a ≢ b)
 piece_or_not a b = elim (cases_eq (code a) (code b)) [ inl e ↦ inl (same_code a b e) | inr ne ↦ inr (λ e. ne (ap code e)) ]
 
 -- a move that takes no piece leaves the other side's pieces
-pub quiet_unless : (p : Parts) (m : Move) → ¬ Captures p m → IsQuiet p m
+pub quiet_unless : (p : Parts) (m : Move) → ¬ IsCapture p m → IsQuiet p m
 quiet_unless p m none s k h =
     elim (piece_or_not (on (board_after p m) s) (piece_of (other p.side) k)) [
       | inl stays ↦ stays
       | inr gone ↦ absurd (none (record { square = s; kind = k; stood = h; gone = gone }))
     ]
 
-pub takes_unless : (p : Parts) (m : Move) → IsQuiet p m → ¬ Captures p m
+pub takes_unless : (p : Parts) (m : Move) → IsQuiet p m → ¬ IsCapture p m
 takes_unless p m quiet t = t.gone (quiet t.square t.kind t.stood)
 
 -- a picture on the way that is that after another move takes no piece

@@ -19,7 +19,7 @@ use Rattle.settle_core.proofs.Pieces.{theirs_stood}
 use Rattle.settle_core.proofs.Tracing.{Lands, side_code, sides_two}
 
 -- a piece's code is one of its side
-owned : (side : Side) (k : Kind) → is_owned_code side (code_of_piece side k) ≡ true
+pub owned : (side : Side) (k : Kind) → is_owned_code side (code_of_piece side k) ≡ true
 owned White k = eq-eqb _ _ (side_code White k)
 owned Black k = eq-eqb _ _ (side_code Black k)
 

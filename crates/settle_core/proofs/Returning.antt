@@ -19,7 +19,7 @@ use Rattle.settle_core.specs.declared.plies.Seen.TheVariants.{Same, Moved, Sign,
 use Rattle.settle_core.specs.AnyHands.{MadeAgainStops, ShownEachInTheEnd, ShownInTheEnd, TakenBackAndMadeAgain, WholeMoveIsInHand}
 use Rattle.settle_core.specs.Entries.{Entry, deduplicated, last_picture, repeats}
 use Rattle.settle_core.specs.Folding.{Folds, Score, SeenAs, moves_of, score_after}
-use Rattle.settle_core.specs.HonestPlay.{AllPass, IsAmong, MayPass, Captures}
+use Rattle.settle_core.specs.HonestPlay.{AllPass, IsAmong, MayPass, IsCapture}
 use Rattle.settle_core.specs.Laws.{joined}
 use Rattle.settle_core.specs.Settling.{Line, Played, position_after, reached}
 use Rattle.settle_core.proofs.Apart.{apart_unless, apart_valid, no_sign_valid}
@@ -36,7 +36,7 @@ whole_move_is_in_hand p m v l quiet = record {
   kings = apart_unless (picture (after p m)) (after p m).side (apart_valid (after p m) (picture (after p m)) (moves_stay_valid p m v l) refl);
   no_capture = λ n ln t e.
       let same : m ≡ n = pictures_tell_moves p m n v l ln e in
-      let T : Move → Type 0 = λ k. Captures p k in
+      let T : Move → Type 0 = λ k. IsCapture p k in
       quiet (subst T (sym same) t);
 }
 
@@ -59,7 +59,7 @@ again :
     (start : Parts) (earlier : List Ply) (ply : Ply) (m : Move) (seen : List ℕ) (reading : Option Reading) (shown : Seen)
     → IsSound start earlier
     → Legal (reached start (moves_of earlier)) ply.mv
-    → ¬ Captures (reached start (moves_of earlier)) ply.mv
+    → ¬ IsCapture (reached start (moves_of earlier)) ply.mv
     → ply.mv ≡ m
     → Legal (reached start (moves_of earlier)) m
     → seen ≡ picture (after (reached start (moves_of earlier)) m)

@@ -17,7 +17,7 @@ use Rattle.settle_core.specs.declared.plies.Seen.TheVariants.{Same, Moved, Sign,
 use Rattle.settle_core.specs.Entries.{Entry, repeats, deduplicated}
 use Rattle.settle_core.specs.Settling.{Settles, reached, Played}
 use Rattle.settle_core.specs.Folding.{Score, moves_of, played, Replaces, SeenAs, score_after, Folds}
-use Rattle.settle_core.specs.HonestPlay.{Captures, IsInHand, LacksKing, MayPass}
+use Rattle.settle_core.specs.HonestPlay.{IsCapture, IsInHand, LacksKing, MayPass}
 use Rattle.settle_core.proofs.Pieces.{ShowsNoNew, quiet_unless, no_new_after, no_reply, no_earlier, picture_moves, settles_end}
 use Rattle.settle_core.proofs.Apart.{no_sign_valid}
 use Rattle.settle_core.proofs.Hands.{no_sign_apart, in_hand_quiet, in_hand_no_new, lacking_settles, lacking_no_sign}
@@ -31,7 +31,7 @@ pub record StandsIn (start : Parts) (earlier : List Ply) (Q : List ℕ → Type 
   pub ply : Ply
   pub is : score ≡ bare (ply ∷ earlier)
   pub legal : Legal (reached start (moves_of earlier)) ply.mv
-  pub no_capture : ¬ Captures (reached start (moves_of earlier)) ply.mv
+  pub no_capture : ¬ IsCapture (reached start (moves_of earlier)) ply.mv
   pub shown : Q (picture (after (reached start (moves_of earlier)) ply.mv))
 
 -- what the score may be while pieces are in hand
@@ -98,7 +98,7 @@ step_again :
     → IsSound start earlier
     → StandsIn start earlier Q (bare (ply ∷ earlier))
     → Legal (reached start (moves_of earlier)) ply.mv
-    → ¬ Captures (reached start (moves_of earlier)) ply.mv
+    → ¬ IsCapture (reached start (moves_of earlier)) ply.mv
     → IsInHand (reached start (moves_of earlier)) seen
     → Q seen
     → SeenAs start (ply.mv ∷ moves_of earlier) seen shown
@@ -200,7 +200,7 @@ pub end_again :
     (start : Parts) (earlier : List Ply) (ply : Ply) (m : Move) (seen : List ℕ) (reading : Option Reading) (shown : Seen)
     → IsSound start earlier
     → Legal (reached start (moves_of earlier)) ply.mv
-    → ¬ Captures (reached start (moves_of earlier)) ply.mv
+    → ¬ IsCapture (reached start (moves_of earlier)) ply.mv
     → ply.mv ≢ m
     → Legal (reached start (moves_of earlier)) m
     → seen ≡ picture (after (reached start (moves_of earlier)) m)

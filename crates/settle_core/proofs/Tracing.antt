@@ -31,7 +31,7 @@ lands_from true x y h =
 lands_from false x y h =
     and_from _ _ (ap not (ne_eqb x y h.differ)) (and_from _ _ (ap not (ne_eqb y 0 h.some)) refl)
 
-not_true : {b : Bool} → not b ≡ true → b ≡ true → ⊥
+pub not_true : {b : Bool} → not b ≡ true → b ≡ true → ⊥
 not_true {b = true} e h = let never : ⊥ = cc in never
 not_true {b = false} e h = let never : ⊥ = cc in never
 
@@ -50,7 +50,7 @@ pub record Leaves (c x y : ℕ) : Type 0 where
   pub king : is_king_code c ≡ true → x ≡ c
   pub piece : is_king_code c ≡ false → side_number x ≡ side_number c
 
-eqb_true : (a b : ℕ) → (a == b) ≡ true → a ≡ b
+pub eqb_true : (a b : ℕ) → (a == b) ≡ true → a ≡ b
 eqb_true a b h = elim (cases_eq a b) [ inl e ↦ e | inr ne ↦ absurd (both_ways _ (ne_eqb a b ne) h) ]
 
 pub leaves_from : (c x y : ℕ) → Leaves c x y → leaves c x y ≡ true

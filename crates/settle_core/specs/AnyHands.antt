@@ -10,14 +10,14 @@ use Rattle.chess_rules.specs.Valid.{Valid}
 use Rattle.settle_core.specs.declared.plies.Ply.{Ply}
 use Rattle.settle_core.specs.Entries.{Entry}
 use Rattle.settle_core.specs.Folding.{Score, moves_of}
-use Rattle.settle_core.specs.HonestPlay.{AllPass, HasOneMore, HasWhole, HoldsOne, IsFront, IsInHand, MayPass, Captures, shown_plies}
+use Rattle.settle_core.specs.HonestPlay.{AllPass, HasOneMore, HasWhole, HoldsOne, IsFront, IsInHand, MayPass, IsCapture, shown_plies}
 use Rattle.settle_core.specs.Laws.{GivesScore, joined}
 use Rattle.settle_core.specs.Settling.{Line, position_after}
 
 -- The whole picture of a move that takes no piece has pieces in hand: so it may stand among the pictures on the way to this move,
 -- and to any other of the same side.
 abbrev pub WholeMoveIsInHand : Type 0
-WholeMoveIsInHand = (p : Parts) (m : Move) → Valid p → Legal p m → ¬ Captures p m → IsInHand p (picture (after p m))
+WholeMoveIsInHand = (p : Parts) (m : Move) → Valid p → Legal p m → ¬ IsCapture p m → IsInHand p (picture (after p m))
 
 -- The entries, in their order, show the move in the end: the last of them has the picture after the move, and others may have it too.
 abbrev pub ShownInTheEnd : Parts → Move → List Entry → Type 0

@@ -20,7 +20,7 @@ use Rattle.settle_core.specs.Settling.{position_after}
 use Rattle.settle_core.specs.Sign.{InCentre}
 
 -- The move takes a piece: one of the other side stands there before it, and not after it.
-pub record Captures (p : Parts) (m : Move) : Type 0 where
+pub record IsCapture (p : Parts) (m : Move) : Type 0 where
   pub square : ℕ
   pub kind : Kind
   pub stood : on p.board square ≡ piece_of (other p.side) kind
@@ -37,7 +37,7 @@ HasKingsApart seen = (white black : ℕ) → InCentre white → InCentre black
 pub record IsInHand (p : Parts) (seen : List ℕ) : Type 0 where
   pub theirs : (s : ℕ) (kind : Kind) → s < 64 → slice_index seen s ≡ code_of_piece (other p.side) kind → on p.board s ≡ piece_of (other p.side) kind
   pub kings : HasKingsApart seen
-  pub no_capture : (n : Move) → Legal p n → Captures p n → seen ≢ picture (after p n)
+  pub no_capture : (n : Move) → Legal p n → IsCapture p n → seen ≢ picture (after p n)
 
 -- The code of one side's king stands nowhere.
 pub record LacksKing (seen : List ℕ) : Type 0 where
@@ -160,7 +160,7 @@ pub record IsAmong (entries : List Entry) (seen : List ℕ) : Type 0 where
 pub record HasOneMore (p : Parts) (plies : List Ply) (part : List Entry) (made : List Ply) : Type 0 where
   pub ply : Ply
   pub legal : Legal p ply.mv
-  pub no_capture : ¬ Captures p ply.mv
+  pub no_capture : ¬ IsCapture p ply.mv
   pub seen : IsAmong part (picture (after p ply.mv))
   pub is : made ≡ plies ++ ply ∷ []
 

@@ -5,6 +5,7 @@ pub mod Folding
 pub mod GameResult
 pub mod HonestPlay
 pub mod Laws
+pub mod Lost
 pub mod Masks
 pub mod Candidate
 pub mod Settler

@@ -7,7 +7,7 @@ ghost use Rattle.chess_rules.specs.Valid.{Valid};
 ghost use Rattle.chess_rules.specs.Picture.{picture};
 ghost use Rattle.settle_core.specs.Settling.{Settles};
 ghost use Rattle.settle_core.specs.Masks.{IsDiff, IsNoMove, IsShown};
-ghost use Rattle.settle_core.specs.Candidate.{is_king_code, is_owned_code, side_number, lands as lands_test, leaves as leaves_test, officer_of, promotion_between};
+ghost use Rattle.settle_core.specs.Candidate.{is_king_code, is_owned_code, side_number, lands as lands_test, is_lost as lost_test, leaves as leaves_test, officer_of, promotion_between};
 
 use crate::codes::{BLACK_KING, BLACK_PAWN, EMPTY, WHITE_KING, WHITE_PAWN};
 use crate::masks::{first_square, landed, shown_in, without};
@@ -120,6 +120,24 @@ fn leaving(code: u8, before: &[u8; 64], after: &[u8; 64], mask: u64) -> Option<u
     None
 }
 
+/// A square that a piece of this side is gone from, among those that differ; where `bare` is set, one that shows no piece now.
+pub fn lost(bare: bool, side: Side, before: &[u8; 64], after: &[u8; 64], mask: u64) -> Option<u8>
+    requires differ { IsDiff mask before.now after.now }
+    ensures range { IfSome result (λ s. s < 64) }
+    ensures some { IfSome result (λ s. lost_test bare side (slice_index before.now s) (slice_index after.now s) ≡ true) }
+    ensures none { IfNone result ((s : ℕ) → s < 64 → lost_test bare side (slice_index before.now s) (slice_index after.now s) ≡ false) }
+{
+    let mut rest = mask;
+    while rest > 0 {
+        let square = first_square(rest);
+        if is_lost(bare, side, before[square as usize], after[square as usize]) {
+            return Some(square);
+        }
+        rest = without(rest, square);
+    }
+    None
+}
+
 fn lands(kings: bool, before: u8, after: u8) -> bool
     ensures { result ≡ lands_test kings before after }
 {
@@ -135,6 +153,12 @@ fn leaves(code: u8, before: u8, after: u8) -> bool
         } else {
             side_of(before) == side_of(code)
         }
+}
+
+fn is_lost(bare: bool, side: Side, before: u8, after: u8) -> bool
+    ensures { result ≡ lost_test bare side before after }
+{
+    is_owned(side, before) && before != after && (!bare || after == 0)
 }
 
 /// Whether the code is that of a piece of this side.

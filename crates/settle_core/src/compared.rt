@@ -1,14 +1,15 @@
-// A position beside the picture that was seen last.
+//! A position beside the picture that was seen last.
 ghost use Rattle.std.specs.Prelude.{◌≡◌, ◌≢◌, ◌<◌, ◌↔◌, ℕ, List, IfSome, IfNone, IsTrue, Some, length, slice_set};
 ghost use Rattle.chess_rules.specs.declared.chess_move.Move.{Move as MoveOf};
 ghost use Rattle.settle_core.specs.Settling.{Settles};
 ghost use Rattle.settle_core.specs.Masks.{IsDiff, IsShown};
 ghost use Rattle.settle_core.specs.Kept.{HasLanded, IsCompared, OnlyLacks};
+ghost use Rattle.settle_core.specs.Lost.{Bares, Loses};
 
-use crate::candidate::{candidate_among, is_owned, landing};
+use crate::candidate::{candidate_among, is_owned, landing, lost};
 use crate::masks::diff_mask;
 use chess_rules::laws::pictures_tell_moves;
-use chess_rules::{Move, Position};
+use chess_rules::{Move, Position, Side};
 
 /// A position, its picture, and the squares on which the picture that was seen last differs from it.
 #[derive(Clone, Copy, Debug)]
@@ -80,12 +81,32 @@ impl Compared {
         landing(&self.picture, seen, self.mask, shown)
     }
 
+    /// Whether the picture shows something else where a piece of this side stands.
+    pub fn loses(&self, seen: &[u8; 64], side: Side) -> bool
+        requires { IsCompared self.now seen.now }
+        ensures { IsTrue result ↔ Loses self.now.position seen.now side }
+    {
+        // For its clause: the position is valid.
+        self.position.parts();
+        lost(false, side, &self.picture, seen, self.mask).is_some()
+    }
+
+    /// Whether the picture shows no piece where one of this side stands.
+    pub fn bares(&self, seen: &[u8; 64], side: Side) -> bool
+        requires { IsCompared self.now seen.now }
+        ensures { IsTrue result ↔ Bares self.now.position seen.now side }
+    {
+        // For its clause: the position is valid.
+        self.position.parts();
+        lost(true, side, &self.picture, seen, self.mask).is_some()
+    }
+
     /// Whether the picture settles this move in the position.
     #[inline(never)]
     fn settles(&self, seen: &[u8; 64], m: &Move) -> bool
         ensures { IsTrue result ↔ Settles self.now.position seen.now m.now }
     {
-        // The position is valid, and no other legal move gives the same picture.
+        // For its clause: the position is valid, and no other legal move gives the same picture.
         self.position.parts();
         pictures_tell_moves();
         self.position.is_legal(copy(m)) && self.position.play(copy(m)).picture() == *seen
@@ -107,7 +128,7 @@ impl Compared {
         requires shown { IsShown shown seen.now }
         ensures { (m : MoveOf) → Settles self.now.position seen.now m → result ≡ Some m }
     {
-        // The position is valid.
+        // For its clause: the position is valid.
         self.position.parts();
         candidate_among(&self.picture, seen, self.mask, shown)
     }
@@ -120,7 +141,7 @@ impl Compared {
         ensures none { IfNone result ((m : MoveOf) → ¬ Settles self.now.position seen.now m) }
     {
         let Some(landed) = self.landed(seen, shown) else {
-            // The position is valid.
+            // For its clause: the position is valid.
             self.position.parts();
             return None;
         };
@@ -154,7 +175,7 @@ impl Compared {
         ensures none { IfNone result ((m : MoveOf) → Settles self.now.position seen.now m → m ≡ last.now) }
     {
         let Some(landed) = self.landed(seen, shown) else {
-            // The position is valid.
+            // For its clause: the position is valid.
             self.position.parts();
             return None;
         };

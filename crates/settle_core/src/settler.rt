@@ -1,11 +1,12 @@
-// The settler: it takes pictures, and keeps the line that they show.
-ghost use Rattle.std.specs.Prelude.{◌≡◌, ◌<◌, ◌≤◌, ◌↔◌, ◌||◌, ◌∷◌, [], ℕ, List, All, IfOk, OnOk, OnErr, IfSome, IfNone, IsTrue, None, Some, true, is_ok, length, slice_set, reverse, drop};
+//! The settler: it takes pictures, and keeps the line that they show.
+ghost use Rattle.std.specs.Prelude.{◌≡◌, ◌<◌, ◌≤◌, ◌↔◌, ◌||◌, ◌∷◌, [], ℕ, List, All, IfOk, OnOk, OnErr, IfSome, IfNone, IsTrue, None, Some, true, false, is_ok, length, slice_set, reverse, drop};
 ghost use Rattle.chess_rules.specs.declared.chess_move.Move.{Move as MoveOf};
 ghost use Rattle.chess_rules.specs.declared.parts.Parts.{Parts as PartsOf};
 ghost use Rattle.chess_rules.specs.Legal.{Legal};
 ghost use Rattle.settle_core.specs.Entries.{Entry, entry_of, changed, deduplicated};
 ghost use Rattle.chess_rules.specs.Picture.{picture};
 ghost use Rattle.settle_core.specs.declared.plies.Ply.{Ply as PlyOf};
+ghost use Rattle.settle_core.specs.Lost.{Bares, Loses};
 ghost use Rattle.settle_core.specs.Masks.{IsDiff};
 ghost use Rattle.settle_core.specs.Settling.{Settles, Line, position_after, reached};
 ghost use Rattle.settle_core.specs.Folding.{Folds, Replaces, SeenAs, moves_of, played, score_after, score_of, time_of as time_in};
@@ -225,7 +226,7 @@ impl Settler {
             → OnErr result ((m : MoveOf) × Settles (position_of self.old) picture m) }
     {
         let Some(landed) = self.here.landed(&self.picture, self.shown) else {
-            // The start is valid, and so is each position of the line.
+            // For its clause: the start is valid, and so is each position of the line.
             self.start.parts();
             return Ok(Seen::Waits);
         };
@@ -342,6 +343,26 @@ impl Settler {
         ensures { (seen : List ℕ) → self.now.last ≡ Some seen → IsDiff result (picture (position_of self.now)) seen }
     {
         self.here.mask
+    }
+
+    /// Whether the last picture shows something else where a piece of this side stands in the position.
+    pub fn loses(&self, side: Side) -> bool
+        ensures { (seen : List ℕ) → self.now.last ≡ Some seen → IsTrue result ↔ Loses (position_of self.now) seen side }
+    {
+        self.here.loses(&self.picture, side)
+    }
+
+    /// Whether the last picture shows no piece where one of this side stood in the position before the last ply. False where no ply
+    /// was made.
+    pub fn bared(&self, side: Side) -> bool
+        ensures last { (seen : List ℕ) (ply : PlyOf) (earlier : List PlyOf) → self.now.last ≡ Some seen → self.now.score.plies ≡ ply ∷ earlier
+            → IsTrue result ↔ Bares (reached self.now.start (moves_of earlier)) seen side }
+        ensures none { self.now.score.plies ≡ [] → result ≡ false }
+    {
+        let Some(before) = &self.before else {
+            return false;
+        };
+        before.bares(&self.picture, side)
     }
 
     /// The result whose sign was seen, if no move was made or corrected after it.

@@ -14,8 +14,8 @@ returns-then-not-fits_size c bytes events d =
     let no : FitsSize c.args.id (c.from.result * 128 + c.from-2.result) → ⊥ = λ f. let yes : IsTrue c.fits_size.result = c.fits_size.ensures.1 f in cc in
     record { state = rw (c.fail.ensures.skips, c.fail.ensures.fault) (missizes_high c.args.id c.args.high c.args.self.now.stored c.fail.new.self.stored bytes events c.args.low c.requires.low (rw sum no) s) }
 
-pub returns-then-size-eq3 : goal.returns-then-size-eq3
-returns-then-size-eq3 c bytes events d =
+pub returns-then-size-eq-NO_DATA : goal.returns-then-size-eq-NO_DATA
+returns-then-size-eq-NO_DATA c bytes events d =
     let s : DecodedBy (Measured c.args.id c.args.high) c.args.self.now.stored bytes events = rw c.requires.state at d.state in
     let fits : FitsSize c.args.id (c.from.result * 128 + c.from-2.result) = c.fits_size.ensures.0 (search rules) in
     let size = c.from.result * 128 + c.from-2.result in
