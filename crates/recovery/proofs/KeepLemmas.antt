@@ -1,7 +1,8 @@
 -- What a keeper makes of an event.
-use Rattle.std.proofs.Common.{inl, inr, ◌≡◌, ℕ, Bool, true, false, List, [], ◌∷◌, length, Option, Some, None, Result, Ok, Err, IfOk, refl, sym, ap, subst, arith, ◌∙◌}
+use Rattle.std.proofs.Common.{inl, inr, ◌≡◌, ◌<◌, ℕ, Bool, true, false, List, [], ◌∷◌, length, map, get_or, get_or-set_same, slice_index, slice_set, is_some, Option, Some, None, Result, Ok, Err, IfOk, refl, sym, ap, subst, arith, ◌∙◌}
 use Rattle.std.specs.Str.{bytes_eq}
 use Rattle.std.proofs.lemmas.Bool.{cases_Bool}
+use Rattle.std.proofs.lemmas.List.{length-set}
 use Rattle.std.proofs.lemmas.Slice.Eq.{bytes_eq-Decides}
 use Rattle.dgt_frame.specs.declared.events.Event.{Event}
 use Rattle.dgt_frame.specs.declared.First.{First}
@@ -10,10 +11,11 @@ use Rattle.dgt_frame.specs.declared.time.First.TheVariants.{White}
 use Rattle.chess_rules.specs.declared.parts.Parts.{Parts}
 use Rattle.chess_rules.specs.Legal.{Legal}
 use Rattle.settle_core.specs.declared.plies.Seen.TheVariants.{Same}
-use Rattle.settle_core.specs.Entries.{Entry, entry_of, last_picture, repeats}
-use Rattle.settle_core.specs.Settler.{StandsFor}
+use Rattle.settle_core.specs.Entries.{Entry, deduplicated, entry_of, last_picture, repeats}
+use Rattle.settle_core.specs.Settler.{StandsFor, has_seen}
 use Rattle.unseen_pairs.specs.declared.pair.Recovery.{Recovery}
-use Rattle.unseen_pairs.specs.Recoverer.{Desk, StandsForRecovered}
+use Rattle.unseen_pairs.specs.declared.pair.Heard.{Heard}
+use Rattle.unseen_pairs.specs.Recoverer.{Desk, HoldsOf, ReturnsTold, StandsForRecovered, written_after}
 use Rattle.board_session.specs.Entries.{entries, entry_at, is_entry}
 use Rattle.board_session.specs.History.{picture_of, reading_at}
 use Rattle.board_session.specs.Pictures.{IsLast, pictures}
@@ -21,7 +23,8 @@ use Rattle.board_session.specs.Settings.{Setting}
 use Rattle.board_session.specs.Session.{entries_in}
 use Rattle.board_session.specs.View.{Views}
 use Rattle.recovery.specs.declared.keeper.Keeper.{Keeper}
-use Rattle.recovery.specs.Keeping.{KeepsNext, RecoversAt, Sees}
+use Rattle.recovery.specs.Keeping.{KeepsNext, RecoversAt}
+use Rattle.recovery.specs.Seeing.{Sees}
 
 no_longer : {A : Type 0} (xs : List A) (x : A) → xs ≡ x ∷ xs → ⊥
 no_longer xs x same = omega (arith, ap length same)
@@ -128,7 +131,7 @@ kept_same new setting past event written views reading first rotated stands same
 kept_now : (new : Keeper) (setting : Setting) (past : List Event) (event : Event) (written : List Entry) (found : Option Recovery)
     → Views new.view setting.rotated (event ∷ past) → new.reading ≡ reading_at setting.first (event ∷ past) → new.first ≡ setting.first → new.rotated ≡ setting.rotated
     → is_entry event past ≡ true
-    → Sees new setting (entries_in setting past) written (entry_at setting.first setting.rotated (event ∷ past)) found
+    → Sees new.recoverer setting.start (entries_in setting past) written (entry_at setting.first setting.rotated (event ∷ past)) found
     → KeepsNext new setting past event found written
 kept_now new setting past event written None views reading first rotated entered sees = record {
   keeps = record { view = views; reading = reading; first = first; rotated = rotated; recoverer = rw entered sees.1 };
@@ -143,11 +146,11 @@ kept_now new setting past event written (Some r) views reading first rotated ent
 pub kept_seen : (new : Keeper) (setting : Setting) (past : List Event) (event : Event) (picture : List ℕ) (written : List Entry) (found : Option Recovery)
     → Views new.view setting.rotated (event ∷ past) → new.reading ≡ reading_at setting.first (event ∷ past) → new.first ≡ setting.first → new.rotated ≡ setting.rotated
     → pictures setting.rotated (event ∷ past) ≡ picture ∷ pictures setting.rotated past
-    → Sees new setting (entries_in setting past) written (entry_of picture (reading_at setting.first (event ∷ past))) found
+    → Sees new.recoverer setting.start (entries_in setting past) written (entry_of picture (reading_at setting.first (event ∷ past))) found
     → KeepsNext new setting past event found written
 kept_seen new setting past event picture written found views reading first rotated more sees =
     let here = entry_here setting.rotated past event picture more in
-    let S : List ℕ → Type 0 = λ p. Sees new setting (entries_in setting past) written (entry_of p (reading_at setting.first (event ∷ past))) found in
+    let S : List ℕ → Type 0 = λ p. Sees new.recoverer setting.start (entries_in setting past) written (entry_of p (reading_at setting.first (event ∷ past))) found in
     kept_now new setting past event written found views reading first rotated here.0 (subst S here.1 sees)
 
 pub map_ok : {T E : Type 0} (P Q : T → Type 0) (r : Result T E) → ((v : T) → P v → Q v) → IfOk r P → IfOk r Q
@@ -166,6 +169,55 @@ pub entry_now : (setting : Setting) (past : List Event) (picture : List ℕ) (re
     → reading ≡ reading_at setting.first past → entry_of picture reading ≡ entry_at setting.first setting.rotated past
 entry_now setting past picture reading shown read =
     ap (λ (p : List ℕ). entry_of p reading) shown ∙ ap (λ (r : Option Reading). entry_of (picture_of setting.rotated past) r) read
+
+-- The entry before an event that changes its picture.
+repeats_last : (seen : List ℕ) (past : List Entry) (picture : List ℕ) → repeats seen past ≡ true → last_picture past ≡ Some picture → seen ≡ picture
+repeats_last seen [] picture again last = absurd (let n : ⊥ = cc in n)
+repeats_last seen (before ∷ past) picture again last =
+    let d = bytes_eq-Decides seen before.picture in
+    let is : before.picture ≡ picture = cc in
+    d.0 again ∙ is
+
+last_shown : (es : List Entry) (picture : List ℕ) (earlier : List (List ℕ)) → map (λ (e : Entry). e.picture) (deduplicated es) ≡ picture ∷ earlier
+    → last_picture es ≡ Some picture
+last_shown [] picture earlier shown = absurd (let n : ⊥ = cc in n)
+last_shown (entry ∷ past) picture earlier shown = elim (cases_Bool (repeats entry.picture past)) [
+  | inl again ↦
+      let before : map (λ (e : Entry). e.picture) (deduplicated past) ≡ picture ∷ earlier = rw again at shown in
+      ap Some (repeats_last entry.picture past picture again (last_shown past picture earlier before))
+  | inr new ↦
+      let both : entry.picture ∷ map (λ (e : Entry). e.picture) (deduplicated past) ≡ picture ∷ earlier = rw new at shown in
+      let same : entry.picture ≡ picture = cc in
+      ap Some same
+]
+
+first_entry : (es : List Entry) (picture : List ℕ) → last_picture es ≡ Some picture
+    → (before : Entry) × (more : List Entry) × (es ≡ before ∷ more) × (before.picture ≡ picture)
+first_entry [] picture last = absurd (let n : ⊥ = cc in n)
+first_entry (before ∷ more) picture last = (before, more, refl, (let is : before.picture ≡ picture = cc in is))
+
+pub entry_before : (setting : Setting) (past : List Event) (picture : List ℕ) (earlier : List (List ℕ)) → pictures setting.rotated past ≡ picture ∷ earlier
+    → (before : Entry) × (more : List Entry) × (entries_in setting past ≡ before ∷ more) × (before.picture ≡ picture)
+entry_before setting past picture earlier shown =
+    first_entry (entries_in setting past) picture
+    (last_alike setting.first setting.rotated past ∙ last_shown (entries White setting.rotated past) picture earlier shown)
+
+pub seen_before : (desk : Desk) (start : Parts) (before : Entry) (past written : List Entry) → StandsForRecovered desk start (before ∷ past) written
+    → has_seen desk.settler ≡ true
+seen_before desk start before past written stands = ap is_some ((stands.settles).last ∙ stands.last)
+
+-- The square that changed shows what the picture shows there.
+pub shown_there : (old seen : List ℕ) (at code : ℕ) → at < 64 → length seen ≡ 64 → seen ≡ slice_set old at code → seen ≡ slice_set old at (slice_index seen at)
+shown_there old seen at code low long is =
+    let long' : length old ≡ 64 = sym (length-set old at code) ∙ ap length (sym is) ∙ long in
+    is ∙ ap (slice_set old at) (sym (ap (λ xs. get_or xs at 0) is ∙ get_or-set_same old at code 0 (rw long' low)))
+
+-- A pair that was recovered, where it stands.
+pub sees_found : (desk : Desk) (start : Parts) (past written : List Entry) (entry : Entry) (found : Option Recovery)
+    → HoldsOf (λ told. StandsForRecovered desk start (entry ∷ past) (written_after entry told written)) Heard.Recovered found
+    → HoldsOf (ReturnsTold start past entry.picture) Heard.Recovered found → Sees desk start past written entry found
+sees_found desk start past written entry (Some r) stands answer = (stands, answer)
+sees_found desk start past written entry None stands answer = absurd stands
 
 -- Both plies of a pair that was recovered are legal where they stand.
 pub legal_found : (setting : Setting) (past : List Event) (event : Event) (r : Recovery) → RecoversAt setting past event (Some r)

@@ -39,12 +39,3 @@ pub record Keeps (keeper : Keeper) (setting : Setting) (past : List Event) (writ
 pub record KeepsNext (keeper : Keeper) (setting : Setting) (past : List Event) (event : Event) (found : Option Recovery) (written : List Entry) : Type 0 where
   pub keeps : Keeps keeper setting (event ∷ past) (entries_with setting past event found written)
   pub finds : RecoversAt setting past event found
-
--- After these entries its recoverer was given this one too, at which this was recovered (private).
-abbrev pub Sees : Keeper → Setting → List Entry → List Entry → Entry → Option Recovery → Type 0
-Sees keeper setting past written entry (Some r) =
-    StandsForRecovered keeper.recoverer setting.start (entry ∷ past) (written_after entry (Recovered r) written)
-    × ReturnsTold setting.start past entry.picture (Recovered r)
-Sees keeper setting past written entry None = (seen : Seen)
-    × StandsForRecovered keeper.recoverer setting.start (entry ∷ past) (written_after entry (Shown seen) written)
-    × ReturnsTold setting.start past entry.picture (Shown seen)

@@ -1,4 +1,5 @@
 pub mod Keeping
+pub mod Seeing
 pub mod Weaving
 pub mod Passing
 pub mod Streams

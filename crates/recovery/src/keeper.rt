@@ -1,19 +1,23 @@
 //! Events to the pairs that are recovered at them.
-ghost use Rattle.std.specs.Prelude.{◌≡◌, ◌<◌, ◌∷◌, [], List, IfOk, All, Some};
+ghost use Rattle.std.specs.Prelude.{◌≡◌, ◌<◌, ◌∷◌, [], List, IfOk, All, None, Some, true, length, if◌then◌else◌, slice_index, slice_set};
 ghost use Rattle.dgt_frame.specs.declared.events.Event.{Event as EventOf};
 ghost use Rattle.dgt_frame.specs.declared.time.First.{First as FirstOf};
+ghost use Rattle.chess_rules.specs.declared.parts.Parts.{Parts as PartsOf};
 ghost use Rattle.settle_core.specs.Entries.{Entry, entry_of};
+ghost use Rattle.settle_core.specs.Settler.{has_seen};
+ghost use Rattle.unseen_pairs.specs.Recoverer.{StandsForRecovered};
 ghost use Rattle.board_session.specs.Settings.{Setting};
 ghost use Rattle.board_session.specs.History.{IsInRange, reading_at};
+ghost use Rattle.recovery.specs.Seeing.{Sees};
 
 use arrayvec::ArrayVec;
 use board_session::{Change, View};
 use chess_clock::Reading;
-use chess_rules::Position;
+use chess_rules::{Position, Square};
 use dgt_frame::{Event, First, Message, read_time};
 use pair_frames::{MOST, put_in};
 use std::alloc::{AllocError, Global};
-use unseen_pairs::{Recoverer, Recovery, Told};
+use unseen_pairs::{Heard, Recoverer, Recovery, Told};
 
 /// Follows the events of a board: which picture it shows, what the clocks show, and which pairs of plies are recovered.
 #[derive(Drop)]
@@ -23,14 +27,66 @@ pub struct Keeper {
     first: First,
     rotated: bool,
     reading: Option<Reading>,
+    /// The pair that was recovered last.
+    found: Option<Recovery>,
+}
+
+/// Shows the recoverer a picture which differs from the one before on this square, and says whether it confirms a pair, which is put
+/// into `found`.
+#[inline(always)]
+fn see_square(
+    alloc: Global,
+    recoverer: &mut Recoverer,
+    picture: &[u8; 64],
+    square: u8,
+    reading: Option<Reading>,
+    found: &mut Option<Recovery>,
+) -> Result<bool, AllocError>
+    requires square { square < 64 }
+    requires codes { All (λ code. code < 16) picture.now }
+    requires seen { has_seen recoverer.old.settler ≡ true }
+    ensures squares { length picture.now ≡ 64 }
+    ensures sees { (start : PartsOf) (before : Entry) (past written : List Entry) → StandsForRecovered recoverer.old start (before ∷ past) written
+        → picture.now ≡ slice_set before.picture square (slice_index picture.now square)
+        → IfOk result (λ is. Sees recoverer.new start (before ∷ past) written (entry_of picture.now reading) (if is then found.new else None)) }
+{
+    let Some(square) = Square::new(square) else {
+        unreachable!();
+    };
+    match recoverer.see_square(alloc, picture, square, reading, found) {
+        Ok(Heard::Shown(_)) => Ok(false),
+        Ok(Heard::Recovered) => Ok(true),
+        Err(error) => Err(error),
+    }
+}
+
+// The same of any picture: apart, since few dumps show another one.
+#[inline(never)]
+fn see_whole(
+    alloc: Global,
+    recoverer: &mut Recoverer,
+    picture: &[u8; 64],
+    reading: Option<Reading>,
+    found: &mut Option<Recovery>,
+) -> Result<bool, AllocError>
+    requires { All (λ code. code < 16) picture.now }
+    ensures { (start : PartsOf) (past written : List Entry) → StandsForRecovered recoverer.old start past written
+        → IfOk result (λ is. Sees recoverer.new start past written (entry_of picture.now reading) (if is then found.new else None)) }
+{
+    match recoverer.see(alloc, picture, reading)? {
+        Told::Shown(_) => Ok(false),
+        Told::Recovered(recovery) => {
+            *found = Some(recovery);
+            Ok(true)
+        }
+    }
 }
 
 impl Keeper {
-    ghost use Rattle.unseen_pairs.specs.Recoverer.{StandsForRecovered};
     ghost use Rattle.board_session.specs.Entries.{entry_at};
     ghost use Rattle.pair_frames.specs.Laws.{IsReadBehind};
     ghost use Rattle.pair_frames.specs.PutIn.{ShowsWhole, put_in as frames_for};
-    ghost use Rattle.recovery.specs.Keeping.{Keeps, KeepsNext, RecoversAt, Sees};
+    ghost use Rattle.recovery.specs.Keeping.{Keeps, KeepsNext, RecoversAt};
 
     /// A keeper that was given no event. Takes no memory.
     ///
@@ -44,28 +100,49 @@ impl Keeper {
             first,
             rotated,
             reading: None,
+            found: None,
         }
     }
 
-    /// Takes the next event, and returns the pair that its picture confirms, where it does. Codes are at most 15 and fields
+    /// Takes the next event, and says whether its picture confirms a pair, which `found` then has. Codes are at most 15 and fields
     /// at most 63, as the decoder gives them.
     ///
     /// # Errors
     ///
     /// Where there was no memory; then it must not be used any more.
-    pub fn take(&mut self, alloc: Global, event: &Event) -> Result<Option<Recovery>, AllocError>
-        requires { IsInRange event.now }
+    #[inline(always)]
+    pub fn take(&mut self, alloc: Global, event: &Event) -> Result<bool, AllocError>
+        requires range { IsInRange event.now }
+        requires begun { (setting : Setting) × (past : List EventOf) × (written : List Entry) × Keeps self.old setting past written }
         ensures { (setting : Setting) (past : List EventOf) (written : List Entry) → Keeps self.old setting past written
-            → IfOk result (λ found. KeepsNext self.new setting past event.now found written) }
+            → IfOk result (λ is. KeepsNext self.new setting past event.now (if is then self.new.found else None) written) }
     {
         self.hear(event);
         match self.view.see(event) {
-            Change::Nothing => Ok(None),
-            _ => {
-                let picture = *self.view.picture();
-                self.see(alloc, &picture)
-            }
+            Change::Nothing => Ok(false),
+            Change::Square { square, .. } => see_square(
+                alloc,
+                &mut self.recoverer,
+                self.view.picture(),
+                square,
+                self.reading,
+                &mut self.found,
+            ),
+            Change::Picture => see_whole(
+                alloc,
+                &mut self.recoverer,
+                self.view.picture(),
+                self.reading,
+                &mut self.found,
+            ),
         }
+    }
+
+    /// The pair that was recovered last.
+    pub fn found(&self) -> &Option<Recovery>
+        ensures { result.now ≡ self.now.found }
+    {
+        &self.found
     }
 
     /// Replaces what `frames` holds by what is put in for the pair that was recovered at the last event.
@@ -100,22 +177,6 @@ impl Keeper {
     {
         if let Event::Message(Message::Time(times)) = event {
             self.reading = read_time(times, self.first, self.reading);
-        }
-    }
-
-    /// Shows the recoverer the present picture.
-    fn see(&mut self, alloc: Global, picture: &[u8; 64]) -> Result<Option<Recovery>, AllocError>
-        requires { All (λ code. code < 16) picture.now }
-        ensures sees { (setting : Setting) (past written : List Entry) → StandsForRecovered self.old.recoverer setting.start past written
-            → IfOk result (Sees self.new setting past written (entry_of picture.now self.old.reading)) }
-        ensures view { self.new.view ≡ self.old.view }
-        ensures reading { self.new.reading ≡ self.old.reading }
-        ensures first { self.new.first ≡ self.old.first }
-        ensures rotated { self.new.rotated ≡ self.old.rotated }
-    {
-        match self.recoverer.see(alloc, picture, self.reading)? {
-            Told::Shown(_) => Ok(None),
-            Told::Recovered(recovery) => Ok(Some(recovery)),
         }
     }
 }

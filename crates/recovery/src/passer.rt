@@ -4,15 +4,16 @@ ghost use Rattle.dgt_frame.specs.declared.events.Event.{Event as EventOf};
 ghost use Rattle.dgt_frame.specs.Decoder.{Decoded};
 ghost use Rattle.settle_core.specs.Entries.{Entry};
 ghost use Rattle.board_session.specs.Settings.{Setting};
+ghost use Rattle.board_session.specs.Session.{entries_in};
 ghost use Rattle.board_session.specs.History.{IsInRange};
-ghost use Rattle.recovery.specs.Keeping.{Keeps};
-ghost use Rattle.recovery.specs.Passing.{Carries, Hears, Passes, Stands};
+ghost use Rattle.recovery.specs.Keeping.{Keeps, KeepsNext};
+ghost use Rattle.recovery.specs.Passing.{Alike, Carries, Hears, Passes, Stands};
 ghost use Rattle.recovery.specs.Progress.{Concludes, HasBegun, IsPutIn};
 
 use crate::keeper::Keeper;
 use crate::lines::add_recovered;
 use arrayvec::ArrayVec;
-use dgt_frame::{BLANK, Decoder, Event};
+use dgt_frame::{Decoder, Event};
 use pair_frames::MOST;
 use pair_frames::laws::frames_are_put_in;
 use std::alloc::{AllocError, Global};
@@ -21,8 +22,27 @@ use watched_streams::Lines;
 /// The frames that are put in behind an event.
 pub type Frames = ArrayVec<u8, MOST>;
 
+// What is put in for the pair that was recovered last, and its line: apart, since few events recover one.
+#[inline(never)]
+fn tell(keeper: &Keeper, offset: u32, frames: &mut Frames, line: &mut Lines)
+    requires told { (setting : Setting) × (past : List EventOf) × (event : EventOf) × (written : List Entry)
+        × KeepsNext keeper.now setting past event keeper.now.found written }
+    requires frames { frames.old.items ≡ [] }
+    requires line { line.old.items ≡ [] }
+    ensures { (setting : Setting) (past written : List EventOf) (event : EventOf) → IsInRange event → Alike setting past written
+        → KeepsNext keeper.now setting past event keeper.now.found (entries_in setting written)
+        → Hears keeper.now setting past written offset event frames.new.items line.new.items }
+{
+    let Some(found) = keeper.found() else {
+        return;
+    };
+    keeper.put_in(found, frames);
+    add_recovered(line, offset, found);
+}
+
 /// Gives the keeper an event, and replaces what `frames` and `line` hold by what is put in there, and its line; by nothing,
 /// where nothing is.
+#[inline(always)]
 pub fn hear(
     alloc: Global,
     keeper: &mut Keeper,
@@ -40,10 +60,9 @@ pub fn hear(
     line.clear();
     match keeper.take(alloc, event) {
         Err(error) => Err(error),
-        Ok(None) => Ok(()),
-        Ok(Some(found)) => {
-            keeper.put_in(&found, frames);
-            add_recovered(line, offset, &found);
+        Ok(false) => Ok(()),
+        Ok(true) => {
+            tell(keeper, offset, frames, line);
             Ok(())
         }
     }
@@ -56,6 +75,7 @@ pub fn hear(
 /// # Errors
 ///
 /// Where there was no memory; then nothing more is to be given.
+#[inline(always)]
 pub fn pass(
     alloc: Global,
     decoder: &mut Decoder,
@@ -64,6 +84,7 @@ pub fn pass(
     bytes: &[u8],
     frames: &mut Frames,
     line: &mut Lines,
+    event: &mut Event,
 ) -> Result<Option<usize>, AllocError>
     requires room { start + length bytes.now < 2 ^ 32 }
     requires begun { HasBegun decoder.old keeper.old start }
@@ -77,14 +98,13 @@ pub fn pass(
     frames_are_put_in();
     // Only for its clause: what the bytes given so far show.
     conclude(decoder, keeper);
-    let mut event = BLANK;
-    let Some(taken) = decoder.push_into(bytes, &mut event) else {
+    let Some(taken) = decoder.push_into(bytes, event) else {
         return Ok(None);
     };
     // Only for its clause: the bytes taken show the events so far.
     decoder.pending();
     let last = start + (taken - 1) as u32;
-    match hear(alloc, keeper, last, &event, frames, line) {
+    match hear(alloc, keeper, last, event, frames, line) {
         Ok(()) => Ok(Some(taken)),
         Err(error) => Err(error),
     }

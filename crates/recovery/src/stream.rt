@@ -12,7 +12,7 @@ use crate::keeper::Keeper;
 use crate::passer::{Frames, begin, conclude, pass};
 use crate::refusal::RecoverError;
 use chess_rules::Position;
-use dgt_frame::{Decoder, First, LIMIT};
+use dgt_frame::{BLANK, Decoder, First, LIMIT};
 use std::alloc::Global;
 use std::io::{Read, Write};
 use watched_streams::{CHUNK, Lines, Watch, put, read_chunk};
@@ -88,6 +88,7 @@ fn give_chunk<O: Write, E: Write>(
 {
     let mut frames = Frames::new();
     let mut line = Lines::new();
+    let mut event = BLANK;
     let mut taken = 0;
     let mut sent = 0;
     'events: loop {
@@ -100,6 +101,7 @@ fn give_chunk<O: Write, E: Write>(
             &chunk[taken..],
             &mut frames,
             &mut line,
+            &mut event,
         ) else {
             return match send(out, &chunk[sent..taken]) {
                 Ok(()) => Err(RecoverError::Memory),

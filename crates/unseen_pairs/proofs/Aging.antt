@@ -24,12 +24,12 @@ use Rattle.unseen_pairs.specs.Candidates.{AddedBelow, AgedBelow, AreAdded, AreAl
 use Rattle.std.specs.Int.RustNames.{count_ones}
 use Rattle.settle_core.specs.Masks.{IsDiff}
 use Rattle.unseen_pairs.proofs.Counting.{two_change, two_correct}
-use Rattle.unseen_pairs.proofs.Losing.{correcting_loses, other_loses}
+use Rattle.unseen_pairs.proofs.Losing.{correcting_loses, mover_loses, other_bares, other_loses}
 use Rattle.unseen_pairs.proofs.Putting.{settles_own}
 use Rattle.chess_rules.specs.declared.pieces.Side.{Side}
 use Rattle.chess_rules.specs.Board.{other as other_side}
 use Rattle.settle_core.proofs.Boards.{other-other}
-use Rattle.unseen_pairs.specs.Lost.{Loses}
+use Rattle.settle_core.specs.Lost.{Bares, Loses}
 
 -- the first candidates, and one more
 pub aged_none : (old : List Candidate) → AgedBelow old 0 []
@@ -388,6 +388,29 @@ none_left start plies seen reading old v played waits none =
       more = λ ply earlier e.
           none_added true (reached start (moves_of earlier)) seen reading old
           (λ m n two. none_corrects start ply.mv (moves_of earlier) seen m n v (subst P e played) (subst S e waits) (subst N e none) two);
+      none = λ e. refl;
+    }
+
+-- Nor does one where the side to move has lost no square, and none was left bare on which it stood before the last ply.
+pub none_bared :
+    (start : Parts) (plies : List Ply) (seen : List ℕ) (reading : Option Reading) (old : List Candidate)
+    → Valid start
+    → Played start (moves_of plies)
+    → ¬ Loses (reached start (moves_of plies)) seen (reached start (moves_of plies)).side
+    → ((ply : Ply) (earlier : List Ply) → plies ≡ ply ∷ earlier → ¬ Bares (reached start (moves_of earlier)) seen (reached start (moves_of plies)).side)
+    → AreAllAdded start plies seen reading old old
+none_bared start plies seen reading old v played none bare =
+    let p : Parts = reached start (moves_of plies) in
+    let P : List Ply → Type 0 = λ ps. Played start (moves_of ps) in
+    record {
+      one = old;
+      next = none_added false p seen reading old (λ m n two. none (mover_loses p m n seen (valid_reached start (moves_of plies) v played) two));
+      more = λ ply earlier e.
+          let q : Parts = reached start (moves_of earlier) in
+          let B : List Ply → Type 0 = λ ps. ¬ Bares q seen (reached start (moves_of ps)).side in
+          let before : Played start (moves_of (ply ∷ earlier)) = subst P e played in
+          let none : ¬ Bares q seen (other_side q.side) = subst B e (bare ply earlier e) in
+          none_added true q seen reading old (λ m n two. none (other_bares q m n seen (valid_reached start (moves_of earlier) v before.1) two));
       none = λ e. refl;
     }
 

@@ -14,7 +14,7 @@ use Rattle.chess_rules.proofs.LawLemmas.{moves_move_pieces, moves_stay_valid, pi
 use Rattle.settle_core.proofs.Boards.{on_board, none_piece, other-other, same_unless}
 use Rattle.settle_core.proofs.Pieces.{at_picture, on_shown, code_no_zero, theirs_stood}
 use Rattle.unseen_pairs.specs.Pairs.{IsAfterTwo}
-use Rattle.unseen_pairs.specs.Lost.{Loses}
+use Rattle.settle_core.specs.Lost.{Bares, Loses}
 
 -- the piece that a move takes off its square
 pub record Goes (p : Parts) (m : Move) : Type 0 where
@@ -78,18 +78,24 @@ mover_loses p m n seen v two =
     let g : Goes p m = goes p m v two.first in
     (m.from, record { low = g.low; kind = g.kind; stands = g.stood; gone = first_leaves p m n seen g.kind v two })
 
-pub other_loses : (p : Parts) (m n : Move) (seen : List ℕ) → Valid p → IsAfterTwo p seen m n → Loses p seen (other p.side)
-other_loses p m n seen v two =
+-- and the second ply leaves its square bare
+pub other_bares : (p : Parts) (m n : Move) (seen : List ℕ) → Valid p → IsAfterTwo p seen m n → Bares p seen (other p.side)
+other_bares p m n seen v two =
     let w : Valid (after p m) = moves_stay_valid p m v two.first in
-    let g : Goes (after p m) n = goes (after p m) n w two.second in (
+    let g : Goes (after p m) n = goes (after p m) n w two.second in
+    let bare : get_or seen n.from 0 ≡ 0 = empty_from (after p m) n seen w two.second two.shows in (
       n.from,
       record {
         low = g.low;
         kind = g.kind;
         stands = theirs_stood p m n.from g.kind v two.first g.stood;
-        gone = λ e. code_no_zero (other p.side) g.kind (sym e ∙ empty_from (after p m) n seen w two.second two.shows);
+        gone = λ e. code_no_zero (other p.side) g.kind (sym e ∙ bare);
       },
+      bare,
     )
+
+pub other_loses : (p : Parts) (m n : Move) (seen : List ℕ) → Valid p → IsAfterTwo p seen m n → Loses p seen (other p.side)
+other_loses p m n seen v two = let b = other_bares p m n seen v two in (b.0, b.1)
 
 -- Where another move than the last one and a reply explain the picture, a piece of the side of these moves is not where the last
 -- one left it: the pieces of a side tell its move.

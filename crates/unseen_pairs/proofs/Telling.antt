@@ -1,7 +1,7 @@
 -- What a recoverer tells, from what its settler tells.
-use Rattle.std.proofs.Common.{◌≡◌, ◌≢◌, ℕ, ◌<◌, Bool, true, false, List, [], ◌∷◌, Result, Ok, Err, IfOk, refl, sym, ap, subst, ◌∙◌, arith}
+use Rattle.std.proofs.Common.{◌≡◌, ◌≢◌, ℕ, ◌<◌, Bool, true, false, List, [], ◌∷◌, Option, Contains, Some, None, inl, inr, slice_set, length, Result, Ok, Err, IfOk, refl, sym, ap, subst, ◌∙◌, arith}
 use Rattle.std.specs.Str.{bytes_eq}
-use Rattle.std.proofs.lemmas.Bool.{cond-true, cond-false}
+use Rattle.std.proofs.lemmas.Bool.{both_ways, cases_Bool, cond-true, cond-false}
 use Rattle.std.proofs.lemmas.Slice.Eq.{bytes_eq-Decides}
 use Rattle.chess_rules.specs.declared.chess_move.Move.{Move}
 use Rattle.chess_rules.specs.declared.parts.Parts.{Parts}
@@ -12,7 +12,8 @@ use Rattle.chess_rules.specs.Picture.{picture}
 use Rattle.chess_rules.proofs.LawLemmas.{moves_stay_valid}
 use Rattle.settle_core.specs.declared.plies.Seen.{Seen}
 use Rattle.settle_core.specs.declared.plies.Seen.TheVariants.{Same, Moved, Sign, Replaced, Waits}
-use Rattle.settle_core.specs.Entries.{Entry, entry_of, deduplicated, last_picture, repeats}
+use Rattle.chess_clock.specs.declared.times.Reading.{Reading}
+use Rattle.settle_core.specs.Entries.{Entry, changed, entry_of, deduplicated, last_picture, repeats}
 use Rattle.settle_core.specs.Settler.{ReturnsNewSeen, ReturnsSeen, Sheet, StandsFor}
 use Rattle.settle_core.specs.Settling.{Played, reached}
 use Rattle.settle_core.specs.Folding.{Score, Folds, SeenAs, moves_of, score_after}
@@ -21,13 +22,16 @@ use Rattle.settle_core.proofs.Once.{folds_once, folds_played}
 use Rattle.settle_core.proofs.Pieces.{picture_moves}
 use Rattle.settle_core.proofs.Stages.{differ_false, valid_reached}
 use Rattle.unseen_pairs.specs.declared.pair.Recovery.{Recovery}
+use Rattle.unseen_pairs.specs.declared.pair.Heard.{Heard}
+use Rattle.unseen_pairs.specs.declared.pair.Told.{Told}
 use Rattle.unseen_pairs.specs.declared.pair.Told.TheVariants.{Shown, Recovered}
 use Rattle.unseen_pairs.specs.declared.confirming.Candidate.{Candidate}
 use Rattle.unseen_pairs.specs.declared.confirming.Confirmed.{Confirmed}
 use Rattle.unseen_pairs.specs.Pairs.{Confirms, Explains, GoesOn, IsInstead, begins, ends, root}
 use Rattle.unseen_pairs.specs.Recovering.{FoldsRecovering, TellsAs, score_told, waiting_after}
-use Rattle.unseen_pairs.specs.Recoverer.{Desk, HasTold, IsWaiting, StandsForRecovered, TellsNew}
-use Rattle.unseen_pairs.specs.Candidates.{IsOnlyOne, ListsCandidates}
+use Rattle.unseen_pairs.specs.Recoverer.{Desk, HasTold, HoldsOf, IsWaiting, StandsForRecovered, TellsNew}
+use Rattle.unseen_pairs.specs.Candidates.{AreAged, AreAllAdded, HidesNone, IsOnlyOne, ListsCandidates}
+use Rattle.unseen_pairs.proofs.Aging.{lists_next}
 use Rattle.unseen_pairs.proofs.Choosing.{recovery_of, one_confirmed, confirmed_one}
 use Rattle.unseen_pairs.proofs.Putting.{put_in_folds, settles_own}
 
@@ -226,6 +230,65 @@ other_told desk candidates start past written entry w none other lists =
     let L : List Entry → Type 0 = λ es. ListsCandidates start moves es candidates in
     kept_told desk candidates start past written entry w none (subst L (sym next) lists)
 
+-- No pair explains it, and none waits.
+none_listed : (cs : List Candidate) (c : Candidate) → cs ≡ [] → ¬ Contains cs c
+none_listed cs c e k = let at : Contains [] c = subst (λ (xs : List Candidate). Contains xs c) e k in let low : at.0 < 0 = at.1 in let n : ⊥ = omega arith in n
+
+none_aged : (cs : List Candidate) → cs ≡ [] → AreAged cs cs
+none_aged cs e = record {
+  sound = λ c k. absurd (none_listed cs c e k);
+  whole = λ b k low. absurd (none_listed cs b e k);
+}
+
+pub none_long : (cs : List Candidate) → length cs ≡ 0 → cs ≡ []
+none_long [] e = refl
+none_long (c ∷ cs) e = absurd (let n : ⊥ = omega arith in n)
+
+pub idle_told :
+    (desk : Desk) (start : Parts) (past written : List Entry) (entry : Entry)
+    → Valid start
+    → IsWaiting desk start past written entry
+    → desk.candidates ≡ []
+    → HidesNone desk.settler
+    → HasTold desk start past written entry (Shown Waits)
+idle_told desk start past written entry v w empty hides =
+    let plies = desk.settler.score.plies in
+    let p : Parts = reached start (moves_of plies) in
+    let played : Played start (moves_of plies) = folds_played start (deduplicated written) desk.settler.score w.folded in
+    let start_is : desk.settler.start ≡ start = (w.settles).start_is in
+    let P : Parts → Type 0 = λ (q : Parts). Played q (moves_of plies) in
+    let S : Parts → Type 0 = λ (q : Parts). SeenAs q (moves_of plies) entry.picture Waits in
+    let A : Parts → Type 0 = λ (q : Parts). AreAllAdded q plies entry.picture entry.reading desk.candidates desk.candidates in
+    let all : AreAllAdded start plies entry.picture entry.reading desk.candidates desk.candidates =
+    subst A start_is (hides entry.picture entry.reading desk.candidates (w.settles).last (subst P (sym start_is) played) (subst S (sym start_is) w.waits)) in
+    let none : (one : Confirmed) → ¬ IsOnlyOne desk.candidates entry.picture one = λ one only. none_listed desk.candidates one.candidate empty only.listed in
+    let d = bytes_eq-Decides entry.picture (picture p) in
+    elim (cases_Bool (bytes_eq entry.picture (picture p))) [
+      | inl own ↦ own_told desk desk.candidates start past written entry w none (d.0 own) empty
+      | inr other ↦
+          other_told desk desk.candidates start past written entry w none (λ e. both_ways _ other (d.1 e))
+          (lists_next start plies w.waiting entry desk.candidates desk.candidates all.one desk.candidates
+          v played w.waits w.candidates (none_aged desk.candidates empty) all.next all.more all.none)
+    ]
+
+-- The last picture with another code on a square.
+pub changed_step :
+    (old new : Sheet) (start : Parts) (before : Entry) (past written : List Entry) (seen : List ℕ) (square code : ℕ) (reading : Option Reading) (a : Seen)
+    → StandsFor old start written
+    → last_picture written ≡ last_picture (before ∷ past)
+    → seen ≡ slice_set before.picture square code
+    → ((w : Entry) (ws : List Entry) → StandsFor old start (w ∷ ws)
+    → StandsFor new start (changed w square code reading ∷ w ∷ ws) × ReturnsSeen start (w ∷ ws) (slice_set w.picture square code) a)
+    → StandsFor new start (entry_of seen reading ∷ written) × ReturnsSeen start written seen a
+changed_step old new start before past [] seen square code reading a st last shown k = absurd (let n : ⊥ = cc in n)
+changed_step old new start before past (w ∷ ws) seen square code reading a st last shown k =
+    let same : w.picture ≡ before.picture = cc in
+    let at : slice_set w.picture square code ≡ seen = ap (λ xs. slice_set xs square code) same ∙ sym shown in
+    let both = k w ws st in (
+      subst (λ (xs : List ℕ). StandsFor new start (entry_of xs reading ∷ w ∷ ws)) at both.0,
+      subst (λ (xs : List ℕ). ReturnsSeen start (w ∷ ws) xs a) at both.1,
+    )
+
 -- The pictures that are put in are new.
 pub valid_root : (corrects : Bool) (start : Parts) (moves : List Move) → Valid start → Played start moves → Valid (reached start (root corrects moves))
 valid_root false start moves v h = valid_reached start moves v h
@@ -317,3 +380,10 @@ put_in_told desk new start past written entry one v w only st none =
 pub map_ok : {X E : Type 0} (P Q : X → Type 0) (r : Result X E) → ((x : X) → P x → Q x) → IfOk r P → IfOk r Q
 map_ok P Q (Ok x) f h = f x h
 map_ok P Q (Err e) f h = tt
+
+pub map_heard : {E : Type 0} (P Q : Told → Type 0) (r : Result Heard E) (found : Option Recovery) → ((told : Told) → P told → Q told)
+    → IfOk r (λ heard. HoldsOf P heard found) → IfOk r (λ heard. HoldsOf Q heard found)
+map_heard P Q (Ok (Heard.Shown a)) found f h = f (Shown a) h
+map_heard P Q (Ok Heard.Recovered) (Some r) f h = f (Recovered r) h
+map_heard P Q (Ok Heard.Recovered) None f h = h
+map_heard P Q (Err e) found f h = tt

@@ -7,8 +7,10 @@ use Rattle.chess_rules.specs.After.{after}
 use Rattle.settle_core.specs.Entries.{Entry}
 use Rattle.settle_core.specs.declared.plies.Ply.{Ply}
 use Rattle.settle_core.specs.declared.plies.Seen.{Seen}
-use Rattle.settle_core.specs.Settling.{reached}
-use Rattle.settle_core.specs.Folding.{moves_of}
+use Rattle.settle_core.specs.declared.plies.Seen.TheVariants.{Waits}
+use Rattle.settle_core.specs.Settler.{Sheet}
+use Rattle.settle_core.specs.Settling.{Played, reached}
+use Rattle.settle_core.specs.Folding.{SeenAs, moves_of}
 use Rattle.unseen_pairs.specs.declared.pair.Pair.{Pair}
 use Rattle.unseen_pairs.specs.declared.pair.TwoPlies.{TwoPlies}
 use Rattle.unseen_pairs.specs.declared.confirming.Candidate.{Candidate}
@@ -97,6 +99,12 @@ pub record AreAllAdded (start : Parts) (plies : List Ply) (seen : List ℕ) (rea
   pub next : AreAdded false (reached start (moves_of plies)) seen reading old one
   pub more : (ply : Ply) (earlier : List Ply) → plies ≡ ply ∷ earlier → AreAdded true (reached start (moves_of earlier)) seen reading one new
   pub none : plies ≡ [] → new ≡ one
+
+-- No pair explains the last picture, if it waits.
+abbrev pub HidesNone : Sheet → Type 0
+HidesNone sheet = (seen : List ℕ) (reading : Option Reading) (old : List Candidate) → sheet.last ≡ Some seen
+    → Played sheet.start (moves_of sheet.score.plies) → SeenAs sheet.start (moves_of sheet.score.plies) seen Waits
+    → AreAllAdded sheet.start sheet.score.plies seen reading old old
 
 -- The code of White's king stands in the centre.
 abbrev pub ShowsKing : List ℕ → Type 0

@@ -1,23 +1,9 @@
--- Which pairs can explain a picture, and how far they are listed. Private definitions: the public contracts do not cite them.
-use Rattle.std.specs.Prelude.{◌≡◌, ◌≢◌, ◌<◌, ◌⊎◌, ℕ, List, Contains, slice_index, slice_index_or}
-use Rattle.chess_rules.specs.declared.pieces.Side.{Side}
-use Rattle.chess_rules.specs.declared.pieces.Kind.{Kind}
+-- How far the pairs that explain a picture are listed. Private definitions: the public contracts do not cite them.
+use Rattle.std.specs.Prelude.{◌≡◌, ◌<◌, ◌⊎◌, ℕ, List, Contains, slice_index_or}
 use Rattle.chess_rules.specs.declared.chess_move.Move.{Move}
 use Rattle.chess_rules.specs.declared.parts.Parts.{Parts}
-use Rattle.chess_rules.specs.Board.{on, piece_of}
-use Rattle.chess_rules.specs.Picture.{code_of_piece}
 use Rattle.unseen_pairs.specs.declared.pair.TwoPlies.{TwoPlies}
 use Rattle.unseen_pairs.specs.Pairs.{IsAfterTwo}
-
--- On this square, where a piece of this side stands, the picture shows something else.
-pub record LosesAt (p : Parts) (seen : List ℕ) (side : Side) (s : ℕ) : Type 0 where
-  pub low : s < 64
-  pub kind : Kind
-  pub stands : on p.board s ≡ piece_of side kind
-  pub gone : slice_index seen s ≢ code_of_piece side kind
-
-abbrev pub Loses : Parts → List ℕ → Side → Type 0
-Loses p seen side = (s : ℕ) × LosesAt p seen side s
 
 -- The pairs with this first ply that explain the picture are put to the others.
 pub record AddsPairs (p : Parts) (seen : List ℕ) (m : Move) (old new : List TwoPlies) : Type 0 where

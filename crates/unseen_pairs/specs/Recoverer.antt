@@ -1,5 +1,5 @@
 -- What a recoverer stands for.
-use Rattle.std.specs.Prelude.{◌≡◌, ℕ, true, false, List, ◌∷◌}
+use Rattle.std.specs.Prelude.{◌≡◌, ℕ, true, false, List, ◌∷◌, Option, Some, None}
 use Rattle.chess_rules.specs.declared.parts.Parts.{Parts}
 use Rattle.chess_rules.specs.Picture.{picture}
 use Rattle.settle_core.specs.Entries.{Entry, entry_of, last_picture, repeats, deduplicated}
@@ -7,6 +7,8 @@ use Rattle.settle_core.specs.Settler.{Sheet, StandsFor}
 use Rattle.settle_core.specs.Folding.{Score, Folds, SeenAs, moves_of}
 use Rattle.settle_core.specs.declared.plies.Seen.TheVariants.{Same, Moved, Sign, Replaced, Waits}
 use Rattle.unseen_pairs.specs.declared.confirming.Candidate.{Candidate}
+use Rattle.unseen_pairs.specs.declared.pair.Heard.{Heard}
+use Rattle.unseen_pairs.specs.declared.pair.Recovery.{Recovery}
 use Rattle.unseen_pairs.specs.declared.pair.Told.{Told}
 use Rattle.unseen_pairs.specs.declared.pair.Told.TheVariants.{Shown, Recovered}
 use Rattle.unseen_pairs.specs.Recovering.{FoldsRecovering, TellsAs}
@@ -33,6 +35,12 @@ abbrev pub written_after : Entry → Told → List Entry → List Entry
 written_after entry (Shown answer) written = entry ∷ written
 written_after entry (Recovered r) written =
     entry ∷ entry_of (picture r.after) r.reading ∷ entry_of (picture r.middle) r.reading ∷ entry ∷ written
+
+-- This holds of what was told, which is here where it is no pair, and else the pair that stands there.
+abbrev pub HoldsOf : (Told → Type 0) → Heard → Option Recovery → Type 0
+HoldsOf P (Heard.Shown answer) found = P (Shown answer)
+HoldsOf P Heard.Recovered (Some r) = P (Recovered r)
+HoldsOf P Heard.Recovered None = ⊥
 
 -- what a picture that is not the last one tells after these entries
 abbrev pub TellsNew : Parts → List Entry → List ℕ → Told → Type 0

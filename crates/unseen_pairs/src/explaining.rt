@@ -8,7 +8,8 @@ ghost use Rattle.chess_rules.specs.Picture.{picture};
 ghost use Rattle.chess_rules.specs.Legal.{Legal};
 ghost use Rattle.unseen_pairs.specs.declared.pair.TwoPlies.{TwoPlies as TwoPliesOf};
 ghost use Rattle.unseen_pairs.specs.Pairs.{IsAfterTwo};
-ghost use Rattle.unseen_pairs.specs.Lost.{Loses, LosesAt, AddsPairs};
+ghost use Rattle.settle_core.specs.Lost.{Loses, LosesAt};
+ghost use Rattle.unseen_pairs.specs.Lost.{AddsPairs};
 
 use crate::pair::TwoPlies;
 use crate::settled::settled_in;
@@ -23,7 +24,7 @@ fn copy(m: &Move) -> Move
     *m
 }
 
-fn other(side: Side) -> Side
+pub fn other(side: Side) -> Side
     ensures { result ≡ other_side side }
 {
     match side {
@@ -120,15 +121,6 @@ fn push_pair_with(
         second,
     })?;
     Ok(())
-}
-
-/// Whether the side that is not to move has left a square: without that, no pair explains the picture, and none that corrects the
-/// last ply.
-pub fn theirs_left(p: &Position, seen: &[u8; 64]) -> bool
-    ensures { IsTrue result ↔ Loses p.now seen.now (other_side p.now.side) }
-{
-    let before = p.picture();
-    loses(p, &before, seen, other(p.parts().side))
 }
 
 /// The pairs of plies that give the picture from this position.

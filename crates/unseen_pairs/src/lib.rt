@@ -13,5 +13,5 @@ mod recoverer;
 mod settled;
 mod waiting;
 
-pub use pair::{Pair, Recovery, Told};
+pub use pair::{Heard, Pair, Recovery, Told};
 pub use recoverer::Recoverer;

@@ -35,6 +35,15 @@ pub struct Recovery {
     pub sequel: Seen,
 }
 
+/// What a picture tells, where a pair that it confirms is put elsewhere.
+#[derive(Clone, Copy, PartialEq, Eq, Debug)]
+pub enum Heard {
+    /// What it shows by itself.
+    Shown(Seen),
+    /// A pair that no picture showed ply by ply.
+    Recovered,
+}
+
 /// What a picture tells.
 #[derive(Clone, Copy, Debug)]
 pub enum Told {

@@ -1,16 +1,18 @@
 // The recoverer: it takes pictures, and keeps the line that they show, with the pairs that no picture showed ply by ply.
-ghost use Rattle.std.specs.Prelude.{◌≡◌, ◌<◌, ◌↔◌, ◌^◌, ℕ, List, [], ◌∷◌, All, IfOk, OnOk, IsTrue};
+ghost use Rattle.std.specs.Prelude.{◌≡◌, ◌<◌, ◌↔◌, ◌^◌, ℕ, List, [], ◌∷◌, All, IfOk, OnOk, IsTrue, true, slice_index, slice_set};
 ghost use Rattle.chess_rules.specs.declared.parts.Parts.{Parts as PartsOf};
 ghost use Rattle.settle_core.specs.Entries.{Entry, entry_of};
+ghost use Rattle.settle_core.specs.Settler.{has_seen};
 ghost use Rattle.unseen_pairs.specs.declared.confirming.Confirmed.{Confirmed as ConfirmedOf};
+ghost use Rattle.unseen_pairs.specs.declared.pair.Told.{Told as ToldOf};
 ghost use Rattle.unseen_pairs.specs.Candidates.{IsOnlyOne};
-ghost use Rattle.unseen_pairs.specs.Recoverer.{HasTold, IsWaiting, ReturnsTold, StandsForRecovered, written_after};
+ghost use Rattle.unseen_pairs.specs.Recoverer.{HasTold, HoldsOf, IsWaiting, ReturnsTold, StandsForRecovered, written_after};
 
 use crate::confirming::{Candidate, Confirmed, only_one};
-use crate::pair::{Recovery, Told};
-use crate::waiting::{add_all, all_aged, copy};
+use crate::pair::{Heard, Recovery, Told};
+use crate::waiting::{add_all, all_aged, copy, hides_none};
 use chess_clock::Reading;
-use chess_rules::Position;
+use chess_rules::{Position, Square};
 use settle_core::{Seen, Settler};
 use std::alloc::{AllocError, Global};
 use std::marker::Model;
@@ -75,6 +77,83 @@ impl Recoverer {
             seen => {
                 self.candidates.clear();
                 Ok(Told::Shown(seen))
+            }
+        }
+    }
+
+    /// Takes a picture that is the last one but for this square; one must have been seen. A pair that it confirms is put into
+    /// `found`, which else stays as it is. Changes one square, and one bit of each mask; most pictures that wait cost no more.
+    ///
+    /// # Errors
+    ///
+    /// As `see`.
+    #[inline(always)]
+    pub fn see_square(
+        &mut self,
+        alloc: Global,
+        picture: &[u8; 64],
+        square: Square,
+        clock: Option<Reading>,
+        found: &mut Option<Recovery>,
+    ) -> Result<Heard, AllocError>
+        requires seen { has_seen self.old.settler ≡ true }
+        requires codes { All (λ code. code < 16) picture.now }
+        ensures stands { (start : PartsOf) (before : Entry) (past written : List Entry) → StandsForRecovered self.old start (before ∷ past) written
+            → picture.now ≡ slice_set before.picture square (slice_index picture.now square)
+            → IfOk result (λ heard. HoldsOf (λ told. StandsForRecovered self.new start (entry_of picture.now clock ∷ before ∷ past)
+            (written_after (entry_of picture.now clock) told written)) heard found.new) }
+        ensures answer { (start : PartsOf) (before : Entry) (past written : List Entry) → StandsForRecovered self.old start (before ∷ past) written
+            → picture.now ≡ slice_set before.picture square (slice_index picture.now square)
+            → IfOk result (λ heard. HoldsOf (ReturnsTold start (before ∷ past) picture.now) heard found.new) }
+    {
+        // The start is valid.
+        self.settler.start().parts();
+        let code = picture[square.number() as usize];
+        match self.settler.see_field(square, code, copy(&clock))? {
+            Seen::Same => Ok(Heard::Shown(Seen::Same)),
+            Seen::Waits => {
+                if self.idles() {
+                    Ok(Heard::Shown(Seen::Waits))
+                } else {
+                    self.wait_for(alloc, picture, &clock, found)
+                }
+            }
+            seen => {
+                self.candidates.clear();
+                Ok(Heard::Shown(seen))
+            }
+        }
+    }
+
+    /// Whether the last picture, which shows nothing by itself, confirms no pair, and none explains it.
+    #[inline(always)]
+    fn idles(&self) -> bool
+        ensures { IsTrue result → (start : PartsOf) (past written : List Entry) (entry : Entry) → IsWaiting self.now start past written entry
+            → HasTold self.now start past written entry (ToldOf.Shown Seen.Waits) }
+    {
+        // The start is valid.
+        self.settler.start().parts();
+        self.candidates.is_empty() && hides_none(&self.settler)
+    }
+
+    // As `wait`: apart, since few pictures come so far.
+    #[inline(never)]
+    fn wait_for(
+        &mut self,
+        alloc: Global,
+        picture: &[u8; 64],
+        clock: &Option<Reading>,
+        found: &mut Option<Recovery>,
+    ) -> Result<Heard, AllocError>
+        requires { All (λ code. code < 16) picture.now }
+        ensures { (start : PartsOf) (past written : List Entry) → IsWaiting self.old start past written (entry_of picture.now clock.now)
+            → IfOk result (λ heard. HoldsOf (HasTold self.new start past written (entry_of picture.now clock.now)) heard found.new) }
+    {
+        match self.wait(alloc, picture, clock)? {
+            Told::Shown(seen) => Ok(Heard::Shown(seen)),
+            Told::Recovered(recovery) => {
+                *found = Some(recovery);
+                Ok(Heard::Recovered)
             }
         }
     }

@@ -1,15 +1,15 @@
 // The candidates of the entries that wait.
-ghost use Rattle.std.specs.Prelude.{◌≡◌, ◌<◌, ◌∷◌, [], true, List, Some, IfOk, OnOk};
+ghost use Rattle.std.specs.Prelude.{◌≡◌, ◌<◌, ◌∷◌, [], true, List, Some, IfOk, IsTrue, OnOk};
 ghost use Rattle.chess_rules.specs.After.{after};
 ghost use Rattle.chess_rules.specs.Legal.{Legal};
 ghost use Rattle.settle_core.specs.declared.plies.Ply.{Ply as PlyOf};
 ghost use Rattle.settle_core.specs.declared.plies.Seen.{Seen as SeenOf};
 ghost use Rattle.settle_core.specs.Folding.{SeenAs, moves_of};
 ghost use Rattle.settle_core.specs.Settling.{Played, reached};
-ghost use Rattle.unseen_pairs.specs.Candidates.{AreAdded, AreAllAdded, AreAged, IsNew};
+ghost use Rattle.unseen_pairs.specs.Candidates.{AreAdded, AreAllAdded, AreAged, HidesNone, IsNew};
 
 use crate::confirming::Candidate;
-use crate::explaining::{has_more, may_hide_two, pairs_that_explain, theirs_left};
+use crate::explaining::{has_more, may_hide_two, other, pairs_that_explain};
 use crate::pair::{Pair, TwoPlies};
 use chess_clock::Reading;
 use chess_rules::{Move, Position};
@@ -137,6 +137,25 @@ fn add_correcting(
     add_pairs(alloc, candidates, true, &before, picture, reading)
 }
 
+/// Whether no pair explains the last picture, where it waits, since a side has left no square that it would have left: the first
+/// mover of a pair leaves one to whatever is there now, the second one leaves one bare; and where the pair corrects the last ply,
+/// the piece of this ply isn't where it was put.
+#[inline(always)]
+pub fn hides_none(settler: &Settler) -> bool
+    ensures { IsTrue result → HidesNone settler.now }
+{
+    // The start is valid.
+    settler.start().parts();
+    let side = settler.position().parts().side;
+    if !settler.loses(other(side)) {
+        return true;
+    }
+    if settler.loses(side) {
+        return false;
+    }
+    !settler.bared(side)
+}
+
 /// Adds all pairs that explain a picture which waits: those from the settler's position, and those from the position before its
 /// last ply.
 pub fn add_all(
@@ -157,7 +176,7 @@ pub fn add_all(
     if has_more(settler.differs(), 12) {
         return Ok(());
     }
-    if !theirs_left(settler.position(), picture) {
+    if hides_none(settler) {
         return Ok(());
     }
     add_pairs(

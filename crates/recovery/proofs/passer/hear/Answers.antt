@@ -1,32 +1,26 @@
-use Rattle.std.proofs.Common.{◌∷◌, Ok, Some, None, ap, ◌∙◌}
+use Rattle.std.proofs.Common.{◌∷◌, Ok, None, ap, ◌∙◌, true, false, if◌then◌else◌}
 use Rattle.board_session.specs.Session.{entries_in}
 use Rattle.recovery.specs.Keeping.{KeepsNext}
-use Rattle.recovery.proofs.EventLemmas.{alike_event, carries_none, carries_put}
-use Rattle.recovery.proofs.KeepLemmas.{at_some, legal_found}
-use Rattle.recovery.proofs.PassLemmas.{told_alone}
+use Rattle.recovery.proofs.EventLemmas.{carries_none}
+use Rattle.recovery.proofs.KeepLemmas.{at_some}
 use Rattle.recovery.proofs.passer.hear.Goals as goal
 
-pub add_recovered-requires-clause-first : goal.add_recovered-requires-clause-first
-add_recovered-requires-clause-first c =
-    let begun = c.requires.begun in
-    let next : KeepsNext c.take.new.self begun.0 begun.1 c.args.event.now (Some c.in-Ok-Some.found) begun.2 =
-    at_some (λ found. KeepsNext c.take.new.self begun.0 begun.1 c.args.event.now found begun.2) c.take.result (Some c.in-Ok-Some.found) (c.in-Ok-Some.is ∙ ap Ok c.in-Ok-Some.field-0-is)
-    (c.take.ensures begun.0 begun.1 begun.2 begun.3) in
-    (legal_found begun.0 begun.1 c.args.event.now c.in-Ok-Some.found next.finds).0
+pub tell-requires-clause-told : goal.tell-requires-clause-told
+tell-requires-clause-told c =
+    let begun = c.requires.begun in (
+      begun.0,
+      begun.1,
+      c.args.event.now,
+      begun.2,
+      at_some (λ is. KeepsNext c.take.new.self begun.0 begun.1 c.args.event.now (if is then c.take.new.self.found else None) begun.2) c.take.result true (c.in-Ok-true.is ∙ ap Ok c.in-Ok-true.field-0-test)
+          (c.take.ensures begun.0 begun.1 begun.2 begun.3),
+    )
 
-pub add_recovered-requires-clause-second : goal.add_recovered-requires-clause-second
-add_recovered-requires-clause-second c =
-    let begun = c.requires.begun in
-    let next : KeepsNext c.take.new.self begun.0 begun.1 c.args.event.now (Some c.in-Ok-Some.found) begun.2 =
-    at_some (λ found. KeepsNext c.take.new.self begun.0 begun.1 c.args.event.now found begun.2) c.take.result (Some c.in-Ok-Some.found) (c.in-Ok-Some.is ∙ ap Ok c.in-Ok-Some.field-0-is)
-    (c.take.ensures begun.0 begun.1 begun.2 begun.3) in
-    (legal_found begun.0 begun.1 c.args.event.now c.in-Ok-Some.found next.finds).1
-
-pub returns-in-Ok-None : goal.returns-in-Ok-None
-returns-in-Ok-None c = λ setting past written carries.
+pub returns-in-Ok-false : goal.returns-in-Ok-false
+returns-in-Ok-false c = λ setting past written carries.
     let event = c.args.event.now in
     let next : KeepsNext c.take.new.self setting past event None (entries_in setting written) =
-    at_some (λ found. KeepsNext c.take.new.self setting past event found (entries_in setting written)) c.take.result None (c.in-Ok-None.is ∙ ap Ok c.in-Ok-None.field-0-is)
+    at_some (λ is. KeepsNext c.take.new.self setting past event (if is then c.take.new.self.found else None) (entries_in setting written)) c.take.result false (c.in-Ok-false.is ∙ ap Ok c.in-Ok-false.field-0-test)
     (c.take.ensures setting past (entries_in setting written) carries.keeps) in
     record {
       found = None;
@@ -35,21 +29,10 @@ returns-in-Ok-None c = λ setting past written carries.
       adds = (c.clear.ensures, c.clear-2.ensures);
     }
 
-pub returns-in-Ok-Some : goal.returns-in-Ok-Some
-returns-in-Ok-Some c = λ setting past written carries.
+pub returns-in-Ok-true : goal.returns-in-Ok-true
+returns-in-Ok-true c = λ setting past written carries.
     let event = c.args.event.now in
-    let r = c.in-Ok-Some.found in
-    let next : KeepsNext c.take.new.self setting past event (Some r) (entries_in setting written) =
-    at_some (λ found. KeepsNext c.take.new.self setting past event found (entries_in setting written)) c.take.result (Some r) (c.in-Ok-Some.is ∙ ap Ok c.in-Ok-Some.field-0-is)
+    let next : KeepsNext c.take.new.self setting past event c.take.new.self.found (entries_in setting written) =
+    at_some (λ is. KeepsNext c.take.new.self setting past event (if is then c.take.new.self.found else None) (entries_in setting written)) c.take.result true (c.in-Ok-true.is ∙ ap Ok c.in-Ok-true.field-0-test)
     (c.take.ensures setting past (entries_in setting written) carries.keeps) in
-    let same = (alike_event setting event past written c.requires.range carries.alike).reading in
-    record {
-      found = Some r;
-      finds = next.finds;
-      carries = carries_put c.take.new.self setting event past written r c.requires.range carries.alike next
-          (c.put_in.ensures.read setting past event _ next.keeps next.finds (event ∷ written) same);
-      adds = (
-        c.put_in.ensures.shows setting past event _ next.keeps next.finds,
-        told_alone c.args.offset r c.clear-2.new.self.items c.add_recovered.new.lines.items c.clear-2.ensures c.add_recovered.ensures,
-      );
-    }
+    c.tell.ensures setting past written event c.requires.range carries.alike next

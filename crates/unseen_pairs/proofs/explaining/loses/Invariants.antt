@@ -1,5 +1,5 @@
 use Rattle.std.proofs.Common.{◌<◌, ℕ}
-use Rattle.unseen_pairs.specs.Lost.{LosesAt}
+use Rattle.settle_core.specs.Lost.{LosesAt}
 use Rattle.unseen_pairs.proofs.explaining.loses.Given as goal
 
 abbrev pub invariant-loop-square : goal.invariant-loop-square

@@ -3,7 +3,7 @@ use Rattle.chess_rules.specs.Board.{other as other_side}
 use Rattle.std.proofs.lemmas.Bool.{both_ways}
 use Rattle.chess_rules.specs.declared.pieces.Side.{Side}
 use Rattle.chess_rules.specs.declared.parts.Parts.{Parts}
-use Rattle.unseen_pairs.specs.Lost.{Loses}
+use Rattle.settle_core.specs.Lost.{Loses}
 use Rattle.unseen_pairs.proofs.Counting.{two_change}
 use Rattle.unseen_pairs.proofs.Losing.{mover_loses, other_loses}
 use Rattle.unseen_pairs.proofs.explaining.may_hide_two.Goals as goal

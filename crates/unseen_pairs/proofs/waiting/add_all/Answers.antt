@@ -1,11 +1,8 @@
 use Rattle.std.proofs.Common.{false, subst}
-use Rattle.std.proofs.lemmas.Bool.{both_ways}
 use Rattle.chess_rules.specs.declared.parts.Parts.{Parts}
-use Rattle.chess_rules.specs.Board.{other as other_side}
 use Rattle.chess_rules.specs.Valid.{Valid}
-use Rattle.unseen_pairs.specs.Lost.{Loses}
 use Rattle.unseen_pairs.specs.Candidates.{AreAdded}
-use Rattle.unseen_pairs.proofs.Aging.{all_added, none_left, none_near}
+use Rattle.unseen_pairs.proofs.Aging.{all_added, none_near}
 use Rattle.unseen_pairs.proofs.waiting.add_all.Goals as goal
 
 pub returns-then-has_more : goal.returns-then-has_more
@@ -16,15 +13,9 @@ returns-then-has_more c = λ last played waits.
     none_near start plies c.args.picture.now c.args.reading.now c.args.candidates.now.items c.differs.result valid played
     c.has_more.ensures.fits (c.differs.ensures c.args.picture.now last) (c.has_more.ensures.more c.if-has_more.true)
 
-pub returns-then-not-theirs_left : goal.returns-then-not-theirs_left
-returns-then-not-theirs_left c = λ last played waits.
-    let start = c.args.settler.now.start in
-    let plies = c.args.settler.now.score.plies in
-    let valid : Valid start = subst Valid c.start.ensures c.parts.ensures.valid in
-    let l = c.theirs_left.ensures in
-    let L : Parts → Type 0 = λ (p : Parts). ¬ Loses p c.args.picture.now (other_side p.side) in
-    none_left start plies c.args.picture.now c.args.reading.now c.args.candidates.now.items valid played waits
-    (subst L c.position.ensures.reached (λ h. both_ways _ c.if-not-theirs_left.true (l.1 h)))
+pub returns-then-hides_none : goal.returns-then-hides_none
+returns-then-hides_none c = λ last played waits.
+    c.hides_none.ensures c.if-hides_none.true c.args.picture.now c.args.reading.now c.args.candidates.now.items last played waits
 
 pub returns : goal.returns
 returns c = λ last played waits.
@@ -32,4 +23,4 @@ returns c = λ last played waits.
     let plies = c.args.settler.now.score.plies in
     let A : Parts → Type 0 = λ (p : Parts). AreAdded false p c.args.picture.now c.args.reading.now c.args.candidates.now.items c.add_pairs.new.candidates.items in
     all_added c.add_correcting.result start plies c.args.picture.now c.args.reading.now c.args.candidates.now.items c.add_pairs.new.candidates.items c.add_correcting.new.candidates.items
-    (subst A c.position-2.ensures.reached c.in_ok-add_pairs.ensures) c.add_correcting.ensures.last c.add_correcting.ensures.none
+    (subst A c.position.ensures.reached c.in_ok-add_pairs.ensures) c.add_correcting.ensures.last c.add_correcting.ensures.none
