@@ -162,7 +162,7 @@ chunks-preserved g c =
       reading = search rules;
       working = c.in_default-give_chunk.ensures.working.0;
       telling = c.in_default-give_chunk.ensures.working.1;
-      flushed = λ was. c.in_default-give_chunk.ensures.flushed;
+      flushed = λ was. c.in_default-give_chunk.ensures.flushed (λ other. cc);
       told = λ was. c.give_chunk.ensures.told (c.chunks.invariant.told was);
       given = given_more c.chunks.decoder c.give_chunk.new.decoder c.chunks.keeper c.give_chunk.new.keeper setting c.chunks.total _ c.read_chunk.new.buffer c.in-Some.chunk (g.R.Read.remaining (inner_of c.args.reader.now)) (g.R.Read.remaining (inner_of c.chunks.reader)) (g.R.Read.remaining (inner_of c.read_chunk.new.reader)) (g.O.Write.contents (inner_of c.args.out.now)) (g.O.Write.contents (inner_of c.chunks.out)) (g.O.Write.contents (inner_of c.give_chunk.new.out)) (g.E.Write.contents (inner_of c.args.err.now)) (g.E.Write.contents (inner_of c.chunks.err)) (g.E.Write.contents (inner_of c.give_chunk.new.err))
           c.if-chunk.false c.chunks.invariant.given gives c.in_default-give_chunk.ensures.ok;
