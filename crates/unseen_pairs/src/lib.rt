@@ -6,6 +6,7 @@
 //! says.
 #![tactic(auto)]
 
+mod beginning;
 mod confirming;
 mod explaining;
 pub mod laws;
