@@ -148,7 +148,8 @@ fn dispatch<R: Read, O: Write, E: Write>(
     ensures known { result ≤ 4 }
     ensures status { result ≢ 2 }
     ensures flushed { IsFlushed out.old → IsFlushed out.new }
-    ensures recover_told { (options : BoardOptions) → subcommand.now ≡ Subcommand.Recover options → result ≡ 0 → IsFlushed err.old → IsFlushed err.new }
+    ensures recover_told { (options : BoardOptions) → subcommand.now ≡ Subcommand.Recover options → result ≡ 0
+        → IsFlushed err.old → IsFlushed err.new }
 {
     match subcommand {
         Subcommand::Show => list(alloc, Listing::Events, reader, out, err),
@@ -240,10 +241,11 @@ pub fn run<R: Read, O: Write, E: Write>(
     // Whatever was asked for, status 0 comes only where no stream has failed.
     ensures works { result ≡ 0 → (has_failed reader.new ≡ false) × ((has_failed out.new ≡ false) × (has_failed err.new ≡ false)) }
 
-    // Whatever was asked for, what was written on the output doesn't wait for a flush, unless a call on the output has failed. Under
+    // Whatever was asked for, what was written to the output doesn't wait for a flush, unless a call on it has failed. Under
     // `recover` with status 0 neither does a line on standard error.
     ensures flushed { IsFlushed out.old → IsFlushed out.new }
-    ensures recover_told { (rows : List Row) → Asks (map string_bytes arguments.now) (codes "recover") rows → result ≡ 0 → IsFlushed err.old → IsFlushed err.new }
+    ensures recover_told { (rows : List Row) → Asks (map string_bytes arguments.now) (codes "recover") rows → result ≡ 0
+        → IsFlushed err.old → IsFlushed err.new }
 
     // There is no other status, and 2 is for arguments that are refused.
     ensures known { result ≤ 4 }

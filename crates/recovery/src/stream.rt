@@ -176,8 +176,8 @@ pub fn recover_stream<R: Read, O: Write, E: Write>(
     ensures out_blamed { has_failed out.new ≡ true → result ≡ Err RecoverError.Write }
     ensures err_blamed { has_failed err.new ≡ true → result ≡ Err RecoverError.Lines }
 
-    // Nothing waits for a flush on a stream that works, so each read begins with all that was written flushed. Where a line could not
-    // be told, the pairs of its chunk that were put in before it may wait.
+    // Nothing waits for a flush on a stream that works, so each read begins with all that was written flushed. Where a line
+    // could not be told, the pairs of its chunk that were put in before it may wait.
     ensures flushed { result ≢ Err RecoverError.Lines → IsFlushed out.old → IsFlushed out.new }
     ensures told { IsFlushed err.old → IsFlushed err.new }
 {
