@@ -2,6 +2,10 @@
 #![tactic(auto)]
 
 #[cfg(test)]
+mod board_listing_page;
+#[cfg(test)]
+mod board_session_page;
+#[cfg(test)]
 mod chess_clock_page;
 #[cfg(test)]
 mod chess_rules_page;
@@ -10,8 +14,12 @@ mod chess_text_page;
 #[cfg(test)]
 mod dgt_frame_page;
 #[cfg(test)]
+mod pair_frames_page;
+#[cfg(test)]
 mod pgn_book_page;
 #[cfg(test)]
 mod settle_core_page;
+#[cfg(test)]
+mod unseen_pairs_page;
 #[cfg(test)]
 mod watched_streams_page;
