@@ -18,6 +18,8 @@ mod pair_frames_page;
 #[cfg(test)]
 mod pgn_book_page;
 #[cfg(test)]
+mod replay_arguments_page;
+#[cfg(test)]
 mod settle_core_page;
 #[cfg(test)]
 mod unseen_pairs_page;
