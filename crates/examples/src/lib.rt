@@ -14,9 +14,13 @@ mod chess_text_page;
 #[cfg(test)]
 mod dgt_frame_page;
 #[cfg(test)]
+mod dgt_replay_page;
+#[cfg(test)]
 mod pair_frames_page;
 #[cfg(test)]
 mod pgn_book_page;
+#[cfg(test)]
+mod recovery_page;
 #[cfg(test)]
 mod replay_arguments_page;
 #[cfg(test)]
