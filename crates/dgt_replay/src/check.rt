@@ -2,7 +2,7 @@
 ghost use Rattle.std.specs.Prelude.{◌≡◌, ◌≢◌, ◌≤◌, ◌⊎◌, ◌+◌, ◌++◌, false, true};
 ghost use Rattle.std.specs.Io.KnownBytes.{Keeps};
 ghost use Rattle.arrayvec.specs.ArrayVec.{array_vec_len};
-ghost use Rattle.watched_streams.specs.Watch.{inner_of, has_failed};
+ghost use Rattle.watched_streams.specs.Watch.{IsFlushed, inner_of, has_failed};
 ghost use Rattle.dgt_replay.specs.Checked.{ChecksGame, ChecksPart, RefusesText, summary_line};
 ghost use Rattle.watched_streams.specs.Input.{ReadsWithin};
 ghost use Rattle.dgt_replay.specs.Messages.{Tells};
@@ -52,6 +52,7 @@ pub fn check<R: Read, O: Write, E: Write>(
     ensures works { result ≡ 0 → (has_failed reader.new ≡ false) × ((has_failed out.new ≡ false) × (err.new ≡ err.old)) }
     ensures known { result ≤ 4 }
     ensures status { result ≢ 2 }
+    ensures flushed { IsFlushed out.new }
 {
     let text = match read_text(alloc, reader, TEXT_LIMIT) {
         Ok(text) => text,

@@ -1,7 +1,7 @@
 //! What the program says on standard error when it refuses.
 ghost use Rattle.std.specs.Prelude.{◌≡◌, ◌≢◌, ◌≤◌, ◌++◌, ◌⊎◌, codes, length, false, true};
 ghost use Rattle.std.specs.Io.KnownBytes.{Keeps};
-ghost use Rattle.watched_streams.specs.Watch.{inner_of, has_failed};
+ghost use Rattle.watched_streams.specs.Watch.{IsFlushed, inner_of, has_failed};
 ghost use Rattle.dgt_replay.specs.Messages.{Says, fen_message, tag_name, tag_message};
 
 use chess_text::FenError;
@@ -32,6 +32,7 @@ pub fn refused_run<O: Write, E: Write>(
     ensures ended { ((result ≡ status) × Says (E.contents (inner_of err.old)) (E.contents (inner_of err.new)) (has_failed err.new) message.now)
         ⊎ ((result ≡ 3) × (has_failed out.new ≡ true) × Says (E.contents (inner_of err.old)) (E.contents (inner_of err.new)) (has_failed err.new) (codes "write fault\n")) }
     ensures kept { Keeps (O.contents (inner_of out.old)) (O.contents (inner_of out.new)) }
+    ensures flushed { IsFlushed out.new }
 {
     if out.flush().is_err() {
         return refused(err, b"write fault\n", 3);

@@ -7,7 +7,7 @@ ghost use Rattle.chess_rules.specs.declared.chess_move.Move.{Move as MoveOf};
 ghost use Rattle.chess_rules.specs.declared.parts.Parts.{Parts as PartsOf};
 ghost use Rattle.chess_rules.specs.Legal.{Legal};
 ghost use Rattle.chess_text.specs.San.{San};
-ghost use Rattle.watched_streams.specs.Watch.{inner_of, has_failed};
+ghost use Rattle.watched_streams.specs.Watch.{IsFlushed, inner_of, has_failed};
 ghost use Rattle.dgt_replay.specs.Printed.{PrintsMoves, PrintsPart, TellsMoves};
 ghost use Rattle.replay_arguments.specs.Setups.{HasNoStart, StartsAt, given};
 ghost use Rattle.dgt_replay.specs.Refusals.{RefusesStart};
@@ -73,6 +73,7 @@ pub fn moves<O: Write, E: Write>(
     ensures works { result ≡ 0 → (has_failed out.new ≡ false) × (err.new ≡ err.old) }
     ensures known { result ≤ 4 }
     ensures status { result ≢ 2 }
+    ensures flushed { IsFlushed out.old → IsFlushed out.new }
 {
     let position = match start_of(fen) {
         Ok(position) => position,

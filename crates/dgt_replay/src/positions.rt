@@ -8,7 +8,7 @@ ghost use Rattle.chess_rules.specs.After.{after};
 ghost use Rattle.chess_rules.specs.Legal.{Legal};
 ghost use Rattle.chess_text.specs.Fen.{fen as fen_of};
 ghost use Rattle.chess_text.specs.San.{San};
-ghost use Rattle.watched_streams.specs.Watch.{inner_of, has_failed};
+ghost use Rattle.watched_streams.specs.Watch.{IsFlushed, inner_of, has_failed};
 ghost use Rattle.replay_arguments.specs.Setups.{HasNoStart, StartsAt, given};
 ghost use Rattle.dgt_replay.specs.Does.{Plays, Refuses};
 ghost use Rattle.dgt_replay.specs.Messages.{Says, Tells};
@@ -126,6 +126,7 @@ fn put_positions<O: Write, E: Write>(
         × Says (E.contents (inner_of err.old)) (E.contents (inner_of err.new)) (has_failed err.new) (codes "write fault\n") }
     ensures known { result ≤ 3 }
     ensures status { result ≢ 2 }
+    ensures flushed { IsFlushed out.new }
 {
     if put(out, lines).is_err() || out.flush().is_err() {
         return refused(err, b"write fault\n", 3);
@@ -154,6 +155,7 @@ fn play_text<O: Write, E: Write>(
     ensures works { result ≡ 0 → (has_failed out.new ≡ false) × (err.new ≡ err.old) }
     ensures known { result ≤ 4 }
     ensures status { result ≢ 2 }
+    ensures flushed { IsFlushed out.new }
 {
     let mut lines = Vec::new(alloc);
     match play_words(start, text, &mut lines) {
@@ -176,6 +178,7 @@ fn play<R: Read, O: Write, E: Write>(
     ensures works { result ≡ 0 → (has_failed reader.new ≡ false) × ((has_failed out.new ≡ false) × (err.new ≡ err.old)) }
     ensures known { result ≤ 4 }
     ensures status { result ≢ 2 }
+    ensures flushed { IsFlushed out.new }
 {
     match read_text(alloc, reader, LINE_LIMIT) {
         Ok(text) => play_text(alloc, start, text.as_slice(), out, err),
@@ -202,6 +205,7 @@ pub fn positions<R: Read, O: Write, E: Write>(
     ensures works { result ≡ 0 → (has_failed reader.new ≡ false) × ((has_failed out.new ≡ false) × (err.new ≡ err.old)) }
     ensures known { result ≤ 4 }
     ensures status { result ≢ 2 }
+    ensures flushed { IsFlushed out.old → IsFlushed out.new }
 {
     match start_of(fen) {
         Ok(start) => play(alloc, start, reader, out, err),

@@ -7,7 +7,8 @@ ghost use Rattle.board_session.specs.Settings.{Setting};
 ghost use Rattle.chess_rules.specs.declared.parts.Parts.{Parts as PartsOf};
 ghost use Rattle.clap.specs.Values.{kind_of};
 ghost use Rattle.clap.specs.Walk.{Row, first_of};
-ghost use Rattle.watched_streams.specs.Watch.{inner_of, has_failed};
+ghost use Rattle.watched_streams.specs.Watch.{IsFlushed, inner_of, has_failed};
+ghost use Rattle.replay_arguments.specs.declared.arguments.BoardArguments.{BoardArguments as BoardOptions};
 ghost use Rattle.replay_arguments.specs.Subcommands.{AreMistaken, Asks, AsksForHelp, AsksForVersion, AsksToFollow, AsksToRecord, AsksToRecover, IsCheck, IsPictures, IsRefused, IsShow};
 ghost use Rattle.board_listing.specs.declared.listing.Listing.{Listing};
 ghost use Rattle.board_listing.specs.EventLines.{rest_line};
@@ -53,6 +54,7 @@ fn refused_arguments<O: Write, E: Write>(
         (E.contents (inner_of err.old)) (E.contents (inner_of err.new)) (has_failed out.new) (has_failed err.new) }
     ensures works { result ≡ 0 → (has_failed out.new ≡ false) × (has_failed err.new ≡ false) }
     ensures known { result ≤ 4 }
+    ensures flushed { IsFlushed out.old → IsFlushed out.new }
 {
     if matches!(error.kind(), ErrorKind::OutOfMemory) {
         return refused(err, b"memory\n", 4);
@@ -83,6 +85,7 @@ fn list<R: Read, O: Write, E: Write>(
     ensures works { result ≡ 0 → (has_failed reader.new ≡ false) × ((has_failed out.new ≡ false) × (has_failed err.new ≡ false)) }
     ensures known { result ≤ 4 }
     ensures status { result ≢ 2 }
+    ensures flushed { IsFlushed out.new }
 {
     let done = list_stream(alloc, listing, reader, out);
     if out.failed() || out.flush().is_err() {
@@ -112,6 +115,7 @@ fn follow<R: Read, O: Write, E: Write>(
     ensures works { result ≡ 0 → (has_failed reader.new ≡ false) × ((has_failed out.new ≡ false) × (has_failed err.new ≡ false)) }
     ensures known { result ≤ 4 }
     ensures status { result ≢ 2 }
+    ensures flushed { IsFlushed out.old → IsFlushed out.new }
 {
     match start_of(options.fen) {
         Ok(start) => {
@@ -142,6 +146,8 @@ fn dispatch<R: Read, O: Write, E: Write>(
     ensures works { result ≡ 0 → (has_failed reader.new ≡ false) × ((has_failed out.new ≡ false) × (has_failed err.new ≡ false)) }
     ensures known { result ≤ 4 }
     ensures status { result ≢ 2 }
+    ensures flushed { IsFlushed out.old → IsFlushed out.new }
+    ensures recover_told { (options : BoardOptions) → subcommand.now ≡ Subcommand.Recover options → result ≡ 0 → IsFlushed err.old → IsFlushed err.new }
 {
     match subcommand {
         Subcommand::Show => list(alloc, Listing::Events, reader, out, err),
@@ -232,6 +238,11 @@ pub fn run<R: Read, O: Write, E: Write>(
 
     // Whatever was asked for, status 0 comes only where no stream has failed.
     ensures works { result ≡ 0 → (has_failed reader.new ≡ false) × ((has_failed out.new ≡ false) × (has_failed err.new ≡ false)) }
+
+    // Whatever was asked for, what was written on the output doesn't wait for a flush, unless a call on the output has failed. Under
+    // `recover` with status 0 neither does a line on standard error.
+    ensures flushed { IsFlushed out.old → IsFlushed out.new }
+    ensures recover_told { (rows : List Row) → Asks (map string_bytes arguments.now) (codes "recover") rows → result ≡ 0 → IsFlushed err.old → IsFlushed err.new }
 
     // There is no other status, and 2 is for arguments that are refused.
     ensures known { result ≤ 4 }

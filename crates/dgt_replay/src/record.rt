@@ -2,7 +2,7 @@
 ghost use Rattle.std.specs.Prelude.{◌≡◌, ◌≢◌, ◌≤◌, ◌+◌, ◌++◌, false};
 ghost use Rattle.arrayvec.specs.ArrayVec.{array_vec_len};
 ghost use Rattle.board_session.specs.declared.recording.Setup.{Setup as SetupOf};
-ghost use Rattle.watched_streams.specs.Watch.{inner_of, has_failed};
+ghost use Rattle.watched_streams.specs.Watch.{IsFlushed, inner_of, has_failed};
 ghost use Rattle.dgt_replay.specs.Does.{Records, Refuses};
 ghost use Rattle.dgt_replay.specs.Messages.{Says};
 ghost use Rattle.dgt_replay.specs.Recorded.{EndsFor, Fails, RecordsAndTells, report_line};
@@ -64,6 +64,7 @@ fn record_as<R: Read, O: Write, E: Write>(
     ensures works { result ≡ 0 → (has_failed reader.new ≡ false) × ((has_failed out.new ≡ false) × (has_failed err.new ≡ false)) }
     ensures known { result ≤ 4 }
     ensures status { result ≢ 2 }
+    ensures flushed { IsFlushed out.new }
 {
     match record(alloc, setup, reader, err, out) {
         Ok(report) => {
@@ -99,6 +100,7 @@ pub fn record_game<R: Read, O: Write, E: Write>(
     ensures works { result ≡ 0 → (has_failed reader.new ≡ false) × ((has_failed out.new ≡ false) × (has_failed err.new ≡ false)) }
     ensures known { result ≤ 4 }
     ensures status { result ≢ 2 }
+    ensures flushed { IsFlushed out.old → IsFlushed out.new }
 {
     // For its clause: no two setups are as the arguments say, since no two positions share a FEN.
     texts_tell_positions();

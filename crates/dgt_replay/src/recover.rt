@@ -1,7 +1,7 @@
 //! The subcommand `recover`.
 ghost use Rattle.std.specs.Prelude.{◌≡◌, ◌≢◌, ◌≤◌, false};
 ghost use Rattle.board_session.specs.Settings.{Setting};
-ghost use Rattle.watched_streams.specs.Watch.{inner_of, has_failed};
+ghost use Rattle.watched_streams.specs.Watch.{IsFlushed, inner_of, has_failed};
 ghost use Rattle.dgt_replay.specs.Does.{Recovers, Refuses};
 ghost use Rattle.dgt_replay.specs.Refusals.{RefusesStart};
 ghost use Rattle.dgt_replay.specs.Streams.{streams};
@@ -32,6 +32,8 @@ fn recover_from<R: Read, O: Write, E: Write>(
     ensures works { result ≡ 0 → (has_failed reader.new ≡ false) × ((has_failed out.new ≡ false) × (has_failed err.new ≡ false)) }
     ensures known { result ≤ 4 }
     ensures status { result ≢ 2 }
+    ensures flushed { IsFlushed out.new }
+    ensures told { result ≡ 0 → IsFlushed err.old → IsFlushed err.new }
 {
     let done = recover_stream(
         alloc,
@@ -70,6 +72,8 @@ pub fn recover<R: Read, O: Write, E: Write>(
     ensures works { result ≡ 0 → (has_failed reader.new ≡ false) × ((has_failed out.new ≡ false) × (has_failed err.new ≡ false)) }
     ensures known { result ≤ 4 }
     ensures status { result ≢ 2 }
+    ensures flushed { IsFlushed out.old → IsFlushed out.new }
+    ensures told { result ≡ 0 → IsFlushed err.old → IsFlushed err.new }
 {
     match start_of(options.fen) {
         Ok(start) => recover_from(alloc, start, options, reader, out, err),

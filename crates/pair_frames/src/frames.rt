@@ -1,4 +1,4 @@
-// The frames of a pair.
+//! The frames of a pair.
 ghost use Rattle.std.specs.Prelude.{ℕ, ◌≡◌, ◌≤◌, ◌<◌, ◌+◌, ◌++◌, [], ◌∷◌, List, All, length, ◌↔◌, IsTrue};
 ghost use Rattle.std.specs.List.{AllByRecursion};
 ghost use Rattle.dgt_frame.specs.declared.events.Event.{Event as EventOf};
@@ -23,7 +23,7 @@ pub const MOST: usize = 221;
 /// The status of a time message where no clock is connected.
 const NO_CLOCK: u8 = 0x20;
 
-// A number of two digits: its tens in the upper four bits.
+/// A number of two digits: its tens in the upper four bits.
 fn digits(number: u8) -> u8
     requires { number ≤ 59 }
     ensures same { result ≡ digits number }
@@ -32,7 +32,7 @@ fn digits(number: u8) -> u8
     16 * (number / 10) + number % 10
 }
 
-// A reading's times, first that of this side, and the status.
+/// A reading's times, first that of this side, and the status.
 fn times_of(first: First, reading: &Option<Reading>) -> [u8; 7]
     ensures same { result ≡ times_of first reading.now }
     ensures low { AllByRecursion IsLow result }
@@ -71,7 +71,7 @@ fn append(bytes: &[u8], out: &mut ArrayVec<u8, MOST>)
     }
 }
 
-// Adds the frame of a message.
+/// Adds the frame of a message.
 fn add(message: &Message, out: &mut ArrayVec<u8, MOST>)
     requires encodable { IsEncodable message.now }
     requires room { (frame : List ℕ) → Frame message.now frame → length out.old.items + length frame ≤ 221 }
@@ -87,7 +87,7 @@ fn add(message: &Message, out: &mut ArrayVec<u8, MOST>)
     append(&frame, out);
 }
 
-// The codes of the fields, of a board that stands turned or not.
+/// The codes of the fields, of a board that stands turned or not.
 fn fields_of(rotated: bool, picture: &[u8; 64]) -> [u8; 64]
     requires { All (λ code. code < 16) picture.now }
     ensures same { result ≡ fields_of rotated picture.now }
@@ -100,7 +100,7 @@ fn fields_of(rotated: bool, picture: &[u8; 64]) -> [u8; 64]
     fields
 }
 
-// Adds a dump of the picture.
+/// Adds a dump of the picture.
 fn add_dump(rotated: bool, picture: &[u8; 64], out: &mut ArrayVec<u8, MOST>)
     requires codes { All (λ code. code < 16) picture.now }
     requires room { length out.old.items + 67 ≤ 221 }
@@ -112,7 +112,7 @@ fn add_dump(rotated: bool, picture: &[u8; 64], out: &mut ArrayVec<u8, MOST>)
     add(&Message::Dump(fields_of(rotated, picture)), out);
 }
 
-// Adds a time message that gives the reading, where it is another one than now.
+/// Adds a time message that gives the reading, where it is another one than now.
 fn add_time(
     first: First,
     now: &Option<Reading>,

@@ -12,5 +12,4 @@ pub mod ParseBack
 pub mod Starts
 pub mod TagsRead
 pub mod Turns
-pub mod Sectioned
 pub mod TextSizes

@@ -22,6 +22,7 @@ use Rattle.pgn_book.specs.Movetext.{ShownMove, AreShown}
 use Rattle.pgn_book.specs.Pgn.{Pgn, IsSetUp, at_initial, elsewhere}
 use Rattle.pgn_book.specs.Parse.{Turn, IsTurn, AreTurns, StartsAt, Parses, fen_at, set_up_part, moves_part, words, turns_at}
 use Rattle.pgn_book.proofs.Export.{pieces, pgn_is_pieces}
+use Rattle.pgn_book.proofs.TagsRead.{one_list}
 
 abbrev make_shown : Side → ℕ → List ℕ → Option Hms → ShownMove
 make_shown side number san clock = record { side = side; number = number; san = san; clock = clock }
@@ -92,7 +93,7 @@ one_parsed moves positions g h text i j p q =
     let start = one_start positions g.start h.start (fen_at (set_up_part text)) i.start j.start p.start q.start in
     let turns = turns_at (words (moves_part (set_up_part text))) in
     let line = subst (λ (x : Parts). AreTurns x h.plies turns) (sym start) q.plies in
-    same_game g h (p.tags ∙ sym q.tags) start (one_line moves g.start g.plies h.plies turns i.start p.plies line) (p.result ∙ sym q.result)
+    same_game g h (one_list g.tags h.tags text p.tags q.tags) start (one_line moves g.start g.plies h.plies turns i.start p.plies line) (p.result ∙ sym q.result)
 
 -- ---- the result of a game is its own sign
 

@@ -1,7 +1,8 @@
 -- The text of a game parses as that game.
-use Rattle.std.proofs.Common.{◌≡◌, ℕ, Bool, true, false, eqb, cond, List, [], ◌∷◌, ◌++◌, drop, map, Option, None, Some, refl, sym, ap, subst, ◌∙◌, append_assoc}
+use Rattle.std.proofs.Common.{◌≡◌, ℕ, Bool, true, false, eqb, cond, List, [], ◌∷◌, ◌++◌, drop, length, map, Option, None, Some, refl, sym, ap, subst, ◌∙◌, ◌+◌, append_assoc, length-append, arith}
 use Rattle.std.specs.Prelude.{codes, ◌||◌}
 use Rattle.std.specs.List.{AllByRecursion}
+use Rattle.std.proofs.lemmas.List.{drop_at}
 use Rattle.std.proofs.lemmas.List.Elements.{recursion_from_All}
 use Rattle.chess_rules.specs.declared.parts.Parts.{Parts}
 use Rattle.chess_rules.specs.Initial.{initial}
@@ -13,12 +14,14 @@ use Rattle.settle_core.specs.declared.plies.Outcome.TheVariants.{WhiteWins, Blac
 use Rattle.settle_core.specs.declared.plies.Ply.{Ply}
 use Rattle.settle_core.specs.Settling.{Line}
 use Rattle.settle_core.specs.Folding.{moves_of}
-use Rattle.pgn_book.specs.Values.{TagValues}
+use Rattle.pgn_book.specs.declared.values.Tag.{Tag}
+use Rattle.pgn_book.specs.TagNames.{all_tags, tag_name}
+use Rattle.pgn_book.specs.Values.{TagValues, value_of}
 use Rattle.pgn_book.specs.Games.{Content, IsTimed}
 use Rattle.pgn_book.specs.Movetext.{ShownMove, AreShown, result_text, game_tokens}
-use Rattle.pgn_book.specs.Pgn.{Pgn, IsSetUp, at_initial, elsewhere, escape, escaped, tag_line, roster}
+use Rattle.pgn_book.specs.Pgn.{Pgn, IsSetUp, at_initial, elsewhere, escape, escaped, tag_line, tag_lines, roster}
 use Rattle.pgn_book.specs.Flow.{flow}
-use Rattle.pgn_book.specs.Parse.{Turn, AreTurns, StartsAt, Parses, words, turns_at, value_at, after_value, result_at, event_part, next_part, site_part, date_part, round_part, white_part, black_part, result_part, set_up_part, has_fen, fen_part, fen_at, moves_part, tags_at}
+use Rattle.pgn_book.specs.Parse.{Turn, AreTurns, StartsAt, Parses, words, turns_at, value_at, after_value, result_at, HaveValues, behind_lines, value_part, next_part, next_line, result_part, set_up_part, has_fen, fen_part, fen_at, moves_part}
 use Rattle.pgn_book.proofs.Export.{pgn_is_pieces}
 use Rattle.pgn_book.proofs.Tokens.{moves_fit, game_fits}
 use Rattle.pgn_book.proofs.WordLemmas.{turn_of, movetext_back}
@@ -71,67 +74,48 @@ result_back (Some BlackWins) more = refl
 result_back (Some Drawn) more = refl
 result_back None more = refl
 
--- the roster, line after line
-roster_regroup : (t : TagValues) (result more : List ℕ) → roster t result ++ more
-    ≡ tag_line (codes "Event") t.event ++ (tag_line (codes "Site") t.site ++ (tag_line (codes "Date") t.date ++ (tag_line (codes "Round") t.round
-    ++ (tag_line (codes "White") t.white ++ (tag_line (codes "Black") t.black ++ (tag_line (codes "Result") result ++ more))))))
-unfolding roster
-roster_regroup t result more =
-    let r7 = tag_line (codes "Result") result in
-    let r6 = tag_line (codes "Black") t.black ++ r7 in
-    let r5 = tag_line (codes "White") t.white ++ r6 in
-    let r4 = tag_line (codes "Round") t.round ++ r5 in
-    let r3 = tag_line (codes "Date") t.date ++ r4 in
-    let r2 = tag_line (codes "Site") t.site ++ r3 in
-    append_assoc (tag_line (codes "Event") t.event) r2 more
-    ∙ ap (λ (x : List ℕ). tag_line (codes "Event") t.event ++ x) (append_assoc (tag_line (codes "Site") t.site) r3 more
-    ∙ ap (λ (x : List ℕ). tag_line (codes "Site") t.site ++ x) (append_assoc (tag_line (codes "Date") t.date) r4 more
-    ∙ ap (λ (x : List ℕ). tag_line (codes "Date") t.date ++ x) (append_assoc (tag_line (codes "Round") t.round) r5 more
-    ∙ ap (λ (x : List ℕ). tag_line (codes "Round") t.round ++ x) (append_assoc (tag_line (codes "White") t.white) r6 more
-    ∙ ap (λ (x : List ℕ). tag_line (codes "White") t.white ++ x) (append_assoc (tag_line (codes "Black") t.black) r7 more)))))
+-- where the value of a line begins
+value_begins : (name more : List ℕ) → value_part name (codes "[" ++ (name ++ (codes " \"" ++ more))) ≡ more
+unfolding value_part
+value_begins name more =
+    let front = codes "[" ++ (name ++ codes " \"") in
+    ap (drop (length name + 3)) (ap (λ (x : List ℕ). codes "[" ++ x) (sym (append_assoc name (codes " \"") more)))
+    ∙ drop_at front more (length name + 3) (omega (arith, length-append name (codes " \"")))
+
+-- the lines of tags, one after another
+record HasLines (text : List ℕ) (tags : List Tag) (values : TagValues) (more : List ℕ) : Type 0 where
+  have : HaveValues tags values text
+  rest : behind_lines tags text ≡ more
+
+lines_back : (tags : List Tag) (values : TagValues) (more text : List ℕ) → text ≡ tag_lines values tags ++ more → HasLines text tags values more
+lines_back [] values more text e = record { have = tt; rest = e }
+lines_back (tag ∷ tags) values more text e =
+    let value = value_of tag values in
+    let after = tag_lines values tags ++ more in
+    let begins : value_part (tag_name tag) text ≡ escaped value ++ 34 ∷ behind after =
+    ap (value_part (tag_name tag)) (e ∙ append_assoc (tag_line (tag_name tag) value) (tag_lines values tags) more ∙ line_regroup (tag_name tag) value after)
+    ∙ value_begins (tag_name tag) (escaped value ++ 34 ∷ behind after) in
+    let next = lines_back tags values more (next_line (value_part (tag_name tag) text)) (next_behind 2 (value_part (tag_name tag) text) value (behind after) begins) in
+    record { have = (sym (value_there (value_part (tag_name tag) text) value (behind after) begins), next.have); rest = next.rest }
 
 -- what the roster's parts hold
-record HasRoster (text : List ℕ) (t : TagValues) (result : Option Outcome) (more : List ℕ) : Type 0 where
-  has_tags : t ≡ tags_at text
+record HasRoster (text : List ℕ) (values : TagValues) (result : Option Outcome) (more : List ℕ) : Type 0 where
+  have : HaveValues all_tags values text
   has_result : result ≡ result_at (result_part text)
   rest : set_up_part text ≡ more
 
-abbrev make_tags : List ℕ → List ℕ → List ℕ → List ℕ → List ℕ → List ℕ → TagValues
-make_tags event site date round white black = record { event = event; site = site; date = date; round = round; white = white; black = black }
-
-roster_back : (t : TagValues) (result : Option Outcome) (more text : List ℕ) → text ≡ roster t (result_text result) ++ more → HasRoster text t result more
-unfolding event_part
-roster_back t result more text e =
+roster_back : (values : TagValues) (result : Option Outcome) (more text : List ℕ) → text ≡ roster values (result_text result) ++ more → HasRoster text values result more
+unfolding roster
+roster_back values result more text e =
     let mark = result_text result in
-    let r7 = tag_line (codes "Result") mark ++ more in
-    let r6 = tag_line (codes "Black") t.black ++ r7 in
-    let r5 = tag_line (codes "White") t.white ++ r6 in
-    let r4 = tag_line (codes "Round") t.round ++ r5 in
-    let r3 = tag_line (codes "Date") t.date ++ r4 in
-    let r2 = tag_line (codes "Site") t.site ++ r3 in
-    let whole = e ∙ roster_regroup t mark more in
-    let at_event : event_part text ≡ escaped t.event ++ 34 ∷ behind r2 = ap (drop 8) (whole ∙ line_regroup (codes "Event") t.event r2) in
-    let at_site : site_part text ≡ escaped t.site ++ 34 ∷ behind r3 = next_behind 9 (event_part text) t.event (behind r2) at_event ∙ ap (drop 7) (line_regroup (codes "Site") t.site r3) in
-    let at_date : date_part text ≡ escaped t.date ++ 34 ∷ behind r4 = next_behind 9 (site_part text) t.site (behind r3) at_site ∙ ap (drop 7) (line_regroup (codes "Date") t.date r4) in
-    let at_round : round_part text ≡ escaped t.round ++ 34 ∷ behind r5 = next_behind 10 (date_part text) t.date (behind r4) at_date ∙ ap (drop 8) (line_regroup (codes "Round") t.round r5) in
-    let at_white : white_part text ≡ escaped t.white ++ 34 ∷ behind r6 = next_behind 10 (round_part text) t.round (behind r5) at_round ∙ ap (drop 8) (line_regroup (codes "White") t.white r6) in
-    let at_black : black_part text ≡ escaped t.black ++ 34 ∷ behind r7 = next_behind 10 (white_part text) t.white (behind r6) at_white ∙ ap (drop 8) (line_regroup (codes "Black") t.black r7) in
-    let at_result : result_part text ≡ escaped mark ++ 34 ∷ behind more = next_behind 11 (black_part text) t.black (behind r7) at_black ∙ ap (drop 9) (line_regroup (codes "Result") mark more) in
-    let event = sym (value_there (event_part text) t.event (behind r2) at_event) in
-    let site = sym (value_there (site_part text) t.site (behind r3) at_site) in
-    let date = sym (value_there (date_part text) t.date (behind r4) at_date) in
-    let round = sym (value_there (round_part text) t.round (behind r5) at_round) in
-    let white = sym (value_there (white_part text) t.white (behind r6) at_white) in
-    let black = sym (value_there (black_part text) t.black (behind r7) at_black) in
+    let last = tag_line (codes "Result") mark in
+    let lines = lines_back all_tags values (last ++ more) text (e ∙ append_assoc (tag_lines values all_tags) last more) in
+    let begins : result_part text ≡ escaped mark ++ 34 ∷ behind more =
+    ap (value_part (codes "Result")) (lines.rest ∙ line_regroup (codes "Result") mark more) ∙ value_begins (codes "Result") (escaped mark ++ 34 ∷ behind more) in
     record {
-      has_tags = ap (λ x. make_tags x t.site t.date t.round t.white t.black) event
-          ∙ ap (λ x. make_tags (value_at false (event_part text)) x t.date t.round t.white t.black) site
-          ∙ ap (λ x. make_tags (value_at false (event_part text)) (value_at false (site_part text)) x t.round t.white t.black) date
-          ∙ ap (λ x. make_tags (value_at false (event_part text)) (value_at false (site_part text)) (value_at false (date_part text)) x t.white t.black) round
-          ∙ ap (λ x. make_tags (value_at false (event_part text)) (value_at false (site_part text)) (value_at false (date_part text)) (value_at false (round_part text)) x t.black) white
-          ∙ ap (λ x. make_tags (value_at false (event_part text)) (value_at false (site_part text)) (value_at false (date_part text)) (value_at false (round_part text)) (value_at false (white_part text)) x) black;
-      has_result = sym (ap result_at at_result ∙ result_back result (behind more));
-      rest = next_behind 2 (result_part text) mark (behind more) at_result;
+      have = lines.have;
+      has_result = sym (ap result_at begins ∙ result_back result (behind more));
+      rest = next_behind 2 (result_part text) mark (behind more) begins;
     }
 
 -- what the set-up part holds
@@ -181,7 +165,7 @@ pgn_parses plain game text h =
     let turns : turns_at (words (moves_part (set_up_part text))) ≡ map turn_of h.moves =
     ap (λ (x : List ℕ). turns_at (words x)) s.has_moves ∙ movetext_back h.moves game.result fits tokens.0 in
     record {
-      tags = r.has_tags;
+      tags = r.have;
       start = s.starts;
       plies = subst (λ (ts : List Turn). AreTurns game.start game.plies ts) (sym turns)
           (turns_are game.start game.plies h.moves g.line (recursion_from_All IsTimed game.plies g.clocks) h.are_moves);

@@ -14,12 +14,14 @@ use Rattle.chess_text.specs.Laws.{FensArePlain, TextsArePlain}
 use Rattle.settle_core.specs.declared.plies.Outcome.{Outcome}
 use Rattle.settle_core.specs.declared.plies.Outcome.TheVariants.{WhiteWins, BlackWins, Drawn}
 use Rattle.settle_core.specs.declared.plies.Ply.{Ply}
+use Rattle.pgn_book.specs.declared.values.Tag.{Tag}
 use Rattle.pgn_book.specs.declared.values.Tag.TheVariants.{Event, Site, Date, Round, White as WhiteTag, Black as BlackTag}
 use Rattle.pgn_book.specs.Flow.{piece, column, flow}
 use Rattle.pgn_book.specs.Laws.{TextsAreShort}
 use Rattle.pgn_book.specs.Movetext.{ShownMove, AreShown, number_tokens, clock_tokens, move_tokens, tokens_of, result_text, game_tokens}
-use Rattle.pgn_book.specs.Pgn.{IsSetUp, at_initial, elsewhere, escape, escaped, roster, tag_line}
-use Rattle.pgn_book.specs.Values.{AreValues, TagValues}
+use Rattle.pgn_book.specs.Pgn.{IsSetUp, at_initial, elsewhere, escape, escaped, roster, tag_line, tag_lines}
+use Rattle.pgn_book.specs.TagNames.{all_tags, tag_name}
+use Rattle.pgn_book.specs.Values.{AreValues, TagValues, value_of}
 use Rattle.pgn_book.proofs.Export.{pgn_is_pieces}
 use Rattle.pgn_book.proofs.Tokens.{Fits, moves_fit}
 
@@ -99,28 +101,30 @@ line_short name value =
       escaped_short value,
     )
 
-joined_short : (a b : List ℕ) (m n : ℕ) → length a ≤ m → length b ≤ n → length (a ++ b) ≤ m + n
-joined_short a b m n short shorter = omega (arith, length-append a b)
+name_short : (tag : Tag) → length (tag_name tag) ≤ 5
+name_short Event = omega arith
+name_short Site = omega arith
+name_short Date = omega arith
+name_short Round = omega arith
+name_short WhiteTag = omega arith
+name_short BlackTag = omega arith
 
-roster_short : (tags : TagValues) (result : List ℕ) → AreValues tags → length result ≤ 7 → length (roster tags result) ≤ 1290
+lines_short : (values : TagValues) (tags : List Tag) → AreValues values → length (tag_lines values tags) ≤ 211 * length tags
+lines_short values [] all = omega arith
+lines_short values (tag ∷ tags) all =
+    omega (
+      arith,
+      length-append (tag_line (tag_name tag) (value_of tag values)) (tag_lines values tags),
+      line_short (tag_name tag) (value_of tag values),
+      name_short tag,
+      (all tag).short,
+      lines_short values tags all,
+    )
+
+roster_short : (values : TagValues) (result : List ℕ) → AreValues values → length result ≤ 7 → length (roster values result) ≤ 211 * length all_tags + 26
 unfolding roster
-roster_short tags result values short =
-    let event : length (tag_line (codes "Event") tags.event) ≤ 211 = omega (arith, line_short (codes "Event") tags.event, (values Event).short) in
-    let site : length (tag_line (codes "Site") tags.site) ≤ 210 = omega (arith, line_short (codes "Site") tags.site, (values Site).short) in
-    let date : length (tag_line (codes "Date") tags.date) ≤ 210 = omega (arith, line_short (codes "Date") tags.date, (values Date).short) in
-    let round : length (tag_line (codes "Round") tags.round) ≤ 211 = omega (arith, line_short (codes "Round") tags.round, (values Round).short) in
-    let white : length (tag_line (codes "White") tags.white) ≤ 211 = omega (arith, line_short (codes "White") tags.white, (values WhiteTag).short) in
-    let black : length (tag_line (codes "Black") tags.black) ≤ 211 = omega (arith, line_short (codes "Black") tags.black, (values BlackTag).short) in
-    let last : length (tag_line (codes "Result") result) ≤ 26 = omega (arith, line_short (codes "Result") result) in
-    let from_black = joined_short (tag_line (codes "Black") tags.black) (tag_line (codes "Result") result) 211 26 black last in
-    let from_white = joined_short (tag_line (codes "White") tags.white) (tag_line (codes "Black") tags.black ++ tag_line (codes "Result") result) 211 237 white from_black in
-    let from_round = joined_short (tag_line (codes "Round") tags.round) (tag_line (codes "White") tags.white ++ (tag_line (codes "Black") tags.black ++ tag_line (codes "Result") result)) 211 448 round from_white in
-    let from_date = joined_short (tag_line (codes "Date") tags.date)
-    (tag_line (codes "Round") tags.round ++ (tag_line (codes "White") tags.white ++ (tag_line (codes "Black") tags.black ++ tag_line (codes "Result") result))) 210 659 date from_round in
-    let from_site = joined_short (tag_line (codes "Site") tags.site)
-    (tag_line (codes "Date") tags.date ++ (tag_line (codes "Round") tags.round ++ (tag_line (codes "White") tags.white ++ (tag_line (codes "Black") tags.black ++ tag_line (codes "Result") result)))) 210 869 site from_date in
-    joined_short (tag_line (codes "Event") tags.event)
-    (tag_line (codes "Site") tags.site ++ (tag_line (codes "Date") tags.date ++ (tag_line (codes "Round") tags.round ++ (tag_line (codes "White") tags.white ++ (tag_line (codes "Black") tags.black ++ tag_line (codes "Result") result))))) 211 1079 event from_site
+roster_short values result all short =
+    omega (arith, length-append (tag_lines values all_tags) (tag_line (codes "Result") result), lines_short values all_tags all, line_short (codes "Result") result)
 
 set_up_short : FensArePlain → (start : Parts) (lines : List ℕ) → Valid start → IsSetUp start lines → length lines ≤ 204
 set_up_short plain start lines valid (at_initial is none) = omega (arith, ap length none)

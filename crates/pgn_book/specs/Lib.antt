@@ -1,3 +1,4 @@
+pub mod TagNames
 pub mod Values
 pub mod TagFields
 pub mod Games
@@ -9,4 +10,3 @@ pub mod Written
 pub mod Laws
 pub mod Flow
 pub mod Parse
-pub mod Sections

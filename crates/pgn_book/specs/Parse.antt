@@ -1,6 +1,6 @@
 -- What a text would be the text of. It is no test: the text that is written of the result is compared with the text.
 -- Private definitions: the public contracts do not cite them.
-use Rattle.std.specs.Prelude.{◌≡◌, ℕ, ◌+◌, ◌-◌, ◌*◌, List, [], ◌∷◌, ◌++◌, drop, Option, Some, None, Bool, true, false, not, ◌==◌, ◌||◌, ◌&&◌, nat_lt, slice_index, if◌then◌else◌}
+use Rattle.std.specs.Prelude.{◌≡◌, ℕ, ◌+◌, ◌-◌, ◌*◌, List, [], ◌∷◌, ◌++◌, drop, Option, Some, None, Bool, true, false, not, ◌==◌, ◌||◌, ◌&&◌, nat_lt, slice_index, length, codes, if◌then◌else◌}
 use Rattle.std.specs.List.{slice_split}
 use denote.Ref.{Bor}
 use Rattle.chess_clock.specs.declared.Hms.{Hms}
@@ -13,7 +13,9 @@ use Rattle.chess_text.specs.Fen.{fen}
 use Rattle.settle_core.specs.declared.plies.Outcome.{Outcome}
 use Rattle.settle_core.specs.declared.plies.Outcome.TheVariants.{WhiteWins, BlackWins, Drawn}
 use Rattle.settle_core.specs.declared.plies.Ply.{Ply}
-use Rattle.pgn_book.specs.Values.{TagValues}
+use Rattle.pgn_book.specs.declared.values.Tag.{Tag}
+use Rattle.pgn_book.specs.TagNames.{all_tags, tag_name}
+use Rattle.pgn_book.specs.Values.{TagValues, value_of}
 use Rattle.pgn_book.specs.Games.{Content, IsTimed}
 
 -- ---- the movetext, cut at spaces and ends of lines
@@ -86,34 +88,36 @@ abbrev pub result_at : List ℕ → Option Outcome
 result_at bytes = if slice_index bytes 0 == 48 then Some BlackWins else if slice_index bytes 0 == 42 then None
     else if slice_index bytes 1 == 45 then Some WhiteWins else Some Drawn
 
--- where the values begin: `[Event "` has 8 bytes, `]`, LF and `[Site "` 9, and so on
-unfoldable pub event_part : List ℕ → List ℕ
-event_part text = drop 8 text
+-- where the value of a line begins: behind `[`, the tag's name, a space and a quotation mark
+unfoldable pub value_part : List ℕ → List ℕ → List ℕ
+value_part name line = drop (length name + 3) line
 
+-- n bytes behind a value and its quotation mark
 unfoldable pub next_part : ℕ → List ℕ → List ℕ
 next_part n bytes = drop n (after_value false bytes)
 
-abbrev pub site_part : List ℕ → List ℕ
-site_part text = next_part 9 (event_part text)
+-- the next line, behind `]` and LF
+abbrev pub next_line : List ℕ → List ℕ
+next_line value = next_part 2 value
 
-abbrev pub date_part : List ℕ → List ℕ
-date_part text = next_part 9 (site_part text)
+-- what stands behind the lines of these tags
+abbrev pub behind_lines : List Tag → List ℕ → List ℕ
+behind_lines [] text = text
+behind_lines (tag ∷ tags) text = behind_lines tags (next_line (value_part (tag_name tag) text))
 
-abbrev pub round_part : List ℕ → List ℕ
-round_part text = next_part 10 (date_part text)
+-- The lines of these tags, the first of which begins here, have these values.
+abbrev pub HaveValues : List Tag → TagValues → List ℕ → Type 0
+HaveValues [] values text = Unit {0}
+HaveValues (tag ∷ tags) values text = (value_of tag values ≡ value_at false (value_part (tag_name tag) text))
+    × HaveValues tags values (next_line (value_part (tag_name tag) text))
 
-abbrev pub white_part : List ℕ → List ℕ
-white_part text = next_part 10 (round_part text)
-
-abbrev pub black_part : List ℕ → List ℕ
-black_part text = next_part 10 (white_part text)
-
+-- where the result begins, behind the tags that a user sets
 abbrev pub result_part : List ℕ → List ℕ
-result_part text = next_part 11 (black_part text)
+result_part text = value_part (codes "Result") (behind_lines all_tags text)
 
 -- what stands behind the line of the result
 abbrev pub set_up_part : List ℕ → List ℕ
-set_up_part text = next_part 2 (result_part text)
+set_up_part text = next_line (result_part text)
 
 -- whether it begins with `[`
 unfoldable pub has_fen : List ℕ → Bool
@@ -130,16 +134,6 @@ fen_at bytes = if has_fen bytes then Some (value_at false (fen_part bytes)) else
 -- behind `]`, LF, `[SetUp "1"]` and two LF, or behind one LF
 abbrev pub moves_part : List ℕ → List ℕ
 moves_part bytes = if has_fen bytes then next_part 15 (fen_part bytes) else drop 1 bytes
-
-abbrev pub tags_at : List ℕ → TagValues
-tags_at text = record {
-  event = value_at false (event_part text);
-  site = value_at false (site_part text);
-  date = value_at false (date_part text);
-  round = value_at false (round_part text);
-  white = value_at false (white_part text);
-  black = value_at false (black_part text);
-}
 
 -- ---- the game
 
@@ -171,7 +165,7 @@ StartsAt start (Some text) = text ≡ fen start
 
 -- The text would be that of this game.
 pub record Parses (game : Content) (text : List ℕ) : Type 0 where
-  pub tags : game.tags ≡ tags_at text
+  pub tags : HaveValues all_tags game.tags text
   pub start : StartsAt game.start (fen_at (set_up_part text))
   pub plies : AreTurns game.start game.plies (turns_at (words (moves_part (set_up_part text))))
   pub result : game.result ≡ result_at (result_part text)

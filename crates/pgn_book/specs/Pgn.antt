@@ -4,7 +4,9 @@ use Rattle.std.specs.List.{flat_map}
 use Rattle.chess_rules.specs.declared.parts.Parts.{Parts}
 use Rattle.chess_rules.specs.Initial.{initial}
 use Rattle.chess_text.specs.Fen.{fen}
-use Rattle.pgn_book.specs.Values.{TagValues}
+use Rattle.pgn_book.specs.declared.values.Tag.{Tag}
+use Rattle.pgn_book.specs.TagNames.{all_tags, tag_name}
+use Rattle.pgn_book.specs.Values.{TagValues, value_of}
 use Rattle.pgn_book.specs.Games.{Content, IsGame}
 use Rattle.pgn_book.specs.Lines.{IsMovetext}
 use Rattle.pgn_book.specs.Movetext.{ShownMove, AreShown, result_text, game_tokens}
@@ -20,15 +22,13 @@ escaped value = flat_map escape value
 abbrev pub tag_line : List ℕ → List ℕ → List ℕ
 tag_line name value = codes "[" ++ (name ++ (codes " \"" ++ (escaped value ++ codes "\"]\n")))
 
+-- the lines of these tags, in this order
+abbrev pub tag_lines : TagValues → List Tag → List ℕ
+tag_lines values = flat_map (λ tag. tag_line (tag_name tag) (value_of tag values))
+
 -- the tags that every game has, in their order
 unfoldable pub roster : TagValues → List ℕ → List ℕ
-roster tags result = tag_line (codes "Event") tags.event
-    ++ (tag_line (codes "Site") tags.site
-    ++ (tag_line (codes "Date") tags.date
-    ++ (tag_line (codes "Round") tags.round
-    ++ (tag_line (codes "White") tags.white
-    ++ (tag_line (codes "Black") tags.black
-    ++ tag_line (codes "Result") result)))))
+roster values result = tag_lines values all_tags ++ tag_line (codes "Result") result
 
 -- FEN and SetUp, exactly where the start is not the initial position
 pub data IsSetUp (start : Parts) (lines : List ℕ) : Type 0 where

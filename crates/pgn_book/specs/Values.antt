@@ -1,11 +1,12 @@
 -- The values of tags. A value is its list of bytes.
-use Rattle.std.specs.Prelude.{◌≡◌, ◌≢◌, ◌⊎◌, ℕ, ◌<◌, ◌≤◌, List, codes, length, slice_index, All, Option, Some, None}
+use Rattle.std.specs.Prelude.{◌≡◌, ◌≢◌, ◌⊎◌, ℕ, ◌<◌, ◌≤◌, List, codes, length, slice_index, All, Option, Some, None, if◌then◌else◌}
 use Rattle.std.specs.String.{string_bytes}
 use Rattle.std.specs.declared.string.String.{String}
 use Rattle.pgn_book.specs.declared.values.Tag.{Tag}
 use Rattle.pgn_book.specs.declared.values.Tag.TheVariants.{Event, Site, Date, Round, White, Black}
 use Rattle.pgn_book.specs.declared.values.TagError.{TagError}
 use Rattle.pgn_book.specs.declared.values.TagError.TheVariants.{Text, Long, Date as NoDate, Memory}
+use Rattle.pgn_book.specs.TagNames.{is_tag}
 
 -- the values of the six tags that a user sets
 pub record TagValues : Type 0 where
@@ -24,14 +25,13 @@ value_of Round values = values.round
 value_of White values = values.white
 value_of Black values = values.black
 
+-- each tag has its value by this rule
+abbrev pub values_by : (Tag → List ℕ) → TagValues
+values_by rule = record { event = rule Event; site = rule Site; date = rule Date; round = rule Round; white = rule White; black = rule Black }
+
 -- the values with that of one tag changed
 abbrev pub with_value : Tag → List ℕ → TagValues → TagValues
-with_value Event value values = record values { event = value }
-with_value Site value values = record values { site = value }
-with_value Date value values = record values { date = value }
-with_value Round value values = record values { round = value }
-with_value White value values = record values { white = value }
-with_value Black value values = record values { black = value }
+with_value tag value values = values_by (λ other. if is_tag tag other then value else value_of other values)
 
 -- the value of a tag that was never set
 abbrev pub unknown_of : Tag → List ℕ
@@ -39,14 +39,7 @@ unknown_of Date = codes "????.??.??"
 unknown_of _ = codes "?"
 
 abbrev pub unknown_values : TagValues
-unknown_values = record {
-  event = unknown_of Event;
-  site = unknown_of Site;
-  date = unknown_of Date;
-  round = unknown_of Round;
-  white = unknown_of White;
-  black = unknown_of Black;
-}
+unknown_values = values_by unknown_of
 
 -- a value that was set, or the unknown one
 abbrev pub value_or : {A : Type 0} → List ℕ → Option (String A) → List ℕ

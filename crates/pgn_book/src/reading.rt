@@ -6,14 +6,16 @@ ghost use Rattle.chess_rules.specs.Valid.{Valid};
 ghost use Rattle.settle_core.specs.declared.plies.Ply.{Ply as PlyOf};
 ghost use Rattle.settle_core.specs.Settling.{Line};
 ghost use Rattle.settle_core.specs.Folding.{moves_of as moves_in};
+ghost use Rattle.pgn_book.specs.TagNames.{all_tags};
 ghost use Rattle.pgn_book.specs.Values.{TagValues, AreValues, IsValue, with_value};
 ghost use Rattle.pgn_book.specs.Games.{Content, IsGame};
 ghost use Rattle.pgn_book.specs.Pgn.{Pgn};
-ghost use Rattle.pgn_book.specs.Parse.{IsTurn, AreTurns, TakesTurn, StartsAt, Parses, words, words_behind, turns_at, clock_at, value_at, fen_at};
-ghost use Rattle.pgn_book.specs.Sections.{values_at};
+ghost use Rattle.pgn_book.specs.Parse.{IsTurn, AreTurns, TakesTurn, StartsAt, Parses, HaveValues, words, words_behind, turns_at, clock_at, value_at, fen_at};
 
 use crate::game::Game;
-use crate::sections::{Sections, fen_of, has_fen, moves_of, read_result, read_value, split};
+use crate::sections::{
+    behind_tags, fen_of, has_fen, moves_of, next_line, read_result, read_value, value_of,
+};
 use crate::tags::Tags;
 use crate::values::{Tag, TagError};
 use crate::words::{clock_behind, first_word, is_move};
@@ -142,34 +144,20 @@ fn read_tag(tags: &mut Tags, tag: Tag, bytes: &[u8]) -> Result<(), PgnError>
     }
 }
 
-fn read_tags(alloc: Global, sections: &Sections) -> Result<Tags, PgnError>
-    ensures { (values : TagValues) → AreValues values → values ≡ values_at sections.now
+/// The tags whose lines a text begins with.
+fn read_tags(alloc: Global, text: &[u8]) -> Result<Tags, PgnError>
+    ensures { (values : TagValues) → AreValues values → HaveValues all_tags values text.now
         → MatchResult result (λ tags. tags ≡ values) (λ error. error ≡ PgnError.Memory) }
 {
     let mut tags = Tags::new(alloc);
-    match read_tag(&mut tags, Tag::Event, sections.event) {
-        Ok(()) => {}
-        Err(error) => return Err(error),
-    }
-    match read_tag(&mut tags, Tag::Site, sections.site) {
-        Ok(()) => {}
-        Err(error) => return Err(error),
-    }
-    match read_tag(&mut tags, Tag::Date, sections.date) {
-        Ok(()) => {}
-        Err(error) => return Err(error),
-    }
-    match read_tag(&mut tags, Tag::Round, sections.round) {
-        Ok(()) => {}
-        Err(error) => return Err(error),
-    }
-    match read_tag(&mut tags, Tag::White, sections.white) {
-        Ok(()) => {}
-        Err(error) => return Err(error),
-    }
-    match read_tag(&mut tags, Tag::Black, sections.black) {
-        Ok(()) => {}
-        Err(error) => return Err(error),
+    let mut rest = text;
+    for tag in Tag::ALL {
+        let value = value_of(tag.name(), rest);
+        match read_tag(&mut tags, tag, value) {
+            Ok(()) => {}
+            Err(error) => return Err(error),
+        }
+        rest = next_line(value);
     }
     Ok(tags)
 }
@@ -179,16 +167,17 @@ fn parse(alloc: Global, text: &[u8]) -> Result<Game, PgnError>
     ensures { (game : Content) → IsGame game → Parses game text.now
         → MatchResult result (λ read. read ≡ game) (λ error. error ≡ PgnError.Memory) }
 {
-    let sections = split(text);
-    let tags = match read_tags(alloc, &sections) {
+    let tags = match read_tags(alloc, text) {
         Ok(tags) => tags,
         Err(error) => return Err(error),
     };
-    let Some(start) = read_start(sections.set_up) else {
+    let marker = value_of("Result", behind_tags(text));
+    let set_up = next_line(marker);
+    let Some(start) = read_start(set_up) else {
         return Err(PgnError::NotExport);
     };
-    match read_plies(alloc, &start, moves_of(sections.set_up)) {
-        Ok(plies) => Ok(Game::new(tags, start, plies, read_result(sections.result))),
+    match read_plies(alloc, &start, moves_of(set_up)) {
+        Ok(plies) => Ok(Game::new(tags, start, plies, read_result(marker))),
         Err(error) => Err(error),
     }
 }

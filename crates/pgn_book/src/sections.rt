@@ -1,24 +1,13 @@
 //! The parts of a text that hold its tags' values, and the values.
-ghost use Rattle.std.specs.Prelude.{◌≡◌, ◌<◌, ◌++◌, ◌∷◌, [], true, false, length, drop, slice_index, IfSome, IfNone};
+ghost use Rattle.std.specs.Prelude.{◌≡◌, ◌<◌, ◌≤◌, ◌++◌, ◌∷◌, [], true, false, length, drop, slice_index, IfSome, IfNone};
 ghost use Rattle.std.specs.Bool.{OnTrue, OnFalse};
+ghost use Rattle.pgn_book.specs.TagNames.{all_tags};
 ghost use Rattle.pgn_book.specs.Values.{IsText, IsShort};
-ghost use Rattle.pgn_book.specs.Parse.{is_plain as is_plain_lem, value_at, after_value, result_at, event_part, next_part, site_part, date_part, round_part, white_part, black_part, result_part, set_up_part, has_fen as has_fen_lem, fen_part, moves_part};
+ghost use Rattle.pgn_book.specs.Parse.{is_plain as is_plain_lem, value_at, after_value, result_at, value_part, next_part, next_line, behind_lines, has_fen as has_fen_lem, fen_part, moves_part};
 
+use crate::values::Tag;
 use arrayvec::ArrayString;
 use settle_core::Outcome;
-
-/// Where the parts of a text begin.
-#[derive(Clone, Copy)]
-pub struct Sections<'a> {
-    pub event: &'a [u8],
-    pub site: &'a [u8],
-    pub date: &'a [u8],
-    pub round: &'a [u8],
-    pub white: &'a [u8],
-    pub black: &'a [u8],
-    pub result: &'a [u8],
-    pub set_up: &'a [u8],
-}
 
 /// Whether a byte stands for itself, and is neither a quotation mark nor a backslash before another byte.
 fn is_plain(quoted: bool, byte: u8) -> bool
@@ -92,42 +81,31 @@ fn next(bytes: &[u8], n: usize) -> &[u8]
     behind(behind_value(bytes), n)
 }
 
-#[tactic(auto, unfolding(crate::specs::Parse::event_part))]
-fn first(text: &[u8]) -> &[u8]
-    ensures { result.now ≡ event_part text.now }
+/// Where the value begins of a line that begins here with the tag's name.
+#[tactic(auto, unfolding(crate::specs::Parse::value_part))]
+pub fn value_of<'a>(name: &str, line: &'a [u8]) -> &'a [u8]
+    requires { length name.now ≤ 6 }
+    ensures { result.now ≡ value_part name.now line.now }
 {
-    behind(text, 8)
+    behind(line, name.len() + 3)
 }
 
-/// The parts of a text.
-pub fn split(text: &[u8]) -> Sections<'_>
-    ensures event { result.event.now ≡ event_part text.now }
-    ensures site { result.site.now ≡ site_part text.now }
-    ensures date { result.date.now ≡ date_part text.now }
-    ensures round { result.round.now ≡ round_part text.now }
-    ensures white { result.white.now ≡ white_part text.now }
-    ensures black { result.black.now ≡ black_part text.now }
-    ensures outcome { result.result.now ≡ result_part text.now }
-    ensures set_up { result.set_up.now ≡ set_up_part text.now }
+/// What stands behind the line of a value that begins here.
+pub fn next_line(value: &[u8]) -> &[u8]
+    ensures { result.now ≡ next_line value.now }
 {
-    let event = first(text);
-    let site = next(event, 9);
-    let date = next(site, 9);
-    let round = next(date, 10);
-    let white = next(round, 10);
-    let black = next(white, 10);
-    let result = next(black, 11);
-    let set_up = next(result, 2);
-    Sections {
-        event,
-        site,
-        date,
-        round,
-        white,
-        black,
-        result,
-        set_up,
+    next(value, 2)
+}
+
+/// What stands behind the lines of the tags that a user sets.
+pub fn behind_tags(text: &[u8]) -> &[u8]
+    ensures { result.now ≡ behind_lines all_tags text.now }
+{
+    let mut rest = text;
+    for tag in Tag::ALL {
+        rest = next_line(value_of(tag.name(), rest));
     }
+    rest
 }
 
 fn byte_at(bytes: &[u8], i: usize) -> u8

@@ -1,6 +1,6 @@
 //! The values of a game's tags.
 ghost use Rattle.std.specs.Prelude.{◌≡◌, OnOk, OnErr, IfErr};
-ghost use Rattle.pgn_book.specs.Values.{AreValues, IsValue, RefusesText, unknown_values, value_of, value_or, with_value};
+ghost use Rattle.pgn_book.specs.Values.{AreValues, IsValue, RefusesText, unknown_of, unknown_values, value_of, value_or, with_value};
 
 use crate::values::{Tag, TagError, check_value};
 use std::alloc::Global;
@@ -11,12 +11,7 @@ use std::marker::Model;
 #[derive(Debug, Drop)]
 pub struct Tags {
     alloc: Global,
-    event: Option<String>,
-    site: Option<String>,
-    date: Option<String>,
-    round: Option<String>,
-    white: Option<String>,
-    black: Option<String>,
+    values: [Option<String>; 6],
 }
 
 impl Model for Tags {
@@ -40,6 +35,16 @@ fn value_in<'a>(value: &'a Option<String>, unknown: &'static str) -> &'a str
     }
 }
 
+/// The value of a tag that was never set.
+fn unknown_in(tag: Tag) -> &'static str
+    ensures { result.now ≡ unknown_of tag }
+{
+    match tag {
+        Tag::Date => "????.??.??",
+        _ => "?",
+    }
+}
+
 impl Tags {
     /// Six unknown values.
     pub fn new(alloc: Global) -> Tags
@@ -47,12 +52,7 @@ impl Tags {
     {
         Tags {
             alloc,
-            event: None,
-            site: None,
-            date: None,
-            round: None,
-            white: None,
-            black: None,
+            values: [None, None, None, None, None, None],
         }
     }
 
@@ -61,14 +61,7 @@ impl Tags {
         ensures value { result.now ≡ value_of tag self.now }
         ensures valid { AreValues self.now }
     {
-        match tag {
-            Tag::Event => value_in(&self.event, "?"),
-            Tag::Site => value_in(&self.site, "?"),
-            Tag::Date => value_in(&self.date, "????.??.??"),
-            Tag::Round => value_in(&self.round, "?"),
-            Tag::White => value_in(&self.white, "?"),
-            Tag::Black => value_in(&self.black, "?"),
-        }
+        value_in(&self.values[tag.index()], unknown_in(tag))
     }
 
     /// Sets the value of the tag: 0 to 100 characters of printable ASCII, for Date ten of the form `2024.05.??`. It is refused
@@ -94,14 +87,7 @@ impl Tags {
         let Ok(text) = String::from_str(self.alloc, value) else {
             return Err(TagError::Memory);
         };
-        match tag {
-            Tag::Event => self.event = Some(text),
-            Tag::Site => self.site = Some(text),
-            Tag::Date => self.date = Some(text),
-            Tag::Round => self.round = Some(text),
-            Tag::White => self.white = Some(text),
-            Tag::Black => self.black = Some(text),
-        }
+        self.values[tag.index()] = Some(text);
         Ok(())
     }
 }

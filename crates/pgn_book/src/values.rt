@@ -1,5 +1,6 @@
 //! The tags that a user sets, and which values they may have.
-ghost use Rattle.std.specs.Prelude.{◌≡◌, ◌≢◌, ◌<◌, ◌↔◌, ℕ, IsTrue, IfErr, OnOk, Err, length, slice_index};
+ghost use Rattle.std.specs.Prelude.{◌≡◌, ◌≢◌, ◌<◌, ◌↔◌, ℕ, ◌≤◌, IsTrue, IfErr, OnOk, Err, length, slice_index};
+ghost use Rattle.pgn_book.specs.TagNames.{tag_index, tag_name};
 ghost use Rattle.pgn_book.specs.Values.{IsText, IsDate, IsDateDigit, IsValue, RefusesText};
 
 use thiserror::Error;
@@ -36,6 +37,39 @@ pub enum TagError {
 }
 
 impl Tag {
+    /// The six tags, in the order of the text.
+    pub const ALL: [Tag; 6] = [
+        Tag::Event,
+        Tag::Site,
+        Tag::Date,
+        Tag::Round,
+        Tag::White,
+        Tag::Black,
+    ];
+
+    /// The name of the tag, as the text has it.
+    pub fn name(self) -> &'static str
+        ensures name { result.now ≡ tag_name self }
+        ensures short { length result.now ≤ 5 }
+    {
+        match self {
+            Tag::Event => "Event",
+            Tag::Site => "Site",
+            Tag::Date => "Date",
+            Tag::Round => "Round",
+            Tag::White => "White",
+            Tag::Black => "Black",
+        }
+    }
+
+    /// Its place in `ALL`, from 0.
+    pub fn index(self) -> usize
+        ensures place { result ≡ tag_index self }
+        ensures within { result < 6 }
+    {
+        self as usize
+    }
+
     /// Whether both are one tag.
     fn is(self, other: Tag) -> bool
         ensures { IsTrue result ↔ (self ≡ other) }

@@ -8,7 +8,8 @@ ghost use Rattle.chess_rules.specs.After.{is_white};
 ghost use Rattle.settle_core.specs.Settling.{Line};
 ghost use Rattle.settle_core.specs.Folding.{moves_of};
 ghost use Rattle.pgn_book.specs.Movetext.{ShownMove, AreShown, IsShown, clock_text, clock_tokens, number_token, number_tokens, move_tokens, tokens_of, result_text, game_tokens};
-ghost use Rattle.pgn_book.specs.Pgn.{Pgn, IsSetUp, escape, escaped, roster, tag_line};
+ghost use Rattle.pgn_book.specs.Pgn.{Pgn, IsSetUp, escape, escaped, roster, tag_line, tag_lines};
+ghost use Rattle.pgn_book.specs.TagNames.{all_tags};
 ghost use Rattle.pgn_book.specs.Written.{AppendsFront};
 ghost use Rattle.pgn_book.specs.Flow.{Adds, Writes, flow};
 
@@ -16,6 +17,7 @@ use crate::appending::add;
 use crate::game::Game;
 use crate::parts::same_parts;
 use crate::place::Place;
+use crate::tags::Tags;
 use crate::values::Tag;
 use arrayvec::ArrayString;
 use chess_clock::Hms;
@@ -181,15 +183,26 @@ fn put_value<W: Write>(out: &mut Watch<W>, at: &mut Place, value: &[u8])
     }
 }
 
-fn put_tag<W: Write>(out: &mut Watch<W>, at: &mut Place, name: &[u8], value: &[u8])
+fn put_tag<W: Write>(out: &mut Watch<W>, at: &mut Place, name: &str, value: &str)
     ensures adds { Adds (W.contents (inner_of out.old)) (W.contents (inner_of out.new)) (has_failed out.old) (has_failed out.new) at.old at.new (tag_line name.now value.now) }
     ensures column { at.new.column ≡ at.old.column }
 {
     add(out, at, b"[");
-    add(out, at, name);
+    add(out, at, name.as_bytes());
     add(out, at, b" \"");
-    put_value(out, at, value);
+    put_value(out, at, value.as_bytes());
     add(out, at, b"\"]\n");
+}
+
+/// Writes the lines of the tags that a user sets.
+fn put_tags<W: Write>(out: &mut Watch<W>, at: &mut Place, tags: &Tags)
+    ensures adds { Adds (W.contents (inner_of out.old)) (W.contents (inner_of out.new)) (has_failed out.old) (has_failed out.new) at.old at.new
+        (tag_lines tags.now all_tags) }
+    ensures column { at.new.column ≡ at.old.column }
+{
+    for tag in Tag::ALL {
+        put_tag(out, at, tag.name(), tags.get(tag));
+    }
 }
 
 fn put_roster<W: Write>(out: &mut Watch<W>, at: &mut Place, game: &Game)
@@ -197,14 +210,8 @@ fn put_roster<W: Write>(out: &mut Watch<W>, at: &mut Place, game: &Game)
         (roster game.now.tags (result_text game.now.result)) }
     ensures column { at.new.column ≡ at.old.column }
 {
-    let tags = game.tags();
-    put_tag(out, at, b"Event", tags.get(Tag::Event).as_bytes());
-    put_tag(out, at, b"Site", tags.get(Tag::Site).as_bytes());
-    put_tag(out, at, b"Date", tags.get(Tag::Date).as_bytes());
-    put_tag(out, at, b"Round", tags.get(Tag::Round).as_bytes());
-    put_tag(out, at, b"White", tags.get(Tag::White).as_bytes());
-    put_tag(out, at, b"Black", tags.get(Tag::Black).as_bytes());
-    put_tag(out, at, b"Result", result_str(game.result()).as_bytes());
+    put_tags(out, at, game.tags());
+    put_tag(out, at, "Result", result_str(game.result()));
 }
 
 fn is_initial(start: &Position) -> bool
@@ -223,8 +230,8 @@ fn put_set_up<W: Write>(out: &mut Watch<W>, at: &mut Place, start: &Position)
         return;
     }
     let fen = write_fen(start);
-    put_tag(out, at, b"FEN", fen.as_str().as_bytes());
-    put_tag(out, at, b"SetUp", b"1");
+    put_tag(out, at, "FEN", fen.as_str());
+    put_tag(out, at, "SetUp", "1");
 }
 
 fn put_movetext<W: Write>(out: &mut Watch<W>, at: &mut Place, game: &Game)

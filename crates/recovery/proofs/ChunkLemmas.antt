@@ -1,12 +1,12 @@
 -- A chunk that is given on, by how much of it was taken and sent.
-use Rattle.std.proofs.Common.{◌≡◌, ◌<◌, ◌≤◌, ◌+◌, ◌-◌, ℕ, List, [], ◌++◌, inl, inr, length, take, drop, Option, Result, Ok, Err, OnErr, IfErr, sym, ap, subst, arith, ◌∙◌, append-nil, take-add, take_all, length-drop}
+use Rattle.std.proofs.Common.{◌≡◌, ◌≢◌, ◌<◌, ◌≤◌, ◌+◌, ◌-◌, ℕ, List, [], ◌++◌, inl, inr, refl, length, take, drop, Option, Result, Ok, Err, OnErr, IfErr, sym, ap, subst, arith, ◌∙◌, append-nil, take-add, take_all, length-drop}
 use Rattle.std.proofs.lemmas.List.{drop-drop, length-take-le, take-append-drop}
 use Rattle.std.specs.Io.KnownBytes.{Appends}
 use Rattle.dgt_frame.specs.declared.decode.Decoder.{Decoder}
 use Rattle.board_session.specs.Recording.{AppendsPart}
 use Rattle.recovery.specs.declared.keeper.Keeper.{Keeper}
 use Rattle.recovery.specs.declared.refusal.RecoverError.{RecoverError}
-use Rattle.recovery.specs.declared.refusal.RecoverError.TheVariants.{Write, Memory}
+use Rattle.recovery.specs.declared.refusal.RecoverError.TheVariants.{Read, Write, Lines, TooLong, Memory}
 use Rattle.recovery.specs.Passing.{Passes}
 use Rattle.recovery.specs.Progress.{BreaksOff, Concludes, GivesOn, IsPutIn, PutsPart}
 use Rattle.recovery.proofs.GiveLemmas.{breaks_memory, breaks_pair, breaks_write, gives_more, gives_pair, gives_sent}
@@ -123,3 +123,11 @@ pair_broken error old now new keeper k k' start taken more sent chunk frames lin
 pub write_broken : {T : Type 0} (F : RecoverError → Type 0) (P : Type 0) (r : Result T RecoverError) → OnErr r P → IfErr r (λ error. error ≡ Write) → (P → F Write) → IfErr r F
 write_broken F P (Ok v) p is k = tt
 write_broken F P (Err error) p is k = subst F (sym is) (k p)
+
+-- A pair that could not be put in though its line was told.
+pub pair_unwritten : (error : RecoverError) (bytes line : List ℕ) (written written' said said' : Option (List ℕ)) → PutsPart error bytes line written written' said said' → error ≢ Lines → error ≡ Write
+pair_unwritten Read bytes line written written' said said' puts told = absurd puts
+pair_unwritten Write bytes line written written' said said' puts told = refl
+pair_unwritten Lines bytes line written written' said said' puts told = absurd (told refl)
+pair_unwritten TooLong bytes line written written' said said' puts told = absurd puts
+pair_unwritten Memory bytes line written written' said said' puts told = absurd puts

@@ -60,7 +60,7 @@ fn see_square(
     }
 }
 
-// The same of any picture: apart, since few dumps show another one.
+/// The same of any picture: apart, since few dumps show another one.
 #[inline(never)]
 fn see_whole(
     alloc: Global,

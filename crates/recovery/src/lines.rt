@@ -11,7 +11,7 @@ use chess_text::write_san;
 use unseen_pairs::Recovery;
 use watched_streams::{GATHERED, Lines, add, add_number};
 
-// Adds the move's number and its SAN.
+/// Adds the move's number and its SAN.
 fn add_move(lines: &mut Lines, position: &Position, m: &Move)
     requires room { array_vec_len lines.old + 64 ≤ GATHERED }
     requires legal { Legal position.now m.now }

@@ -22,7 +22,7 @@ use watched_streams::Lines;
 /// The frames that are put in behind an event.
 pub type Frames = ArrayVec<u8, MOST>;
 
-// What is put in for the pair that was recovered last, and its line: apart, since few events recover one.
+/// What is put in for the pair that was recovered last, and its line: apart, since few events recover one.
 #[inline(never)]
 fn tell(keeper: &Keeper, offset: u32, frames: &mut Frames, line: &mut Lines)
     requires told { (setting : Setting) × (past : List EventOf) × (event : EventOf) × (written : List Entry)
@@ -96,12 +96,12 @@ pub fn pass(
     ensures taken { IfOk result (λ taken. IfSome taken (λ count. (0 < count) × (count ≤ length bytes.now))) }
 {
     frames_are_put_in();
-    // Only for its clause: what the bytes given so far show.
+    // For its clause: what the bytes given so far show.
     conclude(decoder, keeper);
     let Some(taken) = decoder.push_into(bytes, event) else {
         return Ok(None);
     };
-    // Only for its clause: the bytes taken show the events so far.
+    // For its clause: the bytes taken show the events so far.
     decoder.pending();
     let last = start + (taken - 1) as u32;
     match hear(alloc, keeper, last, event, frames, line) {
@@ -114,7 +114,7 @@ pub fn pass(
 pub fn conclude(decoder: &Decoder, keeper: &Keeper)
     ensures { Concludes decoder.now keeper.now }
 {
-    // Only for its clause: the bytes show the events so far.
+    // For its clause: the bytes show the events so far.
     decoder.pending();
 }
 

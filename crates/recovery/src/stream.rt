@@ -1,7 +1,7 @@
 //! Streams that are given on, with what is put in.
-ghost use Rattle.std.specs.Prelude.{◌≡◌, ◌<◌, ◌≤◌, ◌+◌, ◌^◌, ◌++◌, [], length, IfErr, OnOk, OnErr, Err, true, false};
+ghost use Rattle.std.specs.Prelude.{◌≡◌, ◌≢◌, ◌<◌, ◌≤◌, ◌+◌, ◌^◌, ◌++◌, [], length, IfErr, OnOk, OnErr, Err, true, false};
 ghost use Rattle.std.specs.Io.KnownBytes.{Appends};
-ghost use Rattle.watched_streams.specs.Watch.{inner_of, has_failed};
+ghost use Rattle.watched_streams.specs.Watch.{IsFlushed, inner_of, has_failed};
 ghost use Rattle.watched_streams.specs.Input.{ReadsWithin};
 ghost use Rattle.board_session.specs.Recording.{AppendsPart};
 ghost use Rattle.board_session.specs.Settings.{Setting};
@@ -25,6 +25,7 @@ fn send<O: Write>(out: &mut Watch<O>, bytes: &[u8]) -> Result<(), RecoverError>
     ensures part { OnErr result (AppendsPart (O.contents (inner_of out.old)) (O.contents (inner_of out.new)) bytes.now) }
     ensures failed { OnErr result (has_failed out.new ≡ true) }
     ensures cause { IfErr result (λ error. error ≡ RecoverError.Write) }
+    ensures flushed { IsFlushed out.new }
 {
     if put(out, bytes).is_err() || out.flush().is_err() {
         return Err(RecoverError::Write);
@@ -49,6 +50,7 @@ fn put_pair<O: Write, E: Write>(
         (O.contents (inner_of out.old)) (O.contents (inner_of out.new)) (E.contents (inner_of err.old)) (E.contents (inner_of err.new))) }
     ensures write { result ≡ Err RecoverError.Write → (has_failed out.new ≡ true) × (has_failed err.new ≡ false) }
     ensures lines { result ≡ Err RecoverError.Lines → (has_failed err.new ≡ true) × (has_failed out.new ≡ false) }
+    ensures told { IsFlushed err.new }
 {
     if put(err, line.as_slice()).is_err() || err.flush().is_err() {
         return Err(RecoverError::Lines);
@@ -81,6 +83,8 @@ fn give_chunk<O: Write, E: Write>(
     ensures write { result ≡ Err RecoverError.Write → (has_failed out.new ≡ true) × (has_failed err.new ≡ false) }
     ensures lines { result ≡ Err RecoverError.Lines → (has_failed err.new ≡ true) × (has_failed out.new ≡ false) }
     ensures memory { result ≡ Err RecoverError.Memory → (has_failed err.new ≡ false) × (has_failed out.new ≡ false) }
+    ensures flushed { result ≢ Err RecoverError.Lines → IsFlushed out.new }
+    ensures told { IsFlushed err.old → IsFlushed err.new }
 {
     let mut frames = Frames::new();
     let mut line = Lines::new();
@@ -105,7 +109,7 @@ fn give_chunk<O: Write, E: Write>(
             };
         };
         let Some(more) = passed else {
-            // Only for its clause: what the bytes given so far show.
+            // For its clause: what the bytes given so far show.
             conclude(decoder, keeper);
             return send(out, &chunk[sent..]);
         };
@@ -114,7 +118,7 @@ fn give_chunk<O: Write, E: Write>(
             continue;
         }
         if let Err(error) = put_pair(&chunk[sent..taken], &frames, &line, out, err) {
-            // Only for its clause: what the bytes given so far show.
+            // For its clause: what the bytes given so far show.
             conclude(decoder, keeper);
             return Err(error);
         }
@@ -171,21 +175,26 @@ pub fn recover_stream<R: Read, O: Write, E: Write>(
     ensures reader_blamed { has_failed reader.new ≡ true → result ≡ Err RecoverError.Read }
     ensures out_blamed { has_failed out.new ≡ true → result ≡ Err RecoverError.Write }
     ensures err_blamed { has_failed err.new ≡ true → result ≡ Err RecoverError.Lines }
+
+    // Nothing waits for a flush on a stream that works, so each read begins with all that was written flushed. Where a line could not
+    // be told, the pairs of its chunk that were put in before it may wait.
+    ensures flushed { result ≢ Err RecoverError.Lines → IsFlushed out.old → IsFlushed out.new }
+    ensures told { IsFlushed err.old → IsFlushed err.new }
 {
     let mut decoder = Decoder::new();
     let mut keeper = Keeper::new(alloc, start, first, rotated);
-    // Only for its clause: nothing was given yet.
+    // For its clause: nothing was given yet.
     begin(&decoder, &keeper);
     let mut buffer = [0u8; CHUNK];
     let mut total: u32 = 0;
     'chunks: loop {
         let Ok(read) = read_chunk(reader, &mut buffer, (LIMIT - total) as usize) else {
-            // Only for its clause: what the bytes given so far show.
+            // For its clause: what the bytes given so far show.
             conclude(&decoder, &keeper);
             return Err(RecoverError::Read);
         };
         let Some(chunk) = read else {
-            // Only for its clause: what the bytes given so far show.
+            // For its clause: what the bytes given so far show.
             conclude(&decoder, &keeper);
             return Ok(());
         };
@@ -194,7 +203,7 @@ pub fn recover_stream<R: Read, O: Write, E: Write>(
             return Err(error);
         }
         if chunk.past {
-            // Only for its clause: what the bytes given so far show.
+            // For its clause: what the bytes given so far show.
             conclude(&decoder, &keeper);
             return Err(RecoverError::TooLong);
         }

@@ -1,9 +1,12 @@
 -- The command line, as a parse reads it.
-use Rattle.std.specs.Prelude.{◌≡◌, codes, Some, true, false, Result, IfOk}
+use Rattle.std.specs.Prelude.{◌≡◌, List, [], ◌∷◌, codes, Some, true, false, Result, IfOk}
 use Rattle.clap.specs.Walk.{Rule, Text}
 use Rattle.clap.specs.Simple.{App, app_of, new_app, new_rule, with_rule, with_subcommand}
 use Rattle.clap.specs.declared.builder.command.Command.TheViews.{out-Command}
 use Rattle.clap.specs.declared.builder.command.Command.{Command}
+use Rattle.pgn_book.specs.declared.values.Tag.{Tag}
+use Rattle.pgn_book.specs.TagNames.{all_tags}
+use Rattle.replay_arguments.specs.TagOptions.{option_of}
 use Rattle.std.specs.declared.alloc.AllocError.{AllocError}
 use Rattle.clap.specs.declared.builder.action.ArgAction.TheVariants.{SetTrue}
 
@@ -24,9 +27,13 @@ pictures_app = with_rule (new_app (codes "pictures")) rotated_rule
 abbrev pub with_text : App → Text → App
 with_text app name = with_rule app (text_rule name)
 
+-- with the options of these tags, in this order
+abbrev pub with_options : List Tag → App → App
+with_options [] app = app
+with_options (tag ∷ tags) app = with_options tags (with_text app (option_of tag))
+
 abbrev pub with_tags : App → App
-with_tags app = with_text (with_text (with_text (with_text (with_text (with_text app
-    (codes "event")) (codes "site")) (codes "date")) (codes "round")) (codes "white")) (codes "black")
+with_tags app = with_options all_tags app
 
 -- how a board stands and where its game starts
 abbrev pub with_board : App → App

@@ -1,3 +1,4 @@
 pub mod Command
+pub mod TagOptions
 pub mod Setups
 pub mod Subcommands

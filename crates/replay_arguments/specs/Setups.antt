@@ -1,5 +1,5 @@
 -- What the arguments of `record`, of `follow` and `recover`, of `moves` and of `positions` mean.
-use Rattle.std.specs.Prelude.{◌≡◌, ◌⊎◌, Bool, List, [], ◌∷◌, ◌++◌, All, ℕ, codes, Option, Some, None, MatchOption, option_map, true, false, if◌then◌else◌, ⊤}
+use Rattle.std.specs.Prelude.{◌≡◌, ◌⊎◌, Bool, List, ◌∷◌, ◌++◌, All, ℕ, codes, Option, Some, None, MatchOption, option_map, unwrap_or, true, false, if◌then◌else◌, ⊤}
 use Rattle.std.specs.Borrow.{Bor}
 use Rattle.std.specs.Str.{bytes_eq}
 use Rattle.clap.specs.Walk.{Row, Text, first_of, one_of}
@@ -12,9 +12,12 @@ use Rattle.dgt_frame.specs.declared.time.First.TheVariants as first
 use Rattle.pgn_book.specs.declared.values.Tag.{Tag}
 use Rattle.pgn_book.specs.declared.values.Tag.TheVariants.{Event, Site, Date, Round, White, Black}
 use Rattle.pgn_book.specs.declared.values.TagError.TheVariants.{Memory}
-use Rattle.pgn_book.specs.Values.{IsValue, RefusesText, TagValues, unknown_of, unknown_values, value_of, with_value}
+use Rattle.pgn_book.specs.TagNames.{all_tags, is_tag}
+use Rattle.pgn_book.specs.Values.{IsValue, RefusesText, TagValues, unknown_of, unknown_values, value_of, values_by}
 use Rattle.board_session.specs.declared.recording.Setup.{Setup}
 use Rattle.board_session.specs.Settings.{Setting}
+use Rattle.board_session.specs.Recording.{setting_of}
+use Rattle.replay_arguments.specs.TagOptions.{option_of}
 use Rattle.replay_arguments.specs.declared.setup.Refusal.{Refusal}
 use Rattle.replay_arguments.specs.declared.setup.Refusal.TheVariants.{Fen, Tag as OfTag}
 use Rattle.replay_arguments.specs.declared.arguments.BoardArguments.{BoardArguments}
@@ -40,27 +43,16 @@ abbrev pub HasValue : Tag → Option Text → List ℕ → Type 0
 HasValue tag None value = value ≡ unknown_of tag
 HasValue tag (Some text) value = (value ≡ text) × IsValue tag text
 
--- the option that gives a tag's value
-abbrev pub option_of : Tag → Text
-option_of Event = codes "event"
-option_of Site = codes "site"
-option_of Date = codes "date"
-option_of Round = codes "round"
-option_of White = codes "white"
-option_of Black = codes "black"
-
--- The options set a recording up so.
-pub record SetsUp (rows : List Row) (setup : Setup) : Type 0 where
-  pub rotated : one_of (codes "rotated") rows ≡ Some (flag_text setup.rotated)
-  pub first : side_in (first_of (codes "first") rows) ≡ Some setup.first
-  pub start : StartsAt (first_of (codes "fen") rows) setup.start
-  pub tags : (tag : Tag) → HasValue tag (first_of (option_of tag) rows) (value_of tag setup.tags)
-
 -- The options set a board and its game up so.
 pub record SetsBoardUp (rows : List Row) (setting : Setting) : Type 0 where
   pub rotated : one_of (codes "rotated") rows ≡ Some (flag_text setting.rotated)
   pub first : side_in (first_of (codes "first") rows) ≡ Some setting.first
   pub start : StartsAt (first_of (codes "fen") rows) setting.start
+
+-- The options set a recording up so.
+pub record SetsUp (rows : List Row) (setup : Setup) : Type 0 where
+  pub board : SetsBoardUp rows (setting_of setup)
+  pub tags : (tag : Tag) → HasValue tag (first_of (option_of tag) rows) (value_of tag setup.tags)
 
 -- the setup without options but that one: the initial position, White's time first, unknown tags
 abbrev pub plain_setup : Bool → Setup
@@ -83,9 +75,6 @@ abbrev pub MayHave : Tag → Option Text → Type 0
 MayHave tag None = ⊤
 MayHave tag (Some text) = IsValue tag text
 
-abbrev pub tags : List Tag
-tags = Event ∷ Site ∷ Date ∷ Round ∷ White ∷ Black ∷ []
-
 -- the text that is given, where one is
 abbrev pub given : Option (Bor Text) → Option Text
 given = option_map (λ text. text.now)
@@ -99,44 +88,39 @@ tag_text options Round = given options.round
 tag_text options White = given options.white
 tag_text options Black = given options.black
 
--- The fields are what the rows of a parse say.
-pub record Wants (rows : List Row) (options : RecordArguments) : Type 0 where
-  pub rotated : (rotated : Bool) → one_of (codes "rotated") rows ≡ Some (flag_text rotated) → options.rotated ≡ rotated
-  pub first : side_in (first_of (codes "first") rows) ≡ Some options.first
-  pub fen : given options.fen ≡ first_of (codes "fen") rows
-  pub tags : (tag : Tag) → tag_text options tag ≡ first_of (option_of tag) rows
-
--- The fields of the arguments of `follow` or `recover` are what the rows of a parse say.
+-- The fields of the arguments of a board are what the rows of a parse say.
 pub record WantsBoard (rows : List Row) (options : BoardArguments) : Type 0 where
   pub rotated : (rotated : Bool) → one_of (codes "rotated") rows ≡ Some (flag_text rotated) → options.rotated ≡ rotated
   pub first : side_in (first_of (codes "first") rows) ≡ Some options.first
   pub fen : given options.fen ≡ first_of (codes "fen") rows
 
+-- The fields of the arguments of a recording are.
+pub record Wants (rows : List Row) (options : RecordArguments) : Type 0 where
+  pub board : WantsBoard rows options.board
+  pub tags : (tag : Tag) → tag_text options tag ≡ first_of (option_of tag) rows
+
 -- The tags have the values that are given.
 abbrev pub HasValues : RecordArguments → TagValues → Type 0
 HasValues options values = (tag : Tag) → HasValue tag (tag_text options tag) (value_of tag values)
 
--- The setup is as the arguments say.
-pub record Meets (options : RecordArguments) (setup : Setup) : Type 0 where
-  pub rotated : setup.rotated ≡ options.rotated
-  pub first : setup.first ≡ options.first
-  pub start : StartsAt (given options.fen) setup.start
-  pub tags : HasValues options setup.tags
-
--- The setting in which a game is followed or recovered is as the arguments say.
+-- The setting in which a game is recorded, followed or recovered is as the arguments say.
 pub record MeetsBoard (options : BoardArguments) (setting : Setting) : Type 0 where
   pub rotated : setting.rotated ≡ options.rotated
   pub first : setting.first ≡ options.first
   pub start : StartsAt (given options.fen) setting.start
 
+-- The setup is as the arguments say.
+pub record Meets (options : RecordArguments) (setup : Setup) : Type 0 where
+  pub board : MeetsBoard options.board (setting_of setup)
+  pub tags : HasValues options setup.tags
+
 -- No position has the FEN, or a tag may not have its text.
 abbrev pub MeetsNothing : RecordArguments → Type 0
-MeetsNothing options = HasNoStart (given options.fen) ⊎ ((tag : Tag) × HasNoValue tag (tag_text options tag))
+MeetsNothing options = HasNoStart (given options.board.fen) ⊎ ((tag : Tag) × HasNoValue tag (tag_text options tag))
 
 -- the values with a tag's changed to the text, where one is given
 abbrev pub with_given : Tag → Option Text → TagValues → TagValues
-with_given tag None values = values
-with_given tag (Some text) values = with_value tag text values
+with_given tag text values = values_by (λ other. if is_tag tag other then unwrap_or text (value_of other values) else value_of other values)
 
 -- The refusal is that memory ran out.
 abbrev pub ForMemory : Refusal → Type 0
@@ -146,10 +130,10 @@ ForMemory (OfTag tag error) = error ≡ Memory
 -- The refusal is that of a tag whose text is refused, and the tags before it may have theirs.
 abbrev pub OfFirstTag : (Tag → Option Text) → Refusal → Type 0
 OfFirstTag text (Fen error) = ⊥
-OfFirstTag text (OfTag tag error) = (before after : List Tag) × (tags ≡ before ++ tag ∷ after)
+OfFirstTag text (OfTag tag error) = (before after : List Tag) × (all_tags ≡ before ++ tag ∷ after)
     × All (λ t. MayHave t (text t)) before × MatchOption (text tag) ⊥ (λ value. RefusesText tag value error)
 
 -- The refusal is the first one.
 abbrev pub IsFirst : RecordArguments → Refusal → Type 0
-IsFirst options (Fen error) = MatchOption (given options.fen) ⊥ (λ text. RefusedFirst text error)
-IsFirst options (OfTag tag error) = ((start : Parts) × StartsAt (given options.fen) start) × OfFirstTag (tag_text options) (OfTag tag error)
+IsFirst options (Fen error) = MatchOption (given options.board.fen) ⊥ (λ text. RefusedFirst text error)
+IsFirst options (OfTag tag error) = ((start : Parts) × StartsAt (given options.board.fen) start) × OfFirstTag (tag_text options) (OfTag tag error)

@@ -5,15 +5,18 @@ ghost use Rattle.clap.specs.Kinds.{IsAmong};
 ghost use Rattle.clap.specs.Values.{kind_of};
 ghost use Rattle.clap.specs.Matches.{first_value, found_of};
 ghost use Rattle.clap.specs.Simple.{subcommand_rows_of};
-ghost use Rattle.clap.specs.Walk.{rows_of};
+ghost use Rattle.clap.specs.Walk.{first_of, rows_of};
 ghost use Rattle.replay_arguments.specs.Command.{replay};
 ghost use Rattle.replay_arguments.specs.Subcommands.{AsksFor, Chooses, IsRefused};
-ghost use Rattle.replay_arguments.specs.Setups.{Wants, WantsBoard, side_in};
+ghost use Rattle.replay_arguments.specs.Setups.{Wants, WantsBoard, given, side_in};
+ghost use Rattle.replay_arguments.specs.TagOptions.{option_of};
 
 use crate::command::command;
+use crate::tag_options::option_name;
 use clap::error::ErrorKind;
 use clap::{ArgMatches, Command, Error};
 use dgt_frame::First;
+use pgn_book::Tag;
 use std::alloc::Global;
 
 /// What the arguments ask for.
@@ -37,15 +40,22 @@ pub enum Subcommand<'a> {
     Positions { fen: Option<&'a str> },
 }
 
-/// How a game is to be recorded.
+/// How a board stands, and where its game starts.
 #[derive(Clone, Copy, Debug)]
-pub struct RecordArguments<'a> {
+pub struct BoardArguments<'a> {
     /// Whether field n means square 63 - n.
     pub rotated: bool,
     /// Whose time comes first in a time message.
     pub first: First,
     /// The position at the start, or none for the initial position.
     pub fen: Option<&'a str>,
+}
+
+/// How a game is to be recorded.
+#[derive(Clone, Copy, Debug)]
+pub struct RecordArguments<'a> {
+    /// How its board stands, and where it starts.
+    pub board: BoardArguments<'a>,
     /// The value of the tag Event, or none for the unknown value, as of the tags below.
     pub event: Option<&'a str>,
     /// The value of the tag Site.
@@ -58,17 +68,6 @@ pub struct RecordArguments<'a> {
     pub white: Option<&'a str>,
     /// The value of the tag Black.
     pub black: Option<&'a str>,
-}
-
-/// How a board stands, and where its game starts.
-#[derive(Clone, Copy, Debug)]
-pub struct BoardArguments<'a> {
-    /// Whether field n means square 63 - n.
-    pub rotated: bool,
-    /// Whose time comes first in a time message.
-    pub first: First,
-    /// The position at the start, or none for the initial position.
-    pub fen: Option<&'a str>,
 }
 
 fn side_named(name: &str) -> Option<First>
@@ -91,26 +90,6 @@ fn side_of(text: Option<&str>) -> Option<First>
     }
 }
 
-fn record_arguments_of<'a>(matches: &ArgMatches<'a>) -> Option<RecordArguments<'a>>
-    ensures wants { IfSome result (λ options. Wants (rows_of (found_of matches.now)) options) }
-    ensures known { is_some result ≡ is_some (side_in (first_value (found_of matches.now) (codes "first"))) }
-{
-    let Some(first) = side_of(matches.get_str("first")) else {
-        return None;
-    };
-    Some(RecordArguments {
-        rotated: matches.get_flag("rotated"),
-        first,
-        fen: matches.get_str("fen"),
-        event: matches.get_str("event"),
-        site: matches.get_str("site"),
-        date: matches.get_str("date"),
-        round: matches.get_str("round"),
-        white: matches.get_str("white"),
-        black: matches.get_str("black"),
-    })
-}
-
 fn board_arguments_of<'a>(matches: &ArgMatches<'a>) -> Option<BoardArguments<'a>>
     ensures wants { IfSome result (λ options. WantsBoard (rows_of (found_of matches.now)) options) }
     ensures known { is_some result ≡ is_some (side_in (first_value (found_of matches.now) (codes "first"))) }
@@ -122,6 +101,31 @@ fn board_arguments_of<'a>(matches: &ArgMatches<'a>) -> Option<BoardArguments<'a>
         rotated: matches.get_flag("rotated"),
         first,
         fen: matches.get_str("fen"),
+    })
+}
+
+// What is given for the tag.
+fn tag_text_of<'a>(matches: &ArgMatches<'a>, tag: Tag) -> Option<&'a str>
+    ensures { given result ≡ first_of (option_of tag) (rows_of (found_of matches.now)) }
+{
+    matches.get_str(option_name(tag))
+}
+
+fn record_arguments_of<'a>(matches: &ArgMatches<'a>) -> Option<RecordArguments<'a>>
+    ensures wants { IfSome result (λ options. Wants (rows_of (found_of matches.now)) options) }
+    ensures known { is_some result ≡ is_some (side_in (first_value (found_of matches.now) (codes "first"))) }
+{
+    let Some(board) = board_arguments_of(matches) else {
+        return None;
+    };
+    Some(RecordArguments {
+        board,
+        event: tag_text_of(matches, Tag::Event),
+        site: tag_text_of(matches, Tag::Site),
+        date: tag_text_of(matches, Tag::Date),
+        round: tag_text_of(matches, Tag::Round),
+        white: tag_text_of(matches, Tag::White),
+        black: tag_text_of(matches, Tag::Black),
     })
 }
 

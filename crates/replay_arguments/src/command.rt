@@ -3,7 +3,9 @@ ghost use Rattle.std.specs.Prelude.{◌≡◌, IfOk};
 ghost use Rattle.clap.specs.Simple.{App, app_of, new_app};
 ghost use Rattle.replay_arguments.specs.Command.{AddsRule, AddsApp, IsApp, Makes, check_app, follow_app, moves_app, pictures_app, positions_app, record_app, recover_app, replay, rotated_rule, show_app, text_rule, with_board, with_tags};
 
+use crate::tag_options::{option_help, option_name};
 use clap::{Arg, ArgAction, Command};
+use pgn_book::Tag;
 use std::alloc::{AllocError, Global};
 
 /// The version of the program.
@@ -81,24 +83,18 @@ fn pictures<'a>(alloc: Global) -> Result<Command<'a>, AllocError>
     with_rotated(alloc, Ok(command))
 }
 
+// The command with an option for each tag.
 fn with_tags<'a>(
     alloc: Global,
     command: Result<Command<'a>, AllocError>,
 ) -> Result<Command<'a>, AllocError>
     ensures { (app : App) → Makes command.entry app → Makes result (with_tags app) }
 {
-    let command = with_text(alloc, command, "event", "TEXT", "The tag Event");
-    let command = with_text(alloc, command, "site", "TEXT", "The tag Site");
-    let command = with_text(
-        alloc,
-        command,
-        "date",
-        "TEXT",
-        "The tag Date, as 2024.05.31 or 2024.??.??",
-    );
-    let command = with_text(alloc, command, "round", "TEXT", "The tag Round");
-    let command = with_text(alloc, command, "white", "TEXT", "The tag White");
-    with_text(alloc, command, "black", "TEXT", "The tag Black")
+    let mut tagged = command;
+    for tag in Tag::ALL {
+        tagged = with_text(alloc, tagged, option_name(tag), "TEXT", option_help(tag));
+    }
+    tagged
 }
 
 /// The command with the options that say how a board stands and where its game starts.

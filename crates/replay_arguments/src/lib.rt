@@ -9,6 +9,7 @@ mod command;
 pub mod laws;
 mod setup;
 mod start;
+mod tag_options;
 
 pub use arguments::{BoardArguments, RecordArguments, Subcommand, read_arguments};
 pub use setup::{Refusal, setup_of};

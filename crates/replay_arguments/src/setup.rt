@@ -35,16 +35,30 @@ fn set(tags: &mut Tags, tag: Tag, value: Option<&str>) -> Result<(), Refusal>
     }
 }
 
+/// What is given for the tag.
+fn text_of<'a>(options: &RecordArguments<'a>, tag: Tag) -> Option<&'a str>
+    ensures { given result ≡ tag_text options.now tag }
+{
+    match tag {
+        Tag::Event => options.event,
+        Tag::Site => options.site,
+        Tag::Date => options.date,
+        Tag::Round => options.round,
+        Tag::White => options.white,
+        Tag::Black => options.black,
+    }
+}
+
 fn tags_of(alloc: Global, options: &RecordArguments<'_>) -> Result<Tags, Refusal>
     ensures { MatchResult result (HasValues options.now) (OfFirstTag (tag_text options.now)) }
 {
     let mut tags = Tags::new(alloc);
-    set(&mut tags, Tag::Event, options.event)?;
-    set(&mut tags, Tag::Site, options.site)?;
-    set(&mut tags, Tag::Date, options.date)?;
-    set(&mut tags, Tag::Round, options.round)?;
-    set(&mut tags, Tag::White, options.white)?;
-    set(&mut tags, Tag::Black, options.black)?;
+    for tag in Tag::ALL {
+        match set(&mut tags, tag, text_of(options, tag)) {
+            Ok(()) => {}
+            Err(refusal) => return Err(refusal),
+        }
+    }
     Ok(tags)
 }
 
@@ -53,7 +67,7 @@ pub fn setup_of(alloc: Global, options: &RecordArguments<'_>) -> Result<Setup, R
     ensures meets { MatchResult result (Meets options.now) (λ refusal. ForMemory refusal ⊎ MeetsNothing options.now) }
     ensures first { IfErr result (IsFirst options.now) }
 {
-    let start = match start_of(options.fen) {
+    let start = match start_of(options.board.fen) {
         Ok(start) => start,
         Err(error) => return Err(Refusal::Fen(error)),
     };
@@ -63,8 +77,8 @@ pub fn setup_of(alloc: Global, options: &RecordArguments<'_>) -> Result<Setup, R
     };
     Ok(Setup {
         start,
-        first: options.first,
-        rotated: options.rotated,
+        first: options.board.first,
+        rotated: options.board.rotated,
         tags,
     })
 }

@@ -31,7 +31,7 @@ lands_from true x y h =
 lands_from false x y h =
     and_from _ _ (ap not (ne_eqb x y h.differ)) (and_from _ _ (ap not (ne_eqb y 0 h.some)) refl)
 
-pub not_true : {b : Bool} → not b ≡ true → b ≡ true → ⊥
+not_true : {b : Bool} → not b ≡ true → b ≡ true → ⊥
 not_true {b = true} e h = let never : ⊥ = cc in never
 not_true {b = false} e h = let never : ⊥ = cc in never
 

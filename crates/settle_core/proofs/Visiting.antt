@@ -11,13 +11,13 @@ use Rattle.settle_core.specs.Candidate.{lands, leaves, is_king_code, side_number
 use Rattle.settle_core.proofs.Masking.{zero_one}
 use Rattle.settle_core.proofs.Tracing.{Lands, Leaves, lands_from, lands_parts, leaves_parts}
 
-both_first : (a b : ℕ) → min a b ≡ 1 → a < 2 → a ≡ 1
+pub both_first : (a b : ℕ) → min a b ≡ 1 → a < 2 → a ≡ 1
 both_first a b e low = let le : min a b ≤ a = min-le_left a b in omega arith
 
-both_second : (a b : ℕ) → min a b ≡ 1 → b < 2 → b ≡ 1
+pub both_second : (a b : ℕ) → min a b ≡ 1 → b < 2 → b ≡ 1
 both_second a b e low = let le : min a b ≤ b = min-le_right a b in omega arith
 
-both_one : (a b : ℕ) → a ≡ 1 → b ≡ 1 → min a b ≡ 1
+pub both_one : (a b : ℕ) → a ≡ 1 → b ≡ 1 → min a b ≡ 1
 both_one a b e f = ap (λ x. min x b) e ∙ ap (min 1) f
 
 -- a mask without one of its squares is a smaller number

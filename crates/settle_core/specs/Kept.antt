@@ -3,6 +3,7 @@
 use Rattle.std.specs.Prelude.{◌≡◌, ◌<◌, ℕ, Bool, true, false, List, [], ◌∷◌, Option, Some, None, reverse, slice_index, if◌then◌else◌}
 use Rattle.chess_rules.specs.declared.chess_move.Move.{Move}
 use Rattle.chess_rules.specs.declared.parts.Parts.{Parts}
+use Rattle.chess_rules.specs.Board.{other}
 use Rattle.chess_rules.specs.Legal.{Legal}
 use Rattle.chess_rules.specs.Picture.{picture}
 use Rattle.settle_core.specs.declared.compared.Compared.{Compared}
@@ -11,13 +12,16 @@ use Rattle.settle_core.specs.declared.plies.Ply.{Ply}
 use Rattle.settle_core.specs.Candidate.{lands}
 use Rattle.settle_core.specs.Settling.{reached, Played}
 use Rattle.settle_core.specs.Folding.{score_of}
-use Rattle.settle_core.specs.Masks.{IsDiff, IsShown}
+use Rattle.settle_core.specs.Masks.{IsDiff, IsOwned, IsShown}
 use Rattle.settle_core.specs.Settler.{Sheet}
 
--- The picture is the position's, and the mask has the squares on which another picture differs from it.
+-- The picture is the position's, the mask has the squares on which another picture differs from it, and two more have the pieces of
+-- the side to move, and of the other side.
 pub record IsCompared (compared : Compared) (seen : List ℕ) : Type 0 where
   pub picture : compared.picture ≡ picture compared.position
   pub mask : IsDiff compared.mask compared.picture seen
+  pub ours : IsOwned compared.ours compared.position.side compared.picture
+  pub theirs : IsOwned compared.theirs (other compared.position.side) compared.picture
 
 -- The second picture shows no piece but where the first one shows the same.
 abbrev pub OnlyLacks : List ℕ → List ℕ → Type 0

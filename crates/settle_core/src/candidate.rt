@@ -6,11 +6,11 @@ ghost use Rattle.chess_rules.specs.declared.parts.Parts.{Parts as PartsOf};
 ghost use Rattle.chess_rules.specs.Valid.{Valid};
 ghost use Rattle.chess_rules.specs.Picture.{picture};
 ghost use Rattle.settle_core.specs.Settling.{Settles};
-ghost use Rattle.settle_core.specs.Masks.{IsDiff, IsNoMove, IsShown};
-ghost use Rattle.settle_core.specs.Candidate.{is_king_code, is_owned_code, side_number, lands as lands_test, is_lost as lost_test, leaves as leaves_test, officer_of, promotion_between};
+ghost use Rattle.settle_core.specs.Masks.{IsDiff, IsNoMove, IsOwned, IsShown};
+ghost use Rattle.settle_core.specs.Candidate.{is_king_code, is_owned_code, side_number, lands as lands_test, leaves as leaves_test, officer_of, promotion_between};
 
 use crate::codes::{BLACK_KING, BLACK_PAWN, EMPTY, WHITE_KING, WHITE_PAWN};
-use crate::masks::{first_square, landed, shown_in, without};
+use crate::masks::{first_square, landed, shown_in, with, without};
 use chess_rules::{Kind, Move, Side, Square};
 
 /// The one move that the squares on which two pictures differ can show: where a position has the first picture and a move
@@ -120,22 +120,17 @@ fn leaving(code: u8, before: &[u8; 64], after: &[u8; 64], mask: u64) -> Option<u
     None
 }
 
-/// A square that a piece of this side is gone from, among those that differ; where `bare` is set, one that shows no piece now.
-pub fn lost(bare: bool, side: Side, before: &[u8; 64], after: &[u8; 64], mask: u64) -> Option<u8>
-    requires differ { IsDiff mask before.now after.now }
-    ensures range { IfSome result (λ s. s < 64) }
-    ensures some { IfSome result (λ s. lost_test bare side (slice_index before.now s) (slice_index after.now s) ≡ true) }
-    ensures none { IfNone result ((s : ℕ) → s < 64 → lost_test bare side (slice_index before.now s) (slice_index after.now s) ≡ false) }
+/// The squares on which the picture shows pieces of this side.
+pub fn owned_in(side: Side, picture: &[u8; 64]) -> u64
+    ensures { IsOwned result side picture.now }
 {
-    let mut rest = mask;
-    while rest > 0 {
-        let square = first_square(rest);
-        if is_lost(bare, side, before[square as usize], after[square as usize]) {
-            return Some(square);
+    let mut owned = 0;
+    for square in 0..64u8 {
+        if is_owned(side, picture[square as usize]) {
+            owned = with(owned, square);
         }
-        rest = without(rest, square);
     }
-    None
+    owned
 }
 
 fn lands(kings: bool, before: u8, after: u8) -> bool
@@ -153,12 +148,6 @@ fn leaves(code: u8, before: u8, after: u8) -> bool
         } else {
             side_of(before) == side_of(code)
         }
-}
-
-fn is_lost(bare: bool, side: Side, before: u8, after: u8) -> bool
-    ensures { result ≡ lost_test bare side before after }
-{
-    is_owned(side, before) && before != after && (!bare || after == 0)
 }
 
 /// Whether the code is that of a piece of this side.

@@ -4,19 +4,23 @@ ghost use Rattle.chess_rules.specs.declared.chess_move.Move.{Move as MoveOf};
 ghost use Rattle.settle_core.specs.Settling.{Settles};
 ghost use Rattle.settle_core.specs.Masks.{IsDiff, IsShown};
 ghost use Rattle.settle_core.specs.Kept.{HasLanded, IsCompared, OnlyLacks};
-ghost use Rattle.settle_core.specs.Lost.{Bares, Loses};
+ghost use Rattle.chess_rules.specs.Board.{other as other_side};
+ghost use Rattle.settle_core.specs.Lost.{Bares, Loses, MayHideTwo};
 
-use crate::candidate::{candidate_among, is_owned, landing, lost};
-use crate::masks::diff_mask;
+use crate::candidate::{candidate_among, is_owned, landing, owned_in};
+use crate::masks::{diff_mask, exceeds, meets};
 use chess_rules::laws::pictures_tell_moves;
 use chess_rules::{Move, Position, Side};
 
-/// A position, its picture, and the squares on which the picture that was seen last differs from it.
+/// A position, its picture, the squares on which the picture that was seen last differs from it, and those on which pieces stand of the
+/// side to move, and of the other side.
 #[derive(Clone, Copy, Debug)]
 pub struct Compared {
     pub position: Position,
     pub picture: [u8; 64],
     pub mask: u64,
+    pub ours: u64,
+    pub theirs: u64,
 }
 
 /// The mask where the other picture shows this code on one square.
@@ -39,18 +43,29 @@ pub fn shown_after(shown: u64, at: u8, code: u8) -> u64
     changed(shown, &[0; 64], at, code)
 }
 
+fn other(side: Side) -> Side
+    ensures { result ≡ other_side side }
+{
+    match side {
+        Side::White => Side::Black,
+        Side::Black => Side::White,
+    }
+}
+
 impl Compared {
     /// A position beside this picture.
     pub fn new(position: Position, seen: &[u8; 64]) -> Compared
         ensures position { result.position ≡ position }
         ensures compared { IsCompared result seen.now }
     {
+        let side = position.parts().side;
         let picture = position.picture();
-        let mask = diff_mask(&picture, seen);
         Compared {
             position,
             picture,
-            mask,
+            mask: diff_mask(&picture, seen),
+            ours: owned_in(side, &picture),
+            theirs: owned_in(other(side), &picture),
         }
     }
 
@@ -81,24 +96,44 @@ impl Compared {
         landing(&self.picture, seen, self.mask, shown)
     }
 
-    /// Whether the picture shows something else where a piece of this side stands.
-    pub fn loses(&self, seen: &[u8; 64], side: Side) -> bool
+    /// Whether the picture shows something else where a piece of the side to move stands.
+    fn ours_lost(&self, seen: &[u8; 64]) -> bool
         requires { IsCompared self.now seen.now }
-        ensures { IsTrue result ↔ Loses self.now.position seen.now side }
+        ensures { IsTrue result ↔ Loses self.now.position seen.now self.now.position.side }
     {
         // For its clause: the position is valid.
         self.position.parts();
-        lost(false, side, &self.picture, seen, self.mask).is_some()
+        meets(self.mask, self.ours)
     }
 
-    /// Whether the picture shows no piece where one of this side stands.
-    pub fn bares(&self, seen: &[u8; 64], side: Side) -> bool
+    /// Whether it does where one of the other side stands.
+    pub fn theirs_lost(&self, seen: &[u8; 64]) -> bool
         requires { IsCompared self.now seen.now }
-        ensures { IsTrue result ↔ Bares self.now.position seen.now side }
+        ensures { IsTrue result ↔ Loses self.now.position seen.now (other_side self.now.position.side) }
     {
         // For its clause: the position is valid.
         self.position.parts();
-        lost(true, side, &self.picture, seen, self.mask).is_some()
+        meets(self.mask, self.theirs)
+    }
+
+    /// Whether it shows no piece there.
+    fn theirs_bared(&self, seen: &[u8; 64], shown: u64) -> bool
+        requires compared { IsCompared self.now seen.now }
+        requires shown { IsShown shown seen.now }
+        ensures { IsTrue result ↔ Bares self.now.position seen.now (other_side self.now.position.side) }
+    {
+        // For its clause: the position is valid.
+        self.position.parts();
+        exceeds(self.theirs, shown)
+    }
+
+    /// Whether two plies from the position may give the picture.
+    pub fn may_hide_two(&self, seen: &[u8; 64], shown: u64) -> bool
+        requires compared { IsCompared self.now seen.now }
+        requires shown { IsShown shown seen.now }
+        ensures { IsTrue result ↔ MayHideTwo self.now.position seen.now }
+    {
+        self.ours_lost(seen) && self.theirs_bared(seen, shown)
     }
 
     /// Whether the picture settles this move in the position.

@@ -1,5 +1,5 @@
 //! Masks of squares: bit n is square n.
-ghost use Rattle.std.specs.Prelude.{◌≡◌, ◌≢◌, ◌<◌, ℕ, List};
+ghost use Rattle.std.specs.Prelude.{◌≡◌, ◌≢◌, ◌<◌, ◌↔◌, ℕ, List, IsTrue};
 ghost use Rattle.std.specs.Int.{bit_at};
 ghost use Rattle.settle_core.specs.Masks.{IsDiff, IsLanded, IsShown};
 
@@ -46,4 +46,29 @@ pub fn without(mask: u64, square: u8) -> u64
     ensures others { (s : ℕ) → s < 64 → s ≢ square → bit_at result s ≡ bit_at mask s }
 {
     mask & !(1 << square)
+}
+
+/// The mask with one square more.
+pub fn with(mask: u64, square: u8) -> u64
+    requires { square < 64 }
+    ensures set { bit_at result square ≡ 1 }
+    ensures others { (s : ℕ) → s < 64 → s ≢ square → bit_at result s ≡ bit_at mask s }
+{
+    mask | (1 << square)
+}
+
+/// Whether two masks have a square in common.
+pub fn meets(a: u64, b: u64) -> bool
+    ensures { IsTrue result ↔ ((s : ℕ) × (s < 64) × (bit_at a s ≡ 1) × (bit_at b s ≡ 1)) }
+{
+    let both = a & b;
+    both > 0
+}
+
+/// Whether the first mask has a square that the second one lacks.
+pub fn exceeds(a: u64, b: u64) -> bool
+    ensures { IsTrue result ↔ ((s : ℕ) × (s < 64) × (bit_at a s ≡ 1) × (bit_at b s ≡ 0)) }
+{
+    let more = a & !b;
+    more > 0
 }

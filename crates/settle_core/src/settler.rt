@@ -6,7 +6,8 @@ ghost use Rattle.chess_rules.specs.Legal.{Legal};
 ghost use Rattle.settle_core.specs.Entries.{Entry, entry_of, changed, deduplicated};
 ghost use Rattle.chess_rules.specs.Picture.{picture};
 ghost use Rattle.settle_core.specs.declared.plies.Ply.{Ply as PlyOf};
-ghost use Rattle.settle_core.specs.Lost.{Bares, Loses};
+ghost use Rattle.chess_rules.specs.Board.{other};
+ghost use Rattle.settle_core.specs.Lost.{Loses, MayHideTwo};
 ghost use Rattle.settle_core.specs.Masks.{IsDiff};
 ghost use Rattle.settle_core.specs.Settling.{Settles, Line, position_after, reached};
 ghost use Rattle.settle_core.specs.Folding.{Folds, Replaces, SeenAs, moves_of, played, score_after, score_of, time_of as time_in};
@@ -345,24 +346,32 @@ impl Settler {
         self.here.mask
     }
 
-    /// Whether the last picture shows something else where a piece of this side stands in the position.
-    pub fn loses(&self, side: Side) -> bool
-        ensures { (seen : List ℕ) → self.now.last ≡ Some seen → IsTrue result ↔ Loses (position_of self.now) seen side }
+    /// Whether the last picture shows something else where a piece of the side that is not to move stands in the position.
+    pub fn theirs_lost(&self) -> bool
+        ensures { (seen : List ℕ) → self.now.last ≡ Some seen
+            → IsTrue result ↔ Loses (position_of self.now) seen (other (position_of self.now).side) }
     {
-        self.here.loses(&self.picture, side)
+        self.here.theirs_lost(&self.picture)
     }
 
-    /// Whether the last picture shows no piece where one of this side stood in the position before the last ply. False where no ply
-    /// was made.
-    pub fn bared(&self, side: Side) -> bool
+    /// Whether two plies from the position may give the last picture: the side to move has left a square, and the other side one that
+    /// is bare.
+    pub fn may_hide_two(&self) -> bool
+        ensures { (seen : List ℕ) → self.now.last ≡ Some seen → IsTrue result ↔ MayHideTwo (position_of self.now) seen }
+    {
+        self.here.may_hide_two(&self.picture, self.shown)
+    }
+
+    /// The same of the position before the last ply; false where no ply was made.
+    pub fn may_hide_two_before(&self) -> bool
         ensures last { (seen : List ℕ) (ply : PlyOf) (earlier : List PlyOf) → self.now.last ≡ Some seen → self.now.score.plies ≡ ply ∷ earlier
-            → IsTrue result ↔ Bares (reached self.now.start (moves_of earlier)) seen side }
+            → IsTrue result ↔ MayHideTwo (reached self.now.start (moves_of earlier)) seen }
         ensures none { self.now.score.plies ≡ [] → result ≡ false }
     {
         let Some(before) = &self.before else {
             return false;
         };
-        before.bares(&self.picture, side)
+        before.may_hide_two(&self.picture, self.shown)
     }
 
     /// The result whose sign was seen, if no move was made or corrected after it.

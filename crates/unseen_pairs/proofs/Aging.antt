@@ -24,12 +24,12 @@ use Rattle.unseen_pairs.specs.Candidates.{AddedBelow, AgedBelow, AreAdded, AreAl
 use Rattle.std.specs.Int.RustNames.{count_ones}
 use Rattle.settle_core.specs.Masks.{IsDiff}
 use Rattle.unseen_pairs.proofs.Counting.{two_change, two_correct}
-use Rattle.unseen_pairs.proofs.Losing.{correcting_loses, mover_loses, other_bares, other_loses}
+use Rattle.unseen_pairs.proofs.Losing.{correcting_loses, hides_two, other_loses}
 use Rattle.unseen_pairs.proofs.Putting.{settles_own}
 use Rattle.chess_rules.specs.declared.pieces.Side.{Side}
 use Rattle.chess_rules.specs.Board.{other as other_side}
 use Rattle.settle_core.proofs.Boards.{other-other}
-use Rattle.settle_core.specs.Lost.{Bares, Loses}
+use Rattle.settle_core.specs.Lost.{Loses, MayHideTwo}
 
 -- the first candidates, and one more
 pub aged_none : (old : List Candidate) → AgedBelow old 0 []
@@ -391,26 +391,24 @@ none_left start plies seen reading old v played waits none =
       none = λ e. refl;
     }
 
--- Nor does one where the side to move has lost no square, and none was left bare on which it stood before the last ply.
-pub none_bared :
+-- Nor does one where no two plies may be hidden, from the position or from the one before the last ply.
+pub none_hidden :
     (start : Parts) (plies : List Ply) (seen : List ℕ) (reading : Option Reading) (old : List Candidate)
     → Valid start
     → Played start (moves_of plies)
-    → ¬ Loses (reached start (moves_of plies)) seen (reached start (moves_of plies)).side
-    → ((ply : Ply) (earlier : List Ply) → plies ≡ ply ∷ earlier → ¬ Bares (reached start (moves_of earlier)) seen (reached start (moves_of plies)).side)
+    → ¬ MayHideTwo (reached start (moves_of plies)) seen
+    → ((ply : Ply) (earlier : List Ply) → plies ≡ ply ∷ earlier → ¬ MayHideTwo (reached start (moves_of earlier)) seen)
     → AreAllAdded start plies seen reading old old
-none_bared start plies seen reading old v played none bare =
+none_hidden start plies seen reading old v played none before =
     let p : Parts = reached start (moves_of plies) in
     let P : List Ply → Type 0 = λ ps. Played start (moves_of ps) in
     record {
       one = old;
-      next = none_added false p seen reading old (λ m n two. none (mover_loses p m n seen (valid_reached start (moves_of plies) v played) two));
+      next = none_added false p seen reading old (λ m n two. none (hides_two p m n seen (valid_reached start (moves_of plies) v played) two));
       more = λ ply earlier e.
           let q : Parts = reached start (moves_of earlier) in
-          let B : List Ply → Type 0 = λ ps. ¬ Bares q seen (reached start (moves_of ps)).side in
-          let before : Played start (moves_of (ply ∷ earlier)) = subst P e played in
-          let none : ¬ Bares q seen (other_side q.side) = subst B e (bare ply earlier e) in
-          none_added true q seen reading old (λ m n two. none (other_bares q m n seen (valid_reached start (moves_of earlier) v before.1) two));
+          let line : Played start (moves_of (ply ∷ earlier)) = subst P e played in
+          none_added true q seen reading old (λ m n two. before ply earlier e (hides_two q m n seen (valid_reached start (moves_of earlier) v line.1) two));
       none = λ e. refl;
     }
 
@@ -451,3 +449,27 @@ pub all_added :
     → OnOk r (AreAllAdded start plies seen reading old new)
 all_added (Ok x) start plies seen reading old one new next more none = record { one = one; next = next; more = more; none = none }
 all_added (Err e) start plies seen reading old one new next more none = tt
+
+pub valid_before :
+    (start : Parts) (plies : List Ply) (ply : Ply) (earlier : List Ply)
+    → Valid start → Played start (moves_of plies) → plies ≡ ply ∷ earlier → Valid (reached start (moves_of earlier))
+valid_before start plies ply earlier v played e =
+    let P : List Ply → Type 0 = λ ps. Played start (moves_of ps) in
+    let line : Played start (moves_of (ply ∷ earlier)) = subst P e played in
+    valid_reached start (moves_of earlier) v line.1
+
+-- Where more squares differ than two plies change.
+pub none_within :
+    (corrects : Bool) (p : Parts) (seen : List ℕ) (reading : Option Reading) (old : List Candidate) (mask : ℕ)
+    → Valid p → mask < 2 ^ 64 → IsDiff mask (picture p) seen → 8 < count_ones mask → AreAdded corrects p seen reading old old
+none_within corrects p seen reading old mask v low diff many =
+    none_added corrects p seen reading old
+    (λ m n two.
+    let few : count_ones mask ≤ 8 = two_change p m n (picture p) seen mask v two refl low diff in
+    let never : ⊥ = omega arith in never)
+
+-- Where no two plies may be hidden.
+pub none_between :
+    (corrects : Bool) (p : Parts) (seen : List ℕ) (reading : Option Reading) (old : List Candidate)
+    → Valid p → ¬ MayHideTwo p seen → AreAdded corrects p seen reading old old
+none_between corrects p seen reading old v none = none_added corrects p seen reading old (λ m n two. none (hides_two p m n seen v two))

@@ -14,7 +14,7 @@ use Rattle.chess_rules.proofs.LawLemmas.{moves_move_pieces, moves_stay_valid, pi
 use Rattle.settle_core.proofs.Boards.{on_board, none_piece, other-other, same_unless}
 use Rattle.settle_core.proofs.Pieces.{at_picture, on_shown, code_no_zero, theirs_stood}
 use Rattle.unseen_pairs.specs.Pairs.{IsAfterTwo}
-use Rattle.settle_core.specs.Lost.{Bares, Loses}
+use Rattle.settle_core.specs.Lost.{Bares, Loses, MayHideTwo}
 
 -- the piece that a move takes off its square
 pub record Goes (p : Parts) (m : Move) : Type 0 where
@@ -96,6 +96,9 @@ other_bares p m n seen v two =
 
 pub other_loses : (p : Parts) (m n : Move) (seen : List ℕ) → Valid p → IsAfterTwo p seen m n → Loses p seen (other p.side)
 other_loses p m n seen v two = let b = other_bares p m n seen v two in (b.0, b.1)
+
+pub hides_two : (p : Parts) (m n : Move) (seen : List ℕ) → Valid p → IsAfterTwo p seen m n → MayHideTwo p seen
+hides_two p m n seen v two = (mover_loses p m n seen v two, other_bares p m n seen v two)
 
 -- Where another move than the last one and a reply explain the picture, a piece of the side of these moves is not where the last
 -- one left it: the pieces of a side tell its move.

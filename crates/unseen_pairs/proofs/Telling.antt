@@ -234,6 +234,9 @@ other_told desk candidates start past written entry w none other lists =
 none_listed : (cs : List Candidate) (c : Candidate) → cs ≡ [] → ¬ Contains cs c
 none_listed cs c e k = let at : Contains [] c = subst (λ (xs : List Candidate). Contains xs c) e k in let low : at.0 < 0 = at.1 in let n : ⊥ = omega arith in n
 
+pub none_only : (cs : List Candidate) (seen : List ℕ) → cs ≡ [] → (one : Confirmed) → ¬ IsOnlyOne cs seen one
+none_only cs seen e one only = none_listed cs one.candidate e only.listed
+
 none_aged : (cs : List Candidate) → cs ≡ [] → AreAged cs cs
 none_aged cs e = record {
   sound = λ c k. absurd (none_listed cs c e k);

@@ -1,4 +1,4 @@
-// Which pair a picture confirms.
+//! Which pair a picture confirms.
 ghost use Rattle.std.specs.Prelude.{◌≡◌, ◌<◌, ◌↔◌, [], ℕ, List, All, IfOk, IfSome, IfNone, IsTrue};
 ghost use Rattle.chess_rules.specs.declared.parts.Parts.{Parts as PartsOf};
 ghost use Rattle.settle_core.specs.declared.plies.Seen.{Seen as SeenOf};
@@ -100,7 +100,7 @@ fn older(a: &Confirmed, b: &Confirmed) -> Confirmed
     }
 }
 
-// The same of some candidates: apart, since a picture seldom meets any.
+/// The same of some candidates: apart, since a picture seldom meets any.
 #[inline(never)]
 fn only_one_of(
     alloc: Global,

@@ -1,4 +1,4 @@
-// The pairs of plies that explain a picture.
+//! The pairs of plies that explain a picture.
 ghost use Rattle.std.specs.Prelude.{◌≡◌, ◌<◌, ◌↔◌, ◌^◌, ℕ, List, Contains, count_ones, IfOk, OnOk, IsTrue, slice_index};
 ghost use Rattle.chess_rules.specs.declared.chess_move.Move.{Move as MoveOf};
 ghost use Rattle.chess_rules.specs.declared.parts.Parts.{Parts as PartsOf};
@@ -24,7 +24,7 @@ fn copy(m: &Move) -> Move
     *m
 }
 
-pub fn other(side: Side) -> Side
+fn other(side: Side) -> Side
     ensures { result ≡ other_side side }
 {
     match side {
@@ -39,7 +39,7 @@ fn loses_at(p: &Position, before: &[u8; 64], seen: &[u8; 64], side: Side, square
     requires before { before.now ≡ picture p.now }
     ensures { IsTrue result ↔ LosesAt p.now seen.now side square }
 {
-    // The position is valid.
+    // For its clause: the position is valid.
     let parts = p.parts();
     if before[square as usize] == seen[square as usize] {
         return false;
@@ -75,7 +75,7 @@ pub fn has_more(mask: u64, most: u32) -> bool
 pub fn may_hide_two(p: &Position, seen: &[u8; 64]) -> bool
     ensures { (m n : MoveOf) → IsAfterTwo p.now seen.now m n → IsTrue result }
 {
-    // The position is valid.
+    // For its clause: the position is valid.
     let side = p.parts().side;
     let before = p.picture();
     if has_more(diff_mask(&before, seen), 8) {
@@ -107,7 +107,7 @@ fn push_pair_with(
     requires before { before.now ≡ picture p.now }
     ensures { OnOk result (AddsPairs p.now seen.now first.now pairs.old.items pairs.new.items) }
 {
-    // The position is valid.
+    // For its clause: the position is valid.
     p.parts();
     if stays(before, seen, first) {
         return Ok(());
@@ -132,9 +132,6 @@ pub fn pairs_that_explain(
     ensures { IfOk result (λ pairs. (x : TwoPliesOf) → Contains pairs.items x ↔ IsAfterTwo p.now seen.now x.first x.second) }
 {
     let mut pairs = Vec::new(alloc);
-    if !may_hide_two(p, seen) {
-        return Ok(pairs);
-    }
     let before = p.picture();
     let moves = p.legal_moves(alloc)?;
     for first in moves.as_slice() {

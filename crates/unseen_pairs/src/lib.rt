@@ -2,7 +2,8 @@
 //!
 //! Begin with `recoverer.rt`, which takes pictures. `explaining.rt` finds the pairs that explain one, over `settled.rt`;
 //! `waiting.rt` keeps them, and `confirming.rt` says which of them a later picture confirms. `pair.rt` has what is answered,
-//! `laws.rt` what holds of all games.
+//! `laws.rt` what holds of all games. A call marked `For its clause` changes nothing: the proof needs what its contract
+//! says.
 #![tactic(auto)]
 
 mod confirming;

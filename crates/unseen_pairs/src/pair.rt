@@ -1,4 +1,4 @@
-// Pairs of plies, and what a picture tells of them.
+//! Pairs of plies, and what a picture tells of them.
 use chess_clock::Reading;
 use chess_rules::{Move, Position};
 use settle_core::Seen;

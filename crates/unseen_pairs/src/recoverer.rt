@@ -1,4 +1,4 @@
-// The recoverer: it takes pictures, and keeps the line that they show, with the pairs that no picture showed ply by ply.
+//! The recoverer: it takes pictures, and keeps the line that they show, with the pairs that no picture showed ply by ply.
 ghost use Rattle.std.specs.Prelude.{◌≡◌, ◌<◌, ◌↔◌, ◌^◌, ℕ, List, [], ◌∷◌, All, IfOk, OnOk, IsTrue, true, slice_index, slice_set};
 ghost use Rattle.chess_rules.specs.declared.parts.Parts.{Parts as PartsOf};
 ghost use Rattle.settle_core.specs.Entries.{Entry, entry_of};
@@ -69,7 +69,7 @@ impl Recoverer {
         ensures answer { (start : PartsOf) (past written : List Entry) → StandsForRecovered self.old start past written
             → IfOk result (ReturnsTold start past picture.now) }
     {
-        // The start is valid.
+        // For its clause: the start is valid.
         self.settler.start().parts();
         match self.settler.see(picture, copy(&clock))? {
             Seen::Same => Ok(Told::Shown(Seen::Same)),
@@ -106,7 +106,7 @@ impl Recoverer {
             → picture.now ≡ slice_set before.picture square (slice_index picture.now square)
             → IfOk result (λ heard. HoldsOf (ReturnsTold start (before ∷ past) picture.now) heard found.new) }
     {
-        // The start is valid.
+        // For its clause: the start is valid.
         self.settler.start().parts();
         let code = picture[square.number() as usize];
         match self.settler.see_field(square, code, copy(&clock))? {
@@ -131,14 +131,34 @@ impl Recoverer {
         ensures { IsTrue result → (start : PartsOf) (past written : List Entry) (entry : Entry) → IsWaiting self.now start past written entry
             → HasTold self.now start past written entry (ToldOf.Shown Seen.Waits) }
     {
-        // The start is valid.
+        // For its clause: the start is valid.
         self.settler.start().parts();
         self.candidates.is_empty() && hides_none(&self.settler)
     }
 
-    // As `wait`: apart, since few pictures come so far.
+    /// As `wait`: apart, since few pictures come so far.
     #[inline(never)]
     fn wait_for(
+        &mut self,
+        alloc: Global,
+        picture: &[u8; 64],
+        clock: &Option<Reading>,
+        found: &mut Option<Recovery>,
+    ) -> Result<Heard, AllocError>
+        requires { All (λ code. code < 16) picture.now }
+        ensures { (start : PartsOf) (past written : List Entry) → IsWaiting self.old start past written (entry_of picture.now clock.now)
+            → IfOk result (λ heard. HoldsOf (HasTold self.new start past written (entry_of picture.now clock.now)) heard found.new) }
+    {
+        if self.candidates.is_empty() {
+            self.keep(alloc, picture, clock)?;
+            return Ok(Heard::Shown(Seen::Waits));
+        }
+        self.wait_among(alloc, picture, clock, found)
+    }
+
+    /// The same of some candidates: apart, since fewer do.
+    #[inline(never)]
+    fn wait_among(
         &mut self,
         alloc: Global,
         picture: &[u8; 64],
@@ -190,7 +210,7 @@ impl Recoverer {
             → IsOnlyOne self.old.candidates picture.now one.now
             → IfOk result (HasTold self.new start past written (entry_of picture.now clock.now)) }
     {
-        // The start is valid.
+        // For its clause: the start is valid.
         self.settler.start().parts();
         let found = &one.candidate;
         self.settler
@@ -220,7 +240,7 @@ impl Recoverer {
             → ((one : ConfirmedOf) → ¬ IsOnlyOne self.old.candidates picture.now one)
             → OnOk result (HasTold self.new start past written (entry_of picture.now clock.now) (Told.Shown Seen.Waits)) }
     {
-        // The start is valid.
+        // For its clause: the start is valid.
         self.settler.start().parts();
         if agrees(self.settler.differs()) {
             self.candidates.clear();

@@ -1,4 +1,4 @@
-// The move that a picture settles in a position.
+//! The move that a picture settles in a position.
 ghost use Rattle.std.specs.Prelude.{◌≡◌, ◌↔◌, IfSome, IfNone, IsTrue, Some};
 ghost use Rattle.chess_rules.specs.declared.chess_move.Move.{Move as MoveOf};
 ghost use Rattle.settle_core.specs.Settling.{Settles};
@@ -18,7 +18,7 @@ fn copy(m: &Move) -> Move
 fn settles(p: &Position, seen: &[u8; 64], m: &Move) -> bool
     ensures { IsTrue result ↔ Settles p.now seen.now m.now }
 {
-    // The position is valid, and no other legal move gives the same picture.
+    // For its clause: the position is valid, and no other legal move gives the same picture.
     p.parts();
     pictures_tell_moves();
     p.is_legal(copy(m)) && p.play(copy(m)).picture() == *seen
@@ -28,7 +28,7 @@ fn settles(p: &Position, seen: &[u8; 64], m: &Move) -> bool
 fn candidate_in(p: &Position, seen: &[u8; 64]) -> Option<Move>
     ensures { (m : MoveOf) → Settles p.now seen.now m → result ≡ Some m }
 {
-    // The position is valid.
+    // For its clause: the position is valid.
     p.parts();
     let before = p.picture();
     candidate(&before, seen, diff_mask(&before, seen))

@@ -1,15 +1,17 @@
-// The candidates of the entries that wait.
-ghost use Rattle.std.specs.Prelude.{◌≡◌, ◌<◌, ◌∷◌, [], true, List, Some, IfOk, IsTrue, OnOk};
+//! The candidates of the entries that wait.
+ghost use Rattle.std.specs.Prelude.{◌≡◌, ◌<◌, ◌∷◌, [], true, false, List, Some, IfOk, IsTrue, OnOk};
 ghost use Rattle.chess_rules.specs.After.{after};
 ghost use Rattle.chess_rules.specs.Legal.{Legal};
+ghost use Rattle.chess_rules.specs.Valid.{Valid};
 ghost use Rattle.settle_core.specs.declared.plies.Ply.{Ply as PlyOf};
 ghost use Rattle.settle_core.specs.declared.plies.Seen.{Seen as SeenOf};
 ghost use Rattle.settle_core.specs.Folding.{SeenAs, moves_of};
+ghost use Rattle.settle_core.specs.Settler.{position_of};
 ghost use Rattle.settle_core.specs.Settling.{Played, reached};
 ghost use Rattle.unseen_pairs.specs.Candidates.{AreAdded, AreAllAdded, AreAged, HidesNone, IsNew};
 
 use crate::confirming::Candidate;
-use crate::explaining::{has_more, may_hide_two, other, pairs_that_explain};
+use crate::explaining::{has_more, may_hide_two, pairs_that_explain};
 use crate::pair::{Pair, TwoPlies};
 use chess_clock::Reading;
 use chess_rules::{Move, Position};
@@ -29,7 +31,7 @@ fn copy_move(m: &Move) -> Move
     *m
 }
 
-// The same of some candidates: apart, since a picture seldom meets any.
+/// The same of some candidates: apart, since a picture seldom meets any.
 #[inline(never)]
 fn aged_each(alloc: Global, candidates: &[Candidate]) -> Result<Vec<Candidate>, AllocError>
     ensures { IfOk result (λ aged. AreAged candidates.now aged.items) }
@@ -83,7 +85,7 @@ fn candidate_of(
     }
 }
 
-// The same where some may: apart, since few pictures come so far.
+/// The same where some may: apart, since few pictures come so far.
 #[inline(never)]
 fn add_explaining(
     alloc: Global,
@@ -119,6 +121,36 @@ fn add_pairs(
     add_explaining(alloc, candidates, corrects, p, picture, reading)
 }
 
+/// Adds those from the settler's position.
+fn add_next(
+    alloc: Global,
+    candidates: &mut Vec<Candidate>,
+    settler: &Settler,
+    picture: &[u8; 64],
+    reading: &Option<Reading>,
+) -> Result<(), AllocError>
+    ensures { settler.now.last ≡ Some picture.now
+        → OnOk result (AreAdded false (position_of settler.now) picture.now reading.now candidates.old.items candidates.new.items) }
+{
+    // For its clause: the position is valid.
+    settler.position().parts();
+    // No ply changes more than four squares.
+    if has_more(settler.differs(), 8) {
+        return Ok(());
+    }
+    if !settler.may_hide_two() {
+        return Ok(());
+    }
+    add_explaining(
+        alloc,
+        candidates,
+        false,
+        settler.position(),
+        picture,
+        reading,
+    )
+}
+
 /// Adds those from the position before the settler's last ply.
 fn add_correcting(
     alloc: Global,
@@ -127,33 +159,34 @@ fn add_correcting(
     picture: &[u8; 64],
     reading: &Option<Reading>,
 ) -> Result<(), AllocError>
-    ensures last { (ply : PlyOf) (earlier : List PlyOf) → settler.now.score.plies ≡ ply ∷ earlier
-        → OnOk result (AreAdded true (reached settler.now.start (moves_of earlier)) picture.now reading.now candidates.old.items candidates.new.items) }
+    ensures last { (ply : PlyOf) (earlier : List PlyOf) → settler.now.last ≡ Some picture.now → settler.now.score.plies ≡ ply ∷ earlier
+        → Valid (reached settler.now.start (moves_of earlier)) → OnOk result (AreAdded true (reached settler.now.start (moves_of earlier)) picture.now reading.now candidates.old.items candidates.new.items) }
     ensures none { settler.now.score.plies ≡ [] → OnOk result (candidates.new.items ≡ candidates.old.items) }
 {
+    if !settler.may_hide_two_before() {
+        return Ok(());
+    }
     let Some((before, _)) = settler.last_ply() else {
         return Ok(());
     };
     add_pairs(alloc, candidates, true, &before, picture, reading)
 }
 
-/// Whether no pair explains the last picture, where it waits, since a side has left no square that it would have left: the first
-/// mover of a pair leaves one to whatever is there now, the second one leaves one bare; and where the pair corrects the last ply,
-/// the piece of this ply isn't where it was put.
+/// Whether no pair explains the last picture, where it waits, since a side has left no square that it would have left; and where the
+/// pair corrects the last ply, the piece of this ply isn't where it was put.
 #[inline(always)]
 pub fn hides_none(settler: &Settler) -> bool
     ensures { IsTrue result → HidesNone settler.now }
 {
-    // The start is valid.
+    // For its clause: the start is valid.
     settler.start().parts();
-    let side = settler.position().parts().side;
-    if !settler.loses(other(side)) {
+    if !settler.theirs_lost() {
         return true;
     }
-    if settler.loses(side) {
+    if settler.may_hide_two() {
         return false;
     }
-    !settler.bared(side)
+    !settler.may_hide_two_before()
 }
 
 /// Adds all pairs that explain a picture which waits: those from the settler's position, and those from the position before its
@@ -170,7 +203,7 @@ pub fn add_all(
         → SeenAs settler.now.start (moves_of settler.now.score.plies) picture.now SeenOf.Waits
         → OnOk result (AreAllAdded settler.now.start settler.now.score.plies picture.now reading.now candidates.old.items candidates.new.items) }
 {
-    // The start is valid.
+    // For its clause: the start is valid.
     settler.start().parts();
     // No ply changes more than four squares.
     if has_more(settler.differs(), 12) {
@@ -179,13 +212,6 @@ pub fn add_all(
     if hides_none(settler) {
         return Ok(());
     }
-    add_pairs(
-        alloc,
-        candidates,
-        false,
-        settler.position(),
-        picture,
-        reading,
-    )?;
+    add_next(alloc, candidates, settler, picture, reading)?;
     add_correcting(alloc, candidates, settler, picture, reading)
 }

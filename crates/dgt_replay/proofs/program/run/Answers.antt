@@ -12,7 +12,7 @@ use Rattle.dgt_replay.specs.Refusals.{RefusesSetup, RefusesStart}
 use Rattle.dgt_replay.proofs.DoesLemmas.{checks_memory, does_check, does_follow, does_moves, does_pictures, does_positions, does_record, does_recover, does_refuse_positions, does_refuse_recover, does_refuse_setup, does_refuse_start, does_show, lacks_memory, lists_memory, plays_memory, prints_memory, records_memory, recovers_memory, refuses_memory, text_memory}
 use Rattle.dgt_replay.proofs.FaultLemmas.{mistaken_asks_nothing, mistaken_kind, one_fault, one_kind}
 use Rattle.dgt_replay.proofs.MessageLemmas.{text_out_of_memory}
-use Rattle.dgt_replay.proofs.SubcommandLemmas.{check_unrefused, follow_unrefused, moves_chosen, or_refused, pictures_unrefused, record_unrefused, recover_unrefused, show_unrefused, unrefused}
+use Rattle.dgt_replay.proofs.SubcommandLemmas.{check_unrefused, follow_unrefused, moves_chosen, or_refused, pictures_unrefused, record_unrefused, recover_chosen, recover_unrefused, show_unrefused, unrefused}
 use Rattle.dgt_replay.proofs.program.run.Goals as goal
 
 pub returns-in-Err-clause-show : goal.returns-in-Err-clause-show
@@ -182,6 +182,16 @@ returns-in-Err-clause-usage g c two =
 
 pub returns-in-Err-clause-moves_unread : goal.returns-in-Err-clause-moves_unread
 returns-in-Err-clause-moves_unread g c rows asks = refl
+
+pub returns-in-Err-clause-recover_told : goal.returns-in-Err-clause-recover_told
+returns-in-Err-clause-recover_told g c rows asks zero =
+    let four = (c.refused_arguments.ensures.memory (or_refused c.in-Err.ensures.refused (unrefused (map string_bytes c.args.arguments.now) (codes "recover") rows asks))).0 in
+    absurd (omega (arith, zero, four))
+
+pub returns-in-Ok-clause-recover_told : goal.returns-in-Ok-clause-recover_told
+returns-in-Ok-clause-recover_told g c rows asks =
+    let chosen = recover_chosen (map string_bytes c.args.arguments.now) rows c.in-Ok.subcommand asks c.in-Ok.ensures.chooses in
+    c.dispatch.ensures.recover_told chosen.0 chosen.1
 
 pub returns-in-Err-clause-works : goal.returns-in-Err-clause-works
 returns-in-Err-clause-works g c zero = (c.requires.reading, c.refused_arguments.ensures.works zero)

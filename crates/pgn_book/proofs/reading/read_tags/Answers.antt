@@ -1,36 +1,44 @@
-use Rattle.std.proofs.Common.{sym, ◌∙◌, ap}
-use Rattle.pgn_book.specs.declared.values.Tag.TheVariants.{Event, Site, Date, Round, White, Black}
-use Rattle.pgn_book.specs.Values.{with_value}
-use Rattle.pgn_book.specs.Sections.{values_at}
-use Rattle.pgn_book.proofs.TagsRead.{fit_at}
+use Rattle.std.proofs.Common.{◌≡◌, ◌<◌, ◌+◌, ◌∙◌, [], ℕ, false, List, ap, arith, drop, get_or, subst, sym, length}
+use Rattle.std.proofs.lemmas.List.{drop_all, drop_more}
+use Rattle.pgn_book.specs.declared.values.Tag.{Tag}
+use Rattle.pgn_book.specs.declared.values.Tag.TheVariants.{Event}
+use Rattle.pgn_book.specs.TagNames.{all_tags}
+use Rattle.pgn_book.specs.Values.{IsValue, with_value}
+use Rattle.pgn_book.specs.Parse.{next_line, value_at, value_part}
+use Rattle.pgn_book.proofs.TagsRead.{Reads, fit_next, reads_next}
 use Rattle.pgn_book.proofs.reading.read_tags.Goals as goal
 
 pub returns-in-Err : goal.returns-in-Err
-returns-in-Err c = λ values all e. c.in-Err.ensures (fit_at values (values_at c.args.sections.now) all e Event)
+returns-in-Err c = λ values all have.
+    let l = c.loop-tag in
+    let lt : l.tag-index < length all_tags = omega arith in
+    let tag = get_or all_tags l.tag-index Event in
+    let left = drop (l.tag-index + 1) all_tags in
+    let R : List Tag → Type 0 = λ tags. Reads values tags l.rest.now l.tags in
+    let reads = subst R (drop_more all_tags l.tag-index Event lt) (l.invariant values all have) in
+    let value = c.value_of-value.ensures ∙ ap (λ (n : List ℕ). value_part n l.rest.now) c.name.ensures.name in
+    let V : List ℕ → Type 0 = λ bytes. IsValue tag (value_at false bytes) in
+    c.in-Err.ensures (subst V (sym value) (fit_next values tag left l.rest.now all reads.have))
 
-pub returns-in-Err-read_tag : goal.returns-in-Err-read_tag
-returns-in-Err-read_tag c = λ values all e. c.in-Err-read_tag.ensures (fit_at values (values_at c.args.sections.now) all e Site)
-
-pub returns-in-Err-read_tag-2 : goal.returns-in-Err-read_tag-2
-returns-in-Err-read_tag-2 c = λ values all e. c.in-Err-read_tag-2.ensures (fit_at values (values_at c.args.sections.now) all e Date)
-
-pub returns-in-Err-read_tag-3 : goal.returns-in-Err-read_tag-3
-returns-in-Err-read_tag-3 c = λ values all e. c.in-Err-read_tag-3.ensures (fit_at values (values_at c.args.sections.now) all e Round)
-
-pub returns-in-Err-read_tag-4 : goal.returns-in-Err-read_tag-4
-returns-in-Err-read_tag-4 c = λ values all e. c.in-Err-read_tag-4.ensures (fit_at values (values_at c.args.sections.now) all e White)
-
-pub returns-in-Err-read_tag-5 : goal.returns-in-Err-read_tag-5
-returns-in-Err-read_tag-5 c = λ values all e. c.in-Err-read_tag-5.ensures (fit_at values (values_at c.args.sections.now) all e Black)
+pub loop-tag-preserved : goal.loop-tag-preserved
+loop-tag-preserved c = λ values all have.
+    let l = c.loop-tag in
+    let lt : l.tag-index < length all_tags = omega arith in
+    let tag = get_or all_tags l.tag-index Event in
+    let left = drop (l.tag-index + 1) all_tags in
+    let R : List Tag → Type 0 = λ tags. Reads values tags l.rest.now l.tags in
+    let reads = subst R (drop_more all_tags l.tag-index Event lt) (l.invariant values all have) in
+    let value = c.value_of-value.ensures ∙ ap (λ (n : List ℕ). value_part n l.rest.now) c.name.ensures.name in
+    let V : List ℕ → Type 0 = λ bytes. IsValue tag (value_at false bytes) in
+    let set = c.in-Ok.ensures (subst V (sym value) (fit_next values tag left l.rest.now all reads.have))
+    ∙ ap (λ (bytes : List ℕ). with_value tag (value_at false bytes) l.tags) value in
+    let next = c.next_line-rest.ensures ∙ ap next_line value in
+    let N : List ℕ → Type 0 = λ rest. Reads values left rest c.read_tag.new.tags in
+    subst N (sym next) (reads_next values tag left l.rest.now l.tags c.read_tag.new.tags reads set)
 
 pub returns : goal.returns
-returns c = λ values all e.
-    let at = values_at c.args.sections.now in
-    let fit = fit_at values at all e in
-    let one = c.in-Ok.ensures (fit Event) in
-    let two = c.in-Ok-read_tag.ensures (fit Site) ∙ ap (with_value Site at.site) one in
-    let three = c.in-Ok-read_tag-2.ensures (fit Date) ∙ ap (with_value Date at.date) two in
-    let four = c.in-Ok-read_tag-3.ensures (fit Round) ∙ ap (with_value Round at.round) three in
-    let five = c.in-Ok-read_tag-4.ensures (fit White) ∙ ap (with_value White at.white) four in
-    let six = c.in-Ok-read_tag-5.ensures (fit Black) ∙ ap (with_value Black at.black) five in
-    six ∙ sym e
+returns c = λ values all have.
+    let l = c.loop-tag in
+    let none : drop l.tag-index all_tags ≡ [] = drop_all l.tag-index all_tags (omega arith) in
+    let R : List Tag → Type 0 = λ tags. Reads values tags l.rest.now l.tags in
+    (subst R none (l.invariant values all have)).gives

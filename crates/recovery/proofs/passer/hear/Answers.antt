@@ -1,4 +1,4 @@
-use Rattle.std.proofs.Common.{◌∷◌, Ok, None, ap, ◌∙◌, true, false, if◌then◌else◌}
+use Rattle.std.proofs.Common.{Ok, None, ap, ◌∙◌, true, false, if◌then◌else◌}
 use Rattle.board_session.specs.Session.{entries_in}
 use Rattle.recovery.specs.Keeping.{KeepsNext}
 use Rattle.recovery.proofs.EventLemmas.{carries_none}

@@ -1,5 +1,4 @@
-use Rattle.std.proofs.Common.{◌∷◌, Option, Some, None, subst, sym, ◌∙◌}
-use Rattle.unseen_pairs.specs.declared.pair.Recovery.{Recovery}
+use Rattle.std.proofs.Common.{◌∷◌, Some, None, subst, sym, ◌∙◌}
 use Rattle.board_session.specs.Session.{entries_in}
 use Rattle.recovery.specs.Keeping.{KeepsNext}
 use Rattle.recovery.proofs.EventLemmas.{alike_event, carries_none, carries_put}

@@ -1,4 +1,4 @@
-use Rattle.std.proofs.Common.{◌≡◌, ◌<◌, ◌≤◌, ◌+◌, ◌-◌, ℕ, [], Option, IfNone, IfSome, length, take, drop, sym, subst, take_all, length-drop, arith}
+use Rattle.std.proofs.Common.{◌≡◌, ◌∙◌, ◌<◌, ◌≤◌, ◌+◌, ◌-◌, ℕ, [], Err, Option, IfNone, IfSome, length, take, drop, ap, sym, subst, true, false, take_all, length-drop, arith}
 use Rattle.std.proofs.lemmas.Bool.Decides.{nat_tests}
 use Rattle.std.proofs.lemmas.List.{length-take-le}
 use Rattle.watched_streams.proofs.ResultLemmas.{on_ok}
@@ -8,7 +8,7 @@ use Rattle.board_session.specs.Recording.{AppendsPart}
 use Rattle.recovery.specs.declared.refusal.RecoverError.{RecoverError}
 use Rattle.recovery.specs.Passing.{Passes}
 use Rattle.recovery.specs.Progress.{BreaksOff, GivesOn, HasBegun, IsPutIn}
-use Rattle.recovery.proofs.ChunkLemmas.{both_broken, chunk_broken, chunk_sent, event_passed, event_put, memory_broken, pair_broken, write_broken}
+use Rattle.recovery.proofs.ChunkLemmas.{both_broken, chunk_broken, chunk_sent, event_passed, event_put, memory_broken, pair_broken, pair_unwritten, write_broken}
 use Rattle.recovery.proofs.GiveLemmas.{begun_on, gives_start}
 use Rattle.recovery.proofs.stream.give_chunk.Goals as goal
 
@@ -20,6 +20,7 @@ events-init g c =
       behind = omega arith;
       working = c.requires.working;
       telling = c.requires.telling;
+      told = λ was. was;
       begun = subst (HasBegun c.args.decoder.now c.args.keeper.now) at c.requires.begun;
       given = gives_start c.args.decoder.now c.args.keeper.now c.args.start _ _;
     }
@@ -44,6 +45,7 @@ events-preserved-then-is_empty g c =
       behind = omega (arith, c.events.invariant.behind);
       working = c.events.invariant.working;
       telling = c.events.invariant.telling;
+      told = c.events.invariant.told;
       begun = subst (λ n. HasBegun c.pass.new.decoder c.pass.new.keeper (c.args.start + n)) long (begun_on c.args.decoder.now c.pass.new.decoder c.args.keeper.now c.pass.new.keeper c.args.start (take (c.events.taken + c.in-Some.more) chunk) _ _ _ _ _ c.requires.begun given);
       given = given;
     }
@@ -66,6 +68,7 @@ events-preserved g c =
       behind = omega arith;
       working = c.in_default-put_pair.ensures.working.0;
       telling = c.in_default-put_pair.ensures.working.1;
+      told = λ was. c.put_pair.ensures.told;
       begun = subst (λ n. HasBegun c.pass.new.decoder c.pass.new.keeper (c.args.start + n)) long (begun_on c.args.decoder.now c.pass.new.decoder c.args.keeper.now c.pass.new.keeper c.args.start (take (c.events.taken + c.in-Some.more) chunk) _ _ _ _ _ c.requires.begun given);
       given = given;
     }
@@ -124,3 +127,9 @@ returns-in-Err-put_pair-clause-broken g c =
     pair_broken c.in-Err-put_pair.error c.args.decoder.now c.events.decoder c.pass.new.decoder c.args.keeper.now c.events.keeper c.pass.new.keeper c.args.start c.events.taken c.in-Some.more c.events.sent chunk
     c.pass.new.frames.items c.pass.new.line.items _ _ _ _ _ _ c.events.invariant.behind c.events.invariant.inside some put c.in-Ok.ensures.before c.conclude-in-Err-put_pair.ensures (rw all at passes)
     c.in-Err-put_pair.ensures.part c.events.invariant.given
+
+pub returns-in-Err-put_pair-clause-flushed : goal.returns-in-Err-put_pair-clause-flushed
+returns-in-Err-put_pair-clause-flushed g c other working =
+    let write = pair_unwritten c.in-Err-put_pair.error _ _ _ _ _ _ c.in-Err-put_pair.ensures.part (λ e. other (ap Err e)) in
+    let failed = (c.put_pair.ensures.write (c.in-Err-put_pair.is ∙ ap Err write)).0 in
+    absurd (let bad : true ≡ false = sym failed ∙ working in cc)

@@ -1,4 +1,4 @@
-use Rattle.std.proofs.Common.{◌≡◌, ◌∙◌, [], Err, take, subst, ap, inl, inr, arith, rules}
+use Rattle.std.proofs.Common.{◌≡◌, ◌∙◌, [], Err, sym, take, subst, ap, inl, inr, arith, rules}
 use Rattle.std.specs.Io.KnownBytes.{Consumes, IsAtEnd}
 use Rattle.watched_streams.specs.Input.{GivesChunk}
 use Rattle.watched_streams.specs.Watch.{inner_of, has_failed}
@@ -17,6 +17,8 @@ chunks-init g c =
       reading = c.requires.reading;
       working = c.requires.working;
       telling = c.requires.telling;
+      flushed = λ was. was;
+      told = λ was. was;
       given = given_none c.new-decoder.result c.new-keeper.result setting (g.R.Read.remaining (inner_of c.args.reader.now)) (g.O.Write.contents (inner_of c.args.out.now)) (g.E.Write.contents (inner_of c.args.err.now)) (c.begin.ensures setting c.new-decoder.ensures c.new-keeper.ensures);
     }
 
@@ -127,6 +129,9 @@ returns-in-Err-clause-err_blamed g c failed =
     c.chunks.invariant.given c.in-Err.ensures.broken in
     ap Err (line_fails c.in-Err.error (has_failed c.give_chunk.new.err) never (λ e. (c.give_chunk.ensures.write (c.in-Err.is ∙ ap Err e)).1) (λ e. (c.give_chunk.ensures.memory (c.in-Err.is ∙ ap Err e)).0) failed)
 
+pub returns-in-Err-clause-flushed : goal.returns-in-Err-clause-flushed
+returns-in-Err-clause-flushed g c other was = c.give_chunk.ensures.flushed (λ e. other (sym c.in-Err.is ∙ e))
+
 pub returns-then-chunk-clause-long : goal.returns-then-chunk-clause-long
 returns-then-chunk-clause-long g c same =
     let setting : Setting = record { start = c.args.start; first = c.args.first; rotated = c.args.rotated } in
@@ -157,6 +162,8 @@ chunks-preserved g c =
       reading = search rules;
       working = c.in_default-give_chunk.ensures.working.0;
       telling = c.in_default-give_chunk.ensures.working.1;
+      flushed = λ was. c.in_default-give_chunk.ensures.flushed (λ other. cc);
+      told = λ was. c.give_chunk.ensures.told (c.chunks.invariant.told was);
       given = given_more c.chunks.decoder c.give_chunk.new.decoder c.chunks.keeper c.give_chunk.new.keeper setting c.chunks.total _ c.read_chunk.new.buffer c.in-Some.chunk (g.R.Read.remaining (inner_of c.args.reader.now)) (g.R.Read.remaining (inner_of c.chunks.reader)) (g.R.Read.remaining (inner_of c.read_chunk.new.reader)) (g.O.Write.contents (inner_of c.args.out.now)) (g.O.Write.contents (inner_of c.chunks.out)) (g.O.Write.contents (inner_of c.give_chunk.new.out)) (g.E.Write.contents (inner_of c.args.err.now)) (g.E.Write.contents (inner_of c.chunks.err)) (g.E.Write.contents (inner_of c.give_chunk.new.err))
           c.if-chunk.false c.chunks.invariant.given gives c.in_default-give_chunk.ensures.ok;
     }

@@ -1,8 +1,9 @@
 use Rattle.std.proofs.Common.{refl}
+use Rattle.replay_arguments.proofs.SetupLemmas.{none_given}
 use Rattle.replay_arguments.proofs.setup.set.Goals as goal
 
 pub returns-in-None-clause-set : goal.returns-in-None-clause-set
-returns-in-None-clause-set c = rw c.in-None.is refl
+returns-in-None-clause-set c = rw c.in-None.is (none_given c.args.tag c.args.tags.now)
 
 pub returns-in-None-clause-may : goal.returns-in-None-clause-may
 returns-in-None-clause-may c = rw c.in-None.is tt

@@ -1,5 +1,4 @@
-use Prim.{search}
-use Rattle.std.proofs.Common.{sym, ◌∙◌, rules}
+use Rattle.std.proofs.Common.{refl, sym, ◌∙◌}
 use Rattle.replay_arguments.proofs.SetupLemmas.{fen_first, tag_first, tag_none}
 use Rattle.replay_arguments.proofs.setup.setup_of.Goals as goal
 
@@ -16,4 +15,7 @@ returns-in-Err-tags_of-clause-first c =
     tag_first c.args.options.now c.in-Err-tags_of.refusal c.in-Ok.start ((c.start_of.ensures.start c.in-Ok.start).0 c.in-Ok.is) c.in-Err-tags_of.ensures
 
 pub returns-clause-meets : goal.returns-clause-meets
-returns-clause-meets c = search rules
+returns-clause-meets c = record {
+  board = record { rotated = refl; first = refl; start = (c.start_of.ensures.start c.in-Ok.start).0 c.in-Ok.is };
+  tags = c.in-Ok-tags_of.ensures;
+}

@@ -1,35 +1,37 @@
-use Rattle.std.proofs.Common.{[], ◌∷◌, refl}
-use Rattle.std.proofs.lemmas.Result.{err_from_is_err_and}
-use Rattle.pgn_book.specs.declared.values.Tag.TheVariants.{Event, Site, Date, Round, White, Black}
-use Rattle.replay_arguments.specs.Setups.{tag_text}
-use Rattle.replay_arguments.proofs.SetupLemmas.{all_set, first_tag, none_may, one_may}
+use Rattle.std.proofs.Common.{◌≡◌, ◌<◌, ◌∙◌, ℕ, Option, ap, arith, get_or, length, refl, subst}
+use Rattle.std.specs.Prelude.{MatchOption}
+use Rattle.clap.specs.Walk.{Text}
+use Rattle.pgn_book.specs.declared.values.Tag.TheVariants.{Event}
+use Rattle.pgn_book.specs.declared.values.TagError.{TagError}
+use Rattle.pgn_book.specs.TagNames.{all_tags}
+use Rattle.pgn_book.specs.Values.{RefusesText}
+use Rattle.replay_arguments.specs.declared.setup.Refusal.TheVariants.{Tag as OfTag}
+use Rattle.replay_arguments.specs.Setups.{MayHave, tag_text, with_given}
+use Rattle.replay_arguments.proofs.SetupLemmas.{SetTo, all_set, first_tag, none_set, one_set}
 use Rattle.replay_arguments.proofs.setup.tags_of.Goals as goal
 
-pub returns-in_err-set : goal.returns-in_err-set
-returns-in_err-set c = let p = err_from_is_err_and c.from_residual.result c.from_residual.ensures.1 in
-    rw (p.1, p.2) (first_tag (tag_text c.args.options.now) ([]) (Site ∷ Date ∷ Round ∷ White ∷ Black ∷ []) Event _ refl (none_may (tag_text c.args.options.now)) c.in_err-set.ensures.refused)
+pub loop-tag-init : goal.loop-tag-init
+loop-tag-init c = none_set (tag_text c.args.options.now) _ c.new-tags.ensures
 
-pub returns-in_err-set-2 : goal.returns-in_err-set-2
-returns-in_err-set-2 c = let p = err_from_is_err_and c.from_residual-in_err-set-2.result c.from_residual-in_err-set-2.ensures.1 in
-    rw (p.1, p.2) (first_tag (tag_text c.args.options.now) (Event ∷ []) (Date ∷ Round ∷ White ∷ Black ∷ []) Site _ refl (one_may (tag_text c.args.options.now) Event ([]) c.in_ok-set.ensures.may (none_may (tag_text c.args.options.now))) c.in_err-set-2.ensures.refused)
+pub loop-tag-preserved : goal.loop-tag-preserved
+loop-tag-preserved c =
+    let l = c.loop-tag in
+    let lt : l.tag-index < length all_tags = omega arith in
+    let tag = get_or all_tags l.tag-index Event in
+    let is = c.in-Ok.ensures.set ∙ ap (λ (text : Option Text). with_given tag text l.tags) c.text_of.ensures in
+    one_set (tag_text c.args.options.now) l.tag-index tag l.tags c.set.new.tags lt refl l.invariant is (subst (MayHave tag) c.text_of.ensures c.in-Ok.ensures.may)
 
-pub returns-in_err-set-3 : goal.returns-in_err-set-3
-returns-in_err-set-3 c = let p = err_from_is_err_and c.from_residual-in_err-set-3.result c.from_residual-in_err-set-3.ensures.1 in
-    rw (p.1, p.2) (first_tag (tag_text c.args.options.now) (Event ∷ Site ∷ []) (Round ∷ White ∷ Black ∷ []) Date _ refl (one_may (tag_text c.args.options.now) Event (Site ∷ []) c.in_ok-set.ensures.may (one_may (tag_text c.args.options.now) Site ([]) c.in_ok-set-2.ensures.may (none_may (tag_text c.args.options.now)))) c.in_err-set-3.ensures.refused)
-
-pub returns-in_err-set-4 : goal.returns-in_err-set-4
-returns-in_err-set-4 c = let p = err_from_is_err_and c.from_residual-in_err-set-4.result c.from_residual-in_err-set-4.ensures.1 in
-    rw (p.1, p.2) (first_tag (tag_text c.args.options.now) (Event ∷ Site ∷ Date ∷ []) (White ∷ Black ∷ []) Round _ refl (one_may (tag_text c.args.options.now) Event (Site ∷ Date ∷ []) c.in_ok-set.ensures.may (one_may (tag_text c.args.options.now) Site (Date ∷ []) c.in_ok-set-2.ensures.may (one_may (tag_text c.args.options.now) Date ([]) c.in_ok-set-3.ensures.may (none_may (tag_text c.args.options.now))))) c.in_err-set-4.ensures.refused)
-
-pub returns-in_err-set-5 : goal.returns-in_err-set-5
-returns-in_err-set-5 c = let p = err_from_is_err_and c.from_residual-in_err-set-5.result c.from_residual-in_err-set-5.ensures.1 in
-    rw (p.1, p.2) (first_tag (tag_text c.args.options.now) (Event ∷ Site ∷ Date ∷ Round ∷ []) (Black ∷ []) White _ refl (one_may (tag_text c.args.options.now) Event (Site ∷ Date ∷ Round ∷ []) c.in_ok-set.ensures.may (one_may (tag_text c.args.options.now) Site (Date ∷ Round ∷ []) c.in_ok-set-2.ensures.may (one_may (tag_text c.args.options.now) Date (Round ∷ []) c.in_ok-set-3.ensures.may (one_may (tag_text c.args.options.now) Round ([]) c.in_ok-set-4.ensures.may (none_may (tag_text c.args.options.now)))))) c.in_err-set-5.ensures.refused)
-
-pub returns-in_err-set-6 : goal.returns-in_err-set-6
-returns-in_err-set-6 c = let p = err_from_is_err_and c.from_residual-in_err-set-6.result c.from_residual-in_err-set-6.ensures.1 in
-    rw (p.1, p.2) (first_tag (tag_text c.args.options.now) (Event ∷ Site ∷ Date ∷ Round ∷ White ∷ []) ([]) Black _ refl (one_may (tag_text c.args.options.now) Event (Site ∷ Date ∷ Round ∷ White ∷ []) c.in_ok-set.ensures.may (one_may (tag_text c.args.options.now) Site (Date ∷ Round ∷ White ∷ []) c.in_ok-set-2.ensures.may (one_may (tag_text c.args.options.now) Date (Round ∷ White ∷ []) c.in_ok-set-3.ensures.may (one_may (tag_text c.args.options.now) Round (White ∷ []) c.in_ok-set-4.ensures.may (one_may (tag_text c.args.options.now) White ([]) c.in_ok-set-5.ensures.may (none_may (tag_text c.args.options.now))))))) c.in_err-set-6.ensures.refused)
+pub returns-in-Err : goal.returns-in-Err
+returns-in-Err c =
+    let l = c.loop-tag in
+    let lt : l.tag-index < length all_tags = omega arith in
+    let tag = get_or all_tags l.tag-index Event in
+    let P : Option Text → Type 0 = λ text. (error : TagError) × (c.in-Err.refusal ≡ OfTag tag error) × MatchOption text ⊥ (λ value. RefusesText tag value error) in
+    first_tag (tag_text c.args.options.now) l.tag-index tag l.tags c.in-Err.refusal lt refl l.invariant (subst P c.text_of.ensures c.in-Err.ensures.refused)
 
 pub returns : goal.returns
-returns c = all_set c.args.options.now _ _ _ _ _ _ _ c.new-tags.ensures c.in_ok-set.ensures.set c.in_ok-set-2.ensures.set c.in_ok-set-3.ensures.set
-    c.in_ok-set-4.ensures.set c.in_ok-set-5.ensures.set c.in_ok-set-6.ensures.set
-    c.in_ok-set.ensures.may c.in_ok-set-2.ensures.may c.in_ok-set-3.ensures.may c.in_ok-set-4.ensures.may c.in_ok-set-5.ensures.may c.in_ok-set-6.ensures.may
+returns c =
+    let l = c.loop-tag in
+    let end : l.tag-index ≡ length all_tags = omega arith in
+    let S : ℕ → Type 0 = λ i. SetTo (tag_text c.args.options.now) i l.tags in
+    all_set c.args.options.now l.tags (subst S end l.invariant)

@@ -1,8 +1,6 @@
 use Rattle.std.proofs.Common.{false, subst}
-use Rattle.chess_rules.specs.declared.parts.Parts.{Parts}
 use Rattle.chess_rules.specs.Valid.{Valid}
-use Rattle.unseen_pairs.specs.Candidates.{AreAdded}
-use Rattle.unseen_pairs.proofs.Aging.{all_added, none_near}
+use Rattle.unseen_pairs.proofs.Aging.{all_added, none_near, valid_before}
 use Rattle.unseen_pairs.proofs.waiting.add_all.Goals as goal
 
 pub returns-then-has_more : goal.returns-then-has_more
@@ -21,6 +19,7 @@ pub returns : goal.returns
 returns c = λ last played waits.
     let start = c.args.settler.now.start in
     let plies = c.args.settler.now.score.plies in
-    let A : Parts → Type 0 = λ (p : Parts). AreAdded false p c.args.picture.now c.args.reading.now c.args.candidates.now.items c.add_pairs.new.candidates.items in
-    all_added c.add_correcting.result start plies c.args.picture.now c.args.reading.now c.args.candidates.now.items c.add_pairs.new.candidates.items c.add_correcting.new.candidates.items
-    (subst A c.position.ensures.reached c.in_ok-add_pairs.ensures) c.add_correcting.ensures.last c.add_correcting.ensures.none
+    let valid : Valid start = subst Valid c.start.ensures c.parts.ensures.valid in
+    all_added c.add_correcting.result start plies c.args.picture.now c.args.reading.now c.args.candidates.now.items c.add_next.new.candidates.items c.add_correcting.new.candidates.items
+    (c.in_ok-add_next.ensures last)
+    (λ ply earlier e. c.add_correcting.ensures.last ply earlier last e (valid_before start plies ply earlier valid played e)) c.add_correcting.ensures.none

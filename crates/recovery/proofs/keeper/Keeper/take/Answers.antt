@@ -1,6 +1,5 @@
 use Rattle.std.proofs.Common.{◌≡◌, ◌<◌, ◌∷◌, ℕ, List, None, if◌then◌else◌, slice_index, slice_set, sym, ap, subst, ◌∙◌}
 use Rattle.dgt_frame.specs.declared.First.{First}
-use Rattle.chess_clock.specs.declared.Reading.{Reading}
 use Rattle.settle_core.specs.Entries.{Entry, entry_of}
 use Rattle.unseen_pairs.specs.Recoverer.{Desk, StandsForRecovered}
 use Rattle.board_session.specs.declared.view.Change.{Change}

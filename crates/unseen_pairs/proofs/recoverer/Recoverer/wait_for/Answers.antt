@@ -1,12 +1,13 @@
-use Rattle.settle_core.specs.Entries.{entry_of}
-use Rattle.std.proofs.Common.{subst}
-use Rattle.unseen_pairs.specs.Recoverer.{HasTold}
+use Rattle.std.proofs.Common.{◌≡◌, [], List, ap, sym, subst, arith, ◌∙◌}
+use Rattle.std.proofs.lemmas.Bool.Decides.{nat_tests}
+use Rattle.unseen_pairs.specs.declared.confirming.Candidate.{Candidate}
+use Rattle.unseen_pairs.specs.Recoverer.{Desk}
+use Rattle.unseen_pairs.proofs.Telling.{none_long, none_only}
 use Rattle.unseen_pairs.proofs.recoverer.Recoverer.wait_for.Goals as goal
 
-pub returns-in-Shown : goal.returns-in-Shown
-returns-in-Shown c = λ start past written w.
-    subst (HasTold c.wait.new.self start past written (entry_of c.args.picture.now c.args.clock.now)) c.in-Shown.is (c.in_ok-seen.ensures start past written w)
-
-pub returns-in-Recovered : goal.returns-in-Recovered
-returns-in-Recovered c = λ start past written w.
-    subst (HasTold c.wait.new.self start past written (entry_of c.args.picture.now c.args.clock.now)) c.in-Recovered.is (c.in_ok-seen.ensures start past written w)
+pub returns-then-is_empty : goal.returns-then-is_empty
+returns-then-is_empty c = λ start past written w.
+    let n : c.self.inside.candidates.len ≡ 0 = grind (arith, nat_tests) in
+    let empty : c.self.inside.candidates.items ≡ [] = none_long c.self.inside.candidates.items (sym (c.self.inside.candidates.ok).0 ∙ n) in
+    let here : c.args.self.now.candidates ≡ [] = ap (λ (d : Desk). d.candidates) (sym c.self.view_is) ∙ empty in
+    c.in_ok-keep.ensures start past written w (none_only c.args.self.now.candidates c.args.picture.now here)
