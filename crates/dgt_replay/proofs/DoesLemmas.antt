@@ -14,7 +14,8 @@ use Rattle.dgt_frame.specs.Streams.{Timed}
 use Rattle.pgn_book.specs.declared.values.Tag.{Tag}
 use Rattle.replay_arguments.specs.declared.arguments.Subcommand.{Subcommand}
 use Rattle.replay_arguments.specs.Subcommands.{Asks, AsksFor, AsksForPictures, AsksToCheck, AsksToFollow, AsksToRecord, AsksToRecover, AsksToShow}
-use Rattle.replay_arguments.specs.Setups.{HasNoStart, SetsUpNothing, StartsAt, given, option_of, tag_text}
+use Rattle.replay_arguments.specs.Setups.{HasNoStart, SetsUpNothing, StartsAt, given, tag_text}
+use Rattle.replay_arguments.specs.TagOptions.{option_of}
 use Rattle.dgt_replay.specs.Checked.{RefusesText, text_limit}
 use Rattle.dgt_replay.specs.Does.{Checks, Does, Lists, Plays, Prints, Records, Recovers, Refuses, Untouched, WritesText}
 use Rattle.dgt_replay.specs.Messages.{IsTooLong, Says}
@@ -166,8 +167,8 @@ does_refuse_setup arguments subcommand status s asked does rows asks nothing =
     let options = chosen.0 in
     let wants = chosen.2 in
     let text : Tag → Option Text = λ tag. first_of (option_of tag) rows in
-    refuses_too (RefusesSetup (given options.fen) (tag_text options)) (RefusesSetup (first_of (codes "fen") rows) text) status s
-    (λ message refuses. refuses_alike (given options.fen) (first_of (codes "fen") rows) (tag_text options) text wants.fen wants.tags message refuses)
+    refuses_too (RefusesSetup (given options.board.fen) (tag_text options)) (RefusesSetup (first_of (codes "fen") rows) text) status s
+    (λ message refuses. refuses_alike (given options.board.fen) (first_of (codes "fen") rows) (tag_text options) text wants.board.fen wants.tags message refuses)
     ((does_as subcommand _ status s chosen.1 does).1 (meets_nothing rows options wants nothing))
 
 pub does_follow : (arguments : List Text) (subcommand : Subcommand) (status : ℕ) (s : Streams) → AsksFor arguments subcommand → Does subcommand status s

@@ -28,10 +28,10 @@ start_refused (Some text) error refused none = (error, refused, refl)
 
 -- What is said of the first refusal.
 tells_value : (options : RecordArguments) (tag : Tag) (error : TagError) (status : ℕ) (said said' : Option (List ℕ)) (err_failed : Bool) → (error ≢ Memory) → IsFirst options (OfTag tag error)
-    → status ≡ 1 → Says said said' err_failed (tag_message tag error) → Tells status (RefusesSetup (given options.fen) (tag_text options)) said said' false false err_failed
+    → status ≡ 1 → Says said said' err_failed (tag_message tag error) → Tells status (RefusesSetup (given options.board.fen) (tag_text options)) said said' false false err_failed
 tells_value options tag error status said said' err_failed value first one says =
     let tagged = first.1 in
-    tells_refused status (RefusesSetup (given options.fen) (tag_text options)) said said' false false err_failed (tag_message tag error) one
+    tells_refused status (RefusesSetup (given options.board.fen) (tag_text options)) said said' false false err_failed (tag_message tag error) one
     (inr (
       first.0,
       (
@@ -46,10 +46,10 @@ tells_value options tag error status said said' err_failed value first one says 
     )) says
 
 pub tells_refusal : (options : RecordArguments) (refusal : Refusal) (status : ℕ) (said said' : Option (List ℕ)) (err_failed : Bool) → IsFirst options refusal → (ForMemory refusal → status ≡ 4)
-    → (¬ ForMemory refusal → status ≡ 1) → Says said said' err_failed (refusal_message refusal) → Tells status (RefusesSetup (given options.fen) (tag_text options)) said said' false false err_failed
+    → (¬ ForMemory refusal → status ≡ 1) → Says said said' err_failed (refusal_message refusal) → Tells status (RefusesSetup (given options.board.fen) (tag_text options)) said said' false false err_failed
 tells_refusal options (Fen error) status said said' err_failed first memory refused says =
-    tells_refused status (RefusesSetup (given options.fen) (tag_text options)) said said' false false err_failed (fen_message error) (refused (λ m. m))
-    (inl (match_map (given options.fen) (λ text. RefusedFirst text error) (λ text. (e : FenError) × RefusedFirst text e × (fen_message error ≡ fen_message e)) (λ text first. (error, first, refl)) first)) says
+    tells_refused status (RefusesSetup (given options.board.fen) (tag_text options)) said said' false false err_failed (fen_message error) (refused (λ m. m))
+    (inl (match_map (given options.board.fen) (λ text. RefusedFirst text error) (λ text. (e : FenError) × RefusedFirst text e × (fen_message error ≡ fen_message e)) (λ text first. (error, first, refl)) first)) says
 tells_refusal options (OfTag tag NoText) status said said' err_failed first memory refused says =
     let value : NoText ≢ Memory = λ e. cc in tells_value options tag NoText status said said' err_failed value first (refused value) says
 tells_refusal options (OfTag tag Long) status said said' err_failed first memory refused says =
@@ -57,7 +57,7 @@ tells_refusal options (OfTag tag Long) status said said' err_failed first memory
 tells_refusal options (OfTag tag NoDate) status said said' err_failed first memory refused says =
     let value : NoDate ≢ Memory = λ e. cc in tells_value options tag NoDate status said said' err_failed value first (refused value) says
 tells_refusal options (OfTag tag Memory) status said said' err_failed first memory refused says =
-    tells_memory status (RefusesSetup (given options.fen) (tag_text options)) said said' false false err_failed (memory refl) says
+    tells_memory status (RefusesSetup (given options.board.fen) (tag_text options)) said said' false false err_failed (memory refl) says
 
 pub refusal_status : (refusal : Refusal) (status : ℕ) → (ForMemory refusal → status ≡ 4) → (¬ ForMemory refusal → status ≡ 1) → (status ≡ 1) ⊎ (status ≡ 4)
 refusal_status (Fen error) status memory refused = inl (refused (λ m. m))

@@ -123,7 +123,7 @@ abbrev pub Does : Subcommand → ℕ → Streams → Type 0
 Does Show status s = WritesText event_lines rest_line status s
 Does (Pictures rotated) status s = WritesText (picture_lines rotated) no_line status s
 Does (Record options) status s = ((setup : Setup) → Meets options setup → Records setup status s)
-    × (MeetsNothing options → Refuses (RefusesSetup (given options.fen) (tag_text options)) status s)
+    × (MeetsNothing options → Refuses (RefusesSetup (given options.board.fen) (tag_text options)) status s)
 Does (Follow options) status s = ((setting : Setting) → MeetsBoard options setting → Lists (Game setting.start setting.first setting.rotated) status s)
     × (HasNoStart (given options.fen) → Refuses (RefusesStart (given options.fen)) status s)
 Does (Recover options) status s = ((setting : Setting) → MeetsBoard options setting → Recovers setting status s)

@@ -4,9 +4,9 @@ use Rattle.std.specs.Io.KnownBytes.{Appends, Keeps}
 use Rattle.chess_text.specs.declared.fen.FenError.{FenError}
 use Rattle.chess_text.specs.declared.fen.FenError.TheVariants.{Form, Counters, Placement, Kings, Pawns, Rights, EnPassant, Check}
 use Rattle.pgn_book.specs.declared.values.Tag.{Tag}
-use Rattle.pgn_book.specs.declared.values.Tag.TheVariants.{Event, Site, Date, Round, White, Black}
 use Rattle.pgn_book.specs.declared.values.TagError.{TagError}
 use Rattle.pgn_book.specs.declared.values.TagError.TheVariants.{Text, Long, Date as NoDate, Memory}
+use Rattle.pgn_book.specs.TagNames.{tag_name}
 use Rattle.board_session.specs.declared.refusal.RecordError.{RecordError}
 use Rattle.board_session.specs.declared.refusal.RecordError.TheVariants as record_error
 use Rattle.board_session.specs.Recording.{AppendsPart}
@@ -25,14 +25,6 @@ fen_message Pawns = codes "fen: pawns\n"
 fen_message Rights = codes "fen: rights\n"
 fen_message EnPassant = codes "fen: en passant\n"
 fen_message Check = codes "fen: check\n"
-
-abbrev pub tag_name : Tag → List ℕ
-tag_name Event = codes "Event"
-tag_name Site = codes "Site"
-tag_name Date = codes "Date"
-tag_name Round = codes "Round"
-tag_name White = codes "White"
-tag_name Black = codes "Black"
 
 -- why the value of a tag is refused
 abbrev pub tag_message : Tag → TagError → List ℕ

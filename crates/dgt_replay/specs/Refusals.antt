@@ -7,10 +7,11 @@ use Rattle.chess_text.specs.Fen.{RefusedFirst}
 use Rattle.pgn_book.specs.declared.values.Tag.{Tag}
 use Rattle.pgn_book.specs.declared.values.TagError.{TagError}
 use Rattle.pgn_book.specs.declared.values.TagError.TheVariants.{Memory}
+use Rattle.pgn_book.specs.TagNames.{all_tags}
 use Rattle.pgn_book.specs.Values.{RefusesText}
 use Rattle.replay_arguments.specs.declared.setup.Refusal.{Refusal}
 use Rattle.replay_arguments.specs.declared.setup.Refusal.TheVariants.{Fen, Tag as OfTag}
-use Rattle.replay_arguments.specs.Setups.{MayHave, StartsAt, tags}
+use Rattle.replay_arguments.specs.Setups.{MayHave, StartsAt}
 use Rattle.dgt_replay.specs.Messages.{fen_message, tag_message}
 
 -- The message about a refused FEN.
@@ -23,7 +24,7 @@ RefusesValue tag text message = MatchOption text ⊥ (λ value. (error : TagErro
 
 -- The message about refused values of tags: it names the first that a tag may not have, in the order of the tags.
 abbrev pub RefusesTags : (Tag → Option Text) → List ℕ → Type 0
-RefusesTags text message = (before after : List Tag) × (tag : Tag) × (tags ≡ before ++ tag ∷ after)
+RefusesTags text message = (before after : List Tag) × (tag : Tag) × (all_tags ≡ before ++ tag ∷ after)
     × All (λ t. MayHave t (text t)) before × RefusesValue tag (text tag) message
 
 -- The message where arguments set nothing up: about the FEN, or, where that isn't refused, about a tag.

@@ -2,7 +2,8 @@
 ghost use Rattle.std.specs.Prelude.{◌≡◌, ◌≢◌, ◌≤◌, ◌++◌, ◌⊎◌, codes, length, false, true};
 ghost use Rattle.std.specs.Io.KnownBytes.{Keeps};
 ghost use Rattle.watched_streams.specs.Watch.{IsFlushed, inner_of, has_failed};
-ghost use Rattle.dgt_replay.specs.Messages.{Says, fen_message, tag_name, tag_message};
+ghost use Rattle.pgn_book.specs.TagNames.{tag_name};
+ghost use Rattle.dgt_replay.specs.Messages.{Says, fen_message, tag_message};
 
 use chess_text::FenError;
 use pgn_book::{Tag, TagError};
@@ -63,20 +64,6 @@ pub fn refused_fen<E: Write>(err: &mut Watch<E>, error: FenError) -> u8
     refused(err, message_of(error), 1)
 }
 
-fn name_of(tag: Tag) -> &'static [u8]
-    ensures name { result.now ≡ tag_name tag }
-    ensures len { length result.now ≤ 5 }
-{
-    match tag {
-        Tag::Event => b"Event",
-        Tag::Site => b"Site",
-        Tag::Date => b"Date",
-        Tag::Round => b"Round",
-        Tag::White => b"White",
-        Tag::Black => b"Black",
-    }
-}
-
 fn refused_value<E: Write>(err: &mut Watch<E>, tag: Tag, reason: &[u8]) -> u8
     requires { length reason.now ≤ 10 }
     ensures status { result ≡ 1 }
@@ -85,7 +72,7 @@ fn refused_value<E: Write>(err: &mut Watch<E>, tag: Tag, reason: &[u8]) -> u8
 {
     let mut line = Lines::new();
     add(&mut line, b"tag ");
-    add(&mut line, name_of(tag));
+    add(&mut line, tag.name().as_bytes());
     add(&mut line, reason);
     refused(err, line.as_slice(), 1)
 }

@@ -13,7 +13,8 @@ ghost use Rattle.replay_arguments.specs.Subcommands.{AreMistaken, Asks, AsksForH
 ghost use Rattle.board_listing.specs.declared.listing.Listing.{Listing};
 ghost use Rattle.board_listing.specs.EventLines.{rest_line};
 ghost use Rattle.board_listing.specs.OneText.{event_lines, no_line, picture_lines};
-ghost use Rattle.replay_arguments.specs.Setups.{HasNoStart, MeetsBoard, SetsUpNothing, StartsAt, given, option_of};
+ghost use Rattle.replay_arguments.specs.Setups.{HasNoStart, MeetsBoard, SetsUpNothing, StartsAt, given};
+ghost use Rattle.replay_arguments.specs.TagOptions.{option_of};
 ghost use Rattle.dgt_replay.specs.Does.{Checks, Does, Lists, Plays, Prints, Records, Recovers, Refuses, WritesText};
 ghost use Rattle.dgt_replay.specs.Refusals.{RefusesSetup, RefusesStart};
 ghost use Rattle.dgt_replay.specs.Messages.{GivesText, RefusesArguments, Says};

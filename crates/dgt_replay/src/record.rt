@@ -96,7 +96,7 @@ pub fn record_game<R: Read, O: Write, E: Write>(
     requires working { has_failed out.old ≡ false }
     requires erring { has_failed err.old ≡ false }
     ensures records { (setup : SetupOf) → Meets options.now setup → Records setup result (streams R.remaining O.contents E.contents reader.old reader.new out.old out.new err.old err.new) }
-    ensures refuses { MeetsNothing options.now → Refuses (RefusesSetup (given options.now.fen) (tag_text options.now)) result (streams R.remaining O.contents E.contents reader.old reader.new out.old out.new err.old err.new) }
+    ensures refuses { MeetsNothing options.now → Refuses (RefusesSetup (given options.now.board.fen) (tag_text options.now)) result (streams R.remaining O.contents E.contents reader.old reader.new out.old out.new err.old err.new) }
     ensures works { result ≡ 0 → (has_failed reader.new ≡ false) × ((has_failed out.new ≡ false) × (has_failed err.new ≡ false)) }
     ensures known { result ≤ 4 }
     ensures status { result ≢ 2 }

@@ -348,7 +348,7 @@ lists_next start (ply ∷ earlier) waiting entry old kept one two v played waits
     lists_more start ply.mv (moves_of earlier) waiting entry old kept one two v played waits lists are add (more ply earlier refl)
 
 -- Where no piece of the side that is not to move has left its square, no pair explains the picture.
-none_added :
+pub none_added :
     (corrects : Bool) (p : Parts) (seen : List ℕ) (reading : Option Reading) (old : List Candidate)
     → ((m n : Move) → ¬ IsAfterTwo p seen m n) → AreAdded corrects p seen reading old old
 none_added corrects p seen reading old never = record {

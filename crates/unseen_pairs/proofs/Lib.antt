@@ -3,6 +3,7 @@ pub mod Aging
 pub mod Choosing
 pub mod Counting
 pub mod Losing
+pub mod Landing
 pub mod Putting
 pub mod Sequels
 pub mod Telling

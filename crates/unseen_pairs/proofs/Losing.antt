@@ -14,7 +14,7 @@ use Rattle.chess_rules.proofs.LawLemmas.{moves_move_pieces, moves_stay_valid, pi
 use Rattle.settle_core.proofs.Boards.{on_board, none_piece, other-other, same_unless}
 use Rattle.settle_core.proofs.Pieces.{at_picture, on_shown, code_no_zero, theirs_stood}
 use Rattle.unseen_pairs.specs.Pairs.{IsAfterTwo}
-use Rattle.settle_core.specs.Lost.{Bares, Loses, MayHideTwo}
+use Rattle.settle_core.specs.Lost.{Bares, Loses, LosesAt, MayHideTwo}
 
 -- the piece that a move takes off its square
 pub record Goes (p : Parts) (m : Move) : Type 0 where
@@ -73,10 +73,13 @@ first_stays_not p m n before seen v b two same =
     first_leaves p m n seen (goes p m v two.first).kind v two
     (sym same ∙ ap (λ xs. get_or xs m.from 0) b ∙ shown_from p m v two.first)
 
-pub mover_loses : (p : Parts) (m n : Move) (seen : List ℕ) → Valid p → IsAfterTwo p seen m n → Loses p seen p.side
-mover_loses p m n seen v two =
+pub mover_loses_at : (p : Parts) (m n : Move) (seen : List ℕ) → Valid p → IsAfterTwo p seen m n → LosesAt p seen p.side m.from
+mover_loses_at p m n seen v two =
     let g : Goes p m = goes p m v two.first in
-    (m.from, record { low = g.low; kind = g.kind; stands = g.stood; gone = first_leaves p m n seen g.kind v two })
+    record { low = g.low; kind = g.kind; stands = g.stood; gone = first_leaves p m n seen g.kind v two }
+
+pub mover_loses : (p : Parts) (m n : Move) (seen : List ℕ) → Valid p → IsAfterTwo p seen m n → Loses p seen p.side
+mover_loses p m n seen v two = (m.from, mover_loses_at p m n seen v two)
 
 -- and the second ply leaves its square bare
 pub other_bares : (p : Parts) (m n : Move) (seen : List ℕ) → Valid p → IsAfterTwo p seen m n → Bares p seen (other p.side)

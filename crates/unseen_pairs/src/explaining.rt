@@ -24,7 +24,7 @@ fn copy(m: &Move) -> Move
     *m
 }
 
-fn other(side: Side) -> Side
+pub fn other(side: Side) -> Side
     ensures { result ≡ other_side side }
 {
     match side {

@@ -10,6 +10,7 @@ ghost use Rattle.settle_core.specs.Settler.{position_of};
 ghost use Rattle.settle_core.specs.Settling.{Played, reached};
 ghost use Rattle.unseen_pairs.specs.Candidates.{AreAdded, AreAllAdded, AreAged, HidesNone, IsNew};
 
+use crate::beginning::begins_none;
 use crate::confirming::Candidate;
 use crate::explaining::{has_more, may_hide_two, pairs_that_explain};
 use crate::pair::{Pair, TwoPlies};
@@ -134,11 +135,15 @@ fn add_next(
 {
     // For its clause: the position is valid.
     settler.position().parts();
+    let differs = settler.differs();
     // No ply changes more than four squares.
-    if has_more(settler.differs(), 8) {
+    if has_more(differs, 8) {
         return Ok(());
     }
     if !settler.may_hide_two() {
+        return Ok(());
+    }
+    if begins_none(settler.position(), picture, differs) {
         return Ok(());
     }
     add_explaining(

@@ -1,0 +1,176 @@
+-- The first ply of a pair goes to a square where a piece landed.
+use Rattle.std.proofs.Common.{◌≡◌, ◌≢◌, ℕ, ◌<◌, inl, inr, List, Option, None, Some, unwrap_or, true, false, get_or, refl, sym, ap, subst, ◌∙◌}
+use Rattle.std.proofs.lemmas.Bool.{both_ways, cases_eq}
+use Rattle.chess_rules.specs.declared.pieces.Side.{Side}
+use Rattle.chess_rules.specs.declared.pieces.Side.TheVariants.{White, Black}
+use Rattle.chess_rules.specs.declared.pieces.Kind.{Kind}
+use Rattle.chess_rules.specs.declared.pieces.Kind.TheVariants.{Pawn, Rook, Knight, Bishop, King, Queen}
+use Rattle.chess_rules.specs.declared.pieces.Piece.{Piece}
+use Rattle.chess_rules.specs.declared.chess_move.Move.{Move}
+use Rattle.chess_rules.specs.declared.parts.Parts.{Parts}
+use Rattle.chess_rules.specs.Board.{on, other, piece_of}
+use Rattle.chess_rules.specs.After.{after}
+use Rattle.chess_rules.specs.Laws.{MovesKingAndRook, MovesOnePiece}
+use Rattle.chess_rules.specs.Legal.{Legal, NamesPromotion}
+use Rattle.chess_rules.specs.Valid.{Valid}
+use Rattle.chess_rules.specs.Picture.{code, code_of_piece, picture}
+use Rattle.chess_rules.proofs.LawLemmas.{moves_move_pieces, moves_stay_valid}
+use Rattle.settle_core.specs.Candidate.{is_owned_code, side_number}
+use Rattle.settle_core.specs.Lost.{LosesAt}
+use Rattle.unseen_pairs.specs.Lost.{BeginsNone, GoesNowhere, LandsAt}
+use Rattle.settle_core.proofs.Boards.{kind_of, none_piece, on_board, other-other, side_of, sides_differ}
+use Rattle.settle_core.proofs.Pieces.{at_picture, code_no_zero, same_code, theirs_stood}
+use Rattle.settle_core.proofs.Tracing.{eqb_true, number_of, own_code}
+use Rattle.unseen_pairs.specs.Pairs.{IsAfterTwo}
+use Rattle.unseen_pairs.proofs.Losing.{mover_loses_at}
+
+number_owned : (side : Side) (c : ℕ) → is_owned_code side c ≡ true → side_number c ≡ number_of side
+number_owned White c e = eqb_true _ _ e
+number_owned Black c e = eqb_true _ _ e
+
+-- A piece of the first mover, no pawn, that went to a square.
+record Goes (p : Parts) (m : Move) : Type 0 where
+  kind : Kind
+  came : on (after p m).board m.to ≡ piece_of p.side kind
+  no_pawn : kind ≢ Pawn
+  plain : m.promotion ≡ None
+  free : (own : Kind) → on p.board m.to ≢ piece_of p.side own
+  from_kind : Kind
+  stood : on p.board m.from ≡ piece_of p.side from_kind
+
+no_promotion : (side : Side) (k : Kind) (m : Move) → k ≢ Pawn → NamesPromotion side k m → m.promotion ≡ None
+no_promotion side Pawn m differs names = absurd (differs refl)
+no_promotion side Rook m differs names = names
+no_promotion side Knight m differs names = names
+no_promotion side Bishop m differs names = names
+no_promotion side King m differs names = names
+no_promotion side Queen m differs names = names
+
+king_no_pawn : King ≡ Pawn → ⊥
+king_no_pawn e = cc
+
+one_piece : (p : Parts) (m : Move) → (on p.board m.from ≡ piece_of p.side Pawn → ⊥) → MovesOnePiece p m → Goes p m
+one_piece p m officer o =
+    let no_pawn : o.kind ≢ Pawn = λ e. officer (o.stands ∙ ap (piece_of p.side) e) in
+    let plain : m.promotion ≡ None = no_promotion p.side o.kind m no_pawn o.names in
+    record {
+      kind = o.kind;
+      came = o.came ∙ ap (λ (x : Option Kind). piece_of p.side (unwrap_or x o.kind)) plain;
+      no_pawn = no_pawn;
+      plain = plain;
+      free = o.free;
+      from_kind = o.kind;
+      stood = o.stands;
+    }
+
+castles : (p : Parts) (m : Move) → MovesKingAndRook p m → Goes p m
+castles p m c = record {
+  kind = King;
+  came = c.king_came;
+  no_pawn = king_no_pawn;
+  plain = c.promotion;
+  free = λ own e. none_piece (sym c.target_empty ∙ e);
+  from_kind = King;
+  stood = c.king;
+}
+
+goes : (p : Parts) (m : Move) → Valid p → Legal p m → (on p.board m.from ≡ piece_of p.side Pawn → ⊥) → Goes p m
+goes p m v l officer = elim (moves_move_pieces p m v l) [ inl o ↦ one_piece p m officer o | inr c ↦ castles p m c ]
+
+-- pieces of both sides don't stand on one square
+both_sides : (side : Side) (j k : Kind) (o : Option Piece) → o ≡ piece_of side j → o ≡ piece_of (other side) k → ⊥
+both_sides side j k o a b = sides_differ side (ap side_of (sym a ∙ b))
+
+-- its own piece is seen where it went
+own_seen : (p : Parts) (m n : Move) (seen : List ℕ) (g : Goes p m) → Valid p → IsAfterTwo p seen m n → m.to < 64
+    → on (after (after p m) n).board m.to ≡ on (after p m).board m.to → LandsAt p seen m.to
+own_seen p m n seen g v two low same =
+    let w : Valid (after p m) = moves_stay_valid p m v two.first in
+    let u : Valid (after (after p m) n) = moves_stay_valid (after p m) n w two.second in
+    let shown : get_or seen m.to 0 ≡ code_of_piece p.side g.kind =
+    ap (λ xs. get_or xs m.to 0) two.shows ∙ at_picture (after (after p m) n) m.to (rw u.squares low) ∙ ap code (same ∙ g.came) in
+    record {
+      low = low;
+      some = λ e. code_no_zero p.side g.kind (sym shown ∙ e);
+      differs = λ e.
+          let at : get_or (picture p) m.to 0 ≡ code (on p.board m.to) = at_picture p m.to (rw v.squares low) in
+          g.free g.kind (same_code _ _ (sym at ∙ e ∙ shown));
+    }
+
+-- or the piece that took it
+taker_seen : (p : Parts) (m n : Move) (seen : List ℕ) (o : MovesOnePiece (after p m) n) (b : BeginsNone p seen) → Valid p → IsAfterTwo p seen m n → m.to < 64
+    → m.to ≡ n.to → LandsAt p seen m.to
+taker_seen p m n seen o b v two low e =
+    let q : Parts = after p m in
+    let w : Valid q = moves_stay_valid p m v two.first in
+    let u : Valid (after q n) = moves_stay_valid q n w two.second in
+    let j : Kind = unwrap_or n.promotion o.kind in
+    let stands : on (after q n).board m.to ≡ piece_of (other p.side) j = ap (on (after q n).board) e ∙ o.came in
+    let shown : get_or seen m.to 0 ≡ code_of_piece (other p.side) j =
+    ap (λ xs. get_or xs m.to 0) two.shows ∙ at_picture (after q n) m.to (rw u.squares low) ∙ ap code stands in
+    record {
+      low = low;
+      some = λ z. code_no_zero (other p.side) j (sym shown ∙ z);
+      differs = λ same.
+          let s : ℕ = b.square in
+          let there : get_or seen s 0 ≡ code (on (after q n).board s) = ap (λ xs. get_or xs s 0) two.shows ∙ at_picture (after q n) s (rw u.squares (b.lands).low) in
+          let own = own_code (other p.side) (on (after q n).board s)
+          (number_owned (other p.side) (code (on (after q n).board s)) (ap (is_owned_code (other p.side)) (sym there) ∙ b.owned)) in
+          let at : get_or (picture p) m.to 0 ≡ code (on p.board m.to) = at_picture p m.to (rw v.squares low) in
+          let stood : on p.board m.to ≡ piece_of (other p.side) j = same_code _ _ (sym at ∙ same ∙ shown) in
+          let as_it_was : on p.board s ≡ piece_of (other p.side) own.0 → ⊥ = λ h.
+          (b.lands).differs (at_picture p s (rw v.squares (b.lands).low) ∙ ap code (h ∙ sym own.1) ∙ sym there) in
+          elim (cases_eq s m.to) [
+            | inl is ↦ (b.lands).differs (subst (λ (x : ℕ). get_or (picture p) x 0 ≡ get_or seen x 0) (sym is) same)
+            | inr ne ↦
+                elim (cases_eq s n.from) [
+                  | inl is ↦ none_piece (sym (ap (on (after q n).board) is ∙ o.left) ∙ own.1)
+                  | inr ne' ↦
+                      elim (cases_eq s o.taken) [
+                        | inl is ↦ none_piece (sym (ap (on (after q n).board) is ∙ o.gone) ∙ own.1)
+                        | inr ne'' ↦
+                            let kept : on q.board s ≡ piece_of (other p.side) own.0 = sym (o.others s ne' (λ x. ne (x ∙ sym e)) ne'') ∙ own.1 in
+                            as_it_was (theirs_stood p m s own.0 v two.first kept)
+                      ]
+                ]
+          ];
+    }
+
+-- No pair begins so.
+pub first_lands : (p : Parts) (m n : Move) (seen : List ℕ) → Valid p → BeginsNone p seen → ¬ IsAfterTwo p seen m n
+first_lands p m n seen v b two =
+    let q : Parts = after p m in
+    let w : Valid q = moves_stay_valid p m v two.first in
+    let lost : LosesAt p seen p.side m.from = mover_loses_at p m n seen v two in
+    let nowhere : GoesNowhere p seen m.from =
+    b.nowhere m.from lost.low (λ e. lost.gone (sym e ∙ at_picture p m.from (rw v.squares lost.low) ∙ ap code lost.stands)) in
+    let g : Goes p m = goes p m v two.first nowhere.pawn in
+    let low : m.to < 64 = rw (← w.squares) (on_board q.board m.to p.side g.kind g.came) in
+    let lands : LandsAt p seen m.to =
+    elim (moves_move_pieces q n w two.second) [
+      | inl o ↦
+          elim (cases_eq m.to n.to) [
+            | inl e ↦ taker_seen p m n seen o b v two low e
+            | inr ne ↦
+                elim (cases_eq m.to o.taken) [
+                  | inl e ↦
+                      elim o.passes [
+                        | inl same ↦ absurd (both_sides p.side g.kind o.kind (on q.board m.to) g.came (ap (on q.board) (e ∙ same) ∙ o.stands))
+                        | inr passant ↦
+                            let pawn : on q.board m.to ≡ piece_of p.side Pawn = ap (on q.board) e ∙ passant.1 ∙ ap (λ (s : Side). piece_of s Pawn) (other-other p.side) in
+                            absurd (g.no_pawn (ap kind_of (sym g.came ∙ pawn)))
+                      ]
+                  | inr ne' ↦
+                      own_seen p m n seen g v two low
+                      (o.others m.to (λ e. both_sides p.side g.kind o.kind (on q.board m.to) g.came (ap (on q.board) e ∙ o.stands)) ne ne')
+                ]
+          ]
+      | inr c ↦
+          own_seen p m n seen g v two low
+          (c.others m.to
+          (λ e. both_sides p.side g.kind King (on q.board m.to) g.came (ap (on q.board) e ∙ c.king))
+          (λ e. none_piece (sym (ap (on q.board) e ∙ c.target_empty) ∙ g.came))
+          (λ e. both_sides p.side g.kind Rook (on q.board m.to) g.came (ap (on q.board) e ∙ c.rook))
+          (λ e. none_piece (sym (ap (on q.board) e ∙ c.crossed_empty) ∙ g.came)))
+    ] in
+    nowhere.moves m g.plain refl lands two.first
