@@ -8,17 +8,18 @@ use Rattle.chess_rules.specs.declared.pieces.Kind.TheVariants.{Pawn, Rook, Knigh
 use Rattle.chess_rules.specs.declared.pieces.Piece.{Piece}
 use Rattle.chess_rules.specs.declared.chess_move.Move.{Move}
 use Rattle.chess_rules.specs.declared.parts.Parts.{Parts}
-use Rattle.chess_rules.specs.Board.{on, other, piece_of}
+use Rattle.chess_rules.specs.Board.{last_row, on, other, piece_of, row}
 use Rattle.chess_rules.specs.After.{after}
 use Rattle.chess_rules.specs.Laws.{MovesKingAndRook, MovesOnePiece}
-use Rattle.chess_rules.specs.Legal.{Legal, NamesPromotion}
+use Rattle.chess_rules.specs.Legal.{Legal, NamesPromotion, TakesEnPassant}
 use Rattle.chess_rules.specs.Valid.{Valid}
 use Rattle.chess_rules.specs.Picture.{code, code_of_piece, picture}
 use Rattle.chess_rules.proofs.LawLemmas.{moves_move_pieces, moves_stay_valid}
 use Rattle.settle_core.specs.Candidate.{is_owned_code, side_number}
 use Rattle.settle_core.specs.Lost.{LosesAt}
-use Rattle.unseen_pairs.specs.Lost.{BeginsNone, GoesNowhere, LandsAt}
+use Rattle.unseen_pairs.specs.Lost.{BeginsNone, GoesNowhere, LandsAt, PawnsPlain}
 use Rattle.settle_core.proofs.Boards.{kind_of, none_piece, on_board, other-other, side_of, sides_differ}
+use Rattle.settle_core.proofs.Pawns.{pawn_stood}
 use Rattle.settle_core.proofs.Pieces.{at_picture, code_no_zero, same_code, theirs_stood}
 use Rattle.settle_core.proofs.Tracing.{eqb_true, number_of, own_code}
 use Rattle.unseen_pairs.specs.Pairs.{IsAfterTwo}
@@ -28,54 +29,46 @@ number_owned : (side : Side) (c : ℕ) → is_owned_code side c ≡ true → sid
 number_owned White c e = eqb_true _ _ e
 number_owned Black c e = eqb_true _ _ e
 
--- A piece of the first mover, no pawn, that went to a square.
+-- A piece of the first mover that went to a square.
 record Goes (p : Parts) (m : Move) : Type 0 where
   kind : Kind
   came : on (after p m).board m.to ≡ piece_of p.side kind
-  no_pawn : kind ≢ Pawn
-  plain : m.promotion ≡ None
   free : (own : Kind) → on p.board m.to ≢ piece_of p.side own
-  from_kind : Kind
-  stood : on p.board m.from ≡ piece_of p.side from_kind
 
-no_promotion : (side : Side) (k : Kind) (m : Move) → k ≢ Pawn → NamesPromotion side k m → m.promotion ≡ None
-no_promotion side Pawn m differs names = absurd (differs refl)
-no_promotion side Rook m differs names = names
-no_promotion side Knight m differs names = names
-no_promotion side Bishop m differs names = names
-no_promotion side King m differs names = names
-no_promotion side Queen m differs names = names
+goes : (p : Parts) (m : Move) → Valid p → Legal p m → Goes p m
+goes p m v l = elim (moves_move_pieces p m v l) [
+  | inl o ↦ record { kind = unwrap_or m.promotion o.kind; came = o.came; free = o.free }
+  | inr c ↦ record { kind = King; came = c.king_came; free = λ own e. none_piece (sym c.target_empty ∙ e) }
+]
+
+plain_names : (side : Side) (k : Kind) (m : Move) → (k ≡ Pawn → row m.to ≢ last_row side) → NamesPromotion side k m → m.promotion ≡ None
+plain_names side Pawn m far names = names.before (far refl)
+plain_names side Rook m far names = names
+plain_names side Knight m far names = names
+plain_names side Bishop m far names = names
+plain_names side King m far names = names
+plain_names side Queen m far names = names
+
+-- only a pawn on the last row promotes
+plain_move : (p : Parts) (m : Move) → Valid p → Legal p m → (on p.board m.from ≡ piece_of p.side Pawn → row m.to ≢ last_row p.side) → m.promotion ≡ None
+plain_move p m v l far = elim (moves_move_pieces p m v l) [
+  | inl o ↦ plain_names p.side o.kind m (λ e. far (o.stands ∙ ap (piece_of p.side) e)) o.names
+  | inr c ↦ c.promotion
+]
 
 king_no_pawn : King ≡ Pawn → ⊥
 king_no_pawn e = cc
 
-one_piece : (p : Parts) (m : Move) → (on p.board m.from ≡ piece_of p.side Pawn → ⊥) → MovesOnePiece p m → Goes p m
-one_piece p m officer o =
-    let no_pawn : o.kind ≢ Pawn = λ e. officer (o.stands ∙ ap (piece_of p.side) e) in
-    let plain : m.promotion ≡ None = no_promotion p.side o.kind m no_pawn o.names in
-    record {
-      kind = o.kind;
-      came = o.came ∙ ap (λ (x : Option Kind). piece_of p.side (unwrap_or x o.kind)) plain;
-      no_pawn = no_pawn;
-      plain = plain;
-      free = o.free;
-      from_kind = o.kind;
-      stood = o.stands;
-    }
+no_passant : (p : Parts) (m : Move) → p.target ≡ None → TakesEnPassant p m → ⊥
+no_passant p m none t = let e : None ≡ Some m.to = sym none ∙ t.target in let n : ⊥ = cc in n
 
-castles : (p : Parts) (m : Move) → MovesKingAndRook p m → Goes p m
-castles p m c = record {
-  kind = King;
-  came = c.king_came;
-  no_pawn = king_no_pawn;
-  plain = c.promotion;
-  free = λ own e. none_piece (sym c.target_empty ∙ e);
-  from_kind = King;
-  stood = c.king;
-}
-
-goes : (p : Parts) (m : Move) → Valid p → Legal p m → (on p.board m.from ≡ piece_of p.side Pawn → ⊥) → Goes p m
-goes p m v l officer = elim (moves_move_pieces p m v l) [ inl o ↦ one_piece p m officer o | inr c ↦ castles p m c ]
+-- a pawn that takes nothing in passing changes two squares
+pawn_keeps : (p : Parts) (m : Move) (s : ℕ) → Valid p → Legal p m → p.target ≡ None → on p.board m.from ≡ piece_of p.side Pawn
+    → s ≢ m.from → s ≢ m.to → on (after p m).board s ≡ on p.board s
+pawn_keeps p m s v l none pawn a b = elim (moves_move_pieces p m v l) [
+  | inl o ↦ o.others s a b (λ t. elim o.passes [ inl same ↦ a (t ∙ same) | inr passant ↦ no_passant p m none passant.0 ])
+  | inr c ↦ absurd (king_no_pawn (ap kind_of (sym c.king ∙ pawn)))
+]
 
 -- pieces of both sides don't stand on one square
 both_sides : (side : Side) (j k : Kind) (o : Option Piece) → o ≡ piece_of side j → o ≡ piece_of (other side) k → ⊥
@@ -136,6 +129,31 @@ taker_seen p m n seen o b v two low e =
           ];
     }
 
+-- A pawn of the other side would have landed that took it in passing.
+taken_passing : (p : Parts) (m n : Move) (seen : List ℕ) (o : MovesOnePiece (after p m) n) → Valid p → IsAfterTwo p seen m n → PawnsPlain p seen
+    → on p.board m.from ≡ piece_of p.side Pawn → TakesEnPassant (after p m) n → n.to ≢ m.to → ⊥
+taken_passing p m n seen o v two plain pawn passant apart =
+    let q : Parts = after p m in
+    let w : Valid q = moves_stay_valid p m v two.first in
+    let u : Valid (after q n) = moves_stay_valid q n w two.second in
+    let kind : unwrap_or n.promotion o.kind ≡ Pawn =
+    ap (λ (x : Option Kind). unwrap_or x o.kind) passant.promotion ∙ ap kind_of (sym o.stands ∙ passant.stands) in
+    let came : on (after q n).board n.to ≡ piece_of (other p.side) Pawn = o.came ∙ ap (piece_of (other p.side)) kind in
+    let low : n.to < 64 = rw (← u.squares) (on_board (after q n).board n.to (other p.side) Pawn came) in
+    let shown : get_or seen n.to 0 ≡ code_of_piece (other p.side) Pawn =
+    ap (λ xs. get_or xs n.to 0) two.shows ∙ at_picture (after q n) n.to (rw u.squares low) ∙ ap code came in
+    plain.pawns n.to
+    (record {
+      low = low;
+      some = λ z. code_no_zero (other p.side) Pawn (sym shown ∙ z);
+      differs = λ same.
+          let stood : on p.board n.to ≡ piece_of (other p.side) Pawn = same_code _ _ (sym (at_picture p n.to (rw v.squares low)) ∙ same ∙ shown) in
+          let kept : on q.board n.to ≡ on p.board n.to =
+          pawn_keeps p m n.to v two.first plain.target pawn (λ e. both_sides p.side Pawn Pawn (on p.board m.from) pawn (ap (on p.board) (sym e) ∙ stood)) apart in
+          o.free Pawn (kept ∙ stood);
+    })
+    shown
+
 -- No pair begins so.
 pub first_lands : (p : Parts) (m n : Move) (seen : List ℕ) → Valid p → BeginsNone p seen → ¬ IsAfterTwo p seen m n
 first_lands p m n seen v b two =
@@ -144,7 +162,7 @@ first_lands p m n seen v b two =
     let lost : LosesAt p seen p.side m.from = mover_loses_at p m n seen v two in
     let nowhere : GoesNowhere p seen m.from =
     b.nowhere m.from lost.low (λ e. lost.gone (sym e ∙ at_picture p m.from (rw v.squares lost.low) ∙ ap code lost.stands)) in
-    let g : Goes p m = goes p m v two.first nowhere.pawn in
+    let g : Goes p m = goes p m v two.first in
     let low : m.to < 64 = rw (← w.squares) (on_board q.board m.to p.side g.kind g.came) in
     let lands : LandsAt p seen m.to =
     elim (moves_move_pieces q n w two.second) [
@@ -158,7 +176,7 @@ first_lands p m n seen v b two =
                         | inl same ↦ absurd (both_sides p.side g.kind o.kind (on q.board m.to) g.came (ap (on q.board) (e ∙ same) ∙ o.stands))
                         | inr passant ↦
                             let pawn : on q.board m.to ≡ piece_of p.side Pawn = ap (on q.board) e ∙ passant.1 ∙ ap (λ (s : Side). piece_of s Pawn) (other-other p.side) in
-                            absurd (g.no_pawn (ap kind_of (sym g.came ∙ pawn)))
+                            absurd (taken_passing p m n seen o v two (nowhere.pawn (pawn_stood p m v two.first pawn)) (pawn_stood p m v two.first pawn) passant.0 (λ x. ne (sym x)))
                       ]
                   | inr ne' ↦
                       own_seen p m n seen g v two low
@@ -173,4 +191,4 @@ first_lands p m n seen v b two =
           (λ e. both_sides p.side g.kind Rook (on q.board m.to) g.came (ap (on q.board) e ∙ c.rook))
           (λ e. none_piece (sym (ap (on q.board) e ∙ c.crossed_empty) ∙ g.came)))
     ] in
-    nowhere.moves m g.plain refl lands two.first
+    nowhere.moves m (plain_move p m v two.first (λ pawn. (nowhere.pawn pawn).last m.to lands)) refl lands two.first
