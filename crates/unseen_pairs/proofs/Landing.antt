@@ -1,5 +1,5 @@
 -- The first ply of a pair goes to a square where a piece landed.
-use Rattle.std.proofs.Common.{◌≡◌, ◌≢◌, ℕ, ◌<◌, inl, inr, List, Option, None, Some, unwrap_or, true, false, get_or, refl, sym, ap, subst, ◌∙◌}
+use Rattle.std.proofs.Common.{◌≡◌, ◌≢◌, ℕ, ◌<◌, inl, inr, List, Option, None, Some, unwrap_or, true, false, get_or, refl, sym, ap, subst, arith, ◌∙◌}
 use Rattle.std.proofs.lemmas.Bool.{both_ways, cases_eq}
 use Rattle.chess_rules.specs.declared.pieces.Side.{Side}
 use Rattle.chess_rules.specs.declared.pieces.Side.TheVariants.{White, Black}
@@ -8,18 +8,19 @@ use Rattle.chess_rules.specs.declared.pieces.Kind.TheVariants.{Pawn, Rook, Knigh
 use Rattle.chess_rules.specs.declared.pieces.Piece.{Piece}
 use Rattle.chess_rules.specs.declared.chess_move.Move.{Move}
 use Rattle.chess_rules.specs.declared.parts.Parts.{Parts}
-use Rattle.chess_rules.specs.Board.{last_row, on, other, piece_of, row}
+use Rattle.chess_rules.specs.Board.{Ahead, forward, last_row, on, other, piece_of, row, second_row}
 use Rattle.chess_rules.specs.After.{after}
+use Rattle.chess_rules.specs.Attack.{AttacksFrom}
 use Rattle.chess_rules.specs.Laws.{MovesKingAndRook, MovesOnePiece}
-use Rattle.chess_rules.specs.Legal.{Legal, NamesPromotion, TakesEnPassant}
-use Rattle.chess_rules.specs.Valid.{Valid}
+use Rattle.chess_rules.specs.Legal.{Goes as Moving, step, pawn_step, capture, double_step, en_passant, castling, Legal, NamesPromotion, TakesEnPassant}
+use Rattle.chess_rules.specs.Valid.{IsAtHome, Valid}
 use Rattle.chess_rules.specs.Picture.{code, code_of_piece, picture}
 use Rattle.chess_rules.proofs.LawLemmas.{moves_move_pieces, moves_stay_valid}
 use Rattle.settle_core.specs.Candidate.{is_owned_code, side_number}
 use Rattle.settle_core.specs.Lost.{LosesAt}
-use Rattle.unseen_pairs.specs.Lost.{BeginsNone, GoesNowhere, LandsAt, PawnsPlain}
+use Rattle.unseen_pairs.specs.Lost.{BeginsNone, GoesNowhere, IsPlainPawn, LandsAt, NoPassing}
 use Rattle.settle_core.proofs.Boards.{kind_of, none_piece, on_board, other-other, side_of, sides_differ}
-use Rattle.settle_core.proofs.Pawns.{pawn_stood}
+use Rattle.settle_core.proofs.Pawns.{NextRow, pawn_attack_row, pawn_stood}
 use Rattle.settle_core.proofs.Pieces.{at_picture, code_no_zero, same_code, theirs_stood}
 use Rattle.settle_core.proofs.Tracing.{eqb_true, number_of, own_code}
 use Rattle.unseen_pairs.specs.Pairs.{IsAfterTwo}
@@ -49,15 +50,41 @@ plain_names side Bishop m far names = names
 plain_names side King m far names = names
 plain_names side Queen m far names = names
 
+king_no_pawn : King ≡ Pawn → ⊥
+king_no_pawn e = cc
+
+one_row : (side : Side) (s t : ℕ) → Ahead (forward side) 1 s t → NextRow side (row s) (row t)
+one_row White s t h = omega arith
+one_row Black s t h = omega arith
+
+before_last : (side : Side) (a b : ℕ) → NextRow side a b → b ≡ last_row side → a ≡ second_row (other side)
+before_last White a b h e = omega arith
+before_last Black a b h e = omega arith
+
+not_so_far : (side : Side) (s t : ℕ) → row s ≡ second_row side → Ahead (forward side) 2 s t → row t ≢ last_row side
+not_so_far White s t b h e = omega arith
+not_so_far Black s t b h e = omega arith
+
+-- a pawn comes to the last row from the one before it
+from_before : (p : Parts) (m : Move) → Valid p → on p.board m.from ≡ piece_of p.side Pawn → Moving p m → row m.to ≡ last_row p.side → row m.from ≡ second_row (other p.side)
+from_before p m v h (step s) e = absurd (s.no_pawn (ap kind_of (sym s.stands ∙ h)))
+from_before p m v h (pawn_step s) e = before_last p.side (row m.from) (row m.to) (one_row p.side m.from m.to s.goes) e
+from_before p m v h (capture s) e =
+    let k : s.kind ≡ Pawn = ap kind_of (sym s.stands ∙ h) in
+    let P : Kind → Type 0 = λ k. AttacksFrom p.board p.side k m.from m.to in
+    before_last p.side (row m.from) (row m.to) (pawn_attack_row p.board p.side m.from m.to (subst P k s.attacks)) e
+from_before p m v h (double_step s) e = absurd (not_so_far p.side m.from m.to s.begins s.goes e)
+from_before p m v h (en_passant s) e = before_last p.side (row m.from) (row m.to) (pawn_attack_row p.board p.side m.from m.to s.attacks) e
+from_before p m v h (castling wing c) e =
+    let home : IsAtHome p.board p.side wing = v.rights p.side wing c.right in
+    absurd (king_no_pawn (ap kind_of (sym home.king ∙ ap (on p.board) (sym c.from) ∙ h)))
+
 -- only a pawn on the last row promotes
 plain_move : (p : Parts) (m : Move) → Valid p → Legal p m → (on p.board m.from ≡ piece_of p.side Pawn → row m.to ≢ last_row p.side) → m.promotion ≡ None
 plain_move p m v l far = elim (moves_move_pieces p m v l) [
   | inl o ↦ plain_names p.side o.kind m (λ e. far (o.stands ∙ ap (piece_of p.side) e)) o.names
   | inr c ↦ c.promotion
 ]
-
-king_no_pawn : King ≡ Pawn → ⊥
-king_no_pawn e = cc
 
 no_passant : (p : Parts) (m : Move) → p.target ≡ None → TakesEnPassant p m → ⊥
 no_passant p m none t = let e : None ≡ Some m.to = sym none ∙ t.target in let n : ⊥ = cc in n
@@ -130,7 +157,7 @@ taker_seen p m n seen o b v two low e =
     }
 
 -- A pawn of the other side would have landed that took it in passing.
-taken_passing : (p : Parts) (m n : Move) (seen : List ℕ) (o : MovesOnePiece (after p m) n) → Valid p → IsAfterTwo p seen m n → PawnsPlain p seen
+taken_passing : (p : Parts) (m n : Move) (seen : List ℕ) (o : MovesOnePiece (after p m) n) → Valid p → IsAfterTwo p seen m n → NoPassing p seen
     → on p.board m.from ≡ piece_of p.side Pawn → TakesEnPassant (after p m) n → n.to ≢ m.to → ⊥
 taken_passing p m n seen o v two plain pawn passant apart =
     let q : Parts = after p m in
@@ -176,7 +203,7 @@ first_lands p m n seen v b two =
                         | inl same ↦ absurd (both_sides p.side g.kind o.kind (on q.board m.to) g.came (ap (on q.board) (e ∙ same) ∙ o.stands))
                         | inr passant ↦
                             let pawn : on q.board m.to ≡ piece_of p.side Pawn = ap (on q.board) e ∙ passant.1 ∙ ap (λ (s : Side). piece_of s Pawn) (other-other p.side) in
-                            absurd (taken_passing p m n seen o v two (nowhere.pawn (pawn_stood p m v two.first pawn)) (pawn_stood p m v two.first pawn) passant.0 (λ x. ne (sym x)))
+                            absurd (taken_passing p m n seen o v two ((nowhere.pawn (pawn_stood p m v two.first pawn)).no_passing) (pawn_stood p m v two.first pawn) passant.0 (λ x. ne (sym x)))
                       ]
                   | inr ne' ↦
                       own_seen p m n seen g v two low
@@ -191,4 +218,4 @@ first_lands p m n seen v b two =
           (λ e. both_sides p.side g.kind Rook (on q.board m.to) g.came (ap (on q.board) e ∙ c.rook))
           (λ e. none_piece (sym (ap (on q.board) e ∙ c.crossed_empty) ∙ g.came)))
     ] in
-    nowhere.moves m (plain_move p m v two.first (λ pawn. (nowhere.pawn pawn).last m.to lands)) refl lands two.first
+    nowhere.moves m (plain_move p m v two.first (λ pawn e. (nowhere.pawn pawn).far (from_before p m v pawn (two.first).goes e))) refl lands two.first

@@ -1,7 +1,7 @@
 -- Whether a pair may begin, and how far those that explain a picture are listed. Private definitions: the public contracts do not cite them.
 use Rattle.std.specs.Prelude.{◌≡◌, ◌≢◌, ◌<◌, ◌⊎◌, ℕ, List, None, Contains, true, slice_index, slice_index_or}
 use Rattle.chess_rules.specs.declared.pieces.Kind.TheVariants.{Pawn}
-use Rattle.chess_rules.specs.Board.{last_row, on, other, piece_of, row}
+use Rattle.chess_rules.specs.Board.{on, other, piece_of, row, second_row}
 use Rattle.chess_rules.specs.Legal.{Legal}
 use Rattle.chess_rules.specs.Picture.{code_of_piece, picture}
 use Rattle.settle_core.specs.Candidate.{is_owned_code}
@@ -16,15 +16,19 @@ pub record LandsAt (p : Parts) (seen : List ℕ) (s : ℕ) : Type 0 where
   pub some : slice_index seen s ≢ 0
   pub differs : slice_index (picture p) s ≢ slice_index seen s
 
--- No pawn is taken in passing, or promotes: none may be taken so now, no pawn of the other side landed, and no piece on the last row.
-pub record PawnsPlain (p : Parts) (seen : List ℕ) : Type 0 where
+-- No pawn is taken in passing: none may be taken so now, and no pawn of the other side landed.
+pub record NoPassing (p : Parts) (seen : List ℕ) : Type 0 where
   pub target : p.target ≡ None
   pub pawns : (s : ℕ) → LandsAt p seen s → slice_index seen s ≢ code_of_piece (other p.side) Pawn
-  pub last : (s : ℕ) → LandsAt p seen s → row s ≢ last_row p.side
+
+-- A pawn here is not taken in passing, nor does it promote: it isn't on the row before the last.
+pub record IsPlainPawn (p : Parts) (seen : List ℕ) (from : ℕ) : Type 0 where
+  pub no_passing : NoPassing p seen
+  pub far : row from ≢ second_row (other p.side)
 
 -- No piece of the side to move may go from this square to one where a piece landed, and a pawn there would do no more.
 pub record GoesNowhere (p : Parts) (seen : List ℕ) (from : ℕ) : Type 0 where
-  pub pawn : on p.board from ≡ piece_of p.side Pawn → PawnsPlain p seen
+  pub pawn : on p.board from ≡ piece_of p.side Pawn → IsPlainPawn p seen from
   pub moves : (m : Move) → m.promotion ≡ None → m.from ≡ from → LandsAt p seen m.to → ¬ Legal p m
 
 -- A piece of the side that is not to move landed; and of the side to move none that is lost may go to where one landed.

@@ -3,12 +3,12 @@ ghost use Rattle.std.specs.Prelude.{◌≡◌, ◌≢◌, ◌<◌, ℕ, IsTrue, 
 ghost use Rattle.std.specs.Int.{bit_at};
 ghost use Rattle.chess_rules.specs.declared.chess_move.Move.{Move as MoveOf};
 ghost use Rattle.chess_rules.specs.declared.pieces.Kind.TheVariants.{Pawn};
-ghost use Rattle.chess_rules.specs.Board.{last_row, other as other_side};
+ghost use Rattle.chess_rules.specs.Board.{other as other_side, second_row};
 ghost use Rattle.chess_rules.specs.Legal.{Legal};
 ghost use Rattle.chess_rules.specs.Picture.{code_of_piece, picture};
 ghost use Rattle.settle_core.specs.Candidate.{is_owned_code, side_number};
 ghost use Rattle.settle_core.specs.Masks.{IsDiff};
-ghost use Rattle.unseen_pairs.specs.Lost.{BeginsNone, GoesNowhere, LandsAt, PawnsPlain};
+ghost use Rattle.unseen_pairs.specs.Lost.{BeginsNone, GoesNowhere, IsPlainPawn, LandsAt, NoPassing};
 ghost use Rattle.unseen_pairs.specs.Pairs.{IsAfterTwo};
 
 use crate::explaining::other;
@@ -97,37 +97,44 @@ fn pawn_code(side: Side) -> u8
     }
 }
 
-fn last_row_of(side: Side) -> u8
-    ensures { result ≡ last_row side }
+/// The row from which this side's pawns promote.
+fn row_before_last(side: Side) -> u8
+    ensures { result ≡ second_row (other_side side) }
 {
     match side {
-        Side::White => 0,
-        Side::Black => 7,
+        Side::White => 1,
+        Side::Black => 6,
     }
 }
 
-/// Whether pawns go as other pieces do: none may be taken in passing, and none promotes.
-fn are_pawns_plain(p: &Position, seen: &[u8; 64], mask: u64) -> bool
-    ensures { IsTrue result → IsDiff mask (picture p.now) seen.now → PawnsPlain p.now seen.now }
+/// Whether no pawn is taken in passing.
+fn none_passes(p: &Position, seen: &[u8; 64], mask: u64) -> bool
+    ensures { IsTrue result → IsDiff mask (picture p.now) seen.now → NoPassing p.now seen.now }
 {
     let parts = p.parts();
     if parts.target.is_some() {
         return false;
     }
     let theirs = pawn_code(other(parts.side));
-    let last = last_row_of(parts.side);
     let mut rest = mask;
     while rest > 0 {
         let square = first_square(rest);
         if seen[square as usize] == theirs {
             return false;
         }
-        if square / 8 == last {
-            return false;
-        }
         rest = without(rest, square);
     }
     true
+}
+
+/// Whether a pawn that is lost here is not taken in passing, and does not promote.
+fn is_plain_pawn(p: &Position, seen: &[u8; 64], mask: u64, from: u8) -> bool
+    ensures { IsTrue result → IsDiff mask (picture p.now) seen.now → IsPlainPawn p.now seen.now from }
+{
+    if from / 8 == row_before_last(p.parts().side) {
+        return false;
+    }
+    none_passes(p, seen, mask)
 }
 
 /// Whether a piece of the side to move is lost here that may go to where one landed, or is a pawn that may do more.
@@ -139,7 +146,7 @@ fn may_begin_on(p: &Position, seen: &[u8; 64], mask: u64, from: u8) -> bool
     let parts = p.parts();
     match kind_on(&parts.board, parts.side, from) {
         None => false,
-        Some(Kind::Pawn) => !are_pawns_plain(p, seen, mask) || may_land(p, seen, mask, from),
+        Some(Kind::Pawn) => !is_plain_pawn(p, seen, mask, from) || may_land(p, seen, mask, from),
         Some(_) => may_land(p, seen, mask, from),
     }
 }
