@@ -1,5 +1,5 @@
 -- Pairs are listed.
-use Rattle.std.proofs.Common.{◌≡◌, ◌↔◌, ℕ, ◌<◌, ◌+◌, inl, inr, List, [], ◌∷◌, ◌++◌, Contains, slice_index_or, length, sym, ap, subst, ◌∙◌, arith}
+use Rattle.std.proofs.Common.{◌≡◌, ◌↔◌, ◌⊎◌, ℕ, ◌<◌, ◌+◌, inl, inr, List, [], ◌∷◌, ◌++◌, Contains, None, Result, Ok, Err, IfOk, slice_index_or, length, sym, ap, subst, ◌∙◌, arith}
 use Rattle.std.proofs.lemmas.Bool.{cases_eq}
 use Rattle.std.proofs.lemmas.List.{get_or_default}
 use Rattle.std.proofs.lemmas.List.Elements.{Contains-append_left, Contains-push, Contains-push_cases}
@@ -10,10 +10,11 @@ use Rattle.chess_rules.specs.Legal.{Legal}
 use Rattle.chess_rules.specs.Moves.{ListsLegal}
 use Rattle.chess_rules.specs.Valid.{Valid}
 use Rattle.chess_rules.proofs.LawLemmas.{moves_stay_valid}
+use Rattle.chess_rules.proofs.Tells.{same_move}
 use Rattle.settle_core.specs.Settling.{Settles}
 use Rattle.unseen_pairs.specs.declared.pair.TwoPlies.{TwoPlies}
 use Rattle.unseen_pairs.specs.Pairs.{IsAfterTwo}
-use Rattle.unseen_pairs.specs.Lost.{AddsPairs, ListsPairs}
+use Rattle.unseen_pairs.specs.Lost.{AddsMoves, AddsPairs, ListsFirst, ListsPairs}
 use Rattle.unseen_pairs.proofs.Putting.{settles_own}
 
 same_two : (x y : TwoPlies) → x.first ≡ y.first → x.second ≡ y.second → y ≡ x
@@ -89,17 +90,60 @@ adds_no_reply p seen m old v l never =
 
 pub lists_all :
     (p : Parts) (seen : List ℕ) (moves : List Move) (i : ℕ) (pairs : List TwoPlies)
-    → ListsLegal p moves
+    → ListsFirst p seen moves
     → i ≡ length moves
     → ListsPairs p seen moves i pairs
     → (x : TwoPlies) → Contains pairs x ↔ IsAfterTwo p seen x.first x.second
 lists_all p seen moves i pairs lists end so = λ x. (
   λ c. so.sound x c,
-  λ two.
-      let each = lists.each x.first in
-      let at : Contains moves x.first = each.1 two.first in
-      so.whole x at.0 (rw end at.1) at.2 two,
+  λ two. let at : Contains moves x.first = lists.whole x.first x.second two in so.whole x at.0 (rw end at.1) at.2 two,
 )
 
-pub legal_at : (p : Parts) (moves : List Move) (i : ℕ) (m : Move) → ListsLegal p moves → i < length moves → m ≡ slice_index_or moves i m → Legal p m
-legal_at p moves i m lists low is = let each = lists.each m in each.0 (i, low, sym is)
+pub legal_at : (p : Parts) (seen : List ℕ) (moves : List Move) (i : ℕ) (m : Move) → ListsFirst p seen moves → i < length moves → m ≡ slice_index_or moves i m → Legal p m
+legal_at p seen moves i m lists low is = lists.legal m (i, low, sym is)
+
+-- all legal moves are such a list
+pub all_legal : (p : Parts) (seen : List ℕ) (moves : List Move) → ListsLegal p moves → ListsFirst p seen moves
+all_legal p seen moves lists = record {
+  legal = λ m c. let each = lists.each m in each.0 c;
+  whole = λ m n two. let each = lists.each m in each.1 two.first;
+}
+
+-- one more move, where it is legal
+pub adds_move : (p : Parts) (m : Move) (old new : List Move) → new ≡ old ++ m ∷ [] → Legal p m → AddsMoves p (λ k. k ≡ m) old new
+adds_move p m old new is l =
+    let In : Move → List Move → Type 0 = λ k xs. Contains xs k in
+    record {
+      legal = λ k c. elim (Contains-push_cases old m k (subst (In k) is c)) [ inl h ↦ inl h | inr h ↦ inr (subst (λ (z : Move). Legal p z) h l) ];
+      keeps = λ k c. subst (In k) (sym is) (Contains-append_left old (m ∷ []) k c);
+      whole = λ k e legal. subst (In k) (sym is) (subst (λ (z : Move). Contains (old ++ m ∷ []) z) (sym e) (Contains-push old m));
+    }
+
+pub adds_no_move : (p : Parts) (These : Move → Type 0) (old : List Move) → ((m : Move) → These m → ¬ Legal p m) → AddsMoves p These old old
+adds_no_move p These old never = record { legal = λ m c. inl c; keeps = λ m c. c; whole = λ m t l. absurd (never m t l) }
+
+-- first some, and then others
+pub adds_both : (p : Parts) (These Those All : Move → Type 0) (a b c : List Move) → AddsMoves p These a b → AddsMoves p Those b c
+    → ((m : Move) → All m → These m ⊎ Those m) → AddsMoves p All a c
+adds_both p These Those All a b c first second each = record {
+  legal = λ m k. elim (second.legal m k) [ inl h ↦ first.legal m h | inr l ↦ inr l ];
+  keeps = λ m k. second.keeps m (first.keeps m k);
+  whole = λ m k l. elim (each m k) [ inl h ↦ second.keeps m (first.whole m h l) | inr h ↦ second.whole m h l ];
+}
+
+-- one more move, between these squares
+pub adds_between : (p : Parts) (from to : ℕ) (tried added : Move) (old new : List Move) → new ≡ old ++ added ∷ []
+    → (tried.from ≡ from) × (tried.to ≡ to) × (tried.promotion ≡ None) → (added.from ≡ from) × (added.to ≡ to) × (added.promotion ≡ None)
+    → Legal p tried → AddsMoves p (λ m. (m.promotion ≡ None) × (m.from ≡ from) × (m.to ≡ to)) old new
+adds_between p from to tried added old new is t a l =
+    let same : added ≡ tried = same_move added tried (a.0 ∙ sym t.0) (a.1 ∙ sym t.1) (a.2 ∙ sym t.2) in
+    let one = adds_move p added old new is (subst (λ (z : Move). Legal p z) (sym same) l) in
+    record {
+      legal = one.legal;
+      keeps = one.keeps;
+      whole = λ m these legal. one.whole m (same_move m added (these.1 ∙ sym a.0) (these.2 ∙ sym a.1) (these.0 ∙ sym a.2)) legal;
+    }
+
+pub if_ok : {T E : Type 0} (P Q : T → Type 0) (r : Result T E) → ((v : T) → P v → Q v) → IfOk r P → IfOk r Q
+if_ok P Q (Ok v) through p = through v p
+if_ok P Q (Err e) through p = tt

@@ -1,6 +1,6 @@
 -- The first ply of a pair goes to a square where a piece landed.
-use Rattle.std.proofs.Common.{◌≡◌, ◌≢◌, ℕ, ◌<◌, inl, inr, List, Option, None, Some, unwrap_or, true, false, get_or, refl, sym, ap, subst, arith, ◌∙◌}
-use Rattle.std.proofs.lemmas.Bool.{both_ways, cases_eq}
+use Rattle.std.proofs.Common.{◌≡◌, ◌≢◌, ℕ, ◌+◌, ◌/◌, ◌<◌, inl, inr, List, [], Contains, Option, None, Some, unwrap_or, true, false, get_or, refl, sym, ap, subst, arith, ◌∙◌}
+use Rattle.std.proofs.lemmas.Bool.{both_ways, cases_Bool, cases_eq, cond-false, cond-true}
 use Rattle.chess_rules.specs.declared.pieces.Side.{Side}
 use Rattle.chess_rules.specs.declared.pieces.Side.TheVariants.{White, Black}
 use Rattle.chess_rules.specs.declared.pieces.Kind.{Kind}
@@ -9,16 +9,17 @@ use Rattle.chess_rules.specs.declared.pieces.Piece.{Piece}
 use Rattle.chess_rules.specs.declared.chess_move.Move.{Move}
 use Rattle.chess_rules.specs.declared.parts.Parts.{Parts}
 use Rattle.chess_rules.specs.Board.{Ahead, forward, last_row, on, other, piece_of, row, second_row}
-use Rattle.chess_rules.specs.After.{after}
+use Rattle.chess_rules.specs.After.{after, is_double_step}
 use Rattle.chess_rules.specs.Attack.{AttacksFrom}
 use Rattle.chess_rules.specs.Laws.{MovesKingAndRook, MovesOnePiece}
-use Rattle.chess_rules.specs.Legal.{Goes as Moving, step, pawn_step, capture, double_step, en_passant, castling, Legal, NamesPromotion, TakesEnPassant}
+use Rattle.chess_rules.specs.Legal.{Goes as Moving, step, pawn_step, capture, double_step, en_passant, castling, DoubleSteps, Legal, NamesPromotion, TakesEnPassant}
 use Rattle.chess_rules.specs.Valid.{IsAtHome, Valid}
 use Rattle.chess_rules.specs.Picture.{code, code_of_piece, picture}
 use Rattle.chess_rules.proofs.LawLemmas.{moves_move_pieces, moves_stay_valid}
+use Rattle.chess_rules.proofs.Staying.{passed, ways_after}
 use Rattle.settle_core.specs.Candidate.{is_owned_code, side_number}
 use Rattle.settle_core.specs.Lost.{LosesAt}
-use Rattle.unseen_pairs.specs.Lost.{BeginsNone, GoesNowhere, IsPlainPawn, LandsAt, NoPassing}
+use Rattle.unseen_pairs.specs.Lost.{AddsMoves, BeginsNone, BeginsPlainly, GoesNowhere, IsPlainPawn, LandsAt, ListsFirst, TheirsLand}
 use Rattle.settle_core.proofs.Boards.{kind_of, none_piece, on_board, other-other, side_of, sides_differ}
 use Rattle.settle_core.proofs.Pawns.{NextRow, pawn_attack_row, pawn_stood}
 use Rattle.settle_core.proofs.Pieces.{at_picture, code_no_zero, same_code, theirs_stood}
@@ -86,16 +87,23 @@ plain_move p m v l far = elim (moves_move_pieces p m v l) [
   | inr c ↦ c.promotion
 ]
 
-no_passant : (p : Parts) (m : Move) → p.target ≡ None → TakesEnPassant p m → ⊥
-no_passant p m none t = let e : None ≡ Some m.to = sym none ∙ t.target in let n : ⊥ = cc in n
-
--- a pawn that takes nothing in passing changes two squares
-pawn_keeps : (p : Parts) (m : Move) (s : ℕ) → Valid p → Legal p m → p.target ≡ None → on p.board m.from ≡ piece_of p.side Pawn
-    → s ≢ m.from → s ≢ m.to → on (after p m).board s ≡ on p.board s
-pawn_keeps p m s v l none pawn a b = elim (moves_move_pieces p m v l) [
-  | inl o ↦ o.others s a b (λ t. elim o.passes [ inl same ↦ a (t ∙ same) | inr passant ↦ no_passant p m none passant.0 ])
-  | inr c ↦ absurd (king_no_pawn (ap kind_of (sym c.king ∙ pawn)))
-]
+-- The target after a move is the square in front of a pawn that made a double step.
+passed_over : (p : Parts) (m : Move) (t : ℕ) → Valid p → Legal p m → (after p m).target ≡ Some t → Ahead (forward p.side) 1 m.from t
+passed_over p m t v l e =
+    let half : ℕ = (m.from + m.to) / 2 in
+    let steps : is_double_step p m ≡ true → DoubleSteps p m = λ did. elim (ways_after p m v l.on_board l.goes) [
+      | inl w ↦ (w.double did).1
+      | inr w ↦ let one : is_double_step p m ≡ false = rw w.1.stands refl in absurd (both_ways _ one did)
+    ] in
+    elim (cases_Bool (is_double_step p m)) [
+      | inl did ↦
+          let some : Some half ≡ Some t = sym (cond-true (is_double_step p m) (Some half) None did) ∙ e in
+          let same : half ≡ t = cc in
+          subst (λ (x : ℕ). Ahead (forward p.side) 1 m.from x) same ((passed p.side m.from m.to (steps did).begins (steps did).goes).ahead)
+      | inr never ↦
+          let none : None ≡ Some t = sym (cond-false (is_double_step p m) (Some half) None never) ∙ e in
+          let bad : ⊥ = cc in absurd bad
+    ]
 
 -- pieces of both sides don't stand on one square
 both_sides : (side : Side) (j k : Kind) (o : Option Piece) → o ≡ piece_of side j → o ≡ piece_of (other side) k → ⊥
@@ -118,7 +126,7 @@ own_seen p m n seen g v two low same =
     }
 
 -- or the piece that took it
-taker_seen : (p : Parts) (m n : Move) (seen : List ℕ) (o : MovesOnePiece (after p m) n) (b : BeginsNone p seen) → Valid p → IsAfterTwo p seen m n → m.to < 64
+taker_seen : (p : Parts) (m n : Move) (seen : List ℕ) (o : MovesOnePiece (after p m) n) (b : TheirsLand p seen) → Valid p → IsAfterTwo p seen m n → m.to < 64
     → m.to ≡ n.to → LandsAt p seen m.to
 taker_seen p m n seen o b v two low e =
     let q : Parts = after p m in
@@ -156,10 +164,10 @@ taker_seen p m n seen o b v two low e =
           ];
     }
 
--- A pawn of the other side would have landed that took it in passing.
-taken_passing : (p : Parts) (m n : Move) (seen : List ℕ) (o : MovesOnePiece (after p m) n) → Valid p → IsAfterTwo p seen m n → NoPassing p seen
-    → on p.board m.from ≡ piece_of p.side Pawn → TakesEnPassant (after p m) n → n.to ≢ m.to → ⊥
-taken_passing p m n seen o v two plain pawn passant apart =
+-- A pawn that takes it in passing stands in front of it.
+taken_passing : (p : Parts) (m n : Move) (seen : List ℕ) (o : MovesOnePiece (after p m) n) → Valid p → IsAfterTwo p seen m n → IsPlainPawn p seen m.from
+    → TakesEnPassant (after p m) n → ⊥
+taken_passing p m n seen o v two plain passant =
     let q : Parts = after p m in
     let w : Valid q = moves_stay_valid p m v two.first in
     let u : Valid (after q n) = moves_stay_valid q n w two.second in
@@ -167,28 +175,15 @@ taken_passing p m n seen o v two plain pawn passant apart =
     ap (λ (x : Option Kind). unwrap_or x o.kind) passant.promotion ∙ ap kind_of (sym o.stands ∙ passant.stands) in
     let came : on (after q n).board n.to ≡ piece_of (other p.side) Pawn = o.came ∙ ap (piece_of (other p.side)) kind in
     let low : n.to < 64 = rw (← u.squares) (on_board (after q n).board n.to (other p.side) Pawn came) in
-    let shown : get_or seen n.to 0 ≡ code_of_piece (other p.side) Pawn =
-    ap (λ xs. get_or xs n.to 0) two.shows ∙ at_picture (after q n) n.to (rw u.squares low) ∙ ap code came in
-    plain.pawns n.to
-    (record {
-      low = low;
-      some = λ z. code_no_zero (other p.side) Pawn (sym shown ∙ z);
-      differs = λ same.
-          let stood : on p.board n.to ≡ piece_of (other p.side) Pawn = same_code _ _ (sym (at_picture p n.to (rw v.squares low)) ∙ same ∙ shown) in
-          let kept : on q.board n.to ≡ on p.board n.to =
-          pawn_keeps p m n.to v two.first plain.target pawn (λ e. both_sides p.side Pawn Pawn (on p.board m.from) pawn (ap (on p.board) (sym e) ∙ stood)) apart in
-          o.free Pawn (kept ∙ stood);
-    })
-    shown
+    plain.unpassed n.to low (passed_over p m n.to v two.first passant.target)
+    (ap (λ xs. get_or xs n.to 0) two.shows ∙ at_picture (after q n) n.to (rw u.squares low) ∙ ap code came)
 
--- No pair begins so.
-pub first_lands : (p : Parts) (m n : Move) (seen : List ℕ) → Valid p → BeginsNone p seen → ¬ IsAfterTwo p seen m n
-first_lands p m n seen v b two =
+-- The first ply of a pair goes to a square where a piece landed.
+pub first_ply : (p : Parts) (m n : Move) (seen : List ℕ) → Valid p → TheirsLand p seen → (on p.board m.from ≡ piece_of p.side Pawn → IsPlainPawn p seen m.from)
+    → IsAfterTwo p seen m n → LandsAt p seen m.to × (m.promotion ≡ None)
+first_ply p m n seen v b plain two =
     let q : Parts = after p m in
     let w : Valid q = moves_stay_valid p m v two.first in
-    let lost : LosesAt p seen p.side m.from = mover_loses_at p m n seen v two in
-    let nowhere : GoesNowhere p seen m.from =
-    b.nowhere m.from lost.low (λ e. lost.gone (sym e ∙ at_picture p m.from (rw v.squares lost.low) ∙ ap code lost.stands)) in
     let g : Goes p m = goes p m v two.first in
     let low : m.to < 64 = rw (← w.squares) (on_board q.board m.to p.side g.kind g.came) in
     let lands : LandsAt p seen m.to =
@@ -203,7 +198,7 @@ first_lands p m n seen v b two =
                         | inl same ↦ absurd (both_sides p.side g.kind o.kind (on q.board m.to) g.came (ap (on q.board) (e ∙ same) ∙ o.stands))
                         | inr passant ↦
                             let pawn : on q.board m.to ≡ piece_of p.side Pawn = ap (on q.board) e ∙ passant.1 ∙ ap (λ (s : Side). piece_of s Pawn) (other-other p.side) in
-                            absurd (taken_passing p m n seen o v two ((nowhere.pawn (pawn_stood p m v two.first pawn)).no_passing) (pawn_stood p m v two.first pawn) passant.0 (λ x. ne (sym x)))
+                            absurd (taken_passing p m n seen o v two (plain (pawn_stood p m v two.first pawn)) passant.0)
                       ]
                   | inr ne' ↦
                       own_seen p m n seen g v two low
@@ -217,5 +212,32 @@ first_lands p m n seen v b two =
           (λ e. none_piece (sym (ap (on q.board) e ∙ c.target_empty) ∙ g.came))
           (λ e. both_sides p.side g.kind Rook (on q.board m.to) g.came (ap (on q.board) e ∙ c.rook))
           (λ e. none_piece (sym (ap (on q.board) e ∙ c.crossed_empty) ∙ g.came)))
-    ] in
-    nowhere.moves m (plain_move p m v two.first (λ pawn e. (nowhere.pawn pawn).far (from_before p m v pawn (two.first).goes e))) refl lands two.first
+    ] in (
+      lands,
+      plain_move p m v two.first (λ pawn e. (plain pawn).far (from_before p m v pawn (two.first).goes e)),
+    )
+
+-- It leaves its square.
+first_differs : (p : Parts) (m n : Move) (seen : List ℕ) → Valid p → IsAfterTwo p seen m n → (m.from < 64) × (get_or (picture p) m.from 0 ≢ get_or seen m.from 0)
+first_differs p m n seen v two =
+    let lost : LosesAt p seen p.side m.from = mover_loses_at p m n seen v two in
+    (lost.low, λ e. lost.gone (sym e ∙ at_picture p m.from (rw v.squares lost.low) ∙ ap code lost.stands))
+
+-- No pair begins so.
+pub first_lands : (p : Parts) (m n : Move) (seen : List ℕ) → Valid p → BeginsNone p seen → ¬ IsAfterTwo p seen m n
+first_lands p m n seen v b two =
+    let d = first_differs p m n seen v two in
+    let nowhere : GoesNowhere p seen m.from = b.nowhere m.from d.0 d.1 in
+    let ply = first_ply p m n seen v b.theirs nowhere.pawn two in
+    nowhere.moves m ply.1 refl ply.0 two.first
+
+-- All pairs begin with these moves.
+pub all_listed : (p : Parts) (seen : List ℕ) (moves : List Move) → Valid p → BeginsPlainly p seen
+    → AddsMoves p (λ m. (m.promotion ≡ None) × LandsAt p seen m.to × (m.from < 64) × (get_or (picture p) m.from 0 ≢ get_or seen m.from 0)) [] moves → ListsFirst p seen moves
+all_listed p seen moves v b adds = record {
+  legal = λ m c. elim (adds.legal m c) [ inl before ↦ absurd (let low : before.0 < 0 = before.1 in let bad : ⊥ = omega arith in bad) | inr l ↦ l ];
+  whole = λ m n two.
+      let d = first_differs p m n seen v two in
+      let ply = first_ply p m n seen v b.theirs (b.pawns m.from d.0 d.1) two in
+      adds.whole m (ply.1, ply.0, d.0, d.1) two.first;
+}

@@ -1,7 +1,7 @@
 -- Whether a pair may begin, and how far those that explain a picture are listed. Private definitions: the public contracts do not cite them.
 use Rattle.std.specs.Prelude.{◌≡◌, ◌≢◌, ◌<◌, ◌⊎◌, ℕ, List, None, Contains, true, slice_index, slice_index_or}
 use Rattle.chess_rules.specs.declared.pieces.Kind.TheVariants.{Pawn}
-use Rattle.chess_rules.specs.Board.{on, other, piece_of, row, second_row}
+use Rattle.chess_rules.specs.Board.{Ahead, forward, on, other, piece_of, row, second_row}
 use Rattle.chess_rules.specs.Legal.{Legal}
 use Rattle.chess_rules.specs.Picture.{code_of_piece, picture}
 use Rattle.settle_core.specs.Candidate.{is_owned_code}
@@ -16,14 +16,10 @@ pub record LandsAt (p : Parts) (seen : List ℕ) (s : ℕ) : Type 0 where
   pub some : slice_index seen s ≢ 0
   pub differs : slice_index (picture p) s ≢ slice_index seen s
 
--- No pawn is taken in passing: none may be taken so now, and no pawn of the other side landed.
-pub record NoPassing (p : Parts) (seen : List ℕ) : Type 0 where
-  pub target : p.target ≡ None
-  pub pawns : (s : ℕ) → LandsAt p seen s → slice_index seen s ≢ code_of_piece (other p.side) Pawn
-
--- A pawn here is not taken in passing, nor does it promote: it isn't on the row before the last.
+-- A pawn here is not taken in passing: no pawn of the other side is seen in front of it. Nor does it promote: it isn't on the row
+-- before the last.
 pub record IsPlainPawn (p : Parts) (seen : List ℕ) (from : ℕ) : Type 0 where
-  pub no_passing : NoPassing p seen
+  pub unpassed : (s : ℕ) → s < 64 → Ahead (forward p.side) 1 from s → slice_index seen s ≢ code_of_piece (other p.side) Pawn
   pub far : row from ≢ second_row (other p.side)
 
 -- No piece of the side to move may go from this square to one where a piece landed, and a pawn there would do no more.
@@ -31,12 +27,32 @@ pub record GoesNowhere (p : Parts) (seen : List ℕ) (from : ℕ) : Type 0 where
   pub pawn : on p.board from ≡ piece_of p.side Pawn → IsPlainPawn p seen from
   pub moves : (m : Move) → m.promotion ≡ None → m.from ≡ from → LandsAt p seen m.to → ¬ Legal p m
 
--- A piece of the side that is not to move landed; and of the side to move none that is lost may go to where one landed.
-pub record BeginsNone (p : Parts) (seen : List ℕ) : Type 0 where
+-- A piece of the side that is not to move landed.
+pub record TheirsLand (p : Parts) (seen : List ℕ) : Type 0 where
   pub square : ℕ
   pub lands : LandsAt p seen square
   pub owned : is_owned_code (other p.side) (slice_index seen square) ≡ true
+
+-- One of them landed; and of the side to move none that is lost may go to where a piece landed.
+pub record BeginsNone (p : Parts) (seen : List ℕ) : Type 0 where
+  pub theirs : TheirsLand p seen
   pub nowhere : (s : ℕ) → s < 64 → slice_index (picture p) s ≢ slice_index seen s → GoesNowhere p seen s
+
+-- One of them landed; and of the side to move no pawn that is lost does more than to go to where a piece landed.
+pub record BeginsPlainly (p : Parts) (seen : List ℕ) : Type 0 where
+  pub theirs : TheirsLand p seen
+  pub pawns : (s : ℕ) → s < 64 → slice_index (picture p) s ≢ slice_index seen s → on p.board s ≡ piece_of p.side Pawn → IsPlainPawn p seen s
+
+-- These moves are legal, and the first ply of each pair that explains the picture is among them.
+pub record ListsFirst (p : Parts) (seen : List ℕ) (moves : List Move) : Type 0 where
+  pub legal : (m : Move) → Contains moves m → Legal p m
+  pub whole : (m n : Move) → IsAfterTwo p seen m n → Contains moves m
+
+-- Legal moves were put to the others, among them all of these.
+pub record AddsMoves (p : Parts) (These : Move → Type 0) (old new : List Move) : Type 0 where
+  pub legal : (m : Move) → Contains new m → Contains old m ⊎ Legal p m
+  pub keeps : (m : Move) → Contains old m → Contains new m
+  pub whole : (m : Move) → These m → Legal p m → Contains new m
 
 -- The pairs with this first ply that explain the picture are put to the others.
 pub record AddsPairs (p : Parts) (seen : List ℕ) (m : Move) (old new : List TwoPlies) : Type 0 where

@@ -11,6 +11,7 @@ ghost use Rattle.unseen_pairs.specs.Pairs.{IsAfterTwo};
 ghost use Rattle.settle_core.specs.Lost.{Loses, LosesAt};
 ghost use Rattle.unseen_pairs.specs.Lost.{AddsPairs};
 
+use crate::beginning::first_plies;
 use crate::pair::TwoPlies;
 use crate::settled::settled_in;
 use chess_rules::{Move, Position, Side, kind_on};
@@ -133,7 +134,7 @@ pub fn pairs_that_explain(
 {
     let mut pairs = Vec::new(alloc);
     let before = p.picture();
-    let moves = p.legal_moves(alloc)?;
+    let moves = first_plies(alloc, p, &before, seen)?;
     for first in moves.as_slice() {
         push_pair_with(&mut pairs, p, &before, seen, first)?;
     }

@@ -18,9 +18,7 @@ returns c = λ t diff m n.
     let f = c.lands_theirs.ensures c.if-not-lands_theirs.false diff in
     let none : c.loop-rest.rest ≡ 0 = let over = c.loop-rest-test.false in omega arith in
     let b : BeginsNone c.args.p.now c.args.seen.now = record {
-      square = f.0;
-      lands = f.1;
-      owned = f.2;
+      theirs = record { square = f.0; lands = f.1; owned = f.2 };
       nowhere = λ s low differs. c.loop-rest.invariant diff s low differs (ap (λ (x : ℕ). bit_at x s) none ∙ bit_at-zero s);
     } in
     first_lands c.args.p.now m n c.args.seen.now c.parts.ensures.valid b
