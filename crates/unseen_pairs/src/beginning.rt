@@ -16,6 +16,11 @@ use chess_rules::{Kind, Move, Position, Side, Square, kind_on};
 use settle_core::laws::diff_mask;
 use std::alloc::{AllocError, Global};
 
+/// The code of White's pawn, and that of Black's (DGT Electronic Board Protocol).
+const WHITE_PAWN: u8 = 1;
+
+const BLACK_PAWN: u8 = 7;
+
 /// The first square of a mask that has one.
 fn first_square(mask: u64) -> u8
     requires { 0 < mask }
@@ -97,8 +102,8 @@ fn is_plain_pawn(p: &Position, seen: &[u8; 64], from: u8) -> bool
 {
     let row = from / 8;
     match p.parts().side {
-        Side::White => row > 1 && seen[(from - 8) as usize] != 7,
-        Side::Black => row < 6 && seen[(from + 8) as usize] != 1,
+        Side::White => row > 1 && seen[(from - 8) as usize] != BLACK_PAWN,
+        Side::Black => row < 6 && seen[(from + 8) as usize] != WHITE_PAWN,
     }
 }
 
