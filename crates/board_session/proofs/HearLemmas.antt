@@ -15,7 +15,7 @@ use Rattle.board_session.specs.Settings.{Setting}
 use Rattle.board_session.specs.Commands.{asked, asks, commands, faults_in, messages_in, past_of}
 use Rattle.board_session.specs.History.{is_fault}
 use Rattle.board_session.specs.Session.{StandsFor}
-use Rattle.board_session.specs.Recording.{AppendsPart}
+use Rattle.watched_streams.specs.Output.{AppendsPart}
 use Rattle.board_session.specs.Recorder.{Kept, Live, Stopped, TakesEvent}
 
 -- the event at this offset

@@ -19,7 +19,8 @@ use Rattle.board_session.specs.Settings.{Setting}
 use Rattle.board_session.specs.Commands.{past_of}
 use Rattle.board_session.specs.Session.{entries_in}
 use Rattle.board_session.proofs.GameLemmas.{one_each}
-use Rattle.board_session.specs.Recording.{AppendsPart, Ends, Leaves, RecordsAll, RecordsGame, Sends, setting_of}
+use Rattle.board_session.specs.Recording.{Ends, Leaves, RecordsAll, RecordsGame, Sends, setting_of}
+use Rattle.watched_streams.specs.Output.{AppendsPart}
 
 -- the text was written, and reading had ended early
 pub ended : (error : RecordError) (ending : Result ⊤ RecordError) (setting : Setting) (tags : TagValues) (front : List ℕ) (events taken : List Timed)

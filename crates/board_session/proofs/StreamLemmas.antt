@@ -9,7 +9,7 @@ use Rattle.watched_streams.specs.declared.putting.WriteFault.{WriteFault}
 use Rattle.pgn_book.specs.Games.{Content}
 use Rattle.pgn_book.specs.Pgn.{Pgn}
 use Rattle.pgn_book.specs.Written.{AppendsFront}
-use Rattle.board_session.specs.Recording.{AppendsPart}
+use Rattle.watched_streams.specs.Output.{AppendsPart}
 
 pub part_put : (old new : Option (List ℕ)) (bytes : List ℕ) (r : Result ⊤ WriteFault) → is_err r ≡ true
     → IfErr r (λ fault. (fault.written < length bytes) × Appends old new (take fault.written bytes)) → AppendsPart old new bytes

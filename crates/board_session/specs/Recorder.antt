@@ -15,7 +15,8 @@ use Rattle.board_session.specs.declared.recorder.Recorder.{Recorder}
 use Rattle.board_session.specs.Commands.{asked, commands, faults_in, messages_in, past_of}
 use Rattle.board_session.specs.Game.{IsGameOf}
 use Rattle.board_session.specs.History.{is_fault}
-use Rattle.board_session.specs.Recording.{Returns, AppendsPart, Ends, Sends, limit}
+use Rattle.board_session.specs.Recording.{Returns, Ends, Sends, limit}
+use Rattle.watched_streams.specs.Output.{AppendsPart}
 use Rattle.board_session.specs.Settings.{Setting}
 use Rattle.board_session.specs.Session.{StandsFor, WantsMemory}
 

@@ -53,10 +53,6 @@ abbrev pub RecordsAll : Setup → Report → Option (List ℕ) → Option (List 
 RecordsAll setup report input sent sent' written written' =
     IfSome input (λ bytes. RecordsGame setup report bytes sent sent' written written')
 
--- Some first bytes were appended and no other: all of them, or fewer.
-abbrev pub AppendsPart : Option (List ℕ) → Option (List ℕ) → List ℕ → Type 0
-AppendsPart old new bytes = (front back : List ℕ) × (bytes ≡ front ++ back) × Appends old new front
-
 -- The board failed before any byte was read, or at the last event taken, which is a fault.
 abbrev pub FailsAsking : List ℕ → List Event → Type 0
 FailsAsking read [] = read ≡ []

@@ -7,7 +7,7 @@ ghost use Rattle.watched_streams.specs.Watch.{IsFlushed, inner_of, has_failed};
 ghost use Rattle.pgn_book.specs.Pgn.{Pgn};
 ghost use Rattle.board_session.specs.Settings.{Setting};
 ghost use Rattle.board_session.specs.History.{is_fault};
-ghost use Rattle.board_session.specs.Recording.{AppendsPart};
+ghost use Rattle.watched_streams.specs.Output.{AppendsPart};
 ghost use Rattle.board_session.specs.Recorder.{Finished, Hears, IsFed, IsRefusal, Kept, Listened, Live, TakesEvent, event_count};
 
 use crate::refusal::RecordError;

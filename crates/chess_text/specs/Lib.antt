@@ -1,6 +1,7 @@
 pub mod Squares
 pub mod Placement
 pub mod Fen
+pub mod Start
 pub mod FieldReading
 pub mod PlacementReading
 pub mod KeptRanks

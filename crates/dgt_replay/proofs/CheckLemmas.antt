@@ -9,7 +9,7 @@ use Rattle.pgn_book.specs.Games.{Content}
 use Rattle.pgn_book.specs.Pgn.{Pgn}
 use Rattle.dgt_replay.specs.Checked.{ChecksGame, ChecksPart, summary_line, text_limit}
 use Rattle.watched_streams.specs.Input.{ReadsWithin}
-use Rattle.board_session.specs.Recording.{AppendsPart}
+use Rattle.watched_streams.specs.Output.{AppendsPart}
 
 pub checked : (input written written' : Option (List ℕ)) (text : List ℕ) (game : Content) → IfSome input (λ bytes. text ≡ bytes) → Pgn game text → length text ≤ text_limit
     → Appends written written' (summary_line (length game.plies) game.result) → ChecksGame input written written'

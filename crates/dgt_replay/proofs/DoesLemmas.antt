@@ -14,7 +14,8 @@ use Rattle.dgt_frame.specs.Streams.{Timed}
 use Rattle.pgn_book.specs.declared.values.Tag.{Tag}
 use Rattle.replay_arguments.specs.declared.arguments.Subcommand.{Subcommand}
 use Rattle.replay_arguments.specs.Subcommands.{Asks, AsksFor, AsksForPictures, AsksToCheck, AsksToFollow, AsksToRecord, AsksToRecover, AsksToShow}
-use Rattle.replay_arguments.specs.Setups.{HasNoStart, SetsUpNothing, StartsAt, given, tag_text}
+use Rattle.replay_arguments.specs.Setups.{SetsUpNothing, tag_text}
+use Rattle.chess_text.specs.Start.{HasNoStart, StartsAt, given}
 use Rattle.replay_arguments.specs.TagOptions.{option_of}
 use Rattle.dgt_replay.specs.Checked.{RefusesText, text_limit}
 use Rattle.dgt_replay.specs.Does.{Checks, Does, Lists, Plays, Prints, Records, Recovers, Refuses, Untouched, WritesText}

@@ -4,7 +4,7 @@ use Rattle.std.proofs.lemmas.List.{take-append-drop}
 use Rattle.std.proofs.KnownBytes.{Keeps-refl}
 use Rattle.std.specs.Io.KnownBytes.{Appends, Keeps}
 use Rattle.watched_streams.specs.declared.putting.WriteFault.{WriteFault}
-use Rattle.board_session.specs.Recording.{AppendsPart}
+use Rattle.watched_streams.specs.Output.{AppendsPart}
 use Rattle.dgt_replay.specs.Messages.{GivesText, Says, Tells}
 use Rattle.dgt_replay.specs.declared.input.TextError.{TextError}
 use Rattle.dgt_replay.specs.declared.input.TextError.TheVariants.{Memory, Read, TooLong}

@@ -7,7 +7,7 @@ use Rattle.chess_rules.specs.declared.chess_move.Move.{Move}
 use Rattle.chess_rules.specs.declared.parts.Parts.{Parts}
 use Rattle.chess_rules.specs.Moves.{ListsLegal}
 use Rattle.chess_text.specs.San.{San}
-use Rattle.board_session.specs.Recording.{AppendsPart}
+use Rattle.watched_streams.specs.Output.{AppendsPart}
 use Rattle.board_listing.specs.Listings.{Gathers}
 use Rattle.dgt_replay.specs.Printed.{PrintsPart, TellsMoves}
 

@@ -13,7 +13,8 @@ use Rattle.pgn_book.specs.Values.{RefusesText}
 use Rattle.replay_arguments.specs.declared.setup.Refusal.{Refusal}
 use Rattle.replay_arguments.specs.declared.setup.Refusal.TheVariants.{Fen, Tag as OfTag}
 use Rattle.replay_arguments.specs.declared.arguments.RecordArguments.{RecordArguments}
-use Rattle.replay_arguments.specs.Setups.{ForMemory, IsFirst, MayHave, StartsAt, given, tag_text}
+use Rattle.replay_arguments.specs.Setups.{ForMemory, IsFirst, MayHave, tag_text}
+use Rattle.chess_text.specs.Start.{StartsAt, given}
 use Rattle.dgt_replay.specs.Refusals.{RefusesSetup, RefusesStart, RefusesValue, refusal_message}
 use Rattle.dgt_replay.specs.Messages.{Says, Tells, fen_message, tag_message}
 use Rattle.dgt_replay.proofs.MessageLemmas.{tells_memory, tells_refused}

@@ -13,7 +13,8 @@ use Rattle.replay_arguments.specs.declared.setup.Refusal.{Refusal}
 use Rattle.board_listing.specs.declared.listing.Listing.TheVariants.{Game}
 use Rattle.replay_arguments.specs.declared.arguments.BoardArguments.{BoardArguments}
 use Rattle.replay_arguments.specs.declared.arguments.RecordArguments.{RecordArguments}
-use Rattle.replay_arguments.specs.Setups.{ForMemory, HasNoStart, HasNoValue, HasValue, HasValues, Meets, MeetsBoard, MeetsNothing, SetsBoardUp, SetsUp, SetsUpNothing, StartsAt, Wants, WantsBoard, given, tag_text}
+use Rattle.replay_arguments.specs.Setups.{ForMemory, HasNoValue, HasValue, HasValues, Meets, MeetsBoard, MeetsNothing, SetsBoardUp, SetsUp, SetsUpNothing, Wants, WantsBoard, tag_text}
+use Rattle.chess_text.specs.Start.{HasNoStart, StartsAt, given}
 
 -- What the rows of a parse set up is what the fields want.
 pub meets_board : (rows : List Row) (options : BoardArguments) (setting : Setting) → WantsBoard rows options → SetsBoardUp rows setting → MeetsBoard options setting

@@ -13,7 +13,8 @@ use Rattle.replay_arguments.specs.declared.arguments.BoardArguments.{BoardArgume
 use Rattle.replay_arguments.specs.declared.arguments.RecordArguments.{RecordArguments}
 use Rattle.replay_arguments.specs.Command.{replay}
 use Rattle.replay_arguments.specs.Subcommands.{Asks, AsksForPictures, AsksToCheck, AsksToShow, AsksFor, AsksToFollow, AsksToRecord, AsksToRecover, Chooses, IsRefused, is_subcommand}
-use Rattle.replay_arguments.specs.Setups.{Meets, MeetsBoard, Wants, WantsBoard, given}
+use Rattle.replay_arguments.specs.Setups.{Meets, MeetsBoard, Wants, WantsBoard}
+use Rattle.chess_text.specs.Start.{given}
 use Rattle.dgt_replay.proofs.SetupLemmas.{meets, meets_board}
 
 -- what the arguments of this name ask for

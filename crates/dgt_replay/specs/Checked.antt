@@ -1,7 +1,7 @@
 -- What `check` says of a text.
 use Rattle.std.specs.Prelude.{◌≡◌, ℕ, ◌<◌, ◌≤◌, ◌⊎◌, List, ◌++◌, codes, decimal, length, Option, IfSome}
 use Rattle.std.specs.Io.KnownBytes.{Appends, Keeps}
-use Rattle.board_session.specs.Recording.{AppendsPart}
+use Rattle.watched_streams.specs.Output.{AppendsPart}
 use Rattle.settle_core.specs.declared.plies.Outcome.{Outcome}
 use Rattle.pgn_book.specs.Games.{Content}
 use Rattle.pgn_book.specs.Movetext.{result_text}

@@ -17,7 +17,8 @@ use Rattle.board_listing.specs.declared.listing.Listing.TheVariants.{Game}
 use Rattle.recovery.specs.Streams.{RecoversAll, RecoversFirst, RecoversFront, RecoversRead, RecoversSome}
 use Rattle.replay_arguments.specs.declared.arguments.Subcommand.{Subcommand}
 use Rattle.replay_arguments.specs.declared.arguments.Subcommand.TheVariants.{Show, Pictures, Record, Follow, Recover, Check, Moves, Positions}
-use Rattle.replay_arguments.specs.Setups.{HasNoStart, Meets, MeetsBoard, MeetsNothing, StartsAt, given, tag_text}
+use Rattle.replay_arguments.specs.Setups.{Meets, MeetsBoard, MeetsNothing, tag_text}
+use Rattle.chess_text.specs.Start.{HasNoStart, StartsAt, given}
 use Rattle.dgt_replay.specs.Checked.{ChecksGame, ChecksPart, RefusesText, text_limit}
 use Rattle.dgt_replay.specs.Messages.{IsTooLong, Says, Tells}
 use Rattle.dgt_replay.specs.Played.{PlaysAll, PlaysPart, RefusesMoves, line_limit}

@@ -9,7 +9,7 @@ use Rattle.pgn_book.specs.declared.values.TagError.TheVariants.{Text, Long, Date
 use Rattle.pgn_book.specs.TagNames.{tag_name}
 use Rattle.board_session.specs.declared.refusal.RecordError.{RecordError}
 use Rattle.board_session.specs.declared.refusal.RecordError.TheVariants as record_error
-use Rattle.board_session.specs.Recording.{AppendsPart}
+use Rattle.watched_streams.specs.Output.{AppendsPart}
 
 -- This message and no other was written, or a front of it where the stream has failed.
 abbrev pub Says : Option (List ℕ) → Option (List ℕ) → Bool → List ℕ → Type 0

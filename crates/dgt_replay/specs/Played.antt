@@ -8,7 +8,7 @@ use Rattle.chess_rules.specs.Legal.{Legal}
 use Rattle.chess_text.specs.Fen.{fen}
 use Rattle.chess_text.specs.San.{San}
 use Rattle.settle_core.specs.Settling.{position_after}
-use Rattle.board_session.specs.Recording.{AppendsPart}
+use Rattle.watched_streams.specs.Output.{AppendsPart}
 use Rattle.dgt_replay.specs.Messages.{IsTooLong}
 use Rattle.dgt_replay.specs.Words.{words}
 

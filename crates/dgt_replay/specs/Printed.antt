@@ -5,7 +5,7 @@ use Rattle.chess_rules.specs.declared.chess_move.Move.{Move}
 use Rattle.chess_rules.specs.declared.parts.Parts.{Parts}
 use Rattle.chess_rules.specs.Moves.{ListsLegal}
 use Rattle.chess_text.specs.San.{San}
-use Rattle.board_session.specs.Recording.{AppendsPart}
+use Rattle.watched_streams.specs.Output.{AppendsPart}
 
 -- The text has these moves in SAN, one a line, in their order.
 abbrev pub TellsMoves : Parts → List Move → List ℕ → Type 0

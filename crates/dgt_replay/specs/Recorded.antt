@@ -5,7 +5,8 @@ use Rattle.board_session.specs.declared.refusal.RecordError.{RecordError}
 use Rattle.board_session.specs.declared.refusal.RecordError.TheVariants.{Read, Board, Write}
 use Rattle.board_session.specs.declared.recorder.Report.{Report}
 use Rattle.board_session.specs.declared.recording.Setup.{Setup}
-use Rattle.board_session.specs.Recording.{AppendsPart, Leaves, RecordsAll}
+use Rattle.board_session.specs.Recording.{Leaves, RecordsAll}
+use Rattle.watched_streams.specs.Output.{AppendsPart}
 use Rattle.dgt_replay.specs.Messages.{Says, end_words}
 use Rattle.dgt_replay.specs.Streams.{Streams}
 

@@ -11,7 +11,8 @@ use Rattle.pgn_book.specs.TagNames.{all_tags}
 use Rattle.pgn_book.specs.Values.{RefusesText}
 use Rattle.replay_arguments.specs.declared.setup.Refusal.{Refusal}
 use Rattle.replay_arguments.specs.declared.setup.Refusal.TheVariants.{Fen, Tag as OfTag}
-use Rattle.replay_arguments.specs.Setups.{MayHave, StartsAt}
+use Rattle.replay_arguments.specs.Setups.{MayHave}
+use Rattle.chess_text.specs.Start.{StartsAt}
 use Rattle.dgt_replay.specs.Messages.{fen_message, tag_message}
 
 -- The message about a refused FEN.

@@ -2,21 +2,20 @@
 ghost use Rattle.std.specs.Prelude.{◌≡◌, ◌≢◌, ◌≤◌, ◌⊎◌, ◌+◌, ◌++◌, ℕ, List, All, OnErr, OnOk, codes, false, true};
 ghost use Rattle.std.specs.Io.KnownBytes.{Appends, Keeps};
 ghost use Rattle.arrayvec.specs.ArrayVec.{array_vec_len};
-ghost use Rattle.board_session.specs.Recording.{AppendsPart};
+ghost use Rattle.watched_streams.specs.Output.{AppendsPart};
 ghost use Rattle.chess_rules.specs.declared.chess_move.Move.{Move as MoveOf};
 ghost use Rattle.chess_rules.specs.declared.parts.Parts.{Parts as PartsOf};
 ghost use Rattle.chess_rules.specs.Legal.{Legal};
 ghost use Rattle.chess_text.specs.San.{San};
 ghost use Rattle.watched_streams.specs.Watch.{IsFlushed, inner_of, has_failed};
 ghost use Rattle.dgt_replay.specs.Printed.{PrintsMoves, PrintsPart, TellsMoves};
-ghost use Rattle.replay_arguments.specs.Setups.{HasNoStart, StartsAt, given};
+ghost use Rattle.chess_text.specs.Start.{HasNoStart, StartsAt, given};
 ghost use Rattle.dgt_replay.specs.Refusals.{RefusesStart};
 ghost use Rattle.dgt_replay.specs.Messages.{Tells};
 
 use crate::messages::{refused, refused_fen, refused_run};
 use chess_rules::{Move, Position};
-use chess_text::write_san;
-use replay_arguments::start_of;
+use chess_text::{start_of, write_san};
 use std::alloc::Global;
 use std::io::Write;
 use watched_streams::{GATHERED, LONGEST, Lines, Watch, WriteFault, add, put};

@@ -1,7 +1,7 @@
 //! The subcommand `positions`.
 ghost use Rattle.std.specs.Prelude.{◌≡◌, ◌≢◌, ◌≤◌, ◌+◌, ◌++◌, ◌∷◌, ℕ, List, IfOk, IfSome, IfNone, MatchOption, OnOk, Some, None, codes, false, length, true};
 ghost use Rattle.std.specs.Io.KnownBytes.{Appends, Keeps};
-ghost use Rattle.board_session.specs.Recording.{AppendsPart};
+ghost use Rattle.watched_streams.specs.Output.{AppendsPart};
 ghost use Rattle.chess_rules.specs.declared.chess_move.Move.{Move};
 ghost use Rattle.chess_rules.specs.declared.parts.Parts.{Parts as PartsOf};
 ghost use Rattle.chess_rules.specs.After.{after};
@@ -9,7 +9,7 @@ ghost use Rattle.chess_rules.specs.Legal.{Legal};
 ghost use Rattle.chess_text.specs.Fen.{fen as fen_of};
 ghost use Rattle.chess_text.specs.San.{San};
 ghost use Rattle.watched_streams.specs.Watch.{IsFlushed, inner_of, has_failed};
-ghost use Rattle.replay_arguments.specs.Setups.{HasNoStart, StartsAt, given};
+ghost use Rattle.chess_text.specs.Start.{HasNoStart, StartsAt, given};
 ghost use Rattle.dgt_replay.specs.Does.{Plays, Refuses};
 ghost use Rattle.dgt_replay.specs.Messages.{Says, Tells};
 ghost use Rattle.dgt_replay.specs.Played.{NamesMoves, NamesNoMove, PlaysAll, PlaysPart, RefusesMoves, StopsAfter, fen_lines, word_message};
@@ -20,9 +20,8 @@ ghost use Rattle.dgt_replay.specs.Words.{is_blank as is_blank_lem, len_behind, p
 use crate::input::{TextError, read_text};
 use crate::messages::{refused, refused_fen, refused_run};
 use chess_rules::Position;
-use chess_text::{read_san, write_fen};
+use chess_text::{read_san, start_of, write_fen};
 use itoa::Buffer;
-use replay_arguments::start_of;
 use std::alloc::{AllocError, Global};
 use std::io::{Read, Write};
 use watched_streams::{Lines, Watch, add, put};

@@ -6,7 +6,8 @@ ghost use Rattle.watched_streams.specs.Watch.{IsFlushed, inner_of, has_failed};
 ghost use Rattle.dgt_replay.specs.Does.{Records, Refuses};
 ghost use Rattle.dgt_replay.specs.Messages.{Says};
 ghost use Rattle.dgt_replay.specs.Recorded.{EndsFor, Fails, RecordsAndTells, report_line};
-ghost use Rattle.replay_arguments.specs.Setups.{ForMemory, Meets, MeetsNothing, given, tag_text};
+ghost use Rattle.replay_arguments.specs.Setups.{ForMemory, Meets, MeetsNothing, tag_text};
+ghost use Rattle.chess_text.specs.Start.{given};
 ghost use Rattle.dgt_replay.specs.Refusals.{RefusesSetup, refusal_message};
 ghost use Rattle.dgt_replay.specs.Streams.{streams};
 

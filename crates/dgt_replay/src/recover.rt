@@ -5,12 +5,14 @@ ghost use Rattle.watched_streams.specs.Watch.{IsFlushed, inner_of, has_failed};
 ghost use Rattle.dgt_replay.specs.Does.{Recovers, Refuses};
 ghost use Rattle.dgt_replay.specs.Refusals.{RefusesStart};
 ghost use Rattle.dgt_replay.specs.Streams.{streams};
-ghost use Rattle.replay_arguments.specs.Setups.{HasNoStart, MeetsBoard, given};
+ghost use Rattle.replay_arguments.specs.Setups.{MeetsBoard};
+ghost use Rattle.chess_text.specs.Start.{HasNoStart, given};
 
 use crate::messages::{refused, refused_fen};
 use chess_rules::Position;
+use chess_text::start_of;
 use recovery::recover_stream;
-use replay_arguments::{BoardArguments, start_of};
+use replay_arguments::BoardArguments;
 use std::alloc::Global;
 use std::io::{Read, Write};
 use watched_streams::Watch;

@@ -3,7 +3,7 @@ use Rattle.std.proofs.Common.{◌≡◌, ◌≢◌, ◌<◌, ◌≤◌, ◌+◌,
 use Rattle.std.proofs.lemmas.List.{drop-drop, length-take-le, take-append-drop}
 use Rattle.std.specs.Io.KnownBytes.{Appends}
 use Rattle.dgt_frame.specs.declared.decode.Decoder.{Decoder}
-use Rattle.board_session.specs.Recording.{AppendsPart}
+use Rattle.watched_streams.specs.Output.{AppendsPart}
 use Rattle.recovery.specs.declared.keeper.Keeper.{Keeper}
 use Rattle.recovery.specs.declared.refusal.RecoverError.{RecoverError}
 use Rattle.recovery.specs.declared.refusal.RecoverError.TheVariants.{Read, Write, Lines, TooLong, Memory}

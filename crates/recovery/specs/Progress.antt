@@ -2,7 +2,7 @@
 use Rattle.std.specs.Prelude.{◌≡◌, ◌<◌, ◌⊎◌, ℕ, List, [], ◌++◌, length, Option}
 use Rattle.std.specs.Io.KnownBytes.{Appends, Consumes, Keeps}
 use Rattle.dgt_frame.specs.declared.decode.Decoder.{Decoder}
-use Rattle.board_session.specs.Recording.{AppendsPart}
+use Rattle.watched_streams.specs.Output.{AppendsPart}
 use Rattle.board_session.specs.Settings.{Setting}
 use Rattle.recovery.specs.declared.keeper.Keeper.{Keeper}
 use Rattle.recovery.specs.declared.refusal.RecoverError.{RecoverError}

@@ -3,7 +3,8 @@
 use Rattle.std.specs.Prelude.{◌≡◌, ◌<◌, ◌≤◌, ◌⊎◌, ℕ, List, [], ◌++◌, length, Option, IfSome, Bool, true}
 use Rattle.std.specs.Io.KnownBytes.{Appends, Consumes}
 use Rattle.unseen_pairs.specs.declared.pair.Recovery.{Recovery}
-use Rattle.board_session.specs.Recording.{AppendsPart, limit}
+use Rattle.board_session.specs.Recording.{limit}
+use Rattle.watched_streams.specs.Output.{AppendsPart}
 use Rattle.board_session.specs.Settings.{Setting}
 use Rattle.recovery.specs.Weaving.{Recovers, TellsRecovered}
 

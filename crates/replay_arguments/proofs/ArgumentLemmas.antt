@@ -20,7 +20,8 @@ use Rattle.board_session.specs.Recording.{setting_of}
 use Rattle.replay_arguments.specs.declared.arguments.Subcommand.{Subcommand}
 use Rattle.replay_arguments.specs.Command.{replay}
 use Rattle.replay_arguments.specs.Subcommands.{Asks, AsksForPictures, AsksToCheck, AsksToShow, AsksForMoves, AsksForPositions, AsksToFollow, AsksToRecord, AsksToRecover, Chooses, IsCheck, IsFollow, IsMoves, IsPictures, IsPositions, IsRecord, IsRecover, IsShow, is_subcommand}
-use Rattle.replay_arguments.specs.Setups.{SetsBoardUp, flag_text, given, plain_setup, side_in}
+use Rattle.replay_arguments.specs.Setups.{SetsBoardUp, flag_text, plain_setup, side_in}
+use Rattle.chess_text.specs.Start.{given}
 use Rattle.replay_arguments.specs.TagOptions.{option_of}
 use Rattle.replay_arguments.proofs.SetupLemmas.{sets_board_up_plainly, sets_up_plainly}
 

@@ -22,7 +22,8 @@ use Rattle.replay_arguments.specs.declared.setup.Refusal.{Refusal}
 use Rattle.replay_arguments.specs.declared.setup.Refusal.TheVariants.{Fen, Tag as OfTag}
 use Rattle.replay_arguments.specs.declared.arguments.BoardArguments.{BoardArguments}
 use Rattle.replay_arguments.specs.declared.arguments.RecordArguments.{RecordArguments}
-use Rattle.replay_arguments.specs.Setups.{ForMemory, HasNoValue, HasValue, HasValues, IsFirst, MayHave, MeetsNothing, OfFirstTag, SetsBoardUp, SetsUp, StartsAt, flag_text, given, plain_setup, tag_text, with_given}
+use Rattle.replay_arguments.specs.Setups.{ForMemory, HasNoValue, HasValue, HasValues, IsFirst, MayHave, MeetsNothing, OfFirstTag, SetsBoardUp, SetsUp, flag_text, plain_setup, tag_text, with_given}
+use Rattle.chess_text.specs.Start.{StartsAt, given}
 use Rattle.replay_arguments.specs.TagOptions.{option_of}
 
 pub sets_board_up_plainly : (rows : List Row) (rotated : Bool) → one_of (codes "rotated") rows ≡ Some (flag_text rotated) → first_of (codes "first") rows ≡ None

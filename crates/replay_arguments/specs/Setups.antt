@@ -1,12 +1,11 @@
 -- What the arguments of `record`, of `follow` and `recover`, of `moves` and of `positions` mean.
-use Rattle.std.specs.Prelude.{◌≡◌, ◌⊎◌, Bool, List, ◌∷◌, ◌++◌, All, ℕ, codes, Option, Some, None, MatchOption, option_map, unwrap_or, true, false, if◌then◌else◌, ⊤}
-use Rattle.std.specs.Borrow.{Bor}
+use Rattle.std.specs.Prelude.{◌≡◌, ◌⊎◌, Bool, List, ◌∷◌, ◌++◌, All, ℕ, codes, Option, Some, None, MatchOption, unwrap_or, true, false, if◌then◌else◌, ⊤}
 use Rattle.std.specs.Str.{bytes_eq}
 use Rattle.clap.specs.Walk.{Row, Text, first_of, one_of}
 use Rattle.chess_rules.specs.declared.parts.Parts.{Parts}
 use Rattle.chess_rules.specs.Initial.{initial}
-use Rattle.chess_rules.specs.Valid.{Valid}
-use Rattle.chess_text.specs.Fen.{RefusedFirst, TellsPosition}
+use Rattle.chess_text.specs.Fen.{RefusedFirst}
+use Rattle.chess_text.specs.Start.{HasNoStart, StartsAt, given}
 use Rattle.dgt_frame.specs.declared.time.First.{First}
 use Rattle.dgt_frame.specs.declared.time.First.TheVariants as first
 use Rattle.pgn_book.specs.declared.values.Tag.{Tag}
@@ -33,11 +32,6 @@ abbrev pub side_in : Option Text → Option First
 side_in None = Some first.White
 side_in (Some text) = if bytes_eq text (codes "white") then Some first.White else (if bytes_eq text (codes "black") then Some first.Black else None)
 
--- The start: the position that the FEN tells, or the initial position where none is given.
-abbrev pub StartsAt : Option Text → Parts → Type 0
-StartsAt None start = start ≡ initial
-StartsAt (Some text) start = Valid start × TellsPosition text start
-
 -- The value of a tag: the text that is given, if the tag may have it, or the unknown value where none is given.
 abbrev pub HasValue : Tag → Option Text → List ℕ → Type 0
 HasValue tag None value = value ≡ unknown_of tag
@@ -58,10 +52,6 @@ pub record SetsUp (rows : List Row) (setup : Setup) : Type 0 where
 abbrev pub plain_setup : Bool → Setup
 plain_setup rotated = record { start = initial; first = first.White; rotated = rotated; tags = unknown_values }
 
--- No position has the FEN.
-abbrev pub HasNoStart : Option Text → Type 0
-HasNoStart fen = (start : Parts) → StartsAt fen start → ⊥
-
 -- The tag may not have the text.
 abbrev pub HasNoValue : Tag → Option Text → Type 0
 HasNoValue tag text = (value : List ℕ) → HasValue tag text value → ⊥
@@ -74,10 +64,6 @@ SetsUpNothing rows = HasNoStart (first_of (codes "fen") rows) ⊎ ((tag : Tag) �
 abbrev pub MayHave : Tag → Option Text → Type 0
 MayHave tag None = ⊤
 MayHave tag (Some text) = IsValue tag text
-
--- the text that is given, where one is
-abbrev pub given : Option (Bor Text) → Option Text
-given = option_map (λ text. text.now)
 
 -- the text that is given for a tag
 abbrev pub tag_text : RecordArguments → Tag → Option Text

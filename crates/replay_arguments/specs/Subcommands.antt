@@ -17,7 +17,8 @@ use Rattle.replay_arguments.specs.declared.arguments.Subcommand.TheVariants.{Sho
 use Rattle.replay_arguments.specs.declared.arguments.BoardArguments.{BoardArguments}
 use Rattle.replay_arguments.specs.declared.arguments.RecordArguments.{RecordArguments}
 use Rattle.replay_arguments.specs.Command.{replay}
-use Rattle.replay_arguments.specs.Setups.{SetsBoardUp, SetsUp, StartsAt, Wants, WantsBoard, flag_text, given, side_in}
+use Rattle.replay_arguments.specs.Setups.{SetsBoardUp, SetsUp, Wants, WantsBoard, flag_text, side_in}
+use Rattle.chess_text.specs.Start.{StartsAt, given}
 
 -- whether the subcommand is one of the program's, and the side after `--first`, if there is one, is white or black
 abbrev pub is_subcommand : Text → List Row → Bool

@@ -8,7 +8,8 @@ ghost use Rattle.clap.specs.Simple.{subcommand_rows_of};
 ghost use Rattle.clap.specs.Walk.{first_of, rows_of};
 ghost use Rattle.replay_arguments.specs.Command.{replay};
 ghost use Rattle.replay_arguments.specs.Subcommands.{AsksFor, Chooses, IsRefused};
-ghost use Rattle.replay_arguments.specs.Setups.{Wants, WantsBoard, given, side_in};
+ghost use Rattle.replay_arguments.specs.Setups.{Wants, WantsBoard, side_in};
+ghost use Rattle.chess_text.specs.Start.{given};
 ghost use Rattle.replay_arguments.specs.TagOptions.{option_of};
 
 use crate::command::command;

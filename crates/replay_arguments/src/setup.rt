@@ -2,12 +2,12 @@
 ghost use Rattle.std.specs.Prelude.{◌≡◌, ◌⊎◌, IfErr, OnOk, MatchOption, MatchResult};
 ghost use Rattle.pgn_book.specs.declared.values.TagError.{TagError as ErrorOf};
 ghost use Rattle.pgn_book.specs.Values.{RefusesText};
-ghost use Rattle.replay_arguments.specs.Setups.{ForMemory, HasValues, IsFirst, MayHave, Meets, MeetsNothing, OfFirstTag, given, tag_text, with_given};
+ghost use Rattle.replay_arguments.specs.Setups.{ForMemory, HasValues, IsFirst, MayHave, Meets, MeetsNothing, OfFirstTag, tag_text, with_given};
+ghost use Rattle.chess_text.specs.Start.{given};
 
 use crate::arguments::RecordArguments;
-use crate::start::start_of;
 use board_session::Setup;
-use chess_text::FenError;
+use chess_text::{FenError, start_of};
 use pgn_book::{Tag, TagError, Tags};
 use std::alloc::Global;
 

@@ -2,7 +2,7 @@ use Rattle.std.proofs.Common.{◌≡◌, List, [], append-nil, ℕ, arith, lengt
 use Rattle.std.proofs.KnownBytes.{Appends-kept}
 use Rattle.std.specs.Io.KnownBytes.{Appends}
 use Rattle.watched_streams.specs.Watch.{inner_of, has_failed}
-use Rattle.board_session.specs.Recording.{AppendsPart}
+use Rattle.watched_streams.specs.Output.{AppendsPart}
 use Rattle.dgt_replay.specs.Checked.{RefusesText, summary_line}
 use Rattle.dgt_replay.proofs.CheckLemmas.{checked, checked_part, no_game}
 use Rattle.pgn_book.specs.Pgn.{Pgn}

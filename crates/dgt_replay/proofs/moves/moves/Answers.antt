@@ -3,7 +3,7 @@ use Rattle.std.specs.List.{Contains}
 use Rattle.std.proofs.KnownBytes.{Appends-kept}
 use Rattle.std.proofs.lemmas.List.Elements.{Contains-get_or}
 use Rattle.chess_rules.specs.declared.chess_move.Move.{Move}
-use Rattle.replay_arguments.specs.Setups.{given}
+use Rattle.chess_text.specs.Start.{given}
 use Rattle.dgt_replay.specs.Refusals.{RefusesStart}
 use Rattle.dgt_replay.specs.Messages.{fen_message}
 use Rattle.dgt_replay.proofs.MessageLemmas.{tells_fault, tells_refused}

@@ -1,7 +1,7 @@
 use Rattle.std.proofs.Common.{◌∙◌, inl, sym}
 use Rattle.std.proofs.KnownBytes.{Keeps-refl}
 use Rattle.watched_streams.specs.Watch.{inner_of}
-use Rattle.replay_arguments.specs.Setups.{given}
+use Rattle.chess_text.specs.Start.{given}
 use Rattle.dgt_replay.specs.Refusals.{RefusesStart}
 use Rattle.dgt_replay.specs.Messages.{fen_message}
 use Rattle.dgt_replay.proofs.MessageLemmas.{tells_refused}

@@ -1,6 +1,6 @@
 use Rattle.std.proofs.Common.{◌≡◌, ◌++◌, ◌∙◌, List, ℕ, ap, arith, inl, inr, rules, subst}
 use Rattle.watched_streams.specs.Watch.{inner_of}
-use Rattle.board_session.specs.Recording.{AppendsPart}
+use Rattle.watched_streams.specs.Output.{AppendsPart}
 use Rattle.dgt_replay.specs.Recorded.{report_line}
 use Rattle.dgt_replay.proofs.MessageLemmas.{part_put}
 use Rattle.dgt_replay.proofs.record.record_as.Goals as goal

@@ -4,7 +4,7 @@ use Rattle.std.proofs.lemmas.List.{length-take-le}
 use Rattle.watched_streams.proofs.ResultLemmas.{on_ok}
 use Rattle.std.specs.Io.KnownBytes.{Appends}
 use Rattle.watched_streams.specs.Watch.{inner_of}
-use Rattle.board_session.specs.Recording.{AppendsPart}
+use Rattle.watched_streams.specs.Output.{AppendsPart}
 use Rattle.recovery.specs.declared.refusal.RecoverError.{RecoverError}
 use Rattle.recovery.specs.Passing.{Passes}
 use Rattle.recovery.specs.Progress.{BreaksOff, GivesOn, HasBegun, IsPutIn}

@@ -2,10 +2,10 @@
 ghost use Rattle.std.specs.Prelude.{◌≡◌, ◌↔◌, IfErr, IfSome, Ok};
 ghost use Rattle.chess_rules.specs.declared.parts.Parts.{Parts as PartsOf};
 ghost use Rattle.chess_text.specs.Fen.{RefusedFirst};
-ghost use Rattle.replay_arguments.specs.Setups.{StartsAt, given};
+ghost use Rattle.chess_text.specs.Start.{StartsAt, given};
 
+use crate::fen::{FenError, read_fen};
 use chess_rules::Position;
-use chess_text::{FenError, read_fen};
 
 /// The position of a FEN, or the initial position where none is given. A FEN is refused as by `read_fen`.
 pub fn start_of(fen: Option<&str>) -> Result<Position, FenError>

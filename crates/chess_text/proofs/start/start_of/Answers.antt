@@ -1,6 +1,6 @@
 use Prim.{search}
 use Rattle.std.proofs.Common.{rules}
-use Rattle.replay_arguments.proofs.start.start_of.Goals as goal
+use Rattle.chess_text.proofs.start.start_of.Goals as goal
 
 pub returns-in-Some-clause-start : goal.returns-in-Some-clause-start
 returns-in-Some-clause-start c = search rules

@@ -1,0 +1,7 @@
+-- What was written to a stream, by what it held and holds.
+use Rattle.std.specs.Prelude.{◌≡◌, ◌++◌, ℕ, List, Option}
+use Rattle.std.specs.Io.KnownBytes.{Appends}
+
+-- Some first bytes were appended and no other: all of them, or fewer.
+abbrev pub AppendsPart : Option (List ℕ) → Option (List ℕ) → List ℕ → Type 0
+AppendsPart old new bytes = (front back : List ℕ) × (bytes ≡ front ++ back) × Appends old new front
