@@ -29,6 +29,8 @@ impl Model for Hms {
 /// The times of both clocks.
 #[derive(Clone, Copy, Debug, PartialEq, Eq)]
 pub struct Reading {
+    /// What White's clock shows.
     pub white: Hms,
+    /// What Black's clock shows.
     pub black: Hms,
 }

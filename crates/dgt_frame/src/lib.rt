@@ -17,6 +17,6 @@ pub use encoding::encode;
 pub use events::{Event, FaultKind, LIMIT, Message};
 pub use time::{First, read_time};
 
-// What a board's bytes are read with and say: users of this crate find it here too.
+// Whoever decodes a board's bytes needs these as well, so they can be had from here too.
 pub use chess_clock::{Hms, Reading};
 pub use watched_streams::Watch;

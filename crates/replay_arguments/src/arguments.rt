@@ -105,7 +105,7 @@ fn board_arguments_of<'a>(matches: &ArgMatches<'a>) -> Option<BoardArguments<'a>
     })
 }
 
-// What is given for the tag.
+/// What is given for the tag.
 fn tag_text_of<'a>(matches: &ArgMatches<'a>, tag: Tag) -> Option<&'a str>
     ensures { given result ≡ first_of (option_of tag) (rows_of (found_of matches.now)) }
 {

@@ -83,7 +83,7 @@ fn pictures<'a>(alloc: Global) -> Result<Command<'a>, AllocError>
     with_rotated(alloc, Ok(command))
 }
 
-// The command with an option for each tag.
+/// The command with an option for each tag.
 fn with_tags<'a>(
     alloc: Global,
     command: Result<Command<'a>, AllocError>,
