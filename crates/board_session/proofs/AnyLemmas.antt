@@ -15,8 +15,8 @@ use Rattle.settle_core.specs.Settling.{Line, position_after, reached}
 use Rattle.settle_core.specs.Sign.{IsSign}
 use Rattle.settle_core.proofs.Resuming.{honest_play_resumes as plies_resume, kings_end_resumed_play as kings_end_resumed, resumed_play_stops as resumed_stops}
 use Rattle.settle_core.proofs.Whatever.{kings_keep_the_plies, nothing_is_invented as plies_were_shown, only_the_last_may_change}
-use Rattle.pgn_book.specs.Games.{Content, Result}
-use Rattle.pgn_book.specs.Values.{TagValues}
+use Rattle.chess_game.specs.Games.{Content, Result}
+use Rattle.chess_game.specs.Values.{TagValues}
 use Rattle.board_session.specs.AnyStream.{HonestPlayResumes, KeepsAllButLast, KingsEndResumedPlay, KingsInCentreKeepThePlies, NothingIsInvented, OnlyTheLastPlyMayChange, ResumedPlayStops, WereShown, end_of}
 use Rattle.board_session.specs.Entries.{entry_at, is_entry}
 use Rattle.board_session.specs.Game.{IsGameOf}

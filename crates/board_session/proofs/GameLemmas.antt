@@ -18,8 +18,8 @@ use Rattle.settle_core.proofs.Lines.{honest_clocks, honest_play}
 use Rattle.settle_core.proofs.Waiting.{kings_end}
 use Rattle.settle_core.specs.HonestPlay.{HasWhole, shown_plies}
 use Rattle.settle_core.proofs.Once.{folds_once, no_entry_gives_two}
-use Rattle.pgn_book.specs.Games.{Content, Result}
-use Rattle.pgn_book.specs.Values.{TagValues}
+use Rattle.chess_game.specs.Games.{Content, Result}
+use Rattle.chess_game.specs.Values.{TagValues}
 use Rattle.board_session.specs.Entries.{entry_at, is_entry}
 use Rattle.board_session.specs.Game.{GivesOneEach}
 use Rattle.board_session.specs.Laws.{EventsTellTheGame, HonestClocksAreRecorded, HonestPlayIsRecorded, HonestStopIsRecorded, KingsEndIsRecorded, NoEventGivesTwo}

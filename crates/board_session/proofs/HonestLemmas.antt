@@ -10,7 +10,7 @@ use Rattle.settle_core.specs.Folding.{score_of}
 use Rattle.settle_core.specs.Laws.{GivesScore, joined}
 use Rattle.settle_core.specs.HonestPlay.{HasWhole, IsFront}
 use Rattle.settle_core.proofs.Fronts.{honest_fronts}
-use Rattle.pgn_book.specs.Games.{Content, Result}
+use Rattle.chess_game.specs.Games.{Content, Result}
 use Rattle.board_session.specs.declared.recording.Setup.{Setup}
 use Rattle.board_session.specs.Commands.{past_of}
 use Rattle.board_session.specs.Entries.{entry_at, is_entry}

@@ -10,8 +10,8 @@ use Rattle.dgt_frame.specs.declared.events.FaultKind.{FaultKind}
 use Rattle.dgt_frame.specs.declared.First.{First}
 use Rattle.chess_clock.specs.declared.Reading.{Reading}
 use Rattle.settle_core.specs.Entries.{Entry, entry_of, last_picture, repeats, deduplicated}
-use Rattle.pgn_book.specs.Games.{Content}
-use Rattle.pgn_book.specs.Values.{TagValues}
+use Rattle.chess_game.specs.Games.{Content}
+use Rattle.chess_game.specs.Values.{TagValues}
 use Rattle.board_session.specs.Settings.{Setting}
 use Rattle.board_session.specs.History.{decides, is_fault, is_trusted, picture_of, reading_at, reading_said, turned}
 use Rattle.board_session.specs.Entries.{Idle, entries, entry_at, is_entry}

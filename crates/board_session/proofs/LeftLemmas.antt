@@ -18,7 +18,7 @@ use Rattle.settle_core.specs.Laws.{GivesScore, joined}
 use Rattle.settle_core.specs.Settling.{position_after}
 use Rattle.settle_core.proofs.Ending.{honest_play_ends, honest_play_stops_anywhere}
 use Rattle.settle_core.proofs.Returning.{made_again_stops}
-use Rattle.pgn_book.specs.Games.{Content, Result}
+use Rattle.chess_game.specs.Games.{Content, Result}
 use Rattle.board_session.specs.declared.recording.Setup.{Setup}
 use Rattle.board_session.specs.AnyRecording.{BeginsWithDump, HonestEndIsRecorded, HonestEndIsWritten, HonestStopAnywhereIsRecorded, HonestStopAnywhereIsWritten, KingsInCentreWriteNoMove, Left, MadeAgainIsRecorded, MadeAgainIsWritten, NothingWrittenIsInvented, OnlyTheLastPlyIsRewritten, RestartsAreRecorded, RestartsAreWritten, ResumedEndIsWritten, ResumedPlayIsWritten, ResumedStopIsWritten}
 use Rattle.board_session.specs.Commands.{past_of}

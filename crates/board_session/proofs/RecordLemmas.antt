@@ -9,10 +9,10 @@ use Rattle.board_session.specs.declared.refusal.RecordError.TheVariants.{Memory,
 use Rattle.board_session.specs.declared.recorder.Report.{Report}
 use Rattle.board_session.specs.declared.recording.Setup.{Setup}
 use Rattle.settle_core.specs.Entries.{deduplicated}
-use Rattle.pgn_book.specs.Games.{Content}
+use Rattle.chess_game.specs.Games.{Content}
 use Rattle.pgn_book.specs.Laws.{TextsTellGames}
 use Rattle.pgn_book.specs.Pgn.{Pgn}
-use Rattle.pgn_book.specs.Values.{TagValues}
+use Rattle.chess_game.specs.Values.{TagValues}
 use Rattle.board_session.specs.Game.{IsGameOf}
 use Rattle.board_session.specs.Recorder.{Finished}
 use Rattle.board_session.specs.Settings.{Setting}

@@ -6,7 +6,7 @@ use Rattle.std.proofs.KnownBytes.{Appends-kept}
 use Rattle.std.proofs.lemmas.List.{append-nil, take-append-drop}
 use Rattle.std.specs.Io.KnownBytes.{Appends, Keeps}
 use Rattle.watched_streams.specs.declared.putting.WriteFault.{WriteFault}
-use Rattle.pgn_book.specs.Games.{Content}
+use Rattle.chess_game.specs.Games.{Content}
 use Rattle.pgn_book.specs.Pgn.{Pgn}
 use Rattle.pgn_book.specs.Written.{AppendsFront}
 use Rattle.watched_streams.specs.Output.{AppendsPart}

@@ -17,8 +17,8 @@ use Rattle.settle_core.specs.HonestPlay.{AllPass, AllRest, HasOneMore, HasWhole,
 use Rattle.settle_core.specs.Laws.{joined}
 use Rattle.settle_core.specs.Settling.{Line, position_after}
 use Rattle.settle_core.specs.Sign.{IsSign}
-use Rattle.pgn_book.specs.Games.{Content, Result}
-use Rattle.pgn_book.specs.Values.{TagValues}
+use Rattle.chess_game.specs.Games.{Content, Result}
+use Rattle.chess_game.specs.Values.{TagValues}
 use Rattle.board_session.specs.declared.refusal.RecordError.{RecordError}
 use Rattle.board_session.specs.declared.recorder.Report.{Report}
 use Rattle.board_session.specs.declared.recording.Setup.{Setup}

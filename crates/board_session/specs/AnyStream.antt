@@ -16,8 +16,8 @@ use Rattle.settle_core.specs.HonestPlay.{AllPass, AllRest, HasWhole, ShownEach, 
 use Rattle.settle_core.specs.Laws.{joined}
 use Rattle.settle_core.specs.Settling.{Line, position_after, reached}
 use Rattle.settle_core.specs.Sign.{IsSign}
-use Rattle.pgn_book.specs.Games.{Content, Result}
-use Rattle.pgn_book.specs.Values.{TagValues}
+use Rattle.chess_game.specs.Games.{Content, Result}
+use Rattle.chess_game.specs.Values.{TagValues}
 use Rattle.board_session.specs.Entries.{is_entry}
 use Rattle.board_session.specs.Game.{IsGameOf}
 use Rattle.board_session.specs.History.{picture_of, reading_at}

@@ -6,8 +6,8 @@ use Rattle.settle_core.specs.declared.plies.Outcome.{Outcome}
 use Rattle.settle_core.specs.Entries.{Entry, deduplicated}
 use Rattle.settle_core.specs.Folding.{Folds, Score, moves_of, score_of}
 use Rattle.settle_core.specs.Settling.{Line}
-use Rattle.pgn_book.specs.Games.{Content, Result}
-use Rattle.pgn_book.specs.Values.{TagValues}
+use Rattle.chess_game.specs.Games.{Content, Result}
+use Rattle.chess_game.specs.Values.{TagValues}
 use Rattle.board_session.specs.Settings.{Setting}
 use Rattle.board_session.specs.Session.{entries_in}
 

@@ -20,9 +20,9 @@ use Rattle.settle_core.specs.HonestPlay.{AllPass, AllRest, HasWhole, IsFront, Sh
 use Rattle.settle_core.specs.Sign.{IsSign}
 use Rattle.settle_core.specs.declared.plies.Outcome.{Outcome}
 use Rattle.settle_core.specs.declared.plies.Ply.{Ply}
-use Rattle.pgn_book.specs.Games.{Content, Result}
+use Rattle.chess_game.specs.Games.{Content, Result}
 use Rattle.pgn_book.specs.Pgn.{Pgn}
-use Rattle.pgn_book.specs.Values.{TagValues}
+use Rattle.chess_game.specs.Values.{TagValues}
 use Rattle.board_session.specs.declared.refusal.RecordError.{RecordError}
 use Rattle.board_session.specs.declared.recorder.Report.{Report}
 use Rattle.board_session.specs.declared.recording.Setup.{Setup}

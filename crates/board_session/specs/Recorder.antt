@@ -5,9 +5,9 @@ use Rattle.dgt_frame.specs.declared.events.Event.{Event}
 use Rattle.dgt_frame.specs.declared.decode.Decoder.{Decoder}
 use Rattle.dgt_frame.specs.Decoder.{Decoded}
 use Rattle.dgt_frame.specs.Streams.{Shows, Timed}
-use Rattle.pgn_book.specs.Games.{Content}
+use Rattle.chess_game.specs.Games.{Content}
 use Rattle.pgn_book.specs.Pgn.{Pgn}
-use Rattle.pgn_book.specs.Values.{TagValues}
+use Rattle.chess_game.specs.Values.{TagValues}
 use Rattle.board_session.specs.declared.refusal.RecordError.{RecordError}
 use Rattle.board_session.specs.declared.refusal.RecordError.TheVariants.{Memory, Read, Board, Write, TooLong}
 use Rattle.board_session.specs.declared.recorder.Report.{Report}

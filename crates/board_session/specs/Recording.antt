@@ -5,7 +5,7 @@ use Rattle.std.specs.Io.KnownBytes.{Appends, Consumes, IsAtEnd}
 use Rattle.dgt_frame.specs.declared.events.Event.{Event}
 use Rattle.dgt_frame.specs.Streams.{Shows, Timed}
 use Rattle.settle_core.specs.Entries.{deduplicated}
-use Rattle.pgn_book.specs.Games.{Content}
+use Rattle.chess_game.specs.Games.{Content}
 use Rattle.pgn_book.specs.Pgn.{Pgn}
 use Rattle.board_session.specs.declared.refusal.RecordError.{RecordError}
 use Rattle.board_session.specs.declared.refusal.RecordError.TheVariants.{Memory, Read, Board, Write, TooLong}

@@ -5,8 +5,8 @@ use Rattle.dgt_frame.specs.declared.events.Message.TheVariants.{Dump, Update, Ti
 use Rattle.dgt_frame.specs.declared.events.Event.{Event}
 use Rattle.dgt_frame.specs.declared.events.Event.TheVariants.{Message as MessageEvent, Fault}
 use Rattle.dgt_frame.specs.Streams.{Shows, Timed}
-use Rattle.pgn_book.specs.Games.{Content}
-use Rattle.pgn_book.specs.Values.{TagValues}
+use Rattle.chess_game.specs.Games.{Content}
+use Rattle.chess_game.specs.Values.{TagValues}
 use Rattle.board_session.specs.declared.recording.Setup.{Setup}
 use Rattle.board_session.specs.AnyRecording.{Left}
 use Rattle.board_session.specs.Commands.{past_of}

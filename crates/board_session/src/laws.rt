@@ -2,9 +2,9 @@
 //! reads back.
 ghost use Rattle.std.specs.Prelude.{◌≡◌, List, MatchResult};
 ghost use Rattle.dgt_frame.specs.declared.events.Event.{Event};
-ghost use Rattle.pgn_book.specs.Games.{Content};
+ghost use Rattle.chess_game.specs.Games.{Content};
 ghost use Rattle.pgn_book.specs.Pgn.{Pgn};
-ghost use Rattle.pgn_book.specs.Values.{TagValues};
+ghost use Rattle.chess_game.specs.Values.{TagValues};
 ghost use Rattle.board_session.specs.AnyRecording.{HonestEndIsRecorded, HonestEndIsWritten, HonestStopAnywhereIsRecorded, HonestStopAnywhereIsWritten, KingsInCentreWriteNoMove, MadeAgainIsRecorded, MadeAgainIsWritten, NothingWrittenIsInvented, OnlyTheLastPlyIsRewritten, RestartsAreRecorded, RestartsAreWritten, ResumedEndIsWritten, ResumedPlayIsWritten, ResumedStopIsWritten};
 ghost use Rattle.board_session.specs.AnyStream.{HonestPlayResumes, KingsEndResumedPlay, KingsInCentreKeepThePlies, NothingIsInvented, OnlyTheLastPlyMayChange, ResumedPlayStops};
 ghost use Rattle.board_session.specs.Game.{IsGameOf};

@@ -11,7 +11,7 @@ use Rattle.board_listing.specs.OneText.{event_lines, no_line, picture_lines}
 use Rattle.board_listing.specs.declared.listing.Listing.{Listing}
 use Rattle.board_listing.specs.declared.listing.Listing.TheVariants.{Game}
 use Rattle.dgt_frame.specs.Streams.{Timed}
-use Rattle.pgn_book.specs.declared.values.Tag.{Tag}
+use Rattle.chess_game.specs.declared.values.Tag.{Tag}
 use Rattle.replay_arguments.specs.declared.arguments.Subcommand.{Subcommand}
 use Rattle.replay_arguments.specs.Subcommands.{Asks, AsksFor, AsksForPictures, AsksToCheck, AsksToFollow, AsksToRecord, AsksToRecover, AsksToShow}
 use Rattle.replay_arguments.specs.Setups.{SetsUpNothing, tag_text}

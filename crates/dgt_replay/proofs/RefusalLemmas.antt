@@ -6,10 +6,10 @@ use Rattle.chess_rules.specs.declared.parts.Parts.{Parts}
 use Rattle.chess_rules.specs.Initial.{initial}
 use Rattle.chess_text.specs.declared.fen.FenError.{FenError}
 use Rattle.chess_text.specs.Fen.{RefusedFirst}
-use Rattle.pgn_book.specs.declared.values.Tag.{Tag}
-use Rattle.pgn_book.specs.declared.values.TagError.{TagError}
-use Rattle.pgn_book.specs.declared.values.TagError.TheVariants.{Text as NoText, Long, Date as NoDate, Memory}
-use Rattle.pgn_book.specs.Values.{RefusesText}
+use Rattle.chess_game.specs.declared.values.Tag.{Tag}
+use Rattle.chess_game.specs.declared.values.TagError.{TagError}
+use Rattle.chess_game.specs.declared.values.TagError.TheVariants.{Text as NoText, Long, Date as NoDate, Memory}
+use Rattle.chess_game.specs.Values.{RefusesText}
 use Rattle.replay_arguments.specs.declared.setup.Refusal.{Refusal}
 use Rattle.replay_arguments.specs.declared.setup.Refusal.TheVariants.{Fen, Tag as OfTag}
 use Rattle.replay_arguments.specs.declared.arguments.RecordArguments.{RecordArguments}

@@ -3,9 +3,9 @@ use Rattle.std.proofs.Common.{◌≡◌, ◌⊎◌, ◌∙◌, ℕ, List, Option
 use Rattle.clap.specs.Walk.{Row, Text}
 use Rattle.chess_rules.specs.declared.parts.Parts.{Parts}
 use Rattle.chess_text.specs.Laws.{TextsTellPositions}
-use Rattle.pgn_book.specs.declared.values.Tag.{Tag}
-use Rattle.pgn_book.specs.Values.{TagValues, value_of}
-use Rattle.pgn_book.proofs.TagValues.{same_values}
+use Rattle.chess_game.specs.declared.values.Tag.{Tag}
+use Rattle.chess_game.specs.Values.{TagValues, value_of}
+use Rattle.chess_game.proofs.TagValues.{same_values}
 use Rattle.board_session.specs.declared.recording.Setup.{Setup}
 use Rattle.board_session.specs.Settings.{Setting}
 use Rattle.board_session.specs.Recording.{setting_of}

@@ -3,7 +3,7 @@ use Rattle.std.proofs.Common.{◌≡◌, ◌≤◌, ℕ, List, Option, Some, len
 use Rattle.board_session.specs.AnyRecording.{Left}
 use Rattle.board_session.specs.Sizes.{WrittenMovesTakeTenBytes}
 use Rattle.board_session.specs.declared.recording.Setup.{Setup}
-use Rattle.pgn_book.specs.Games.{Content}
+use Rattle.chess_game.specs.Games.{Content}
 use Rattle.pgn_book.specs.Laws.{TextsAreShort}
 use Rattle.pgn_book.specs.Pgn.{Pgn}
 use Rattle.dgt_replay.specs.Checked.{RefusesText, text_limit}

@@ -3,7 +3,7 @@ use Rattle.std.specs.Prelude.{◌≡◌, ℕ, ◌<◌, ◌≤◌, ◌⊎◌, Lis
 use Rattle.std.specs.Io.KnownBytes.{Appends, Keeps}
 use Rattle.watched_streams.specs.Output.{AppendsPart}
 use Rattle.settle_core.specs.declared.plies.Outcome.{Outcome}
-use Rattle.pgn_book.specs.Games.{Content}
+use Rattle.chess_game.specs.Games.{Content}
 use Rattle.pgn_book.specs.Movetext.{result_text}
 use Rattle.pgn_book.specs.Pgn.{Pgn}
 use Rattle.dgt_replay.specs.Messages.{IsTooLong}

@@ -3,10 +3,10 @@ use Rattle.std.specs.Prelude.{◌≡◌, ◌⊎◌, ℕ, List, [], ◌++◌, cod
 use Rattle.std.specs.Io.KnownBytes.{Appends, Keeps}
 use Rattle.chess_text.specs.declared.fen.FenError.{FenError}
 use Rattle.chess_text.specs.declared.fen.FenError.TheVariants.{Form, Counters, Placement, Kings, Pawns, Rights, EnPassant, Check}
-use Rattle.pgn_book.specs.declared.values.Tag.{Tag}
-use Rattle.pgn_book.specs.declared.values.TagError.{TagError}
-use Rattle.pgn_book.specs.declared.values.TagError.TheVariants.{Text, Long, Date as NoDate, Memory}
-use Rattle.pgn_book.specs.TagNames.{tag_name}
+use Rattle.chess_game.specs.declared.values.Tag.{Tag}
+use Rattle.chess_game.specs.declared.values.TagError.{TagError}
+use Rattle.chess_game.specs.declared.values.TagError.TheVariants.{Text, Long, Date as NoDate, Memory}
+use Rattle.chess_game.specs.TagNames.{tag_name}
 use Rattle.board_session.specs.declared.refusal.RecordError.{RecordError}
 use Rattle.board_session.specs.declared.refusal.RecordError.TheVariants as record_error
 use Rattle.watched_streams.specs.Output.{AppendsPart}

@@ -2,7 +2,7 @@
 ghost use Rattle.std.specs.Prelude.{◌≡◌, ◌≢◌, ◌≤◌, ◌++◌, ◌⊎◌, codes, length, false, true};
 ghost use Rattle.std.specs.Io.KnownBytes.{Keeps};
 ghost use Rattle.watched_streams.specs.Watch.{IsFlushed, inner_of, has_failed};
-ghost use Rattle.pgn_book.specs.TagNames.{tag_name};
+ghost use Rattle.chess_game.specs.TagNames.{tag_name};
 ghost use Rattle.dgt_replay.specs.Messages.{Says, fen_message, tag_message};
 
 use chess_text::FenError;

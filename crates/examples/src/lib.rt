@@ -8,6 +8,8 @@ mod board_session_page;
 #[cfg(test)]
 mod chess_clock_page;
 #[cfg(test)]
+mod chess_game_page;
+#[cfg(test)]
 mod chess_rules_page;
 #[cfg(test)]
 mod chess_text_page;

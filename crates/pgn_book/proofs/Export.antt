@@ -1,7 +1,7 @@
 -- The export text is the text that is written.
 use Rattle.std.proofs.Common.{◌≡◌, ℕ, List, [], ◌∷◌, ◌++◌, sym, ap, ◌∙◌, append_assoc}
 use Rattle.chess_text.specs.Laws.{TextsArePlain}
-use Rattle.pgn_book.specs.Games.{Content, IsGame}
+use Rattle.chess_game.specs.Games.{Content, IsGame}
 use Rattle.pgn_book.specs.Movetext.{ShownMove, AreShown, result_text, game_tokens}
 use Rattle.pgn_book.specs.Pgn.{Pgn, IsSetUp, roster}
 use Rattle.pgn_book.specs.Flow.{flow}

@@ -1,7 +1,5 @@
 pub mod Flowing
 pub mod Standing
-pub mod Plies
-pub mod TagValues
 pub mod Moves
 pub mod Tokens
 pub mod Export

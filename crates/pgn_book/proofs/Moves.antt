@@ -5,7 +5,7 @@ use Rattle.chess_rules.specs.declared.parts.Parts.{Parts}
 use Rattle.chess_rules.specs.After.{after}
 use Rattle.settle_core.specs.declared.plies.Ply.{Ply}
 use Rattle.pgn_book.specs.Movetext.{ShownMove, IsShown, AreShown, move_tokens, tokens_of}
-use Rattle.pgn_book.proofs.Plies.{cut_at}
+use Rattle.chess_game.proofs.Plies.{cut_at}
 
 -- Whatever moves the rest has, the line's moves have these tokens and then those of the rest.
 abbrev pub Continues : Parts → List Ply → Parts → List Ply → Bool → List (List ℕ) → Type 0

@@ -16,8 +16,8 @@ use Rattle.settle_core.specs.declared.plies.Ply.{Ply}
 use Rattle.settle_core.specs.Settling.{Line}
 use Rattle.settle_core.specs.Folding.{moves_of}
 use Rattle.settle_core.specs.GameResult.{IsResult}
-use Rattle.pgn_book.specs.Values.{TagValues}
-use Rattle.pgn_book.specs.Games.{Content, IsGame}
+use Rattle.chess_game.specs.Values.{TagValues}
+use Rattle.chess_game.specs.Games.{Content, IsGame}
 use Rattle.pgn_book.specs.Movetext.{ShownMove, AreShown}
 use Rattle.pgn_book.specs.Pgn.{Pgn, IsSetUp, at_initial, elsewhere}
 use Rattle.pgn_book.specs.Parse.{Turn, IsTurn, AreTurns, StartsAt, Parses, fen_at, set_up_part, moves_part, words, turns_at}

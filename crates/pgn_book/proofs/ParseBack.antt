@@ -14,10 +14,10 @@ use Rattle.settle_core.specs.declared.plies.Outcome.TheVariants.{WhiteWins, Blac
 use Rattle.settle_core.specs.declared.plies.Ply.{Ply}
 use Rattle.settle_core.specs.Settling.{Line}
 use Rattle.settle_core.specs.Folding.{moves_of}
-use Rattle.pgn_book.specs.declared.values.Tag.{Tag}
-use Rattle.pgn_book.specs.TagNames.{all_tags, tag_name}
-use Rattle.pgn_book.specs.Values.{TagValues, value_of}
-use Rattle.pgn_book.specs.Games.{Content, IsTimed}
+use Rattle.chess_game.specs.declared.values.Tag.{Tag}
+use Rattle.chess_game.specs.TagNames.{all_tags, tag_name}
+use Rattle.chess_game.specs.Values.{TagValues, value_of}
+use Rattle.chess_game.specs.Games.{Content, IsTimed}
 use Rattle.pgn_book.specs.Movetext.{ShownMove, AreShown, result_text, game_tokens}
 use Rattle.pgn_book.specs.Pgn.{Pgn, IsSetUp, at_initial, elsewhere, escape, escaped, tag_line, tag_lines, roster}
 use Rattle.pgn_book.specs.Flow.{flow}

@@ -5,7 +5,7 @@ use Rattle.std.specs.List.{All}
 use Rattle.std.proofs.lemmas.List.Elements.{All-push}
 use Rattle.std.proofs.Math.Seq.{get_or-append_seam}
 use denote.Ref.{Bor}
-use Rattle.pgn_book.specs.Values.{IsText, IsShort, IsPrintable}
+use Rattle.chess_game.specs.Values.{IsText, IsShort, IsPrintable}
 use Rattle.pgn_book.specs.Parse.{is_plain, value_at, after_value, words, words_behind, is_move, is_comment, time_at, clock_at, turns_at}
 
 pub cut_at : (bs : List ℕ) (i : ℕ) → i < length bs → drop i bs ≡ get_or bs i 0 ∷ drop (i + 1) bs

@@ -4,7 +4,7 @@ use Rattle.chess_rules.specs.declared.parts.Parts.{Parts}
 use Rattle.chess_rules.specs.Valid.{Valid}
 use Rattle.chess_text.specs.Fen.{fen}
 use Rattle.chess_text.specs.Laws.{FensArePlain}
-use Rattle.pgn_book.specs.Values.{IsText, IsShort}
+use Rattle.chess_game.specs.Values.{IsText, IsShort}
 use Rattle.pgn_book.specs.Parse.{StartsAt, has_fen, fen_part, fen_at, value_at}
 
 -- the value is the start's FEN

@@ -1,10 +1,10 @@
 -- Reading the lines of tags, one after another.
 use Rattle.std.proofs.Common.{◌≡◌, ◌∙◌, ℕ, false, List, [], ◌∷◌, refl, sym, ap, subst}
-use Rattle.pgn_book.specs.declared.values.Tag.{Tag}
-use Rattle.pgn_book.specs.TagNames.{all_tags, tag_name}
-use Rattle.pgn_book.specs.Values.{TagValues, AreValues, IsValue, value_of, with_value}
+use Rattle.chess_game.specs.declared.values.Tag.{Tag}
+use Rattle.chess_game.specs.TagNames.{all_tags, tag_name}
+use Rattle.chess_game.specs.Values.{TagValues, AreValues, IsValue, value_of, with_value}
 use Rattle.pgn_book.specs.Parse.{HaveValues, next_line, value_at, value_part}
-use Rattle.pgn_book.proofs.TagValues.{with_all, with_values}
+use Rattle.chess_game.proofs.TagValues.{with_all, with_values}
 
 -- where these tags are left, the rest of the text gives their values
 pub record Reads (values : TagValues) (left : List Tag) (rest : List ℕ) (tags : TagValues) : Type 0 where

@@ -14,14 +14,14 @@ use Rattle.chess_text.specs.Laws.{FensArePlain, TextsArePlain}
 use Rattle.settle_core.specs.declared.plies.Outcome.{Outcome}
 use Rattle.settle_core.specs.declared.plies.Outcome.TheVariants.{WhiteWins, BlackWins, Drawn}
 use Rattle.settle_core.specs.declared.plies.Ply.{Ply}
-use Rattle.pgn_book.specs.declared.values.Tag.{Tag}
-use Rattle.pgn_book.specs.declared.values.Tag.TheVariants.{Event, Site, Date, Round, White as WhiteTag, Black as BlackTag}
+use Rattle.chess_game.specs.declared.values.Tag.{Tag}
+use Rattle.chess_game.specs.declared.values.Tag.TheVariants.{Event, Site, Date, Round, White as WhiteTag, Black as BlackTag}
 use Rattle.pgn_book.specs.Flow.{piece, column, flow}
 use Rattle.pgn_book.specs.Laws.{TextsAreShort}
 use Rattle.pgn_book.specs.Movetext.{ShownMove, AreShown, number_tokens, clock_tokens, move_tokens, tokens_of, result_text, game_tokens}
 use Rattle.pgn_book.specs.Pgn.{IsSetUp, at_initial, elsewhere, escape, escaped, roster, tag_line, tag_lines}
-use Rattle.pgn_book.specs.TagNames.{all_tags, tag_name}
-use Rattle.pgn_book.specs.Values.{AreValues, TagValues, value_of}
+use Rattle.chess_game.specs.TagNames.{all_tags, tag_name}
+use Rattle.chess_game.specs.Values.{AreValues, TagValues, value_of}
 use Rattle.pgn_book.proofs.Export.{pgn_is_pieces}
 use Rattle.pgn_book.proofs.Tokens.{Fits, moves_fit}
 

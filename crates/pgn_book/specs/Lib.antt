@@ -1,8 +1,3 @@
-pub mod TagNames
-pub mod Values
-pub mod TagFields
-pub mod Games
-pub mod GameFields
 pub mod Lines
 pub mod Movetext
 pub mod Pgn

@@ -13,10 +13,10 @@ use Rattle.chess_text.specs.Fen.{fen}
 use Rattle.settle_core.specs.declared.plies.Outcome.{Outcome}
 use Rattle.settle_core.specs.declared.plies.Outcome.TheVariants.{WhiteWins, BlackWins, Drawn}
 use Rattle.settle_core.specs.declared.plies.Ply.{Ply}
-use Rattle.pgn_book.specs.declared.values.Tag.{Tag}
-use Rattle.pgn_book.specs.TagNames.{all_tags, tag_name}
-use Rattle.pgn_book.specs.Values.{TagValues, value_of}
-use Rattle.pgn_book.specs.Games.{Content, IsTimed}
+use Rattle.chess_game.specs.declared.values.Tag.{Tag}
+use Rattle.chess_game.specs.TagNames.{all_tags, tag_name}
+use Rattle.chess_game.specs.Values.{TagValues, value_of}
+use Rattle.chess_game.specs.Games.{Content, IsTimed}
 
 -- ---- the movetext, cut at spaces and ends of lines
 

@@ -4,10 +4,10 @@ use Rattle.std.specs.List.{flat_map}
 use Rattle.chess_rules.specs.declared.parts.Parts.{Parts}
 use Rattle.chess_rules.specs.Initial.{initial}
 use Rattle.chess_text.specs.Fen.{fen}
-use Rattle.pgn_book.specs.declared.values.Tag.{Tag}
-use Rattle.pgn_book.specs.TagNames.{all_tags, tag_name}
-use Rattle.pgn_book.specs.Values.{TagValues, value_of}
-use Rattle.pgn_book.specs.Games.{Content, IsGame}
+use Rattle.chess_game.specs.declared.values.Tag.{Tag}
+use Rattle.chess_game.specs.TagNames.{all_tags, tag_name}
+use Rattle.chess_game.specs.Values.{TagValues, value_of}
+use Rattle.chess_game.specs.Games.{Content, IsGame}
 use Rattle.pgn_book.specs.Lines.{IsMovetext}
 use Rattle.pgn_book.specs.Movetext.{ShownMove, AreShown, result_text, game_tokens}
 

@@ -6,21 +6,19 @@ ghost use Rattle.chess_rules.specs.Valid.{Valid};
 ghost use Rattle.settle_core.specs.declared.plies.Ply.{Ply as PlyOf};
 ghost use Rattle.settle_core.specs.Settling.{Line};
 ghost use Rattle.settle_core.specs.Folding.{moves_of as moves_in};
-ghost use Rattle.pgn_book.specs.TagNames.{all_tags};
-ghost use Rattle.pgn_book.specs.Values.{TagValues, AreValues, IsValue, with_value};
-ghost use Rattle.pgn_book.specs.Games.{Content, IsGame};
+ghost use Rattle.chess_game.specs.TagNames.{all_tags};
+ghost use Rattle.chess_game.specs.Values.{TagValues, AreValues, IsValue, with_value};
+ghost use Rattle.chess_game.specs.Games.{Content, IsGame};
 ghost use Rattle.pgn_book.specs.Pgn.{Pgn};
 ghost use Rattle.pgn_book.specs.Parse.{IsTurn, AreTurns, TakesTurn, StartsAt, Parses, HaveValues, words, words_behind, turns_at, clock_at, value_at, fen_at};
 
-use crate::game::Game;
 use crate::sections::{
     behind_tags, fen_of, has_fen, moves_of, next_line, read_result, read_value, value_of,
 };
-use crate::tags::Tags;
-use crate::values::{Tag, TagError};
 use crate::words::{clock_behind, first_word, is_move};
 use crate::writing::write_pgn;
 use chess_clock::Hms;
+use chess_game::{Game, Tag, TagError, Tags};
 use chess_rules::{Move, Position};
 use chess_text::laws::{fens_are_plain, moves_tell_texts, texts_are_plain};
 use chess_text::{read_fen, read_san};

@@ -1,12 +1,12 @@
 //! The parts of a text that hold its tags' values, and the values.
 ghost use Rattle.std.specs.Prelude.{◌≡◌, ◌<◌, ◌≤◌, ◌++◌, ◌∷◌, [], true, false, length, drop, slice_index, IfSome, IfNone};
 ghost use Rattle.std.specs.Bool.{OnTrue, OnFalse};
-ghost use Rattle.pgn_book.specs.TagNames.{all_tags};
-ghost use Rattle.pgn_book.specs.Values.{IsText, IsShort};
+ghost use Rattle.chess_game.specs.TagNames.{all_tags};
+ghost use Rattle.chess_game.specs.Values.{IsText, IsShort};
 ghost use Rattle.pgn_book.specs.Parse.{is_plain as is_plain_lem, value_at, after_value, result_at, value_part, next_part, next_line, behind_lines, has_fen as has_fen_lem, fen_part, moves_part};
 
-use crate::values::Tag;
 use arrayvec::ArrayString;
+use chess_game::Tag;
 use settle_core::Outcome;
 
 /// Whether a byte stands for itself, and is neither a quotation mark nor a backslash before another byte.

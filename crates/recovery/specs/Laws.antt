@@ -7,7 +7,7 @@ use Rattle.settle_core.specs.Entries.{Entry, deduplicated}
 use Rattle.settle_core.specs.Folding.{score_of}
 use Rattle.unseen_pairs.specs.Laws.{ConfirmNone}
 use Rattle.unseen_pairs.specs.Recovering.{FoldsRecovering}
-use Rattle.pgn_book.specs.Games.{Content, Result}
+use Rattle.chess_game.specs.Games.{Content, Result}
 use Rattle.board_session.specs.declared.recorder.Report.{Report}
 use Rattle.board_session.specs.declared.recording.Setup.{Setup}
 use Rattle.board_session.specs.Commands.{past_of}

@@ -14,8 +14,8 @@ use Rattle.clap.specs.declared.parser.matches.Found.{Found}
 use Rattle.clap.proofs.OnLiterals.{clap_on_literals}
 use Rattle.clap.proofs.WalkLemmas.{first_value-rows, one_text-rows}
 use Rattle.chess_rules.specs.Initial.{initial}
-use Rattle.pgn_book.specs.declared.values.Tag.{Tag}
-use Rattle.pgn_book.specs.declared.values.Tag.TheVariants.{Event, Site, Date, Round, White, Black}
+use Rattle.chess_game.specs.declared.values.Tag.{Tag}
+use Rattle.chess_game.specs.declared.values.Tag.TheVariants.{Event, Site, Date, Round, White, Black}
 use Rattle.board_session.specs.Recording.{setting_of}
 use Rattle.replay_arguments.specs.declared.arguments.Subcommand.{Subcommand}
 use Rattle.replay_arguments.specs.Command.{replay}

@@ -4,9 +4,9 @@ use Rattle.std.proofs.lemmas.List.{take_more}
 use Rattle.std.specs.declared.alloc.AllocError.{AllocError}
 use Rattle.clap.specs.Simple.{App, app_of}
 use Rattle.clap.specs.declared.builder.command.Command.{Command}
-use Rattle.pgn_book.specs.declared.values.Tag.{Tag}
-use Rattle.pgn_book.specs.declared.values.Tag.TheVariants.{Event}
-use Rattle.pgn_book.specs.TagNames.{all_tags}
+use Rattle.chess_game.specs.declared.values.Tag.{Tag}
+use Rattle.chess_game.specs.declared.values.Tag.TheVariants.{Event}
+use Rattle.chess_game.specs.TagNames.{all_tags}
 use Rattle.replay_arguments.specs.TagOptions.{option_of}
 use Rattle.replay_arguments.specs.Command.{Makes, with_options, with_text}
 

@@ -10,13 +10,13 @@ use Rattle.chess_rules.specs.declared.parts.Parts.{Parts}
 use Rattle.chess_rules.specs.Initial.{initial}
 use Rattle.chess_text.specs.declared.fen.FenError.{FenError}
 use Rattle.chess_text.specs.Fen.{RefusedFirst}
-use Rattle.pgn_book.specs.declared.values.Tag.{Tag}
-use Rattle.pgn_book.specs.declared.values.Tag.TheVariants.{Event, Site, Date, Round, White, Black}
-use Rattle.pgn_book.specs.declared.values.TagError.{TagError}
-use Rattle.pgn_book.specs.declared.values.TagError.TheVariants.{Text as NoText, Long, Date as NoDate, Memory}
-use Rattle.pgn_book.specs.TagNames.{all_tags, is_tag, tag_index}
-use Rattle.pgn_book.specs.Values.{RefusesText, TagValues, unknown_of, unknown_values, value_of, values_by}
-use Rattle.pgn_book.proofs.TagValues.{by_value, index_below, tag_at, value_by}
+use Rattle.chess_game.specs.declared.values.Tag.{Tag}
+use Rattle.chess_game.specs.declared.values.Tag.TheVariants.{Event, Site, Date, Round, White, Black}
+use Rattle.chess_game.specs.declared.values.TagError.{TagError}
+use Rattle.chess_game.specs.declared.values.TagError.TheVariants.{Text as NoText, Long, Date as NoDate, Memory}
+use Rattle.chess_game.specs.TagNames.{all_tags, is_tag, tag_index}
+use Rattle.chess_game.specs.Values.{RefusesText, TagValues, unknown_of, unknown_values, value_of, values_by}
+use Rattle.chess_game.proofs.TagValues.{by_value, index_below, tag_at, value_by}
 use Rattle.board_session.specs.Recording.{setting_of}
 use Rattle.replay_arguments.specs.declared.setup.Refusal.{Refusal}
 use Rattle.replay_arguments.specs.declared.setup.Refusal.TheVariants.{Fen, Tag as OfTag}

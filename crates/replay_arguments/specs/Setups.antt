@@ -8,11 +8,11 @@ use Rattle.chess_text.specs.Fen.{RefusedFirst}
 use Rattle.chess_text.specs.Start.{HasNoStart, StartsAt, given}
 use Rattle.dgt_frame.specs.declared.time.First.{First}
 use Rattle.dgt_frame.specs.declared.time.First.TheVariants as first
-use Rattle.pgn_book.specs.declared.values.Tag.{Tag}
-use Rattle.pgn_book.specs.declared.values.Tag.TheVariants.{Event, Site, Date, Round, White, Black}
-use Rattle.pgn_book.specs.declared.values.TagError.TheVariants.{Memory}
-use Rattle.pgn_book.specs.TagNames.{all_tags, is_tag}
-use Rattle.pgn_book.specs.Values.{IsValue, RefusesText, TagValues, unknown_of, unknown_values, value_of, values_by}
+use Rattle.chess_game.specs.declared.values.Tag.{Tag}
+use Rattle.chess_game.specs.declared.values.Tag.TheVariants.{Event, Site, Date, Round, White, Black}
+use Rattle.chess_game.specs.declared.values.TagError.TheVariants.{Memory}
+use Rattle.chess_game.specs.TagNames.{all_tags, is_tag}
+use Rattle.chess_game.specs.Values.{IsValue, RefusesText, TagValues, unknown_of, unknown_values, value_of, values_by}
 use Rattle.board_session.specs.declared.recording.Setup.{Setup}
 use Rattle.board_session.specs.Settings.{Setting}
 use Rattle.board_session.specs.Recording.{setting_of}

@@ -1,8 +1,8 @@
 -- The options that give the values of tags.
 use Rattle.std.specs.Prelude.{ℕ, ◌+◌, ◌&&◌, nat_lt, map, if◌then◌else◌}
 use Rattle.clap.specs.Walk.{Text}
-use Rattle.pgn_book.specs.declared.values.Tag.{Tag}
-use Rattle.pgn_book.specs.TagNames.{tag_name}
+use Rattle.chess_game.specs.declared.values.Tag.{Tag}
+use Rattle.chess_game.specs.TagNames.{tag_name}
 
 -- a capital letter as a small one
 abbrev pub small : ℕ → ℕ

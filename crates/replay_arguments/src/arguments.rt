@@ -14,10 +14,10 @@ ghost use Rattle.replay_arguments.specs.TagOptions.{option_of};
 
 use crate::command::command;
 use crate::tag_options::option_name;
+use chess_game::Tag;
 use clap::error::ErrorKind;
 use clap::{ArgMatches, Command, Error};
 use dgt_frame::First;
-use pgn_book::Tag;
 use std::alloc::Global;
 
 /// What the arguments ask for.

@@ -4,8 +4,8 @@ ghost use Rattle.clap.specs.Simple.{App, app_of, new_app};
 ghost use Rattle.replay_arguments.specs.Command.{AddsRule, AddsApp, IsApp, Makes, check_app, follow_app, moves_app, pictures_app, positions_app, record_app, recover_app, replay, rotated_rule, show_app, text_rule, with_board, with_tags};
 
 use crate::tag_options::{option_help, option_name};
+use chess_game::Tag;
 use clap::{Arg, ArgAction, Command};
-use pgn_book::Tag;
 use std::alloc::{AllocError, Global};
 
 /// The version of the program.

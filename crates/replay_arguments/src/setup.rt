@@ -1,14 +1,14 @@
 //! The setup of a recording.
 ghost use Rattle.std.specs.Prelude.{◌≡◌, ◌⊎◌, IfErr, OnOk, MatchOption, MatchResult};
-ghost use Rattle.pgn_book.specs.declared.values.TagError.{TagError as ErrorOf};
-ghost use Rattle.pgn_book.specs.Values.{RefusesText};
+ghost use Rattle.chess_game.specs.declared.values.TagError.{TagError as ErrorOf};
+ghost use Rattle.chess_game.specs.Values.{RefusesText};
 ghost use Rattle.replay_arguments.specs.Setups.{ForMemory, HasValues, IsFirst, MayHave, Meets, MeetsNothing, OfFirstTag, tag_text, with_given};
 ghost use Rattle.chess_text.specs.Start.{given};
 
 use crate::arguments::RecordArguments;
 use board_session::Setup;
+use chess_game::{Tag, TagError, Tags};
 use chess_text::{FenError, start_of};
-use pgn_book::{Tag, TagError, Tags};
 use std::alloc::Global;
 
 /// Why a recording can't be set up as the arguments say.

@@ -2,7 +2,7 @@
 ghost use Rattle.std.specs.Prelude.{◌≡◌};
 ghost use Rattle.replay_arguments.specs.TagOptions.{option_of};
 
-use pgn_book::Tag;
+use chess_game::Tag;
 
 /// The name of the option that gives the tag's value.
 pub fn option_name(tag: Tag) -> &'static str

@@ -1,6 +1,6 @@
 use Rattle.std.proofs.Common.{◌∙◌, sym, subst}
 use Rattle.std.proofs.lemmas.Bool.{false≢true}
-use Rattle.pgn_book.specs.Games.{Content}
+use Rattle.chess_game.specs.Games.{Content}
 use Rattle.pgn_book.specs.Pgn.{Pgn}
 use Rattle.pgn_book.proofs.ParseBack.{pgn_parses}
 use Rattle.pgn_book.proofs.reading.read_pgn.Goals as goal

@@ -1,9 +1,9 @@
 use Rattle.std.proofs.Common.{◌≡◌, ◌<◌, ◌+◌, ◌∙◌, [], ℕ, false, List, ap, arith, drop, get_or, subst, sym, length}
 use Rattle.std.proofs.lemmas.List.{drop_all, drop_more}
-use Rattle.pgn_book.specs.declared.values.Tag.{Tag}
-use Rattle.pgn_book.specs.declared.values.Tag.TheVariants.{Event}
-use Rattle.pgn_book.specs.TagNames.{all_tags}
-use Rattle.pgn_book.specs.Values.{IsValue, with_value}
+use Rattle.chess_game.specs.declared.values.Tag.{Tag}
+use Rattle.chess_game.specs.declared.values.Tag.TheVariants.{Event}
+use Rattle.chess_game.specs.TagNames.{all_tags}
+use Rattle.chess_game.specs.Values.{IsValue, with_value}
 use Rattle.pgn_book.specs.Parse.{next_line, value_at, value_part}
 use Rattle.pgn_book.proofs.TagsRead.{Reads, fit_next, reads_next}
 use Rattle.pgn_book.proofs.reading.read_tags.Goals as goal

@@ -1,6 +1,6 @@
 use Rattle.std.proofs.Common.{drop}
-use Rattle.pgn_book.specs.TagNames.{all_tags}
-use Rattle.pgn_book.specs.Values.{TagValues, AreValues}
+use Rattle.chess_game.specs.TagNames.{all_tags}
+use Rattle.chess_game.specs.Values.{TagValues, AreValues}
 use Rattle.pgn_book.specs.Parse.{HaveValues}
 use Rattle.pgn_book.proofs.TagsRead.{Reads}
 use Rattle.pgn_book.proofs.reading.read_tags.Given as goal

@@ -1,5 +1,5 @@
 use Rattle.std.proofs.Common.{◌≡◌, drop}
-use Rattle.pgn_book.specs.TagNames.{all_tags}
+use Rattle.chess_game.specs.TagNames.{all_tags}
 use Rattle.pgn_book.specs.Parse.{behind_lines}
 use Rattle.pgn_book.proofs.sections.behind_tags.Given as goal
 

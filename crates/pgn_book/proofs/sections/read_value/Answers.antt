@@ -1,5 +1,5 @@
 use Rattle.std.proofs.Common.{◌+◌, ◌++◌, ℕ, List, false, get_or, drop, sym, ◌∙◌, ap, subst, arith}
-use Rattle.pgn_book.specs.Values.{IsText, IsShort}
+use Rattle.chess_game.specs.Values.{IsText, IsShort}
 use Rattle.pgn_book.specs.Parse.{value_at}
 use Rattle.pgn_book.proofs.ReadingValues.{cut_at, plain_step, kept_more, quoted_more, refused_value}
 use Rattle.pgn_book.proofs.sections.read_value.Goals as goal

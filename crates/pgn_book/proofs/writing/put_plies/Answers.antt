@@ -1,7 +1,7 @@
 use Rattle.std.proofs.Common.{◌++◌, [], sym, arith}
 use Rattle.pgn_book.specs.Movetext.{move_tokens}
 use Rattle.pgn_book.proofs.Standing.{Writes-then, Writes-same, Writes-nil}
-use Rattle.pgn_book.proofs.Plies.{line_at}
+use Rattle.chess_game.proofs.Plies.{line_at}
 use Rattle.pgn_book.proofs.Moves.{continues_at_start, continues_more, continues_to_end}
 use Rattle.pgn_book.proofs.writing.put_plies.Goals as goal
 

@@ -1,7 +1,7 @@
 use Rattle.std.proofs.Common.{ap, ◌∙◌}
 use Rattle.std.specs.Prelude.{codes}
-use Rattle.pgn_book.specs.TagNames.{all_tags}
-use Rattle.pgn_book.specs.Values.{TagValues}
+use Rattle.chess_game.specs.TagNames.{all_tags}
+use Rattle.chess_game.specs.Values.{TagValues}
 use Rattle.pgn_book.specs.Movetext.{result_text}
 use Rattle.pgn_book.specs.Pgn.{roster, tag_line, tag_lines}
 use Rattle.pgn_book.proofs.Standing.{Adds-then, Adds-same}

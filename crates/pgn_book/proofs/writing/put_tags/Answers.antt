@@ -1,10 +1,10 @@
 use Rattle.std.proofs.Common.{◌≡◌, ◌<◌, ◌+◌, ◌++◌, ◌∙◌, ◌∷◌, [], ℕ, List, ap, arith, get_or, sym, take, length}
 use Rattle.std.proofs.lemmas.List.{take_more, append-nil}
 use Rattle.std.proofs.lemmas.List.Concat.{flat_map-append}
-use Rattle.pgn_book.specs.declared.values.Tag.{Tag}
-use Rattle.pgn_book.specs.declared.values.Tag.TheVariants.{Event}
-use Rattle.pgn_book.specs.TagNames.{all_tags, tag_name}
-use Rattle.pgn_book.specs.Values.{value_of}
+use Rattle.chess_game.specs.declared.values.Tag.{Tag}
+use Rattle.chess_game.specs.declared.values.Tag.TheVariants.{Event}
+use Rattle.chess_game.specs.TagNames.{all_tags, tag_name}
+use Rattle.chess_game.specs.Values.{value_of}
 use Rattle.pgn_book.specs.Pgn.{tag_line, tag_lines}
 use Rattle.pgn_book.proofs.Standing.{Adds-then, Adds-same}
 use Rattle.pgn_book.proofs.writing.put_tags.Goals as goal

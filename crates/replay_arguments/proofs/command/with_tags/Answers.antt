@@ -1,8 +1,8 @@
 use Rattle.std.proofs.Common.{◌<◌, ◌≡◌, ◌∙◌, List, ap, arith, subst, sym, take, length}
 use Rattle.std.proofs.lemmas.List.{take_all}
 use Rattle.clap.specs.Simple.{App}
-use Rattle.pgn_book.specs.declared.values.Tag.{Tag}
-use Rattle.pgn_book.specs.TagNames.{all_tags}
+use Rattle.chess_game.specs.declared.values.Tag.{Tag}
+use Rattle.chess_game.specs.TagNames.{all_tags}
 use Rattle.replay_arguments.specs.Command.{Makes, with_options, with_text}
 use Rattle.replay_arguments.proofs.CommandLemmas.{option_more}
 use Rattle.replay_arguments.proofs.command.with_tags.Goals as goal

@@ -1,6 +1,6 @@
 use Rattle.std.proofs.Common.{take}
 use Rattle.clap.specs.Simple.{App}
-use Rattle.pgn_book.specs.TagNames.{all_tags}
+use Rattle.chess_game.specs.TagNames.{all_tags}
 use Rattle.replay_arguments.specs.Command.{Makes, with_options}
 use Rattle.replay_arguments.proofs.command.with_tags.Given as goal
 

@@ -1,10 +1,10 @@
 use Rattle.std.proofs.Common.{◌≡◌, ◌<◌, ◌∙◌, ℕ, Option, ap, arith, get_or, length, refl, subst}
 use Rattle.std.specs.Prelude.{MatchOption}
 use Rattle.clap.specs.Walk.{Text}
-use Rattle.pgn_book.specs.declared.values.Tag.TheVariants.{Event}
-use Rattle.pgn_book.specs.declared.values.TagError.{TagError}
-use Rattle.pgn_book.specs.TagNames.{all_tags}
-use Rattle.pgn_book.specs.Values.{RefusesText}
+use Rattle.chess_game.specs.declared.values.Tag.TheVariants.{Event}
+use Rattle.chess_game.specs.declared.values.TagError.{TagError}
+use Rattle.chess_game.specs.TagNames.{all_tags}
+use Rattle.chess_game.specs.Values.{RefusesText}
 use Rattle.replay_arguments.specs.declared.setup.Refusal.TheVariants.{Tag as OfTag}
 use Rattle.replay_arguments.specs.Setups.{MayHave, tag_text, with_given}
 use Rattle.replay_arguments.proofs.SetupLemmas.{SetTo, all_set, first_tag, none_set, one_set}

@@ -1,0 +1,5 @@
+pub mod TagNames
+pub mod Values
+pub mod TagFields
+pub mod Games
+pub mod GameFields

@@ -1,6 +1,0 @@
-use Prim.{search}
-use Rattle.std.proofs.Common.{rules}
-use Rattle.pgn_book.proofs.game.Game.plies.Goals as goal
-
-pub returns-clause-plies : goal.returns-clause-plies
-returns-clause-plies c = search rules

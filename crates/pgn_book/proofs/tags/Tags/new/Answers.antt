@@ -1,6 +1,0 @@
-use Prim.{search}
-use Rattle.std.proofs.Common.{rules}
-use Rattle.pgn_book.proofs.tags.Tags.new.Goals as goal
-
-pub returns : goal.returns
-returns c = search rules

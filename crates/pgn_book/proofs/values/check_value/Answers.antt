@@ -1,9 +1,0 @@
-use Prim.{search}
-use Rattle.std.proofs.Common.{rules}
-use Rattle.pgn_book.proofs.values.check_value.Goals as goal
-
-pub returns-then-not-suits-clause-err : goal.returns-then-not-suits-clause-err
-returns-then-not-suits-clause-err c = search rules
-
-pub returns-clause-ok : goal.returns-clause-ok
-returns-clause-ok c = search rules
