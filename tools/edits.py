@@ -33,7 +33,7 @@ class Edit:
 
 
 NAMES = {  # what names a function or a constant in src/, a definition in specs/
-    ".rt": re.compile(r"(?m)(?:\bfn|^(?:pub )?const(?! fn\b)) (\w+)"),
+    ".rt": re.compile(r"(?m)(?:\bfn|^ *(?:pub )?const(?! fn\b)) (\w+)"),
     ".antt": re.compile(r"(?m)^(?:abbrev |unfoldable )?pub (?:record |data )?(\w+)"),
 }
 
