@@ -32,17 +32,51 @@ class Edit:
         return f"| `{self.name}` | {place} | {self.says} | {self.refused_by} |"
 
 
-NAMES = {  # what names a function in src/, a definition in specs/
-    ".rt": re.compile(r"\bfn (\w+)"),
+NAMES = {  # what names a function or a constant in src/, a definition in specs/
+    ".rt": re.compile(r"(?m)(?:\bfn|^ *(?:pub )?const(?! fn\b)) (\w+)"),
     ".antt": re.compile(r"(?m)^(?:abbrev |unfoldable )?pub (?:record |data )?(\w+)"),
 }
 
 
-def function_of(path: pathlib.Path, old: str) -> str:
-    """The function or definition in which a text stands, or none where it stands before all of them."""
-    source = path.read_text()
-    named = NAMES[path.suffix].findall(source[: source.find(old) + len(old)])
+def function_of(source: str, suffix: str, old: str) -> str:
+    """The function, constant or definition of a source in which a text stands, or none where it stands before all of them."""
+    named = NAMES[suffix].findall(source[: source.find(old) + len(old)])
     return str(named[-1]) if named else ""
+
+
+@dataclasses.dataclass(frozen=True)
+class Change:
+    file: str
+    old: str
+    new: str
+
+
+def changes_of(lines: typing.List[str]) -> typing.List[Change]:
+    """The changes of an edit, in their order: each is in the file that was named last before it."""
+    changes: typing.List[Change] = []
+    file = old = ""
+    for line in lines:
+        if line.startswith("file: "):
+            file = line[len("file: ") :].strip()
+        elif line.startswith("old: "):
+            old = line[len("old: ") :]
+        elif line.startswith("new: "):
+            changes.append(Change(file, old, line[len("new: ") :]))
+    return changes
+
+
+def place_of(crate: pathlib.Path, changes: typing.List[Change]) -> typing.Optional[typing.Tuple[str, str]]:
+    """The file and the function of an edit, or none where its texts don't stand there. That is where its last change is, since
+    what comes before often prepares that: an import, a definition."""
+    sources = {change.file: (crate / change.file).read_text() for change in changes if (crate / change.file).is_file()}
+    function = ""
+    for change in changes:
+        source = sources.get(change.file, "")
+        if change.old not in source:
+            return None
+        function = function_of(source, pathlib.Path(change.file).suffix, change.old)
+        sources[change.file] = source.replace(change.old, change.new, 1)
+    return (changes[-1].file, function) if changes else None
 
 
 def read_edit(crate: str, name: str, text: str) -> typing.Union[Edit, str]:
@@ -54,12 +88,10 @@ def read_edit(crate: str, name: str, text: str) -> typing.Union[Edit, str]:
     refused_by = lines[1][len("refused by: ") :] if lines[1].startswith("refused by: ") else ""
     if "|" in lines[0] + refused_by:
         return f"{path}: its first lines have a '|', which ends a cell of the table"
-    files = [line[len("file: ") :].strip() for line in lines if line.startswith("file: ")]
-    olds = [line[len("old: ") :] for line in lines if line.startswith("old: ")]
-    if not files or not olds or not (TOP / "crates" / crate / files[0]).is_file():
+    place = place_of(TOP / "crates" / crate, changes_of(lines))
+    if place is None:
         return f"{path}: its lines 'file: ' and 'old: ' name no text of the crate"
-    function = function_of(TOP / "crates" / crate / files[0], olds[0])
-    return Edit(crate, name, files[0], function, lines[0][len("says: ") :], refused_by)
+    return Edit(crate, name, *place, lines[0][len("says: ") :], refused_by)
 
 
 def sections(page: str) -> typing.List[str]:

@@ -81,7 +81,7 @@ fn add(message: &Message, out: &mut ArrayVec<u8, MOST>)
         → length out.new.items ≡ length out.old.items + n }
 {
     let mut frame = ArrayVec::new();
-    // The law by which a frame is shown behind others.
+    // For its clause: a frame is shown behind others.
     restarts_are_shown();
     encode(message, &mut frame);
     append(&frame, out);
@@ -131,9 +131,9 @@ fn add_time(
     }
 }
 
-/// Replaces what `out` holds by the frames that are put in behind an entry, its picture with codes of at most 15 by square number
-/// and its reading, that confirmed this pair: the reading that the pair has, the boards after its plies, and the entry again. With
-/// `rotated`, field n is square 63 - n; the first group of a time message is that of the side `first`.
+/// Replaces what `out` holds by the frames that are put in behind an entry, its picture with codes of at most 15 by square
+/// number and its reading, that confirmed this pair: the reading that the pair has, the boards after its plies, and the entry
+/// again. With `rotated`, field n is square 63 - n; the first group of a time message is that of the side `first`.
 pub fn put_in(
     first: First,
     rotated: bool,

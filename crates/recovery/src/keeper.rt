@@ -31,8 +31,8 @@ pub struct Keeper {
     found: Option<Recovery>,
 }
 
-/// Shows the recoverer a picture which differs from the one before on this square, and says whether it confirms a pair, which is put
-/// into `found`.
+/// Shows the recoverer a picture which differs from the one before on this square, and says whether it confirms a pair, which
+/// is put into `found`.
 #[inline(always)]
 fn see_square(
     alloc: Global,
@@ -104,8 +104,8 @@ impl Keeper {
         }
     }
 
-    /// Takes the next event, and says whether its picture confirms a pair, which `found` then has. Codes are at most 15 and fields
-    /// at most 63, as the decoder gives them.
+    /// Takes the next event, and says whether its picture confirms a pair, which `found` then has. Codes are at most 15 and
+    /// fields at most 63, as the decoder gives them.
     ///
     /// # Errors
     ///

@@ -8,8 +8,9 @@ use settle_core::laws::folds_once;
 pub fn recovered_games_are_recorded()
     ensures { RecordsRecovered }
 {
-    // The laws that this rests on.
+    // For its clause: the bytes show one list of events.
     shows_once();
+    // For its clause: the entries fold to one score.
     folds_once();
 }
 
@@ -17,6 +18,6 @@ pub fn recovered_games_are_recorded()
 pub fn honest_streams_stay()
     ensures { LeavesAlone }
 {
-    // The law that this rests on.
+    // For its clause: the bytes show one list of events.
     shows_once();
 }

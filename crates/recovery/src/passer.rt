@@ -68,9 +68,9 @@ pub fn hear(
     }
 }
 
-/// Gives the decoder the bytes up to the next event, and the keeper this event, and returns how many bytes these are; none, where
-/// no event comes at any of them, and then the decoder was given them all. The first has the offset `start`. What `frames` and
-/// `line` hold is replaced by what is put in behind these bytes, and its line.
+/// Gives the decoder the bytes up to the next event, and the keeper this event, and returns how many bytes these are; none,
+/// where no event comes at any of them, and then the decoder was given them all. The first has the offset `start`. What
+/// `frames` and `line` hold is replaced by what is put in behind these bytes, and its line.
 ///
 /// # Errors
 ///
@@ -95,6 +95,7 @@ pub fn pass(
     ensures put_in { IfOk result (λ taken. IfSome taken (λ _. IsPutIn frames.new.items line.new.items)) }
     ensures taken { IfOk result (λ taken. IfSome taken (λ count. (0 < count) × (count ≤ length bytes.now))) }
 {
+    // For its clause: the frames show what is put in.
     frames_are_put_in();
     // For its clause: what the bytes given so far show.
     conclude(decoder, keeper);

@@ -126,12 +126,13 @@ fn give_chunk<O: Write, E: Write>(
     }
 }
 
-/// Gives on a stream of board bytes (DGT Electronic Board Protocol), with the frames of pairs of plies that no picture showed whole
-/// put in behind the bytes at which they are recovered. The line of a pair is told on `err` before its frames are written.
+/// Gives on a stream of board bytes (DGT Electronic Board Protocol), with the frames of pairs of plies that no picture showed
+/// whole put in behind the bytes at which they are recovered. The line of a pair is told on `err` before its frames are
+/// written.
 ///
 /// With `rotated`, field n means square 63 - n. What was read in one go is given on and flushed before more is read. Memory is
-/// taken for plies and for candidates alone. At most 67,108,865 bytes are read, the last one only to see that there are more than
-/// a stream may have. No stream may have failed before.
+/// taken for plies and for candidates alone. At most 67,108,865 bytes are read, the last one only to see that there are more
+/// than a stream may have. No stream may have failed before.
 ///
 /// # Errors
 ///
@@ -151,8 +152,8 @@ pub fn recover_stream<R: Read, O: Write, E: Write>(
     ensures ok { OnOk result (RecoversAll (record { start = start; first = first; rotated = rotated }) (R.remaining (inner_of reader.old))
         (O.contents (inner_of out.old)) (O.contents (inner_of out.new)) (E.contents (inner_of err.old)) (E.contents (inner_of err.new))) }
 
-    // Before a read nobody knows whether it will fail, and after one that failed nothing may be written. So each read begins with
-    // all bytes before it given on.
+    // Before a read nobody knows whether it will fail, and after one that failed nothing may be written. So each read begins
+    // with all bytes before it given on.
     ensures read { result ≡ Err RecoverError.Read → RecoversRead (record { start = start; first = first; rotated = rotated })
         (R.remaining (inner_of reader.old)) (R.remaining (inner_of reader.new))
         (O.contents (inner_of out.old)) (O.contents (inner_of out.new)) (E.contents (inner_of err.old)) (E.contents (inner_of err.new)) }
@@ -162,7 +163,8 @@ pub fn recover_stream<R: Read, O: Write, E: Write>(
         (R.remaining (inner_of reader.old)) (R.remaining (inner_of reader.new))
         (O.contents (inner_of out.old)) (O.contents (inner_of out.new)) (E.contents (inner_of err.old)) (E.contents (inner_of err.new)) }
 
-    // Whatever is returned, nothing but a front of the bytes with what is put in is ever written, and no frame without its line.
+    // Whatever is returned, nothing but a front of the bytes with what is put in is ever written, and no frame without its
+    // line.
     ensures front { RecoversFront (record { start = start; first = first; rotated = rotated }) (R.remaining (inner_of reader.old)) (R.remaining (inner_of reader.new))
         (O.contents (inner_of out.old)) (O.contents (inner_of out.new)) (E.contents (inner_of err.old)) (E.contents (inner_of err.new)) (has_failed err.new) }
     ensures bounded { ReadsWithin LIMIT (R.remaining (inner_of reader.old)) (R.remaining (inner_of reader.new)) }

@@ -7,9 +7,9 @@ ghost use Rattle.chess_rules.specs.Valid.{Valid};
 ghost use Rattle.chess_rules.specs.Picture.{picture};
 ghost use Rattle.settle_core.specs.Settling.{Settles};
 ghost use Rattle.settle_core.specs.Masks.{IsDiff, IsNoMove, IsOwned, IsShown};
-ghost use Rattle.settle_core.specs.Candidate.{is_king_code, is_owned_code, side_number, lands as lands_test, leaves as leaves_test, officer_of, promotion_between};
+ghost use Rattle.settle_core.specs.Candidate.{is_king_code, lands as lands_test, leaves as leaves_test, officer_of, promotion_between};
 
-use crate::codes::{BLACK_KING, BLACK_PAWN, EMPTY, WHITE_KING, WHITE_PAWN};
+use crate::codes::{BLACK_KING, BLACK_PAWN, EMPTY, WHITE_KING, WHITE_PAWN, is_owned, side_of};
 use crate::masks::{first_square, landed, shown_in, with, without};
 use chess_rules::{Kind, Move, Side, Square};
 
@@ -148,28 +148,6 @@ fn leaves(code: u8, before: u8, after: u8) -> bool
         } else {
             side_of(before) == side_of(code)
         }
-}
-
-/// Whether the code is that of a piece of this side.
-pub fn is_owned(side: Side, code: u8) -> bool
-    ensures { result ≡ is_owned_code side code }
-{
-    match side {
-        Side::White => side_of(code) == 1,
-        Side::Black => side_of(code) == 2,
-    }
-}
-
-fn side_of(code: u8) -> u8
-    ensures { result ≡ side_number code }
-{
-    if code == EMPTY {
-        0
-    } else if code < BLACK_PAWN {
-        1
-    } else {
-        2
-    }
 }
 
 fn is_king(code: u8) -> bool

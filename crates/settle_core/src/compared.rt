@@ -7,13 +7,14 @@ ghost use Rattle.settle_core.specs.Kept.{HasLanded, IsCompared, OnlyLacks};
 ghost use Rattle.chess_rules.specs.Board.{other as other_side};
 ghost use Rattle.settle_core.specs.Lost.{Bares, Loses, MayHideTwo};
 
-use crate::candidate::{candidate_among, is_owned, landing, owned_in};
+use crate::candidate::{candidate_among, landing, owned_in};
+use crate::codes::{is_owned, other};
 use crate::masks::{diff_mask, exceeds, meets};
 use chess_rules::laws::pictures_tell_moves;
-use chess_rules::{Move, Position, Side};
+use chess_rules::{Move, Position};
 
-/// A position, its picture, the squares on which the picture that was seen last differs from it, and those on which pieces stand of the
-/// side to move, and of the other side.
+/// A position, its picture, the squares on which the picture that was seen last differs from it, and those on which pieces
+/// stand of the side to move, and of the other side.
 #[derive(Clone, Copy, Debug)]
 pub struct Compared {
     pub position: Position,
@@ -41,15 +42,6 @@ pub fn shown_after(shown: u64, at: u8, code: u8) -> u64
     ensures { (seen : List ℕ) → length seen ≡ 64 → IsShown shown seen → IsShown result (slice_set seen at code) }
 {
     changed(shown, &[0; 64], at, code)
-}
-
-fn other(side: Side) -> Side
-    ensures { result ≡ other_side side }
-{
-    match side {
-        Side::White => Side::Black,
-        Side::Black => Side::White,
-    }
 }
 
 impl Compared {

@@ -296,7 +296,7 @@ impl Settler {
         self.sign = None;
     }
 
-    /// The plies, in their order: each move with its clock. Callers know it by this name.
+    /// The plies, in their order: each move with its clock. The name is that of the published surface.
     pub fn moves(&self) -> &[Ply]
         ensures plies { result.now ≡ plies_of self.now }
         // Each move is legal where it stands.
@@ -354,8 +354,8 @@ impl Settler {
         self.here.theirs_lost(&self.picture)
     }
 
-    /// Whether two plies from the position may give the last picture: the side to move has left a square, and the other side one that
-    /// is bare.
+    /// Whether two plies from the position may give the last picture: the side to move has left a square, and the other side
+    /// one that is bare.
     pub fn may_hide_two(&self) -> bool
         ensures { (seen : List ℕ) → self.now.last ≡ Some seen → IsTrue result ↔ MayHideTwo (position_of self.now) seen }
     {

@@ -19,7 +19,8 @@ const SECOND: [u8; 7] = [1, 0x29, 0x50, 1, 0x29, 0x59, 0];
 
 const THIRD: [u8; 7] = [1, 0x29, 0x40, 1, 0x29, 0x10, 0];
 
-/// The updates between the pictures of the initial position, after 1. e4 e5, and after 2. Nf3, with the time message before each.
+/// The updates between the pictures of the initial position, after 1. e4 e5, and after 2. Nf3, with the time message before
+/// each.
 static SHOWN: [([u8; 7], &[(u8, u8)]); 3] = [
     (FIRST, &[]),
     (SECOND, &[(52, 0), (36, 1), (12, 0), (28, 7)]),

@@ -14,7 +14,8 @@ use Rattle.chess_rules.proofs.Tells.{same_move}
 use Rattle.settle_core.specs.Settling.{Settles}
 use Rattle.unseen_pairs.specs.declared.pair.TwoPlies.{TwoPlies}
 use Rattle.unseen_pairs.specs.Pairs.{IsAfterTwo}
-use Rattle.unseen_pairs.specs.Lost.{AddsMoves, AddsPairs, ListsFirst, ListsPairs}
+use Rattle.unseen_pairs.specs.Beginning.{AddsMoves, ListsFirst}
+use Rattle.unseen_pairs.specs.Explaining.{AddsPairs, ListsPairs}
 use Rattle.unseen_pairs.proofs.Putting.{settles_own}
 
 same_two : (x y : TwoPlies) → x.first ≡ y.first → x.second ≡ y.second → y ≡ x

@@ -19,7 +19,7 @@ use Rattle.chess_rules.proofs.LawLemmas.{moves_move_pieces, moves_stay_valid}
 use Rattle.chess_rules.proofs.Staying.{passed, ways_after}
 use Rattle.settle_core.specs.Candidate.{is_owned_code, side_number}
 use Rattle.settle_core.specs.Lost.{LosesAt}
-use Rattle.unseen_pairs.specs.Lost.{AddsMoves, BeginsNone, BeginsPlainly, GoesNowhere, IsPlainPawn, LandsAt, ListsFirst, TheirsLand}
+use Rattle.unseen_pairs.specs.Beginning.{AddsMoves, BeginsPlainly, IsPlainPawn, LandsAt, ListsFirst, TheirsLand}
 use Rattle.settle_core.proofs.Boards.{kind_of, none_piece, on_board, other-other, side_of, sides_differ}
 use Rattle.settle_core.proofs.Pawns.{NextRow, pawn_attack_row, pawn_stood}
 use Rattle.settle_core.proofs.Pieces.{at_picture, code_no_zero, same_code, theirs_stood}
@@ -179,7 +179,7 @@ taken_passing p m n seen o v two plain passant =
     (ap (λ xs. get_or xs n.to 0) two.shows ∙ at_picture (after q n) n.to (rw u.squares low) ∙ ap code came)
 
 -- The first ply of a pair goes to a square where a piece landed.
-pub first_ply : (p : Parts) (m n : Move) (seen : List ℕ) → Valid p → TheirsLand p seen → (on p.board m.from ≡ piece_of p.side Pawn → IsPlainPawn p seen m.from)
+first_ply : (p : Parts) (m n : Move) (seen : List ℕ) → Valid p → TheirsLand p seen → (on p.board m.from ≡ piece_of p.side Pawn → IsPlainPawn p seen m.from)
     → IsAfterTwo p seen m n → LandsAt p seen m.to × (m.promotion ≡ None)
 first_ply p m n seen v b plain two =
     let q : Parts = after p m in
@@ -222,14 +222,6 @@ first_differs : (p : Parts) (m n : Move) (seen : List ℕ) → Valid p → IsAft
 first_differs p m n seen v two =
     let lost : LosesAt p seen p.side m.from = mover_loses_at p m n seen v two in
     (lost.low, λ e. lost.gone (sym e ∙ at_picture p m.from (rw v.squares lost.low) ∙ ap code lost.stands))
-
--- No pair begins so.
-pub first_lands : (p : Parts) (m n : Move) (seen : List ℕ) → Valid p → BeginsNone p seen → ¬ IsAfterTwo p seen m n
-first_lands p m n seen v b two =
-    let d = first_differs p m n seen v two in
-    let nowhere : GoesNowhere p seen m.from = b.nowhere m.from d.0 d.1 in
-    let ply = first_ply p m n seen v b.theirs nowhere.pawn two in
-    nowhere.moves m ply.1 refl ply.0 two.first
 
 -- All pairs begin with these moves.
 pub all_listed : (p : Parts) (seen : List ℕ) (moves : List Move) → Valid p → BeginsPlainly p seen

@@ -1,6 +1,7 @@
 pub mod Pairs
 pub mod Recovering
-pub mod Lost
+pub mod Beginning
+pub mod Explaining
 pub mod Candidates
 pub mod Recoverer
 pub mod Laws

@@ -1,99 +1,15 @@
-//! Whether a pair may begin, as far as it is told by the squares on which a picture differs.
-ghost use Rattle.std.specs.Prelude.{◌≡◌, ◌≢◌, ◌<◌, ℕ, IfOk, IsTrue, None, OnOk, true, false, slice_index};
+//! The first plies of the pairs that may explain a picture, as the squares tell on which it differs from the position's.
+ghost use Rattle.std.specs.Prelude.{◌≡◌, ◌<◌, IfOk, IsTrue, None, OnOk};
 ghost use Rattle.chess_rules.specs.declared.pieces.Kind.TheVariants.{Pawn};
-ghost use Rattle.std.specs.Int.{bit_at};
-ghost use Rattle.chess_rules.specs.declared.chess_move.Move.{Move as MoveOf};
-ghost use Rattle.chess_rules.specs.Board.{on, other as other_side, piece_of};
-ghost use Rattle.chess_rules.specs.Legal.{Legal};
+ghost use Rattle.chess_rules.specs.Board.{on, piece_of};
 ghost use Rattle.chess_rules.specs.Picture.{picture};
-ghost use Rattle.settle_core.specs.Candidate.{is_owned_code, side_number};
 ghost use Rattle.settle_core.specs.Masks.{IsDiff};
-ghost use Rattle.unseen_pairs.specs.Lost.{AddsMoves, BeginsNone, BeginsPlainly, GoesNowhere, IsPlainPawn, LandsAt, ListsFirst};
-ghost use Rattle.unseen_pairs.specs.Pairs.{IsAfterTwo};
+ghost use Rattle.unseen_pairs.specs.Beginning.{AddsMoves, BeginsPlainly, IsPlainPawn, LandsAt, ListsFirst, TheirsLand};
 
-use crate::explaining::other;
 use chess_rules::{Kind, Move, Position, Side, Square, kind_on};
-use settle_core::laws::diff_mask;
+use settle_core::codes::{BLACK_PAWN, WHITE_PAWN, is_owned, other};
+use settle_core::masks::{diff_mask, first_square, without};
 use std::alloc::{AllocError, Global};
-
-/// The code of White's pawn, and that of Black's (DGT Electronic Board Protocol).
-const WHITE_PAWN: u8 = 1;
-
-const BLACK_PAWN: u8 = 7;
-
-/// The first square of a mask that has one.
-fn first_square(mask: u64) -> u8
-    requires { 0 < mask }
-    ensures range { result < 64 }
-    ensures set { bit_at mask result ≡ 1 }
-{
-    mask.trailing_zeros() as u8
-}
-
-/// The mask without one of its squares.
-fn without(mask: u64, square: u8) -> u64
-    requires range { square < 64 }
-    requires set { bit_at mask square ≡ 1 }
-    ensures smaller { result < mask }
-    ensures cleared { bit_at result square ≡ 0 }
-    ensures others { (s : ℕ) → s < 64 → s ≢ square → bit_at result s ≡ bit_at mask s }
-{
-    mask & !(1 << square)
-}
-
-fn side_of(code: u8) -> u8
-    ensures { result ≡ side_number code }
-{
-    if code == 0 {
-        0
-    } else if code < 7 {
-        1
-    } else {
-        2
-    }
-}
-
-fn is_owned(side: Side, code: u8) -> bool
-    ensures { result ≡ is_owned_code side code }
-{
-    match side {
-        Side::White => side_of(code) == 1,
-        Side::Black => side_of(code) == 2,
-    }
-}
-
-/// Whether the move without a promotion is legal.
-fn may_go(p: &Position, from: u8, to: u8) -> bool
-    ensures { result ≡ false → (m : MoveOf) → m.promotion ≡ None → m.from ≡ from → m.to ≡ to → ¬ Legal p.now m }
-{
-    let Some(from) = Square::new(from) else {
-        return true;
-    };
-    let Some(to) = Square::new(to) else {
-        return true;
-    };
-    p.is_legal(Move {
-        from,
-        to,
-        promotion: None,
-    })
-}
-
-/// Whether a piece, no pawn, may go from here to where one landed.
-fn may_land(p: &Position, seen: &[u8; 64], mask: u64, from: u8) -> bool
-    ensures { result ≡ false → IsDiff mask (picture p.now) seen.now → (m : MoveOf) → m.promotion ≡ None → m.from ≡ from → LandsAt p.now seen.now m.to
-        → ¬ Legal p.now m }
-{
-    let mut rest = mask;
-    while rest > 0 {
-        let to = first_square(rest);
-        if seen[to as usize] > 0 && may_go(p, from, to) {
-            return true;
-        }
-        rest = without(rest, to);
-    }
-    false
-}
 
 /// Whether a pawn that is lost here is not taken in passing, and does not promote.
 fn is_plain_pawn(p: &Position, seen: &[u8; 64], from: u8) -> bool
@@ -107,24 +23,9 @@ fn is_plain_pawn(p: &Position, seen: &[u8; 64], from: u8) -> bool
     }
 }
 
-/// Whether a piece of the side to move is lost here that may go to where one landed, or is a pawn that may do more.
-fn may_begin_on(p: &Position, seen: &[u8; 64], mask: u64, from: u8) -> bool
-    requires { from < 64 }
-    ensures { result ≡ false → IsDiff mask (picture p.now) seen.now → GoesNowhere p.now seen.now from }
-{
-    // For its clause: the position is valid.
-    let parts = p.parts();
-    match kind_on(&parts.board, parts.side, from) {
-        None => false,
-        Some(Kind::Pawn) => !is_plain_pawn(p, seen, from) || may_land(p, seen, mask, from),
-        Some(_) => may_land(p, seen, mask, from),
-    }
-}
-
 /// Whether a piece of the side that is not to move landed.
 fn lands_theirs(p: &Position, seen: &[u8; 64], mask: u64) -> bool
-    ensures { IsTrue result → IsDiff mask (picture p.now) seen.now
-        → (s : ℕ) × LandsAt p.now seen.now s × (is_owned_code (other_side p.now.side) (slice_index seen.now s) ≡ true) }
+    ensures { IsTrue result → IsDiff mask (picture p.now) seen.now → TheirsLand p.now seen.now }
 {
     let side = other(p.parts().side);
     let mut rest = mask;
@@ -136,27 +37,6 @@ fn lands_theirs(p: &Position, seen: &[u8; 64], mask: u64) -> bool
         rest = without(rest, square);
     }
     false
-}
-
-/// Whether no pair begins in the position, as the squares tell on which the picture differs from its own.
-#[inline(never)]
-pub fn begins_none(p: &Position, seen: &[u8; 64], mask: u64) -> bool
-    ensures { IsTrue result → IsDiff mask (picture p.now) seen.now → (m n : MoveOf) → ¬ IsAfterTwo p.now seen.now m n }
-{
-    // For its clause: the position is valid.
-    p.parts();
-    if !lands_theirs(p, seen, mask) {
-        return false;
-    }
-    let mut rest = mask;
-    while rest > 0 {
-        let from = first_square(rest);
-        if may_begin_on(p, seen, mask, from) {
-            return false;
-        }
-        rest = without(rest, from);
-    }
-    true
 }
 
 /// Whether no pawn of the side to move that is lost here does more than to go to where a piece landed.

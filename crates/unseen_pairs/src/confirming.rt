@@ -11,8 +11,21 @@ use crate::pair::Pair;
 use crate::settled::settled_in;
 use chess_clock::Reading;
 use chess_rules::Position;
+use settle_core::codes::WHITE_KING;
 use settle_core::{Seen, Settler};
 use std::alloc::{AllocError, Global};
+
+/// The number of the square d5.
+const D5: usize = 27;
+
+/// The number of the square e5.
+const E5: usize = 28;
+
+/// The number of the square d4.
+const D4: usize = 35;
+
+/// The number of the square e4.
+const E4: usize = 36;
 
 /// A pair that explains a picture that waits.
 #[derive(Clone, Copy, Debug)]
@@ -64,7 +77,10 @@ fn going_on(seen: Seen) -> Option<Seen>
 fn shows_king(picture: &[u8; 64]) -> bool
     ensures { IsTrue result ↔ ShowsKing picture.now }
 {
-    picture[27] == 5 || picture[28] == 5 || picture[35] == 5 || picture[36] == 5
+    picture[D5] == WHITE_KING
+        || picture[E5] == WHITE_KING
+        || picture[D4] == WHITE_KING
+        || picture[E4] == WHITE_KING
 }
 
 /// What goes on from the position, if anything: the move that the picture settles there, or the sign over it.

@@ -3,19 +3,19 @@ ghost use Rattle.std.specs.Prelude.{◌≡◌, ◌<◌, ◌↔◌, ◌^◌, ℕ,
 ghost use Rattle.chess_rules.specs.declared.chess_move.Move.{Move as MoveOf};
 ghost use Rattle.chess_rules.specs.declared.parts.Parts.{Parts as PartsOf};
 ghost use Rattle.chess_rules.specs.After.{after};
-ghost use Rattle.chess_rules.specs.Board.{other as other_side};
 ghost use Rattle.chess_rules.specs.Picture.{picture};
 ghost use Rattle.chess_rules.specs.Legal.{Legal};
 ghost use Rattle.unseen_pairs.specs.declared.pair.TwoPlies.{TwoPlies as TwoPliesOf};
 ghost use Rattle.unseen_pairs.specs.Pairs.{IsAfterTwo};
 ghost use Rattle.settle_core.specs.Lost.{Loses, LosesAt};
-ghost use Rattle.unseen_pairs.specs.Lost.{AddsPairs};
+ghost use Rattle.unseen_pairs.specs.Explaining.{AddsPairs};
 
 use crate::beginning::first_plies;
 use crate::pair::TwoPlies;
 use crate::settled::settled_in;
 use chess_rules::{Move, Position, Side, kind_on};
-use settle_core::laws::diff_mask;
+use settle_core::codes::other;
+use settle_core::masks::diff_mask;
 use std::alloc::{AllocError, Global};
 
 /// A copy, since a move by value is given away.
@@ -23,15 +23,6 @@ fn copy(m: &Move) -> Move
     ensures { result ≡ m.now }
 {
     *m
-}
-
-pub fn other(side: Side) -> Side
-    ensures { result ≡ other_side side }
-{
-    match side {
-        Side::White => Side::Black,
-        Side::Black => Side::White,
-    }
 }
 
 /// Whether a piece of this side stands on the square and the picture shows something else there.
@@ -73,7 +64,7 @@ pub fn has_more(mask: u64, most: u32) -> bool
 }
 
 /// Whether each side has left a square, and no more differ than two plies change: without that, no pair explains the picture.
-pub fn may_hide_two(p: &Position, seen: &[u8; 64]) -> bool
+pub fn may_be_explained(p: &Position, seen: &[u8; 64]) -> bool
     ensures { (m n : MoveOf) → IsAfterTwo p.now seen.now m n → IsTrue result }
 {
     // For its clause: the position is valid.

@@ -31,16 +31,16 @@ pub fn nothing_is_invented()
     ensures { NothingIsInvented }
 {}
 
-/// Honest hands are left alone: where the other side's pieces stand still up to each move, but the one that it takes, and while
-/// that is off, the mover's too, but those that the move moves, no pair is confirmed, and nothing is put in.
+/// Honest hands are left alone: where the other side's pieces stand still up to each move, but the one that it takes, and
+/// while that is off, the mover's too, but those that the move moves, no pair is confirmed, and nothing is put in.
 pub fn honest_hands_are_left_alone()
     ensures confirms { HonestHandsConfirmNone }
     ensures written { HonestHandsAreLeftAlone }
     ensures plain { PlainHandsAreOnTheWay }
 {}
 
-/// Hurried hands: where some pairs of a line are not seen ply by ply, and the next moves or the kings go on from them alone, the
-/// entries give the line, with its clocks.
+/// Hurried hands: where some pairs of a line are not seen ply by ply, and the next moves or the kings go on from them alone,
+/// the entries give the line, with its clocks.
 pub fn hurried_hands_give_their_line()
     ensures moves { HurriedHands }
     ensures score { HurriedHandsKeepClocks }

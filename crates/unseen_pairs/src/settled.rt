@@ -5,7 +5,8 @@ ghost use Rattle.settle_core.specs.Settling.{Settles};
 
 use chess_rules::laws::pictures_tell_moves;
 use chess_rules::{Move, Position};
-use settle_core::laws::{candidate, diff_mask};
+use settle_core::laws::candidate;
+use settle_core::masks::diff_mask;
 
 /// A copy, since a move by value is given away.
 fn copy(m: &Move) -> Move

@@ -10,9 +10,8 @@ ghost use Rattle.settle_core.specs.Settler.{position_of};
 ghost use Rattle.settle_core.specs.Settling.{Played, reached};
 ghost use Rattle.unseen_pairs.specs.Candidates.{AreAdded, AreAllAdded, AreAged, HidesNone, IsNew};
 
-use crate::beginning::begins_none;
 use crate::confirming::Candidate;
-use crate::explaining::{has_more, may_hide_two, pairs_that_explain};
+use crate::explaining::{has_more, may_be_explained, pairs_that_explain};
 use crate::pair::{Pair, TwoPlies};
 use chess_clock::Reading;
 use chess_rules::{Move, Position};
@@ -116,7 +115,7 @@ fn add_pairs(
 ) -> Result<(), AllocError>
     ensures { OnOk result (AreAdded corrects p.now picture.now reading.now candidates.old.items candidates.new.items) }
 {
-    if !may_hide_two(p, picture) {
+    if !may_be_explained(p, picture) {
         return Ok(());
     }
     add_explaining(alloc, candidates, corrects, p, picture, reading)
@@ -135,15 +134,11 @@ fn add_next(
 {
     // For its clause: the position is valid.
     settler.position().parts();
-    let differs = settler.differs();
     // No ply changes more than four squares.
-    if has_more(differs, 8) {
+    if has_more(settler.differs(), 8) {
         return Ok(());
     }
     if !settler.may_hide_two() {
-        return Ok(());
-    }
-    if begins_none(settler.position(), picture, differs) {
         return Ok(());
     }
     add_explaining(
@@ -177,8 +172,9 @@ fn add_correcting(
     add_pairs(alloc, candidates, true, &before, picture, reading)
 }
 
-/// Whether no pair explains the last picture, where it waits, since a side has left no square that it would have left; and where the
-/// pair corrects the last ply, the piece of this ply isn't where it was put.
+/// Whether the squares that the sides have left tell that no pair explains the last picture, where it waits. A pair leaves a
+/// square of each side. Where it corrects the last ply, the side that is not to move has left the square to which this ply
+/// went.
 #[inline(always)]
 pub fn hides_none(settler: &Settler) -> bool
     ensures { IsTrue result → HidesNone settler.now }
@@ -194,8 +190,8 @@ pub fn hides_none(settler: &Settler) -> bool
     !settler.may_hide_two_before()
 }
 
-/// Adds all pairs that explain a picture which waits: those from the settler's position, and those from the position before its
-/// last ply.
+/// Adds all pairs that explain a picture which waits: those from the settler's position, and those from the position before
+/// its last ply.
 pub fn add_all(
     alloc: Global,
     candidates: &mut Vec<Candidate>,

@@ -4,7 +4,7 @@ use Rattle.std.proofs.lemmas.Bool.{cases_eq}
 use Rattle.std.proofs.lemmas.Nat.Bits.{bit_at-zero}
 use Rattle.chess_rules.specs.Board.{on, piece_of}
 use Rattle.chess_rules.specs.declared.pieces.Kind.TheVariants.{Pawn}
-use Rattle.unseen_pairs.specs.Lost.{IsPlainPawn}
+use Rattle.unseen_pairs.specs.Beginning.{IsPlainPawn}
 use Rattle.unseen_pairs.proofs.beginning.begins_plainly.Goals as goal
 
 pub loop-rest-preserved : goal.loop-rest-preserved
@@ -18,9 +18,8 @@ loop-rest-preserved c diff s low differs clear pawn =
 
 pub returns : goal.returns
 returns c = λ t diff.
-    let f = c.lands_theirs.ensures c.if-not-lands_theirs.false diff in
     let none : c.loop-rest.rest ≡ 0 = let over = c.loop-rest-test.false in omega arith in
     record {
-      theirs = record { square = f.0; lands = f.1; owned = f.2 };
+      theirs = c.lands_theirs.ensures c.if-not-lands_theirs.false diff;
       pawns = λ s low differs. c.loop-rest.invariant diff s low differs (ap (λ (x : ℕ). bit_at x s) none ∙ bit_at-zero s);
     }

@@ -4,7 +4,7 @@ use Rattle.chess_rules.specs.Board.{on, piece_of}
 use Rattle.chess_rules.specs.declared.pieces.Kind.TheVariants.{Pawn}
 use Rattle.chess_rules.specs.Picture.{picture}
 use Rattle.settle_core.specs.Masks.{IsDiff}
-use Rattle.unseen_pairs.specs.Lost.{IsPlainPawn}
+use Rattle.unseen_pairs.specs.Beginning.{IsPlainPawn}
 use Rattle.unseen_pairs.proofs.beginning.begins_plainly.Given as goal
 
 abbrev pub invariant-loop-rest : goal.invariant-loop-rest

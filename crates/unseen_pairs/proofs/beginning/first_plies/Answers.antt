@@ -1,5 +1,5 @@
 use Rattle.chess_rules.specs.Moves.{ListsLegal}
-use Rattle.unseen_pairs.specs.Lost.{ListsFirst}
+use Rattle.unseen_pairs.specs.Beginning.{ListsFirst}
 use Rattle.unseen_pairs.proofs.Adding.{all_legal, if_ok}
 use Rattle.unseen_pairs.proofs.beginning.first_plies.Goals as goal
 

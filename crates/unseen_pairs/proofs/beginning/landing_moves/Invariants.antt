@@ -2,7 +2,7 @@ use Rattle.std.proofs.Common.{◌≡◌, ◌≢◌, ◌<◌, ℕ, [], None, get_
 use Rattle.std.specs.Int.{bit_at}
 use Rattle.chess_rules.specs.Picture.{picture}
 use Rattle.settle_core.specs.Masks.{IsDiff}
-use Rattle.unseen_pairs.specs.Lost.{AddsMoves, LandsAt}
+use Rattle.unseen_pairs.specs.Beginning.{AddsMoves, LandsAt}
 use Rattle.unseen_pairs.proofs.beginning.landing_moves.Given as goal
 
 abbrev pub invariant-squares : goal.invariant-squares

@@ -3,7 +3,7 @@ use Rattle.std.specs.Int.{bit_at}
 use Rattle.std.proofs.lemmas.Bool.{cases_eq}
 use Rattle.chess_rules.specs.declared.chess_move.Move.{Move}
 use Rattle.chess_rules.specs.Legal.{Legal}
-use Rattle.unseen_pairs.specs.Lost.{AddsMoves, LandsAt}
+use Rattle.unseen_pairs.specs.Beginning.{AddsMoves, LandsAt}
 use Rattle.unseen_pairs.proofs.Adding.{adds_both, adds_no_move}
 use Rattle.unseen_pairs.proofs.beginning.push_from.Goals.{then-seen-to-gt0+in_ok-push_between, else-seen-to-gt0}
 use Rattle.unseen_pairs.proofs.beginning.push_from.Goals as goal

@@ -6,7 +6,7 @@ use Rattle.chess_rules.specs.declared.parts.Parts.{Parts}
 use Rattle.settle_core.specs.Lost.{Loses}
 use Rattle.unseen_pairs.proofs.Counting.{two_change}
 use Rattle.unseen_pairs.proofs.Losing.{mover_loses, other_loses}
-use Rattle.unseen_pairs.proofs.explaining.may_hide_two.Goals as goal
+use Rattle.unseen_pairs.proofs.explaining.may_be_explained.Goals as goal
 
 pub returns-then-has_more : goal.returns-then-has_more
 returns-then-has_more c = λ m n two.
