@@ -1,6 +1,6 @@
 -- What results say, and tests of them.
 use Rattle.std.proofs.Common.{◌≡◌, ◌∙◌, ℕ, List, Result, Ok, refl, sym, Bool, true, false, ◌||◌, Err}
-use Rattle.std.specs.Prelude.{is_err, is_ok}
+use Rattle.std.specs.Prelude.{if◌then◌else◌, is_err, is_ok}
 
 pub ok_same : {A E : Type 0} (r : Result A E) (a b : A) → r ≡ Ok a → r ≡ Ok b → a ≡ b
 ok_same r a b x y = let e : Ok a ≡ Ok b = sym x ∙ y in cc

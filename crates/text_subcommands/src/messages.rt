@@ -57,7 +57,7 @@ fn message_of(error: FenError) -> &'static [u8]
     }
 }
 
-/// Says on standard error why a FEN is refused, in one line, and returns the status, 1. To be called where nothing was said yet.
+/// Says on standard error why a FEN is refused, in one line, and returns the status, 1.
 pub fn refused_fen<E: Write>(err: &mut Watch<E>, error: FenError) -> u8
     ensures status { result ≡ 1 }
     ensures says { Says (E.contents (inner_of err.old)) (E.contents (inner_of err.new)) (has_failed err.new) (fen_message error) }
@@ -78,8 +78,8 @@ fn refused_value<E: Write>(err: &mut Watch<E>, tag: Tag, reason: &[u8]) -> u8
     refused(err, line.as_slice(), 1)
 }
 
-/// Says on standard error why the value of a tag is refused, in one line that names the tag, and returns the status: 1, or 4 where
-/// memory ran out. To be called where nothing was said yet.
+/// Says on standard error why the value of a tag is refused, in one line that names the tag, and returns the status, 1; or
+/// that memory ran out, with status 4.
 pub fn refused_tag<E: Write>(err: &mut Watch<E>, tag: Tag, error: TagError) -> u8
     ensures memory { error ≡ TagError.Memory → result ≡ 4 }
     ensures value { error ≢ TagError.Memory → result ≡ 1 }
