@@ -17,14 +17,16 @@ use Rattle.replay_arguments.specs.Subcommands.{Asks, AsksFor, AsksForPictures, A
 use Rattle.replay_arguments.specs.Setups.{SetsUpNothing, tag_text}
 use Rattle.chess_text.specs.Start.{HasNoStart, StartsAt, given}
 use Rattle.replay_arguments.specs.TagOptions.{option_of}
-use Rattle.dgt_replay.specs.Checked.{RefusesText, text_limit}
-use Rattle.dgt_replay.specs.Does.{Checks, Does, Lists, Plays, Prints, Records, Recovers, Refuses, Untouched, WritesText}
-use Rattle.dgt_replay.specs.Messages.{IsTooLong, Says}
-use Rattle.dgt_replay.specs.Played.{RefusesMoves, line_limit}
-use Rattle.dgt_replay.specs.Refusals.{RefusesSetup, RefusesStart}
-use Rattle.dgt_replay.specs.Streams.{Streams}
+use Rattle.text_subcommands.specs.Checked.{RefusesText, text_limit, Checks}
+use Rattle.dgt_replay.specs.Does.{Does, Lists, Records, Recovers, WritesText}
+use Rattle.text_subcommands.specs.Played.{Plays, RefusesMoves, line_limit}
+use Rattle.text_subcommands.specs.Printed.{Prints}
+use Rattle.text_subcommands.specs.Refusals.{Refuses, Untouched, RefusesStart}
+use Rattle.text_subcommands.specs.Messages.{IsTooLong, Says}
+use Rattle.dgt_replay.specs.Refusals.{RefusesSetup}
+use Rattle.text_subcommands.specs.Streams.{Streams}
 use Rattle.dgt_replay.proofs.EndLemmas.{ends_for_memory, none_read, not_both}
-use Rattle.dgt_replay.proofs.MessageLemmas.{tells_alike, tells_memory}
+use Rattle.text_subcommands.proofs.MessageLemmas.{tells_alike, tells_memory}
 use Rattle.dgt_replay.proofs.RefusalLemmas.{refuses_alike, refuses_start_alike}
 use Rattle.dgt_replay.proofs.SetupLemmas.{meets_nothing}
 use Rattle.dgt_replay.proofs.SubcommandLemmas.{chooses_check, chooses_follow, chooses_pictures, chooses_record, chooses_recover, chooses_show, follow_chosen, moves_chosen, positions_chosen, record_chosen, recover_chosen}

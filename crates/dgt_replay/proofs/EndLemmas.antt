@@ -1,5 +1,5 @@
 -- How a listing ends.
-use Rattle.std.proofs.Common.{◌≡◌, ℕ, List, [], Option, Some, None, Bool, true, false, ◌||◌, ◌⊎◌, refl, subst, sym, inl, inr, arith}
+use Rattle.std.proofs.Common.{◌≡◌, ℕ, List, [], Option, Some, None, Bool, true, false, ◌⊎◌, refl, subst, sym, inl, inr, arith}
 use Rattle.std.specs.Io.KnownBytes.{Keeps}
 use Rattle.board_session.specs.Recording.{limit}
 use Rattle.watched_streams.specs.Input.{ReadsWithin}
@@ -8,8 +8,8 @@ use Rattle.board_listing.specs.Status.{status_of, message_of}
 use Rattle.board_listing.specs.declared.stream.ListError.{ListError}
 use Rattle.board_listing.specs.declared.stream.ListError.TheVariants.{Memory, Read, Write, TooLong}
 use Rattle.std.proofs.KnownBytes.{Appends-kept}
-use Rattle.dgt_replay.specs.Messages.{IsTooLong, Says, Tells}
-use Rattle.dgt_replay.proofs.MessageLemmas.{tells_fault, tells_memory, tells_refused}
+use Rattle.text_subcommands.specs.Messages.{IsTooLong, Says, Tells}
+use Rattle.text_subcommands.proofs.MessageLemmas.{tells_fault, tells_memory, tells_refused}
 use Rattle.board_listing.specs.declared.listing.Listing.{Listing}
 use Rattle.board_listing.specs.declared.listing.Listing.TheVariants.{Events, Pictures, Game}
 
@@ -125,10 +125,6 @@ ends_refused listing Memory status input left written so_far after reader_failed
   whole = λ e. absurd (omega arith);
   read = λ e. absurd (let bad = blamed e in cc);
 }
-
-pub true_or : (a b : Bool) → b ≡ true → (a || b) ≡ true
-true_or true b h = refl
-true_or false b h = h
 
 -- What is said of each refusal.
 pub tells_refused_listing : (error : ListError) (status : ℕ) (message : List ℕ) (said said' : Option (List ℕ)) (reader_failed out_failed err_failed : Bool) → status ≡ status_of error → message ≡ message_of error

@@ -1,5 +1,5 @@
 -- Arguments with which a parse finds fault, and arguments that ask for help.
-use Rattle.std.proofs.Common.{◌≡◌, ◌≢◌, ◌⊎◌, ◌∙◌, true, false, List, [], ◌∷◌, Option, Some, None, inl, inr, subst, sym}
+use Rattle.std.proofs.Common.{◌≡◌, ◌≢◌, ◌⊎◌, ◌∙◌, true, false, List, [], ◌∷◌, Option, Some, None, inl, inr, subst, sym, ℕ, codes, Bool, arith}
 use Rattle.std.specs.Option.{option_map_or}
 use Rattle.std.specs.Prelude.{MatchOption}
 use Rattle.clap.specs.Faults.{fault_of}
@@ -11,6 +11,9 @@ use Rattle.clap.specs.declared.error.kind.ErrorKind.TheVariants as kind
 use Rattle.replay_arguments.specs.declared.arguments.Subcommand.{Subcommand}
 use Rattle.replay_arguments.specs.Command.{replay}
 use Rattle.replay_arguments.specs.Subcommands.{AreMistaken, AsksFor, Chooses, is_subcommand}
+use Rattle.std.specs.Io.KnownBytes.{Keeps}
+use Rattle.dgt_replay.specs.Messages.{GivesText}
+use Rattle.text_subcommands.specs.Messages.{Says}
 
 -- Mistaken arguments ask for nothing.
 pub mistaken_asks_nothing : (arguments : List Text) (subcommand : Subcommand) → AreMistaken arguments → fault_of replay arguments ≡ [] → AsksFor arguments subcommand → ⊥
@@ -44,3 +47,13 @@ one_kind arguments asked k one (inl among) =
       | inr none ↦ absurd none
     ]
 one_kind arguments asked k one (inr own) = absurd (one_fault arguments asked one own.0)
+
+-- A text that is asked for, where memory ran out.
+pub text_out_of_memory : (status : ℕ) (written written' said said' : Option (List ℕ)) (out_failed err_failed : Bool) → status ≡ 4
+    → Keeps written written' → Says said said' err_failed (codes "memory\n") → GivesText status written written' said said' out_failed err_failed
+text_out_of_memory status written written' said said' out_failed err_failed four keeps says = record {
+  done = λ e. absurd (omega arith);
+  fault = λ e. absurd (omega arith);
+  memory = λ e. (keeps, says);
+  known = inr (inr four);
+}

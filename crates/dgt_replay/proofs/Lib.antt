@@ -1,10 +1,6 @@
-pub mod CheckLemmas
 pub mod DoesLemmas
 pub mod EndLemmas
 pub mod FaultLemmas
-pub mod MessageLemmas
-pub mod MoveLemmas
-pub mod PlayedLemmas
 pub mod RecoverLemmas
 pub mod RefusalLemmas
 pub mod SetupLemmas

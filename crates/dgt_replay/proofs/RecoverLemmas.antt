@@ -10,8 +10,8 @@ use Rattle.recovery.specs.declared.refusal.RecoverError.TheVariants.{Read, Write
 use Rattle.recovery.specs.Status.{message_of, status_of}
 use Rattle.recovery.specs.Streams.{RecoversAll, RecoversFirst, RecoversFront, RecoversRead, RecoversSome}
 use Rattle.dgt_replay.specs.Does.{Recovers}
-use Rattle.dgt_replay.specs.Messages.{Says}
-use Rattle.dgt_replay.specs.Streams.{Streams}
+use Rattle.text_subcommands.specs.Messages.{Says}
+use Rattle.text_subcommands.specs.Streams.{Streams}
 use Rattle.dgt_replay.proofs.EndLemmas.{not_both}
 
 -- A flush keeps the bytes.

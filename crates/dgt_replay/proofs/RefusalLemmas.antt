@@ -1,9 +1,8 @@
 -- What is said of arguments that are refused.
 use Rattle.std.proofs.Common.{◌≡◌, ◌≢◌, ◌⊎◌, ℕ, Bool, false, List, Option, Some, None, codes, inl, inr, refl, subst}
-use Rattle.std.specs.Prelude.{IfSome, MatchOption, slice_index_or}
+use Rattle.std.specs.Prelude.{MatchOption, slice_index_or}
 use Rattle.clap.specs.Walk.{Text}
 use Rattle.chess_rules.specs.declared.parts.Parts.{Parts}
-use Rattle.chess_rules.specs.Initial.{initial}
 use Rattle.chess_text.specs.declared.fen.FenError.{FenError}
 use Rattle.chess_text.specs.Fen.{RefusedFirst}
 use Rattle.chess_game.specs.declared.values.Tag.{Tag}
@@ -15,17 +14,14 @@ use Rattle.replay_arguments.specs.declared.setup.Refusal.TheVariants.{Fen, Tag a
 use Rattle.replay_arguments.specs.declared.arguments.RecordArguments.{RecordArguments}
 use Rattle.replay_arguments.specs.Setups.{ForMemory, IsFirst, MayHave, tag_text}
 use Rattle.chess_text.specs.Start.{StartsAt, given}
-use Rattle.dgt_replay.specs.Refusals.{RefusesSetup, RefusesStart, RefusesValue, refusal_message}
-use Rattle.dgt_replay.specs.Messages.{Says, Tells, fen_message, tag_message}
-use Rattle.dgt_replay.proofs.MessageLemmas.{tells_memory, tells_refused}
+use Rattle.dgt_replay.specs.Refusals.{RefusesSetup, RefusesValue, refusal_message}
+use Rattle.text_subcommands.specs.Refusals.{RefusesStart}
+use Rattle.text_subcommands.specs.Messages.{Says, Tells, fen_message, tag_message}
+use Rattle.text_subcommands.proofs.MessageLemmas.{tells_memory, tells_refused}
 
 match_map : {A : Type 0} (o : Option A) (P Q : A → Type 0) → ((a : A) → P a → Q a) → MatchOption o ⊥ P → MatchOption o ⊥ Q
 match_map None P Q f none = none
 match_map (Some a) P Q f p = f a p
-
-pub start_refused : (fen : Option Text) (error : FenError) → IfSome fen (λ text. RefusedFirst text error) → ((start : Parts) → StartsAt fen start → ⊥) → RefusesStart fen (fen_message error)
-start_refused None error refused none = none initial refl
-start_refused (Some text) error refused none = (error, refused, refl)
 
 -- What is said of the first refusal.
 tells_value : (options : RecordArguments) (tag : Tag) (error : TagError) (status : ℕ) (said said' : Option (List ℕ)) (err_failed : Bool) → (error ≢ Memory) → IsFirst options (OfTag tag error)

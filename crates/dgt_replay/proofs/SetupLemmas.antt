@@ -1,5 +1,5 @@
 -- Setups that are as the arguments say.
-use Rattle.std.proofs.Common.{◌≡◌, ◌⊎◌, ◌∙◌, ℕ, List, Option, Some, None, Result, Ok, inl, inr, refl, subst, sym}
+use Rattle.std.proofs.Common.{◌≡◌, ◌⊎◌, ◌∙◌, ℕ, List, Option, Some, None, inl, inr, refl, subst, sym}
 use Rattle.clap.specs.Walk.{Row, Text}
 use Rattle.chess_rules.specs.declared.parts.Parts.{Parts}
 use Rattle.chess_text.specs.Laws.{TextsTellPositions}
@@ -47,9 +47,6 @@ same_setting options setting start meets same =
     let first : options.first ≡ setting.first = sym meets.first in
     let rotated : options.rotated ≡ setting.rotated = sym meets.rotated in
     rw (same, first, rotated) refl
-
-pub ok_same : {A E : Type 0} (r : Result A E) (a b : A) → r ≡ Ok a → r ≡ Ok b → a ≡ b
-ok_same r a b x y = let e : Ok a ≡ Ok b = sym x ∙ y in cc
 
 pub meets_nothing : (rows : List Row) (options : RecordArguments) → Wants rows options → SetsUpNothing rows → MeetsNothing options
 meets_nothing rows options wants (inl none) = inl (subst HasNoStart (sym wants.board.fen) none)

@@ -6,9 +6,9 @@ use Rattle.board_session.specs.declared.recording.Setup.{Setup}
 use Rattle.chess_game.specs.Games.{Content}
 use Rattle.pgn_book.specs.Laws.{TextsAreShort}
 use Rattle.pgn_book.specs.Pgn.{Pgn}
-use Rattle.dgt_replay.specs.Checked.{RefusesText, text_limit}
+use Rattle.text_subcommands.specs.Checked.{RefusesText, text_limit}
 use Rattle.dgt_replay.specs.Laws.{WrittenTextsAreWithin, WrittenTextsPass}
-use Rattle.dgt_replay.specs.Streams.{Streams}
+use Rattle.text_subcommands.specs.Streams.{Streams}
 
 pub texts_are_within : WrittenMovesTakeTenBytes → TextsAreShort → WrittenTextsAreWithin
 texts_are_within ten short setup left =

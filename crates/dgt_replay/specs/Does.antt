@@ -1,7 +1,5 @@
 -- What each subcommand does with the streams, by its status.
 use Rattle.std.specs.Prelude.{◌≡◌, ◌⊎◌, ◌∷◌, [], ℕ, Contains, List, Option, codes, false, true}
-use Rattle.std.specs.Io.KnownBytes.{Keeps}
-use Rattle.clap.specs.Walk.{Text}
 use Rattle.chess_rules.specs.declared.parts.Parts.{Parts}
 use Rattle.dgt_frame.specs.Streams.{Timed}
 use Rattle.board_session.specs.Recording.{limit}
@@ -19,17 +17,14 @@ use Rattle.replay_arguments.specs.declared.arguments.Subcommand.{Subcommand}
 use Rattle.replay_arguments.specs.declared.arguments.Subcommand.TheVariants.{Show, Pictures, Record, Follow, Recover, Check, Moves, Positions}
 use Rattle.replay_arguments.specs.Setups.{Meets, MeetsBoard, MeetsNothing, tag_text}
 use Rattle.chess_text.specs.Start.{HasNoStart, StartsAt, given}
-use Rattle.dgt_replay.specs.Checked.{ChecksGame, ChecksPart, RefusesText, text_limit}
-use Rattle.dgt_replay.specs.Messages.{IsTooLong, Says, Tells}
-use Rattle.dgt_replay.specs.Played.{PlaysAll, PlaysPart, RefusesMoves, line_limit}
-use Rattle.dgt_replay.specs.Printed.{PrintsMoves, PrintsPart}
+use Rattle.text_subcommands.specs.Messages.{IsTooLong, Says, Tells}
 use Rattle.dgt_replay.specs.Recorded.{EndsFor, Fails, RecordsAndTells}
-use Rattle.dgt_replay.specs.Refusals.{RefusesSetup, RefusesStart}
-use Rattle.dgt_replay.specs.Streams.{Streams}
-
--- Nothing was read, and nothing written to the output.
-abbrev pub Untouched : Streams → Type 0
-Untouched s = Keeps s.input s.input' × Keeps s.written s.written'
+use Rattle.dgt_replay.specs.Refusals.{RefusesSetup}
+use Rattle.text_subcommands.specs.Refusals.{RefusesStart, Refuses, Untouched}
+use Rattle.text_subcommands.specs.Streams.{Streams}
+use Rattle.text_subcommands.specs.Checked.{Checks}
+use Rattle.text_subcommands.specs.Played.{Plays}
+use Rattle.text_subcommands.specs.Printed.{Prints}
 
 -- The lines of a stream's events were written, and what ended that was said: that the stream is past its limit, which stream has
 -- failed, or that memory ran out.
@@ -74,50 +69,6 @@ pub record Recovers (setting : Setting) (status : ℕ) (s : Streams) : Type 0 wh
   pub bounded : ReadsWithin limit s.input s.input'
   -- where a read has failed, all bytes before it were given on before it began
   pub read : s.reader_failed ≡ true → (status ≡ 3) × ((told : Option (List ℕ)) × RecoversRead setting s.input s.input' s.written s.written' s.said told)
-
--- The options are refused with such a message, or memory ran out before; nothing was read, and nothing written to the output.
-pub record Refuses (May : List ℕ → Type 0) (status : ℕ) (s : Streams) : Type 0 where
-  pub known : (status ≡ 1) ⊎ (status ≡ 4)
-  pub untouched : Untouched s
-  pub tells : Tells status May s.said s.said' false false s.err_failed
-
--- The input is the export text of a game, or why not was said.
-pub record Checks (status : ℕ) (s : Streams) : Type 0 where
-  pub done : status ≡ 0 → ChecksGame s.input s.written s.written'
-  pub tells : Tells status (RefusesText s.input) s.said s.said' s.reader_failed s.out_failed s.err_failed
-  -- at most one byte past the limit was read
-  pub bounded : ReadsWithin text_limit s.input s.input'
-  -- a stream has failed: a first part of the line stands, and nothing where it is the reader
-  pub fault : status ≡ 3 → ChecksPart s.input s.written s.written'
-  pub unread : s.reader_failed ≡ true → Keeps s.written s.written'
-  pub read : s.reader_failed ≡ true → status ≡ 3
-  -- nothing was written of a text that is refused, or where memory ran out
-  pub silent : (status ≡ 1) ⊎ (status ≡ 4) → Keeps s.written s.written'
-
--- The legal moves were written of the position that has the FEN, or of the initial one; or why not was said.
-pub record Prints (fen : Option Text) (status : ℕ) (s : Streams) : Type 0 where
-  pub done : (start : Parts) → StartsAt fen start → status ≡ 0 → PrintsMoves start s.written s.written'
-  -- where no position has the FEN, status 1 comes, or 4; and 1 never else
-  pub refuses : HasNoStart fen → (status ≡ 1) ⊎ (status ≡ 4)
-  pub refused : status ≡ 1 → HasNoStart fen
-  -- the output has failed, and a first part of the lines stands
-  pub fault : (start : Parts) → StartsAt fen start → status ≡ 3 → PrintsPart start s.written s.written'
-  -- nothing was written of a FEN that is refused, or where memory ran out
-  pub silent : (status ≡ 1) ⊎ (status ≡ 4) → Keeps s.written s.written'
-  pub tells : Tells status (RefusesStart fen) s.said s.said' false s.out_failed s.err_failed
-
--- The moves that the input names were played from the start, and each position was written; or why not was said.
-pub record Plays (start : Parts) (status : ℕ) (s : Streams) : Type 0 where
-  pub done : status ≡ 0 → PlaysAll start s.input s.written s.written'
-  -- the message of a refused input says what was written of it too
-  pub tells : Tells status (RefusesMoves start s.input s.written s.written') s.said s.said' s.reader_failed s.out_failed s.err_failed
-  -- a stream has failed: a first part stands, and nothing where it is the reader
-  pub fault : status ≡ 3 → PlaysPart start s.input s.written s.written'
-  pub unread : s.reader_failed ≡ true → Keeps s.written s.written'
-  pub read : s.reader_failed ≡ true → status ≡ 3
-  pub memory : status ≡ 4 → Keeps s.written s.written'
-  -- at most one byte past the limit was read
-  pub bounded : ReadsWithin line_limit s.input s.input'
 
 -- What a subcommand does, by the setups, settings or starts that its options give.
 abbrev pub Does : Subcommand → ℕ → Streams → Type 0

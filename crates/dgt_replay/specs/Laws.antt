@@ -2,9 +2,8 @@
 use Rattle.std.specs.Prelude.{◌≡◌, ◌≢◌, ◌≤◌, ℕ, Some, length}
 use Rattle.board_session.specs.AnyRecording.{Left}
 use Rattle.board_session.specs.declared.recording.Setup.{Setup}
-use Rattle.dgt_replay.specs.Checked.{text_limit}
-use Rattle.dgt_replay.specs.Does.{Checks}
-use Rattle.dgt_replay.specs.Streams.{Streams}
+use Rattle.text_subcommands.specs.Checked.{text_limit, Checks}
+use Rattle.text_subcommands.specs.Streams.{Streams}
 
 -- The text of a recording, whatever ended it, is within the limit of `check`.
 abbrev pub WrittenTextsAreWithin : Type 0

@@ -1,10 +1,5 @@
-pub mod Checked
 pub mod Does
 pub mod Laws
 pub mod Messages
-pub mod Played
-pub mod Printed
 pub mod Recorded
 pub mod Refusals
-pub mod Streams
-pub mod Words

@@ -1,5 +1,5 @@
 -- What `record` does.
-use Rattle.std.specs.Prelude.{◌≡◌, ◌⊎◌, ℕ, List, ◌++◌, codes, decimal, Option, Err, true}
+use Rattle.std.specs.Prelude.{◌≡◌, ◌⊎◌, ℕ, List, ◌++◌, codes, decimal, Option, Err, true, []}
 use Rattle.std.specs.Io.KnownBytes.{Appends}
 use Rattle.board_session.specs.declared.refusal.RecordError.{RecordError}
 use Rattle.board_session.specs.declared.refusal.RecordError.TheVariants.{Read, Board, Write}
@@ -7,8 +7,17 @@ use Rattle.board_session.specs.declared.recorder.Report.{Report}
 use Rattle.board_session.specs.declared.recording.Setup.{Setup}
 use Rattle.board_session.specs.Recording.{Leaves, RecordsAll}
 use Rattle.watched_streams.specs.Output.{AppendsPart}
-use Rattle.dgt_replay.specs.Messages.{Says, end_words}
-use Rattle.dgt_replay.specs.Streams.{Streams}
+use Rattle.text_subcommands.specs.Messages.{Says}
+use Rattle.text_subcommands.specs.Streams.{Streams}
+use Rattle.board_session.specs.declared.refusal.RecordError.TheVariants as record_error
+
+-- why a recording has ended, on a line after the bytes for the board; nothing where their stream has failed
+abbrev pub end_words : RecordError → List ℕ
+end_words record_error.Memory = codes "\nmemory\n"
+end_words record_error.Read = codes "\nread fault\n"
+end_words record_error.Board = []
+end_words record_error.Write = codes "\nwrite fault\n"
+end_words record_error.TooLong = codes "\ninput: too long\n"
 
 -- the line about a recording, which begins a new line after the bytes for the board
 abbrev pub report_line : Report → List ℕ

@@ -2,8 +2,6 @@
 use Rattle.std.specs.Prelude.{◌≡◌, ◌≢◌, ◌⊎◌, List, ◌∷◌, ◌++◌, All, ℕ, Option, MatchOption}
 use Rattle.clap.specs.Walk.{Text}
 use Rattle.chess_rules.specs.declared.parts.Parts.{Parts}
-use Rattle.chess_text.specs.declared.fen.FenError.{FenError}
-use Rattle.chess_text.specs.Fen.{RefusedFirst}
 use Rattle.chess_game.specs.declared.values.Tag.{Tag}
 use Rattle.chess_game.specs.declared.values.TagError.{TagError}
 use Rattle.chess_game.specs.declared.values.TagError.TheVariants.{Memory}
@@ -13,11 +11,8 @@ use Rattle.replay_arguments.specs.declared.setup.Refusal.{Refusal}
 use Rattle.replay_arguments.specs.declared.setup.Refusal.TheVariants.{Fen, Tag as OfTag}
 use Rattle.replay_arguments.specs.Setups.{MayHave}
 use Rattle.chess_text.specs.Start.{StartsAt}
-use Rattle.dgt_replay.specs.Messages.{fen_message, tag_message}
-
--- The message about a refused FEN.
-abbrev pub RefusesStart : Option Text → List ℕ → Type 0
-RefusesStart fen message = MatchOption fen ⊥ (λ text. (error : FenError) × RefusedFirst text error × (message ≡ fen_message error))
+use Rattle.text_subcommands.specs.Messages.{fen_message, tag_message}
+use Rattle.text_subcommands.specs.Refusals.{RefusesStart}
 
 -- The message about a refused value of a tag.
 abbrev pub RefusesValue : Tag → Option Text → List ℕ → Type 0

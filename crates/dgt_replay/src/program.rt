@@ -16,15 +16,16 @@ ghost use Rattle.board_listing.specs.OneText.{event_lines, no_line, picture_line
 ghost use Rattle.replay_arguments.specs.Setups.{MeetsBoard, SetsUpNothing};
 ghost use Rattle.chess_text.specs.Start.{HasNoStart, StartsAt, given};
 ghost use Rattle.replay_arguments.specs.TagOptions.{option_of};
-ghost use Rattle.dgt_replay.specs.Does.{Checks, Does, Lists, Plays, Prints, Records, Recovers, Refuses, WritesText};
-ghost use Rattle.dgt_replay.specs.Refusals.{RefusesSetup, RefusesStart};
-ghost use Rattle.dgt_replay.specs.Messages.{GivesText, RefusesArguments, Says};
-ghost use Rattle.dgt_replay.specs.Streams.{streams};
+ghost use Rattle.text_subcommands.specs.Checked.{Checks};
+ghost use Rattle.dgt_replay.specs.Does.{Does, Lists, Records, Recovers, WritesText};
+ghost use Rattle.text_subcommands.specs.Played.{Plays};
+ghost use Rattle.text_subcommands.specs.Printed.{Prints};
+ghost use Rattle.text_subcommands.specs.Refusals.{Refuses, RefusesStart};
+ghost use Rattle.dgt_replay.specs.Refusals.{RefusesSetup};
+ghost use Rattle.dgt_replay.specs.Messages.{GivesText, RefusesArguments};
+ghost use Rattle.text_subcommands.specs.Messages.{Says};
+ghost use Rattle.text_subcommands.specs.Streams.{streams};
 
-use crate::check::check;
-use crate::messages::{refused, refused_fen};
-use crate::moves::moves;
-use crate::positions::positions;
 use crate::record::record_game;
 use crate::recover::recover;
 use board_listing::{Listing, list_stream};
@@ -35,6 +36,7 @@ use replay_arguments::laws::without_options;
 use replay_arguments::{BoardArguments, Subcommand, read_arguments};
 use std::alloc::Global;
 use std::io::{Read, Write};
+use text_subcommands::{check, moves, positions, refused, refused_fen};
 use watched_streams::{Watch, put};
 
 /// Writes the text of `clap`, and returns its status.

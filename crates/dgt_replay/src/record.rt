@@ -3,20 +3,21 @@ ghost use Rattle.std.specs.Prelude.{◌≡◌, ◌≢◌, ◌≤◌, ◌+◌, �
 ghost use Rattle.arrayvec.specs.ArrayVec.{array_vec_len};
 ghost use Rattle.board_session.specs.declared.recording.Setup.{Setup as SetupOf};
 ghost use Rattle.watched_streams.specs.Watch.{IsFlushed, inner_of, has_failed};
-ghost use Rattle.dgt_replay.specs.Does.{Records, Refuses};
-ghost use Rattle.dgt_replay.specs.Messages.{Says};
+ghost use Rattle.dgt_replay.specs.Does.{Records};
+ghost use Rattle.text_subcommands.specs.Refusals.{Refuses};
+ghost use Rattle.text_subcommands.specs.Messages.{Says};
 ghost use Rattle.dgt_replay.specs.Recorded.{EndsFor, Fails, RecordsAndTells, report_line};
 ghost use Rattle.replay_arguments.specs.Setups.{ForMemory, Meets, MeetsNothing, tag_text};
 ghost use Rattle.chess_text.specs.Start.{given};
 ghost use Rattle.dgt_replay.specs.Refusals.{RefusesSetup, refusal_message};
-ghost use Rattle.dgt_replay.specs.Streams.{streams};
+ghost use Rattle.text_subcommands.specs.Streams.{streams};
 
-use crate::messages::{refused, refused_fen, refused_tag};
 use board_session::{RecordError, Report, Setup, record};
 use chess_text::laws::texts_tell_positions;
 use replay_arguments::{RecordArguments, Refusal, setup_of};
 use std::alloc::Global;
 use std::io::{Read, Write};
+use text_subcommands::{refused, refused_fen, refused_tag};
 use watched_streams::{GATHERED, LONGEST, Lines, Watch, add, add_number, put};
 
 /// Says why a recording can't be set up, and returns the status.

@@ -2,19 +2,19 @@
 ghost use Rattle.std.specs.Prelude.{◌≡◌, ◌≢◌, ◌≤◌, false};
 ghost use Rattle.board_session.specs.Settings.{Setting};
 ghost use Rattle.watched_streams.specs.Watch.{IsFlushed, inner_of, has_failed};
-ghost use Rattle.dgt_replay.specs.Does.{Recovers, Refuses};
-ghost use Rattle.dgt_replay.specs.Refusals.{RefusesStart};
-ghost use Rattle.dgt_replay.specs.Streams.{streams};
+ghost use Rattle.dgt_replay.specs.Does.{Recovers};
+ghost use Rattle.text_subcommands.specs.Refusals.{Refuses, RefusesStart};
+ghost use Rattle.text_subcommands.specs.Streams.{streams};
 ghost use Rattle.replay_arguments.specs.Setups.{MeetsBoard};
 ghost use Rattle.chess_text.specs.Start.{HasNoStart, given};
 
-use crate::messages::{refused, refused_fen};
 use chess_rules::Position;
 use chess_text::start_of;
 use recovery::recover_stream;
 use replay_arguments::BoardArguments;
 use std::alloc::Global;
 use std::io::{Read, Write};
+use text_subcommands::{refused, refused_fen};
 use watched_streams::Watch;
 
 /// Gives on a stream that begins in this position, and returns the status.

@@ -28,6 +28,8 @@ mod replay_arguments_page;
 #[cfg(test)]
 mod settle_core_page;
 #[cfg(test)]
+mod text_subcommands_page;
+#[cfg(test)]
 mod unseen_pairs_page;
 #[cfg(test)]
 mod watched_streams_page;

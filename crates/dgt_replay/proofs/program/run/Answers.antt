@@ -8,10 +8,10 @@ use Rattle.board_listing.specs.EventLines.{rest_line}
 use Rattle.board_listing.specs.OneText.{event_lines, no_line, picture_lines}
 use Rattle.board_listing.specs.declared.listing.Listing.TheVariants.{Game}
 use Rattle.replay_arguments.specs.TagOptions.{option_of}
-use Rattle.dgt_replay.specs.Refusals.{RefusesSetup, RefusesStart}
+use Rattle.dgt_replay.specs.Refusals.{RefusesSetup}
+use Rattle.text_subcommands.specs.Refusals.{RefusesStart}
 use Rattle.dgt_replay.proofs.DoesLemmas.{checks_memory, does_check, does_follow, does_moves, does_pictures, does_positions, does_record, does_recover, does_refuse_positions, does_refuse_recover, does_refuse_setup, does_refuse_start, does_show, lacks_memory, lists_memory, plays_memory, prints_memory, records_memory, recovers_memory, refuses_memory, text_memory}
-use Rattle.dgt_replay.proofs.FaultLemmas.{mistaken_asks_nothing, mistaken_kind, one_fault, one_kind}
-use Rattle.dgt_replay.proofs.MessageLemmas.{text_out_of_memory}
+use Rattle.dgt_replay.proofs.FaultLemmas.{mistaken_asks_nothing, mistaken_kind, one_fault, one_kind, text_out_of_memory}
 use Rattle.dgt_replay.proofs.SubcommandLemmas.{check_unrefused, follow_unrefused, moves_chosen, or_refused, pictures_unrefused, record_unrefused, recover_chosen, recover_unrefused, show_unrefused, unrefused}
 use Rattle.dgt_replay.proofs.program.run.Goals as goal
 

@@ -2,7 +2,7 @@ use Rattle.std.proofs.Common.{◌≡◌, ◌++◌, ◌∙◌, List, ℕ, ap, ari
 use Rattle.watched_streams.specs.Watch.{inner_of}
 use Rattle.watched_streams.specs.Output.{AppendsPart}
 use Rattle.dgt_replay.specs.Recorded.{report_line}
-use Rattle.dgt_replay.proofs.MessageLemmas.{part_put}
+use Rattle.text_subcommands.proofs.MessageLemmas.{part_put}
 use Rattle.dgt_replay.proofs.record.record_as.Goals as goal
 
 pub returns-in-Err-clause-fails : goal.returns-in-Err-clause-fails

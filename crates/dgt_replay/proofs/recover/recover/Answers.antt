@@ -2,11 +2,12 @@ use Rattle.std.proofs.Common.{◌∙◌, inl, sym}
 use Rattle.std.proofs.KnownBytes.{Keeps-refl}
 use Rattle.watched_streams.specs.Watch.{inner_of}
 use Rattle.chess_text.specs.Start.{given}
-use Rattle.dgt_replay.specs.Refusals.{RefusesStart}
-use Rattle.dgt_replay.specs.Messages.{fen_message}
-use Rattle.dgt_replay.proofs.MessageLemmas.{tells_refused}
-use Rattle.dgt_replay.proofs.RefusalLemmas.{start_refused}
-use Rattle.dgt_replay.proofs.SetupLemmas.{ok_same, same_setting}
+use Rattle.text_subcommands.specs.Refusals.{RefusesStart}
+use Rattle.text_subcommands.specs.Messages.{fen_message}
+use Rattle.text_subcommands.proofs.MessageLemmas.{tells_refused}
+use Rattle.text_subcommands.proofs.RefusalLemmas.{start_refused}
+use Rattle.text_subcommands.proofs.ResultLemmas.{ok_same}
+use Rattle.dgt_replay.proofs.SetupLemmas.{same_setting}
 use Rattle.dgt_replay.proofs.recover.recover.Goals as goal
 
 pub returns-in-Ok-clause-recovers : goal.returns-in-Ok-clause-recovers

@@ -1,0 +1,6 @@
+pub mod CheckLemmas
+pub mod MessageLemmas
+pub mod MoveLemmas
+pub mod PlayedLemmas
+pub mod RefusalLemmas
+pub mod ResultLemmas

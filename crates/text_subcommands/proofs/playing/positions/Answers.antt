@@ -1,0 +1,29 @@
+use Rattle.std.proofs.Common.{◌∙◌, inl, sym}
+use Rattle.std.proofs.KnownBytes.{Keeps-refl}
+use Rattle.watched_streams.specs.Watch.{inner_of}
+use Rattle.chess_text.specs.Start.{given}
+use Rattle.text_subcommands.specs.Refusals.{RefusesStart}
+use Rattle.text_subcommands.specs.Messages.{fen_message}
+use Rattle.text_subcommands.proofs.MessageLemmas.{tells_refused}
+use Rattle.text_subcommands.proofs.RefusalLemmas.{start_refused}
+use Rattle.text_subcommands.proofs.ResultLemmas.{ok_same}
+use Rattle.text_subcommands.proofs.playing.positions.Goals as goal
+
+pub returns-in-Ok-clause-plays : goal.returns-in-Ok-clause-plays
+returns-in-Ok-clause-plays g c start starts =
+    let same = ok_same c.start_of.result c.in-Ok.start start c.in-Ok.is ((c.start_of.ensures.start start).1 starts) in
+    rw (← same) c.play.ensures.plays
+
+pub returns-in-Ok-clause-refuses : goal.returns-in-Ok-clause-refuses
+returns-in-Ok-clause-refuses g c none = absurd (none c.in-Ok.start ((c.start_of.ensures.start c.in-Ok.start).0 c.in-Ok.is))
+
+pub returns-in-Err-clause-plays : goal.returns-in-Err-clause-plays
+returns-in-Err-clause-plays g c start starts = absurd (let bad = sym c.in-Err.is ∙ (c.start_of.ensures.start start).1 starts in cc)
+
+pub returns-in-Err-clause-refuses : goal.returns-in-Err-clause-refuses
+returns-in-Err-clause-refuses g c none = record {
+  known = inl c.refused_fen.ensures.status;
+  untouched = (Keeps-refl (g.R.Read.remaining (inner_of c.args.reader.now)), Keeps-refl (g.O.Write.contents (inner_of c.args.out.now)));
+  tells = tells_refused c.refused_fen.result (RefusesStart (given c.args.fen)) _ _ _ _ _ (fen_message c.in-Err.error) c.refused_fen.ensures.status
+      (start_refused (given c.args.fen) c.in-Err.error c.in-Err.ensures.refusal (λ start starts. let bad = sym c.in-Err.is ∙ (c.start_of.ensures.start start).1 starts in cc)) c.refused_fen.ensures.says;
+}

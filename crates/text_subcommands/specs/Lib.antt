@@ -1,0 +1,7 @@
+pub mod Checked
+pub mod Messages
+pub mod Played
+pub mod Printed
+pub mod Refusals
+pub mod Streams
+pub mod Words

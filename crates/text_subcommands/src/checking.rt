@@ -1,0 +1,76 @@
+//! The subcommand `check`.
+ghost use Rattle.std.specs.Prelude.{◌≡◌, ◌≢◌, ◌≤◌, ◌⊎◌, ◌+◌, ◌++◌, false, true};
+ghost use Rattle.std.specs.Io.KnownBytes.{Keeps};
+ghost use Rattle.arrayvec.specs.ArrayVec.{array_vec_len};
+ghost use Rattle.watched_streams.specs.Watch.{IsFlushed, inner_of, has_failed};
+ghost use Rattle.text_subcommands.specs.Checked.{ChecksGame, ChecksPart, RefusesText, summary_line};
+ghost use Rattle.watched_streams.specs.Input.{ReadsWithin};
+ghost use Rattle.text_subcommands.specs.Messages.{Tells};
+
+use crate::input::{TextError, read_text};
+use crate::messages::{refused, refused_run};
+use itoa::Buffer;
+use pgn_book::{PgnError, read_pgn, result_str};
+use settle_core::Outcome;
+use std::alloc::Global;
+use std::io::{Read, Write};
+use watched_streams::{GATHERED, LONGEST, Lines, Watch, add, put};
+
+/// The most bytes of the input of `check`, a PGN text.
+pub const TEXT_LIMIT: usize = 268_435_456;
+
+/// Adds how many moves a game has, and its result.
+fn add_summary(lines: &mut Lines, moves: u64, outcome: Option<Outcome>)
+    requires { array_vec_len lines.old + LONGEST ≤ GATHERED }
+    ensures { lines.new.items ≡ lines.old.items ++ summary_line moves outcome }
+{
+    let mut buffer = Buffer::new();
+    add(lines, b"moves ");
+    add(lines, buffer.format(moves).as_bytes());
+    add(lines, b", result ");
+    add(lines, result_str(outcome).as_bytes());
+    add(lines, b"\n");
+}
+
+/// Says whether the input is a game in PGN export form, and returns the exit status: 0 where it is, 1 where it isn't or is
+/// longer than `TEXT_LIMIT`, 3 where a stream has failed, 4 where memory ran out. The number of a game's moves and its result
+/// go to `out`, in one line; else one line on `err` says why. Neither `reader` nor `out` may have failed before.
+pub fn check<R: Read, O: Write, E: Write>(
+    alloc: Global,
+    reader: &mut Watch<R>,
+    out: &mut Watch<O>,
+    err: &mut Watch<E>,
+) -> u8
+    requires reading { has_failed reader.old ≡ false }
+    requires working { has_failed out.old ≡ false }
+    ensures passes { result ≡ 0 → ChecksGame (R.remaining (inner_of reader.old)) (O.contents (inner_of out.old)) (O.contents (inner_of out.new)) }
+    ensures tells { Tells result (RefusesText (R.remaining (inner_of reader.old))) (E.contents (inner_of err.old)) (E.contents (inner_of err.new))
+        (has_failed reader.new) (has_failed out.new) (has_failed err.new) }
+    ensures bounded { ReadsWithin TEXT_LIMIT (R.remaining (inner_of reader.old)) (R.remaining (inner_of reader.new)) }
+    ensures fault { result ≡ 3 → ChecksPart (R.remaining (inner_of reader.old)) (O.contents (inner_of out.old)) (O.contents (inner_of out.new)) }
+    ensures unread { has_failed reader.new ≡ true → Keeps (O.contents (inner_of out.old)) (O.contents (inner_of out.new)) }
+    ensures blamed { has_failed reader.new ≡ true → result ≡ 3 }
+    ensures silent { (result ≡ 1) ⊎ (result ≡ 4) → Keeps (O.contents (inner_of out.old)) (O.contents (inner_of out.new)) }
+    ensures works { result ≡ 0 → (has_failed reader.new ≡ false) × ((has_failed out.new ≡ false) × (err.new ≡ err.old)) }
+    ensures known { result ≤ 4 }
+    ensures status { result ≢ 2 }
+    ensures flushed { IsFlushed out.new }
+{
+    let text = match read_text(alloc, reader, TEXT_LIMIT) {
+        Ok(text) => text,
+        Err(TextError::Memory) => return refused_run(out, err, b"memory\n", 4),
+        Err(TextError::Read) => return refused_run(out, err, b"read fault\n", 3),
+        Err(TextError::TooLong) => return refused_run(out, err, b"input: too long\n", 1),
+    };
+    let game = match read_pgn(alloc, text.as_slice()) {
+        Ok(game) => game,
+        Err(PgnError::Memory) => return refused_run(out, err, b"memory\n", 4),
+        Err(PgnError::NotExport) => return refused_run(out, err, b"pgn: not export\n", 1),
+    };
+    let mut lines = Lines::new();
+    add_summary(&mut lines, game.plies().len() as u64, game.result());
+    if put(out, lines.as_slice()).is_err() || out.flush().is_err() {
+        return refused(err, b"write fault\n", 3);
+    }
+    0
+}

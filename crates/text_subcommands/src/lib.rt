@@ -1,0 +1,16 @@
+//! The subcommands that read no board: `check`, `moves` and `positions`, over any streams, and what is said of refusals.
+//!
+//! Begin with `printing.rt`, which has `moves`; `checking.rt` has `check`, and `playing.rt` `positions`. `input.rt` reads a
+//! whole input, and `messages.rt` has what is said where something is refused, also by the subcommands that read a board.
+#![tactic(auto)]
+
+mod checking;
+mod input;
+mod messages;
+mod playing;
+mod printing;
+
+pub use checking::{TEXT_LIMIT, check};
+pub use messages::{refused, refused_fen, refused_tag};
+pub use playing::{LINE_LIMIT, positions};
+pub use printing::moves;
