@@ -19,10 +19,6 @@ use Rattle.board_listing.specs.Progress.{BreaksOff, FinishBreaksOff, Finishes, H
 use Rattle.board_listing.specs.declared.stream.ListError.{ListError}
 use Rattle.board_listing.specs.declared.stream.ListError.TheVariants.{Memory, Read, TooLong, Write}
 
-pub if_ok : {T E : Type 0} (r : Result T E) (xs ys : List ℕ) → is_err r ≡ false → (if is_ok r then xs else ys) ≡ xs
-if_ok (Ok v) xs ys h = refl
-if_ok (Err e) xs ys h = absurd (cc)
-
 -- the decoder was given so many bytes
 pub has_taken : (decoder : Decoder) (printer : Printer) (listing : Listing) (count : ℕ) (input now written so_far : Option (List ℕ))
     → HasListed decoder printer listing count input now written so_far → HasTaken decoder count

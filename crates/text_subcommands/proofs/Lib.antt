@@ -3,4 +3,4 @@ pub mod MessageLemmas
 pub mod MoveLemmas
 pub mod PlayedLemmas
 pub mod RefusalLemmas
-pub mod ResultLemmas
+pub mod TestLemmas

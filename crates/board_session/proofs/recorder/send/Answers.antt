@@ -1,5 +1,5 @@
 use Rattle.std.proofs.Common.{sym, ◌∙◌}
-use Rattle.board_session.proofs.StreamLemmas.{part_flushed, part_put}
+use Rattle.watched_streams.proofs.OutputLemmas.{part_flushed, part_put}
 use Rattle.board_session.proofs.recorder.send.Goals as goal
 use Rattle.board_session.proofs.recorder.send.Goals.{then-is_err-via-then-is_err, then-is_err-via-else-is_err+then-is_err-2}
 

@@ -3,7 +3,7 @@ use Rattle.std.specs.Prelude.{is_err}
 use Rattle.watched_streams.specs.Watch.{inner_of, has_failed}
 use Rattle.board_listing.specs.declared.stream.ListError.TheVariants.{Read, Write}
 use Rattle.dgt_replay.proofs.EndLemmas.{ends_done, ends_in_fault, ends_refused, front_kept, read_kept, refused_not_done, tells_refused_listing}
-use Rattle.text_subcommands.proofs.ResultLemmas.{true_or}
+use Rattle.text_subcommands.proofs.TestLemmas.{true_or}
 use Rattle.dgt_replay.proofs.program.list.Goals as goal
 use Rattle.dgt_replay.proofs.program.list.Goals.{then-failed-via-then-failed, then-failed-via-else-failed+then-is_err}
 

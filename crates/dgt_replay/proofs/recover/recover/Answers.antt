@@ -6,7 +6,7 @@ use Rattle.text_subcommands.specs.Refusals.{RefusesStart}
 use Rattle.text_subcommands.specs.Messages.{fen_message}
 use Rattle.text_subcommands.proofs.MessageLemmas.{tells_refused}
 use Rattle.text_subcommands.proofs.RefusalLemmas.{start_refused}
-use Rattle.text_subcommands.proofs.ResultLemmas.{ok_same}
+use Rattle.watched_streams.proofs.ResultLemmas.{ok_same}
 use Rattle.dgt_replay.proofs.SetupLemmas.{same_setting}
 use Rattle.dgt_replay.proofs.recover.recover.Goals as goal
 

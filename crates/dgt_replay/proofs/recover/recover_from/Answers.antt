@@ -6,7 +6,7 @@ use Rattle.watched_streams.specs.Watch.{inner_of, has_failed}
 use Rattle.board_session.specs.Settings.{Setting}
 use Rattle.recovery.specs.declared.refusal.RecoverError.TheVariants.{Lines, Memory, Read, TooLong, Write}
 use Rattle.text_subcommands.specs.Streams.{Streams, streams}
-use Rattle.text_subcommands.proofs.ResultLemmas.{true_or}
+use Rattle.text_subcommands.proofs.TestLemmas.{true_or}
 use Rattle.dgt_replay.proofs.RecoverLemmas.{recover_broken, recover_done, recover_refused, refused_not_done}
 use Rattle.dgt_replay.proofs.recover.recover_from.Goals as goal
 use Rattle.dgt_replay.proofs.recover.recover_from.Goals.{then-failed-via-then-failed, then-failed-via-else-failed+then-is_err}

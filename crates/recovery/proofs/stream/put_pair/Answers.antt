@@ -1,7 +1,7 @@
 use Rattle.std.proofs.Common.{sym, ◌∙◌}
 use Rattle.std.proofs.KnownBytes.{Appends-kept, Keeps-refl}
 use Rattle.watched_streams.proofs.ResultLemmas.{at_ok}
-use Rattle.board_session.proofs.StreamLemmas.{part_flushed, part_put}
+use Rattle.watched_streams.proofs.OutputLemmas.{part_flushed, part_put}
 use Rattle.recovery.proofs.GiveLemmas.{part_behind, part_longer}
 use Rattle.recovery.proofs.stream.put_pair.Goals as goal
 use Rattle.recovery.proofs.stream.put_pair.Goals.{then-is_err-via-then-is_err, then-is_err-via-else-is_err+then-is_err-2}

@@ -6,7 +6,7 @@ use Rattle.watched_streams.specs.Output.{AppendsPart}
 use Rattle.text_subcommands.specs.Checked.{RefusesText, summary_line}
 use Rattle.text_subcommands.proofs.CheckLemmas.{checked, checked_part, no_game}
 use Rattle.pgn_book.specs.Pgn.{Pgn}
-use Rattle.text_subcommands.proofs.ResultLemmas.{true_or}
+use Rattle.text_subcommands.proofs.TestLemmas.{true_or}
 use Rattle.text_subcommands.proofs.MessageLemmas.{never_done, part_put, tells_fault, tells_memory, tells_or_fault, tells_refused}
 use Rattle.watched_streams.proofs.ResultLemmas.{at_err, at_ok}
 use Rattle.text_subcommands.proofs.checking.check.Goals as goal

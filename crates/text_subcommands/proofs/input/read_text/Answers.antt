@@ -4,7 +4,7 @@ use Rattle.std.specs.Io.KnownBytes.{Consumes}
 use Rattle.watched_streams.specs.Input.{GivesChunk}
 use Rattle.watched_streams.specs.Watch.{inner_of}
 use Rattle.text_subcommands.proofs.CheckLemmas.{read_more, too_long}
-use Rattle.text_subcommands.proofs.ResultLemmas.{if_ok}
+use Rattle.watched_streams.proofs.ResultLemmas.{if_ok}
 use Rattle.text_subcommands.proofs.input.read_text.Goals as goal
 
 pub returns-then-chunk-clause-bounded : goal.returns-then-chunk-clause-bounded

@@ -3,7 +3,7 @@ use Rattle.std.proofs.KnownBytes.{Appends-kept}
 use Rattle.std.specs.Io.KnownBytes.{Appends}
 use Rattle.watched_streams.specs.Watch.{inner_of}
 use Rattle.watched_streams.proofs.ResultLemmas.{at_err, at_ok}
-use Rattle.text_subcommands.proofs.ResultLemmas.{true_or}
+use Rattle.text_subcommands.proofs.TestLemmas.{true_or}
 use Rattle.text_subcommands.proofs.MessageLemmas.{part_put}
 use Rattle.text_subcommands.proofs.playing.put_positions.Goals as goal
 use Rattle.text_subcommands.proofs.playing.put_positions.Goals.{then-is_err-via-then-is_err, then-is_err-via-else-is_err+then-is_err-2}

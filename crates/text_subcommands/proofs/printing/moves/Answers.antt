@@ -8,9 +8,9 @@ use Rattle.text_subcommands.specs.Refusals.{RefusesStart}
 use Rattle.text_subcommands.specs.Messages.{fen_message}
 use Rattle.text_subcommands.proofs.MessageLemmas.{tells_fault, tells_refused}
 use Rattle.watched_streams.specs.Watch.{has_failed, inner_of}
-use Rattle.text_subcommands.proofs.ResultLemmas.{true_or, ok_same}
+use Rattle.text_subcommands.proofs.TestLemmas.{true_or}
+use Rattle.watched_streams.proofs.ResultLemmas.{ok_same, at_err, at_ok}
 use Rattle.text_subcommands.proofs.RefusalLemmas.{start_refused}
-use Rattle.watched_streams.proofs.ResultLemmas.{at_err, at_ok}
 use Rattle.text_subcommands.proofs.MoveLemmas.{prints_part}
 use Rattle.text_subcommands.proofs.printing.moves.Goals as goal
 use Rattle.text_subcommands.proofs.printing.moves.Goals.{then-is_err-via-then-is_err, then-is_err-via-else-is_err+then-is_err-2}
