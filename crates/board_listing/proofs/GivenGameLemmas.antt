@@ -22,14 +22,14 @@ use Rattle.settle_core.specs.Settling.{position_after, reached}
 use Rattle.settle_core.proofs.Lists.{position_in_order}
 use Rattle.settle_core.proofs.Once.{folds_once}
 use Rattle.std.specs.Io.KnownBytes.{Appends}
-use Rattle.board_session.specs.Game.{IsGameOf}
-use Rattle.board_session.specs.Commands.{past_of}
-use Rattle.board_session.specs.Entries.{entry_at, is_entry}
-use Rattle.board_session.specs.History.{is_fault}
-use Rattle.board_session.specs.Recording.{limit, setting_of}
-use Rattle.board_session.specs.Settings.{Setting}
-use Rattle.board_session.specs.Session.{entries_in}
-use Rattle.board_session.proofs.GameLemmas.{one_result}
+use Rattle.board_events.specs.Game.{IsGameOf}
+use Rattle.board_events.specs.Commands.{past_of}
+use Rattle.board_events.specs.Entries.{entry_at, is_entry}
+use Rattle.board_events.specs.History.{is_fault}
+use Rattle.board_events.specs.Settings.{setting_of, Setting}
+use Rattle.board_events.specs.Limits.{limit}
+use Rattle.board_events.specs.Session.{entries_in}
+use Rattle.board_events.proofs.GameLemmas.{one_result}
 use Rattle.board_listing.specs.GameText.{HasResult, TellsEntry, TellsEvent, TellsEvents, TellsPly, TellsResult, TellsSeen, reached_by}
 use Rattle.board_listing.specs.GivenGame.{AreInStream, FollowTellsTheGame, GameLine, Gives, LinesGiveTheGame, text_of}
 use Rattle.watched_streams.specs.Lines.{line}

@@ -9,7 +9,7 @@ use Rattle.watched_streams.specs.declared.chunks.ReadChunk.{ReadChunk}
 use Rattle.dgt_frame.specs.Decoder.{Decoded}
 use Rattle.watched_streams.specs.Input.{GivesChunk}
 use Rattle.dgt_frame.specs.Streams.{Shows, Timed}
-use Rattle.board_session.specs.Recording.{limit}
+use Rattle.board_events.specs.Limits.{limit}
 use Rattle.board_listing.specs.declared.printer.Printer.{Printer}
 use Rattle.board_listing.specs.declared.listing.Listing.{Listing}
 use Rattle.board_listing.specs.Printers.{HasBegun}

@@ -16,11 +16,12 @@ use Rattle.settle_core.specs.Settling.{reached}
 use Rattle.pgn_book.specs.Games.{Content}
 use Rattle.pgn_book.specs.Values.{TagValues}
 use Rattle.chess_rules.specs.Valid.{Valid}
-use Rattle.board_session.specs.declared.recorder.Report.{Report}
-use Rattle.board_session.specs.declared.recording.Setup.{Setup}
-use Rattle.board_session.specs.Game.{IsGameOf}
-use Rattle.board_session.specs.Recording.{RecordsGame, limit}
-use Rattle.board_session.specs.Settings.{Setting}
+use Rattle.board_events.specs.declared.report.Report.{Report}
+use Rattle.board_events.specs.declared.setup.Setup.{Setup}
+use Rattle.board_events.specs.Game.{IsGameOf}
+use Rattle.board_events.specs.WholeRecording.{RecordsGame}
+use Rattle.board_events.specs.Limits.{limit}
+use Rattle.board_events.specs.Settings.{Setting}
 use Rattle.board_listing.specs.declared.listing.Listing.TheVariants.{Game}
 use Rattle.board_listing.specs.GameText.{TellsEvents}
 use Rattle.watched_streams.specs.Lines.{line}

@@ -20,36 +20,11 @@ use Rattle.settle_core.specs.HonestPlay.{HasWhole, shown_plies}
 use Rattle.settle_core.proofs.Once.{folds_once, no_entry_gives_two}
 use Rattle.pgn_book.specs.Games.{Content, Result}
 use Rattle.pgn_book.specs.Values.{TagValues}
-use Rattle.board_session.specs.Entries.{entry_at, is_entry}
-use Rattle.board_session.specs.Game.{GivesOneEach}
+use Rattle.board_events.specs.Entries.{entry_at, is_entry}
 use Rattle.board_session.specs.Laws.{EventsTellTheGame, HonestClocksAreRecorded, HonestPlayIsRecorded, HonestStopIsRecorded, KingsEndIsRecorded, NoEventGivesTwo}
-use Rattle.board_session.specs.Settings.{Setting}
-use Rattle.board_session.specs.Session.{entries_in}
-
--- Two results are the same or not.
-same_or_not : (a b : Option Outcome) → (a ≡ b) ⊎ (a ≢ b)
-same_or_not None None = inl refl
-same_or_not None (Some y) = inr (λ e. cc)
-same_or_not (Some x) None = inr (λ e. cc)
-same_or_not (Some WhiteWins) (Some WhiteWins) = inl refl
-same_or_not (Some WhiteWins) (Some BlackWins) = inr (λ e. cc)
-same_or_not (Some WhiteWins) (Some Drawn) = inr (λ e. cc)
-same_or_not (Some BlackWins) (Some WhiteWins) = inr (λ e. cc)
-same_or_not (Some BlackWins) (Some BlackWins) = inl refl
-same_or_not (Some BlackWins) (Some Drawn) = inr (λ e. cc)
-same_or_not (Some Drawn) (Some WhiteWins) = inr (λ e. cc)
-same_or_not (Some Drawn) (Some BlackWins) = inr (λ e. cc)
-same_or_not (Some Drawn) (Some Drawn) = inl refl
-
--- A position has one result under a sign.
-pub one_result : (p : Parts) (sign a b : Option Outcome) → IsResult p sign a → IsResult p sign b → a ≡ b
-one_result p sign a b h k = elim (same_or_not a b) [
-  | inl same ↦ same
-  | inr differ ↦
-      let mated : Mated p → ⊥ = λ m. differ (h.mated m ∙ sym (k.mated m)) in
-      let stale : Stale p → ⊥ = λ m. differ (h.stale m ∙ sym (k.stale m)) in
-      h.running mated stale ∙ sym (k.running mated stale)
-]
+use Rattle.board_events.specs.Settings.{Setting}
+use Rattle.board_events.proofs.GameLemmas.{one_result}
+use Rattle.board_events.specs.Session.{entries_in}
 
 abbrev content : TagValues → Parts → List Ply → Option Outcome → Content
 content tags start plies result = record { tags = tags; start = start; plies = plies; result = result }
@@ -104,10 +79,6 @@ no_event_gives_two setting tags past event before game valid h k =
       length-score_of before.plies h.sign,
       length-score_of game.plies k.sign,
     )
-
-pub one_each : (start : Parts) (past : List Entry) → Valid start → GivesOneEach start past
-one_each start [] valid = tt
-one_each start (entry ∷ past) valid = (λ before score h k. no_entry_gives_two start entry past before score valid h k, one_each start past valid)
 
 pub honest_play_is_recorded : HonestPlayIsRecorded
 honest_play_is_recorded setting tags past game moves lists valid line shown are is =

@@ -2,7 +2,7 @@
 use Rattle.std.proofs.Common.{◌≡◌, ◌≤◌, ℕ, List, Option, Some, length, ap, arith, inl, inr, length-append, subst}
 use Rattle.board_session.specs.AnyRecording.{Left}
 use Rattle.board_session.specs.Sizes.{WrittenMovesTakeTenBytes}
-use Rattle.board_session.specs.declared.recording.Setup.{Setup}
+use Rattle.board_events.specs.declared.setup.Setup.{Setup}
 use Rattle.pgn_book.specs.Games.{Content}
 use Rattle.pgn_book.specs.Laws.{TextsAreShort}
 use Rattle.pgn_book.specs.Pgn.{Pgn}

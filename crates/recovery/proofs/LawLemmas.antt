@@ -11,11 +11,10 @@ use Rattle.settle_core.specs.Laws.{FoldsOnce}
 use Rattle.unseen_pairs.specs.declared.pair.Recovery.{Recovery}
 use Rattle.unseen_pairs.specs.Laws.{ConfirmNone}
 use Rattle.unseen_pairs.specs.Recovering.{FoldsRecovering}
-use Rattle.board_session.specs.Commands.{past_of}
-use Rattle.board_session.specs.Entries.{entry_at, is_entry}
-use Rattle.board_session.specs.Recording.{setting_of}
-use Rattle.board_session.specs.Settings.{Setting}
-use Rattle.board_session.specs.Session.{entries_in}
+use Rattle.board_events.specs.Commands.{past_of}
+use Rattle.board_events.specs.Entries.{entry_at, is_entry}
+use Rattle.board_events.specs.Settings.{setting_of, Setting}
+use Rattle.board_events.specs.Session.{entries_in}
 use Rattle.recovery.specs.Keeping.{RecoversAt}
 use Rattle.recovery.specs.Laws.{LeavesAlone, RecordsRecovered}
 use Rattle.recovery.specs.Weaving.{Put, Puts, PutsAll, TellsPuts, Weaves}

@@ -8,12 +8,12 @@ use Rattle.settle_core.specs.Folding.{score_of}
 use Rattle.unseen_pairs.specs.Laws.{ConfirmNone}
 use Rattle.unseen_pairs.specs.Recovering.{FoldsRecovering}
 use Rattle.pgn_book.specs.Games.{Content, Result}
-use Rattle.board_session.specs.declared.recorder.Report.{Report}
-use Rattle.board_session.specs.declared.recording.Setup.{Setup}
-use Rattle.board_session.specs.Commands.{past_of}
-use Rattle.board_session.specs.Recording.{RecordsGame, setting_of}
-use Rattle.board_session.specs.Settings.{Setting}
-use Rattle.board_session.specs.Session.{entries_in}
+use Rattle.board_events.specs.declared.report.Report.{Report}
+use Rattle.board_events.specs.declared.setup.Setup.{Setup}
+use Rattle.board_events.specs.Commands.{past_of}
+use Rattle.board_events.specs.WholeRecording.{RecordsGame}
+use Rattle.board_events.specs.Settings.{setting_of, Setting}
+use Rattle.board_events.specs.Session.{entries_in}
 use Rattle.recovery.specs.Weaving.{Recovers}
 
 -- The game is that of these bytes where unseen pairs are recovered: its plies and its result are what their pictures give, of which

@@ -3,7 +3,7 @@ use Rattle.std.proofs.KnownBytes.{Keeps-refl}
 use Rattle.std.specs.Io.KnownBytes.{Keeps}
 use Rattle.std.specs.Prelude.{is_err}
 use Rattle.watched_streams.specs.Watch.{inner_of, has_failed}
-use Rattle.board_session.specs.Settings.{Setting}
+use Rattle.board_events.specs.Settings.{Setting}
 use Rattle.recovery.specs.declared.refusal.RecoverError.TheVariants.{Lines, Memory, Read, TooLong, Write}
 use Rattle.dgt_replay.specs.Streams.{Streams, streams}
 use Rattle.dgt_replay.proofs.EndLemmas.{true_or}
