@@ -3,6 +3,7 @@
 use Rattle.std.specs.Prelude.{◌≡◌, ℕ, ◌+◌, ◌≤◌, List, [], ◌∷◌, ◌++◌, length, true, Option, IfSome, Result, Ok, Err, ⊤}
 use Rattle.std.specs.Io.KnownBytes.{Appends, Consumes, IsAtEnd}
 use Rattle.dgt_frame.specs.declared.events.Event.{Event}
+use Rattle.watched_streams.specs.Output.{AppendsPart}
 use Rattle.dgt_frame.specs.Streams.{Shows, Timed}
 use Rattle.pgn_book.specs.Games.{Content}
 use Rattle.pgn_book.specs.Pgn.{Pgn}
