@@ -17,12 +17,12 @@ use Rattle.settle_core.specs.Folding.{Folds, Replaces, Score, SeenAs, moves_of, 
 use Rattle.settle_core.specs.Settling.{reached}
 use Rattle.settle_core.specs.Settler.{ReturnsSeen, ReturnsNewSeen, Sheet, StandsFor as Settled}
 use Rattle.settle_core.proofs.Once.{folds_once}
-use Rattle.board_session.specs.declared.session.Taken.{Taken}
-use Rattle.board_session.specs.Entries.{entry_at, is_entry}
-use Rattle.board_session.specs.History.{is_fault, picture_of}
-use Rattle.board_session.specs.Settings.{Setting}
-use Rattle.board_session.specs.Session.{StandsFor, TellsTaken, entries_in}
-use Rattle.board_session.specs.States.{State}
+use Rattle.board_events.specs.declared.session.Taken.{Taken}
+use Rattle.board_events.specs.Entries.{entry_at, is_entry}
+use Rattle.board_events.specs.History.{is_fault, picture_of}
+use Rattle.board_events.specs.Settings.{Setting}
+use Rattle.board_events.specs.Session.{StandsFor, TellsTaken, entries_in}
+use Rattle.board_events.specs.States.{State}
 use Rattle.board_listing.specs.declared.follower.Follower.{Follower}
 use Rattle.dgt_frame.specs.declared.events.Event.TheVariants.{Message, Fault}
 use Rattle.board_listing.specs.EventLines.{line_of}

@@ -1,5 +1,5 @@
 -- Lines that are gathered, and written in chunks.
-use Rattle.std.proofs.Common.{◌<◌, ℕ, List, [], ◌∷◌, ◌++◌, take, drop, Option, Result, Ok, Err, OnErr, OnOk, IfErr, refl, sym, subst, true, false, ◌≡◌, ◌∙◌, ap, append_assoc, append-nil}
+use Rattle.std.proofs.Common.{◌<◌, ℕ, List, [], ◌∷◌, ◌++◌, take, drop, Option, Result, Ok, Err, OnErr, OnOk, IfErr, refl, sym, subst, true, ◌≡◌, ◌∙◌, ap, append_assoc, append-nil}
 use Rattle.std.specs.Prelude.{is_err, is_ok}
 use Rattle.std.proofs.KnownBytes.{Appends-trans}
 use Rattle.std.proofs.lemmas.List.{take-append-drop}

@@ -10,7 +10,7 @@ use Rattle.chess_rules.specs.Valid.{Valid}
 use Rattle.dgt_frame.specs.declared.events.Event.{Event}
 use Rattle.dgt_frame.specs.declared.events.Event.TheVariants.{Message, Fault}
 use Rattle.chess_clock.specs.declared.times.Reading.{Reading}
-use Rattle.dgt_frame.specs.Streams.{Shows as ShowsEvents, Timed}
+use Rattle.dgt_frame.specs.Streams.{Timed}
 use Rattle.settle_core.specs.declared.plies.Outcome.{Outcome}
 use Rattle.settle_core.specs.declared.plies.Ply.{Ply}
 use Rattle.settle_core.specs.declared.plies.Seen.{Seen}
@@ -21,26 +21,18 @@ use Rattle.settle_core.specs.GameResult.{IsResult}
 use Rattle.settle_core.specs.Settling.{position_after, reached}
 use Rattle.settle_core.proofs.Lists.{position_in_order}
 use Rattle.settle_core.proofs.Once.{folds_once}
-use Rattle.std.specs.Io.KnownBytes.{Appends}
-use Rattle.board_session.specs.Game.{IsGameOf}
-use Rattle.board_session.specs.Commands.{past_of}
-use Rattle.board_session.specs.Entries.{entry_at, is_entry}
-use Rattle.board_session.specs.History.{is_fault}
-use Rattle.board_session.specs.Recording.{limit, setting_of}
-use Rattle.board_session.specs.Settings.{Setting}
-use Rattle.board_session.specs.Session.{entries_in}
-use Rattle.board_session.proofs.GameLemmas.{one_result}
+use Rattle.board_events.specs.Entries.{entry_at, is_entry}
+use Rattle.board_events.specs.History.{is_fault}
+use Rattle.board_events.specs.Settings.{Setting}
+use Rattle.board_events.specs.Limits.{limit}
+use Rattle.board_events.specs.Session.{entries_in}
+use Rattle.board_events.proofs.GameLemmas.{one_result}
 use Rattle.board_listing.specs.GameText.{HasResult, TellsEntry, TellsEvent, TellsEvents, TellsPly, TellsResult, TellsSeen, reached_by}
-use Rattle.board_listing.specs.GivenGame.{AreInStream, FollowTellsTheGame, GameLine, Gives, LinesGiveTheGame, text_of}
+use Rattle.board_listing.specs.GivenGame.{AreInStream, GameLine, Gives, LinesGiveTheGame, text_of}
 use Rattle.watched_streams.specs.Lines.{line}
 use Rattle.board_listing.specs.GameLines.{move_words, result_words, squares_text, waiting_words}
-use Rattle.board_listing.specs.EventLines.{kind_text, line_of, rest_line}
+use Rattle.board_listing.specs.EventLines.{kind_text, line_of}
 use Rattle.board_listing.proofs.FollowLemmas.{clash, entries_new, entries_same, fault_gives_none, without_repeats}
-use Rattle.settle_core.proofs.Lines.{map-reverse}
-use Rattle.board_listing.proofs.OffsetLemmas.{offsets_inside, reversed}
-
-abbrev ShowsOnce : Type 0
-ShowsOnce = (bytes : List ℕ) (events others : List Timed) (rest other : ℕ) → ShowsEvents bytes events rest → ShowsEvents bytes others other → (events ≡ others) × (rest ≡ other)
 
 -- Lines of an event with this offset that are behind those before it, and give these plies and this result.
 record More (offset : ℕ) (start : Parts) (lines : List GameLine) (text : List ℕ) (plies : List Ply) (result : Option Outcome) : Type 0 where
@@ -217,16 +209,3 @@ lines_give_the_game setting tags events text game valid tells is =
     let R : Parts → Type 0 = λ p. IsResult p is.sign game.result in
     let t = subst P same g.told game.result (subst R at is.result_is) in
     (t.lines, t.text_is, t.gives, t.inside)
-
-pub follow_tells_the_game : ShowsOnce → FollowTellsTheGame
-follow_tells_the_game once setup report bytes sent sent' written written' told told' recorded (events, rest, text, within, shows, tells, appends) =
-    let setting : Setting = setting_of setup in
-    let same : recorded.events ≡ events = (once bytes recorded.events events recorded.rest rest recorded.shows shows).0 in
-    let V : Parts → Type 0 = λ p. Valid p in
-    let valid : Valid setup.start = subst V recorded.game_is.start_is recorded.text_is.is_game.start in
-    let past : past_of recorded.events ≡ events_of (reverse events) =
-    ap past_of same ∙ sym (map-reverse (λ (t : Timed). t.event) events) in
-    let G : List Event → Type 0 = λ p. IsGameOf recorded.game setting setup.tags p in
-    let given = lines_give_the_game setting setup.tags (reverse events) text recorded.game valid tells (subst G past recorded.game_is) in
-    let A : List ℕ → Type 0 = λ t. Appends told told' (t ++ rest_line rest) in
-    (given.0, rest, subst A given.1 appends, given.2, given.3 (reversed (λ x. x.offset < limit) events (offsets_inside bytes events rest within shows)))

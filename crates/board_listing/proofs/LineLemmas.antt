@@ -2,16 +2,16 @@
 use Rattle.std.proofs.Common.{◌≡◌, ℕ, Bool, List, [], ◌∷◌, ◌++◌, map, Option, Some, None, reverse, append-nil, refl, sym, subst, ◌∙◌, ap}
 use Rattle.std.specs.List.{flat_map}
 use Rattle.std.proofs.lemmas.Grind.{flat_map-append}
-use Rattle.std.proofs.lemmas.List.{map-append, reverse-append}
+use Rattle.std.proofs.lemmas.List.{reverse-append}
 use Rattle.dgt_frame.specs.Streams.{Timed}
 use Rattle.dgt_frame.specs.declared.events.Event.{Event}
-use Rattle.board_session.specs.Commands.{past_of}
-use Rattle.board_session.specs.Pictures.{pictures}
-use Rattle.board_session.proofs.ViewLemmas.{Adds}
-use Rattle.board_session.specs.Settings.{Setting}
+use Rattle.board_events.specs.Commands.{past_of}
+use Rattle.board_events.specs.Pictures.{pictures}
+use Rattle.board_events.proofs.ViewLemmas.{Adds}
+use Rattle.board_events.specs.Settings.{Setting}
 use Rattle.board_listing.specs.GameText.{TellsEvent, TellsEvents}
 use Rattle.settle_core.proofs.Lines.{map-reverse}
-use Rattle.board_session.proofs.HearLemmas.{past_more}
+use Rattle.board_events.proofs.CommandLemmas.{past_more}
 use Rattle.board_listing.specs.declared.listing.Listing.TheVariants.{Events, Pictures}
 use Rattle.board_listing.specs.EventLines.{line_of}
 use Rattle.board_listing.specs.PictureLines.{placement_line}

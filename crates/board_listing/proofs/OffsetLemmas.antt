@@ -6,7 +6,7 @@ use Rattle.dgt_frame.specs.declared.events.Event.{Event}
 use Rattle.dgt_frame.specs.declared.events.Event.TheVariants.{Message, Fault}
 use Rattle.dgt_frame.specs.declared.events.FaultKind.TheVariants.{Cut, Stray, Size, Data}
 use Rattle.dgt_frame.specs.Streams.{Opens, Shows, ShowsFrom, Timed}
-use Rattle.board_session.specs.Recording.{limit}
+use Rattle.board_events.specs.Limits.{limit}
 
 pub all_append : {X : Type 0} (P : X → Type 0) (xs ys : List X) → AllByRecursion P xs → AllByRecursion P ys → AllByRecursion P (xs ++ ys)
 all_append P [] ys h k = k

@@ -18,7 +18,7 @@ use Rattle.settle_core.specs.Folding.{moves_of}
 use Rattle.settle_core.specs.Settling.{Played, reached}
 use Rattle.settle_core.proofs.Stages.{valid_reached}
 use Rattle.pgn_book.specs.Movetext.{number_token}
-use Rattle.board_session.proofs.GameLemmas.{one_result}
+use Rattle.board_events.proofs.GameLemmas.{one_result}
 use Rattle.board_listing.specs.GameLines.{clock_words, move_words, result_words, squares_text, waiting_words}
 use Rattle.board_listing.specs.GivenGame.{AddsPly, ChangesGame, CorrectsPly, GameLine, Gives, IsOther, LinesGiveOneGame, TellsLegal}
 

@@ -3,14 +3,14 @@ use Rattle.std.specs.Prelude.{⊤}
 use Rattle.std.proofs.Common.{◌≡◌, ℕ, Bool, List, ◌∷◌, ◌++◌, slice_set, Option, None, Some, Result, Ok, Err, OnOk, refl, sym, ap, ◌∙◌, subst, append-nil}
 use Rattle.dgt_frame.specs.declared.events.Event.{Event}
 use Rattle.dgt_frame.specs.Streams.{Timed}
-use Rattle.board_session.specs.declared.view.View.{View}
-use Rattle.board_session.specs.Commands.{past_of}
-use Rattle.board_session.specs.Settings.{Setting}
-use Rattle.board_session.specs.declared.view.Change.TheVariants.{Nothing, Square, Picture}
-use Rattle.board_session.specs.Pictures.{ChangesPictures, IsLast, pictures}
-use Rattle.board_session.proofs.ViewLemmas.{Adds}
-use Rattle.board_session.specs.View.{Views}
-use Rattle.board_session.proofs.HearLemmas.{past_more}
+use Rattle.board_events.specs.declared.view.View.{View}
+use Rattle.board_events.specs.Commands.{past_of}
+use Rattle.board_events.specs.Settings.{Setting}
+use Rattle.board_events.specs.declared.view.Change.TheVariants.{Nothing, Square, Picture}
+use Rattle.board_events.specs.Pictures.{ChangesPictures, IsLast, pictures}
+use Rattle.board_events.proofs.ViewLemmas.{Adds}
+use Rattle.board_events.specs.View.{Views}
+use Rattle.board_events.proofs.CommandLemmas.{past_more}
 use Rattle.chess_text.specs.declared.placement_text.PlacementText.{PlacementText}
 use Rattle.chess_text.specs.KeptRanks.{picture_in}
 use Rattle.board_listing.specs.EventLines.{line_of}

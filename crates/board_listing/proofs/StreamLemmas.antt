@@ -1,6 +1,5 @@
 -- What stands when a stream has been listed, wholly or in part.
 use Rattle.std.proofs.Common.{◌≡◌, ◌⊎◌, inl, inr, ℕ, ◌+◌, ◌≤◌, List, [], ◌∷◌, ◌++◌, length, take, Option, Some, None, Result, Ok, Err, OnErr, OnOk, false, true, refl, sym, ◌∙◌, ap, subst, append_assoc, append-nil, length-append, arith}
-use Rattle.std.specs.Prelude.{if◌then◌else◌, is_err, is_ok}
 use Rattle.std.proofs.KnownBytes.{Appends-trans, Consumes-kept, Consumes-trans}
 use Rattle.std.proofs.lemmas.List.{length-take-le}
 use Rattle.std.specs.Io.KnownBytes.{Appends, Consumes, IsAtEnd, Keeps}
@@ -9,7 +8,7 @@ use Rattle.watched_streams.specs.declared.chunks.ReadChunk.{ReadChunk}
 use Rattle.dgt_frame.specs.Decoder.{Decoded}
 use Rattle.watched_streams.specs.Input.{GivesChunk}
 use Rattle.dgt_frame.specs.Streams.{Shows, Timed}
-use Rattle.board_session.specs.Recording.{limit}
+use Rattle.board_events.specs.Limits.{limit}
 use Rattle.board_listing.specs.declared.printer.Printer.{Printer}
 use Rattle.board_listing.specs.declared.listing.Listing.{Listing}
 use Rattle.board_listing.specs.Printers.{HasBegun}

@@ -24,7 +24,7 @@ use Rattle.settle_core.specs.Folding.{moves_of}
 use Rattle.settle_core.specs.Settling.{Played, reached}
 use Rattle.settle_core.proofs.Stages.{valid_reached}
 use Rattle.pgn_book.specs.Movetext.{number_token}
-use Rattle.board_session.specs.Recording.{limit}
+use Rattle.board_events.specs.Limits.{limit}
 use Rattle.board_listing.specs.EventLines.{kind_text, rest_line}
 use Rattle.board_listing.specs.GameLines.{clock_words, differing, result_words, squares_text, waiting_words}
 use Rattle.board_listing.specs.GivenGame.{AreInStream, ChangesGame, CorrectsPly, EndsLines, GameLine, Gives, IsOther, LinesGiveOneGame, TellsLegal, TextTellsTheGame, TextTellsTheLines, text_of}

@@ -5,8 +5,8 @@ use Rattle.dgt_frame.specs.declared.events.Event.{Event}
 use Rattle.dgt_frame.specs.Streams.{Timed}
 use Rattle.settle_core.specs.Entries.{deduplicated}
 use Rattle.settle_core.specs.Folding.{Folds, Score}
-use Rattle.board_session.specs.Settings.{Setting}
-use Rattle.board_session.specs.Session.{StandsFor, entries_in}
+use Rattle.board_events.specs.Settings.{Setting}
+use Rattle.board_events.specs.Session.{StandsFor, entries_in}
 use Rattle.board_listing.specs.declared.follower.Follower.{Follower}
 use Rattle.board_listing.specs.GameText.{HasResult, TellsEvent}
 

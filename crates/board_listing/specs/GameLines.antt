@@ -1,5 +1,5 @@
 -- The lines of `follow`, each as a text.
-use Rattle.std.specs.Prelude.{ℕ, ◌+◌, ◌==◌, if◌then◌else◌, List, [], ◌∷◌, ◌++◌, codes, decimal, slice_index, Option, Some, None}
+use Rattle.std.specs.Prelude.{ℕ, ◌+◌, ◌==◌, if◌then◌else◌, List, [], ◌∷◌, ◌++◌, codes, slice_index, Option, Some, None}
 use Rattle.std.specs.List.{flat_map, range_with_len}
 use Rattle.chess_clock.specs.declared.Hms.{Hms}
 use Rattle.chess_rules.specs.declared.parts.Parts.{Parts}

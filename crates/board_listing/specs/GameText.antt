@@ -13,10 +13,10 @@ use Rattle.settle_core.specs.GameResult.{IsResult}
 use Rattle.settle_core.specs.Entries.{Entry, repeats, deduplicated}
 use Rattle.settle_core.specs.Folding.{Folds, Score, SeenAs, moves_of, score_after}
 use Rattle.settle_core.specs.Settling.{reached}
-use Rattle.board_session.specs.Entries.{entry_at, is_entry}
-use Rattle.board_session.specs.History.{is_fault}
-use Rattle.board_session.specs.Settings.{Setting}
-use Rattle.board_session.specs.Session.{entries_in}
+use Rattle.board_events.specs.Entries.{entry_at, is_entry}
+use Rattle.board_events.specs.History.{is_fault}
+use Rattle.board_events.specs.Settings.{Setting}
+use Rattle.board_events.specs.Session.{entries_in}
 use Rattle.watched_streams.specs.Lines.{line}
 use Rattle.board_listing.specs.GameLines.{move_words, result_words, squares_text, waiting_words}
 use Rattle.board_listing.specs.EventLines.{line_of}

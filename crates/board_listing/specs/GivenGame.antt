@@ -1,7 +1,6 @@
 -- The game that the lines of `follow` give. Lines, events and plies are listed with the latest first.
-use Rattle.std.specs.Prelude.{◌≡◌, ◌<◌, ◌⊎◌, ℕ, List, [], ◌∷◌, ◌++◌, codes, map, reverse, Option, Some, None}
+use Rattle.std.specs.Prelude.{◌≡◌, ◌<◌, ◌⊎◌, ℕ, List, [], ◌∷◌, ◌++◌, codes, map, reverse, Option, None}
 use Rattle.std.specs.List.{AllByRecursion}
-use Rattle.std.specs.Io.KnownBytes.{Appends}
 use Rattle.chess_rules.specs.declared.parts.Parts.{Parts}
 use Rattle.chess_rules.specs.Legal.{Legal}
 use Rattle.chess_rules.specs.Picture.{picture}
@@ -16,17 +15,13 @@ use Rattle.settle_core.specs.Settling.{reached}
 use Rattle.chess_game.specs.Games.{Content}
 use Rattle.chess_game.specs.Values.{TagValues}
 use Rattle.chess_rules.specs.Valid.{Valid}
-use Rattle.board_session.specs.declared.recorder.Report.{Report}
-use Rattle.board_session.specs.declared.recording.Setup.{Setup}
-use Rattle.board_session.specs.Game.{IsGameOf}
-use Rattle.board_session.specs.Recording.{RecordsGame, limit}
-use Rattle.board_session.specs.Settings.{Setting}
-use Rattle.board_listing.specs.declared.listing.Listing.TheVariants.{Game}
+use Rattle.board_events.specs.Game.{IsGameOf}
+use Rattle.board_events.specs.Limits.{limit}
+use Rattle.board_events.specs.Settings.{Setting}
 use Rattle.board_listing.specs.GameText.{TellsEvents}
 use Rattle.watched_streams.specs.Lines.{line}
 use Rattle.board_listing.specs.GameLines.{move_words, result_words, squares_text, waiting_words}
 use Rattle.board_listing.specs.EventLines.{kind_text, rest_line}
-use Rattle.board_listing.specs.Listings.{ListsAll}
 
 -- A line: the offset of the byte at which its event came, and what is said of it.
 pub record GameLine : Type 0 where
@@ -103,12 +98,3 @@ LinesGiveTheGame = (setting : Setting) (tags : TagValues) (events : List Timed) 
     → TellsEvents setting events text → IsGameOf game setting tags (map (λ t. t.event) events)
     → (lines : List GameLine) × (text ≡ text_of lines) × Gives setting.start lines (reverse game.plies) game.result
     × (AllByRecursion (λ x. x.offset < limit) events → AreInStream lines)
-
--- Where `record` writes the PGN text of a game of a whole stream, `follow` writes, of the same bytes and as it is set up, lines
--- that give this game, and the line of the rest.
-abbrev pub FollowTellsTheGame : Type 0
-FollowTellsTheGame = (setup : Setup) (report : Report) (bytes : List ℕ) (sent sent' written written' told told' : Option (List ℕ))
-    → (recorded : RecordsGame setup report bytes sent sent' written written')
-    → ListsAll (Game setup.start setup.first setup.rotated) (Some bytes) told told'
-    → (lines : List GameLine) × (rest : ℕ) × Appends told told' (text_of lines ++ rest_line rest)
-    × Gives setup.start lines (reverse recorded.game.plies) recorded.game.result × AreInStream lines

@@ -4,10 +4,10 @@ use Rattle.std.specs.List.{flat_map}
 use Rattle.std.specs.Io.KnownBytes.{Appends, Consumes, Keeps}
 use Rattle.watched_streams.specs.Input.{ReadsWithin}
 use Rattle.dgt_frame.specs.Streams.{Shows, Timed}
-use Rattle.board_session.specs.Commands.{past_of}
-use Rattle.board_session.specs.Recording.{limit}
-use Rattle.board_session.specs.Session.{WantsMemory}
-use Rattle.board_session.specs.Pictures.{pictures}
+use Rattle.board_events.specs.Commands.{past_of}
+use Rattle.board_events.specs.Limits.{limit}
+use Rattle.board_events.specs.Session.{WantsMemory}
+use Rattle.board_events.specs.Pictures.{pictures}
 use Rattle.board_listing.specs.declared.listing.Listing.{Listing}
 use Rattle.board_listing.specs.declared.listing.Listing.TheVariants.{Events, Pictures, Game}
 use Rattle.board_listing.specs.GameText.{TellsEvents}

@@ -3,9 +3,9 @@ use Rattle.std.specs.Prelude.{◌≡◌, ◌<◌, ◌≤◌, ◌⊎◌, ℕ, Lis
 use Rattle.std.specs.List.{flat_map}
 use Rattle.std.specs.Io.KnownBytes.{Appends, Consumes, Keeps}
 use Rattle.dgt_frame.specs.Streams.{Shows, Timed}
-use Rattle.board_session.specs.Commands.{past_of}
-use Rattle.board_session.specs.Recording.{limit}
-use Rattle.board_session.specs.Pictures.{pictures}
+use Rattle.board_events.specs.Commands.{past_of}
+use Rattle.board_events.specs.Limits.{limit}
+use Rattle.board_events.specs.Pictures.{pictures}
 use Rattle.board_listing.specs.EventLines.{line_of}
 use Rattle.watched_streams.specs.Input.{ReadsWithin}
 use Rattle.board_listing.specs.Listings.{WritesFront}

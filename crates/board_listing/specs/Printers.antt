@@ -1,9 +1,9 @@
 -- What a printer knows of the events that it has followed.
 use Rattle.std.specs.Prelude.{◌≡◌, ℕ, List, [], ◌∷◌, ◌++◌, ⊤}
 use Rattle.dgt_frame.specs.Streams.{Timed}
-use Rattle.board_session.specs.Commands.{past_of}
-use Rattle.board_session.specs.Pictures.{IsLast, pictures}
-use Rattle.board_session.specs.View.{Views}
+use Rattle.board_events.specs.Commands.{past_of}
+use Rattle.board_events.specs.Pictures.{IsLast, pictures}
+use Rattle.board_events.specs.View.{Views}
 use Rattle.chess_text.specs.KeptRanks.{picture_in}
 use Rattle.board_listing.specs.declared.printer.Printer.{Printer}
 use Rattle.board_listing.specs.declared.printer.Printer.TheVariants.{Events as EachEvent, Pictures as EachPicture, Game as EachMove}

@@ -8,7 +8,7 @@ ghost use Rattle.board_listing.specs.News.{AddsNews, LastIsLegal, MayTell};
 
 use crate::events::add_line;
 use crate::game_lines::{add_ply, add_result, add_waiting};
-use board_session::Session;
+use board_events::Session;
 use chess_rules::Position;
 use dgt_frame::{Event, First};
 use pgn_book::result_at;
@@ -91,8 +91,8 @@ pub struct Follower {
 
 impl Follower {
     ghost use Rattle.dgt_frame.specs.declared.events.Event.{Event as EventOf};
-    ghost use Rattle.board_session.specs.Settings.{Setting};
-    ghost use Rattle.board_session.specs.Session.{WantsMemory};
+    ghost use Rattle.board_events.specs.Settings.{Setting};
+    ghost use Rattle.board_events.specs.Session.{WantsMemory};
     ghost use Rattle.board_listing.specs.Followers.{AddsEvent, HasFollowed};
 
     /// A follower that was given no event. Takes no memory.

@@ -1,22 +1,13 @@
 //! What the lines of `follow` give, each law as the contract of a function that does nothing.
-ghost use Rattle.board_listing.specs.GivenGame.{FollowTellsTheGame, LinesGiveOneGame, LinesGiveTheGame, TextTellsTheGame, TextTellsTheLines};
+ghost use Rattle.board_listing.specs.GivenGame.{LinesGiveOneGame, LinesGiveTheGame, TextTellsTheGame, TextTellsTheLines};
 
 use chess_text::laws::{texts_are_plain, texts_tell_moves};
-use dgt_frame::laws::shows_once;
 
 /// The lines that `follow` tells of events give their game: taken in order, where a move adds a ply and a correction takes the
 /// place of the last one, they give its plies, with their clocks, and its result.
 pub fn lines_give_the_game()
     ensures { LinesGiveTheGame }
 {}
-
-/// Of the same bytes `follow` tells the game that `record` writes.
-pub fn follow_tells_the_game()
-    ensures { FollowTellsTheGame }
-{
-    // For its clause: the law that this one rests on.
-    shows_once();
-}
 
 /// Lines of `follow` give one list of plies and one result at most, with whatever position they begin.
 pub fn lines_give_one_game()

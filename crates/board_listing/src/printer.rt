@@ -10,7 +10,7 @@ use crate::events::{add_line, add_rest};
 use crate::follower::Follower;
 use crate::listing::Listing;
 use crate::pictures::add_placement;
-use board_session::{Change, View};
+use board_events::{Change, View};
 use chess_text::PlacementText;
 use dgt_frame::Event;
 use std::alloc::{AllocError, Global};

@@ -18,10 +18,10 @@ use Rattle.settle_core.proofs.Whatever.{kings_keep_the_plies, nothing_is_invente
 use Rattle.chess_game.specs.Games.{Content, Result}
 use Rattle.chess_game.specs.Values.{TagValues}
 use Rattle.board_session.specs.AnyStream.{HonestPlayResumes, KeepsAllButLast, KingsEndResumedPlay, KingsInCentreKeepThePlies, NothingIsInvented, OnlyTheLastPlyMayChange, ResumedPlayStops, WereShown, end_of}
-use Rattle.board_session.specs.Entries.{entry_at, is_entry}
-use Rattle.board_session.specs.Game.{IsGameOf}
-use Rattle.board_session.specs.Settings.{Setting}
-use Rattle.board_session.specs.Session.{entries_in}
+use Rattle.board_events.specs.Entries.{entry_at, is_entry}
+use Rattle.board_events.specs.Game.{IsGameOf}
+use Rattle.board_events.specs.Settings.{Setting}
+use Rattle.board_events.specs.Session.{entries_in}
 use Rattle.board_session.proofs.HonestLemmas.{entries_on}
 use Rattle.board_session.proofs.UnseenLemmas.{reached_by}
 

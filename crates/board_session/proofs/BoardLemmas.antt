@@ -8,10 +8,10 @@ use Rattle.dgt_frame.specs.declared.events.Event.TheVariants.{Message as Message
 use Rattle.dgt_frame.specs.declared.First.{First}
 use Rattle.settle_core.specs.Entries.{Entry}
 use Rattle.settle_core.proofs.Resuming.{onto}
-use Rattle.board_session.specs.History.{is_trusted, picture_of, turned}
-use Rattle.board_session.specs.HonestBoard.{HonestBoardsAreRead, SendsOn, fields_of, pictures_in}
-use Rattle.board_session.proofs.PictureLemmas.{plain_dump, rotated_dump, updated_picture}
-use Rattle.board_session.proofs.TakeLemmas.{entries_updated}
+use Rattle.board_events.specs.History.{is_trusted, picture_of, turned, fields_of}
+use Rattle.board_session.specs.HonestBoard.{HonestBoardsAreRead, SendsOn, pictures_in}
+use Rattle.board_events.proofs.PictureLemmas.{plain_dump, rotated_dump, updated_picture}
+use Rattle.board_events.proofs.TakeLemmas.{entries_updated}
 
 after_time : (rotated : Bool) (times : List ℕ) (past : List Event) → picture_of rotated (MessageEvent (Time times) ∷ past) ≡ picture_of rotated past
 unfolding picture_of

@@ -1,22 +1,13 @@
 -- A game has no more moves than there were events.
-use Rattle.std.proofs.Common.{◌≡◌, ℕ, suc, ◌+◌, ◌≤◌, Bool, true, false, not, cond, List, [], ◌∷◌, length, refl, arith, if◌then◌else◌}
+use Rattle.std.proofs.Common.{◌≡◌, ℕ, suc, ◌+◌, ◌≤◌, Bool, true, false, not, cond, List, [], ◌∷◌, length, refl, arith}
 use Rattle.std.proofs.lemmas.List.{length-reverse, length-map}
 use Rattle.std.proofs.lemmas.List.Sums.{sum_by-cons}
-use Rattle.dgt_frame.specs.declared.events.Event.{Event}
-use Rattle.dgt_frame.specs.declared.First.{First}
 use Rattle.dgt_frame.specs.Streams.{Timed}
 use Rattle.board_session.specs.declared.recorder.Recorder.{Recorder}
-use Rattle.board_session.specs.Settings.{Setting}
-use Rattle.board_session.specs.History.{is_fault}
-use Rattle.board_session.specs.Entries.{entries, entry_at, is_entry}
-use Rattle.board_session.specs.Commands.{faults_in, messages_in, past_of}
+use Rattle.board_events.specs.Settings.{Setting}
+use Rattle.board_events.specs.History.{is_fault}
+use Rattle.board_events.specs.Commands.{faults_in, messages_in, past_of}
 use Rattle.board_session.specs.Recorder.{Kept, event_count}
-
-pub length-entries : (first : First) (rotated : Bool) (past : List Event) → length (entries first rotated past) ≤ length past
-length-entries first rotated [] = omega arith
-length-entries first rotated (event ∷ past) = let fewer = length-entries first rotated past in
-    elim (is_entry event past) as (λ b. length (if b then entry_at first rotated (event ∷ past) ∷ entries first rotated past else entries first rotated past) ≤ suc (length past))
-    [ true ↦ omega (arith, fewer) | false ↦ omega (arith, fewer) ]
 
 one_counted : (b : Bool) (m f n : ℕ) → m + f ≡ n → (cond (not b) 1 0 + m) + (cond b 1 0 + f) ≡ suc n
 one_counted true m f n h = omega arith

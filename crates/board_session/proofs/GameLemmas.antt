@@ -1,14 +1,11 @@
 -- The game of a list of events.
-use Rattle.std.proofs.Common.{◌≡◌, ◌≢◌, ◌⊎◌, inl, inr, ◌+◌, ◌≤◌, Bool, true, false, List, [], ◌∷◌, length, reverse, Option, Some, None, ◌++◌, refl, sym, ap, subst, ◌∙◌, arith}
+use Rattle.std.proofs.Common.{◌≡◌, ◌+◌, ◌≤◌, Bool, true, false, List, [], ◌∷◌, length, reverse, Option, Some, None, ◌++◌, refl, sym, ap, subst, ◌∙◌, arith}
 use Rattle.std.proofs.lemmas.List.{append-nil, length-reverse, reverse-reverse}
 use Rattle.chess_rules.specs.declared.parts.Parts.{Parts}
-use Rattle.chess_rules.specs.Legal.{Mated, Stale}
 use Rattle.chess_rules.specs.Valid.{Valid}
 use Rattle.dgt_frame.specs.declared.events.Event.{Event}
 use Rattle.settle_core.specs.declared.plies.Ply.{Ply}
 use Rattle.settle_core.specs.declared.plies.Outcome.{Outcome}
-use Rattle.settle_core.specs.declared.plies.Outcome.TheVariants.{WhiteWins, BlackWins, Drawn}
-use Rattle.settle_core.specs.GameResult.{IsResult}
 use Rattle.settle_core.specs.Entries.{Entry, repeats, deduplicated}
 use Rattle.settle_core.specs.Folding.{Folds, Score, moves_of, score_of}
 use Rattle.settle_core.specs.Laws.{GivesScore, joined}
@@ -20,36 +17,11 @@ use Rattle.settle_core.specs.HonestPlay.{HasWhole, shown_plies}
 use Rattle.settle_core.proofs.Once.{folds_once, no_entry_gives_two}
 use Rattle.chess_game.specs.Games.{Content, Result}
 use Rattle.chess_game.specs.Values.{TagValues}
-use Rattle.board_session.specs.Entries.{entry_at, is_entry}
-use Rattle.board_session.specs.Game.{GivesOneEach}
+use Rattle.board_events.specs.Entries.{entry_at, is_entry}
 use Rattle.board_session.specs.Laws.{EventsTellTheGame, HonestClocksAreRecorded, HonestPlayIsRecorded, HonestStopIsRecorded, KingsEndIsRecorded, NoEventGivesTwo}
-use Rattle.board_session.specs.Settings.{Setting}
-use Rattle.board_session.specs.Session.{entries_in}
-
--- Two results are the same or not.
-same_or_not : (a b : Option Outcome) → (a ≡ b) ⊎ (a ≢ b)
-same_or_not None None = inl refl
-same_or_not None (Some y) = inr (λ e. cc)
-same_or_not (Some x) None = inr (λ e. cc)
-same_or_not (Some WhiteWins) (Some WhiteWins) = inl refl
-same_or_not (Some WhiteWins) (Some BlackWins) = inr (λ e. cc)
-same_or_not (Some WhiteWins) (Some Drawn) = inr (λ e. cc)
-same_or_not (Some BlackWins) (Some WhiteWins) = inr (λ e. cc)
-same_or_not (Some BlackWins) (Some BlackWins) = inl refl
-same_or_not (Some BlackWins) (Some Drawn) = inr (λ e. cc)
-same_or_not (Some Drawn) (Some WhiteWins) = inr (λ e. cc)
-same_or_not (Some Drawn) (Some BlackWins) = inr (λ e. cc)
-same_or_not (Some Drawn) (Some Drawn) = inl refl
-
--- A position has one result under a sign.
-pub one_result : (p : Parts) (sign a b : Option Outcome) → IsResult p sign a → IsResult p sign b → a ≡ b
-one_result p sign a b h k = elim (same_or_not a b) [
-  | inl same ↦ same
-  | inr differ ↦
-      let mated : Mated p → ⊥ = λ m. differ (h.mated m ∙ sym (k.mated m)) in
-      let stale : Stale p → ⊥ = λ m. differ (h.stale m ∙ sym (k.stale m)) in
-      h.running mated stale ∙ sym (k.running mated stale)
-]
+use Rattle.board_events.specs.Settings.{Setting}
+use Rattle.board_events.proofs.GameLemmas.{one_result}
+use Rattle.board_events.specs.Session.{entries_in}
 
 abbrev content : TagValues → Parts → List Ply → Option Outcome → Content
 content tags start plies result = record { tags = tags; start = start; plies = plies; result = result }
@@ -104,10 +76,6 @@ no_event_gives_two setting tags past event before game valid h k =
       length-score_of before.plies h.sign,
       length-score_of game.plies k.sign,
     )
-
-pub one_each : (start : Parts) (past : List Entry) → Valid start → GivesOneEach start past
-one_each start [] valid = tt
-one_each start (entry ∷ past) valid = (λ before score h k. no_entry_gives_two start entry past before score valid h k, one_each start past valid)
 
 pub honest_play_is_recorded : HonestPlayIsRecorded
 honest_play_is_recorded setting tags past game moves lists valid line shown are is =

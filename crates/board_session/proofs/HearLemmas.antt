@@ -1,6 +1,6 @@
 -- How what was heard grows by a byte and by a chunk.
-use Rattle.std.proofs.Common.{arith, zero-add, Bool, true, false, not, cond, count_by, if◌then◌else◌, ◌≡◌, ℕ, ◌+◌, List, [], ◌∷◌, ◌++◌, map, reverse, take, drop, take-add, Option, Result, Ok, Err, IfErr, OnOk, OnErr, MatchResult, refl, sym, ◌∙◌, ap, append_assoc}
-use Rattle.std.proofs.lemmas.List.{append-nil, map-append, reverse-append, take-append-drop}
+use Rattle.std.proofs.Common.{arith, zero-add, Bool, true, false, not, cond, count_by, if◌then◌else◌, ◌≡◌, ℕ, ◌+◌, List, [], ◌∷◌, ◌++◌, take, drop, take-add, Option, Result, Ok, Err, IfErr, OnOk, OnErr, MatchResult, refl, sym, ◌∙◌, ap, append_assoc}
+use Rattle.std.proofs.lemmas.List.{append-nil, take-append-drop}
 use Rattle.std.proofs.lemmas.List.Sums.{sum_by-append}
 use Rattle.std.specs.Prelude.{⊤}
 use Rattle.std.proofs.KnownBytes.{Appends-kept, Appends-trans}
@@ -11,23 +11,13 @@ use Rattle.dgt_frame.specs.Streams.{Timed}
 use Rattle.board_session.specs.declared.refusal.RecordError.{RecordError}
 use Rattle.board_session.specs.declared.refusal.RecordError.TheVariants.{Memory, Read, Board, Write, TooLong}
 use Rattle.board_session.specs.declared.recorder.Recorder.{Recorder}
-use Rattle.board_session.specs.Settings.{Setting}
-use Rattle.board_session.specs.Commands.{asked, asks, commands, faults_in, messages_in, past_of}
-use Rattle.board_session.specs.History.{is_fault}
-use Rattle.board_session.specs.Session.{StandsFor}
+use Rattle.board_events.specs.Settings.{Setting}
+use Rattle.board_events.specs.Commands.{asked, commands, faults_in, messages_in, past_of}
+use Rattle.board_events.specs.History.{is_fault}
+use Rattle.board_events.specs.Session.{StandsFor}
 use Rattle.watched_streams.specs.Output.{AppendsPart}
+use Rattle.board_events.proofs.CommandLemmas.{at, past_more, commands_more}
 use Rattle.board_session.specs.Recorder.{Kept, Live, Stopped, TakesEvent}
-
--- the event at this offset
-abbrev pub at : ℕ → Event → Timed
-at offset event = record { offset = offset; event = event }
-
-pub past_more : (taken : List Timed) (offset : ℕ) (event : Event) → past_of (taken ++ at offset event ∷ []) ≡ event ∷ past_of taken
-past_more taken offset event = ap reverse (map-append (λ (t : Timed). t.event) taken (at offset event ∷ []))
-    ∙ reverse-append (map (λ (t : Timed). t.event) taken) (event ∷ [])
-
-pub commands_more : (taken : List Timed) (offset : ℕ) (event : Event) → commands (taken ++ at offset event ∷ []) ≡ commands taken ++ asked event
-commands_more taken offset event = ap asks (past_more taken offset event)
 
 part_more : (a b c : Option (List ℕ)) (xs ys : List ℕ) → Appends a b xs → AppendsPart b c ys → AppendsPart a c (xs ++ ys)
 part_more a b c xs ys h k = (xs ++ k.0, k.1, ap (λ (bytes : List ℕ). xs ++ bytes) k.2 ∙ sym (append_assoc xs k.0 k.1), Appends-trans a b c xs k.0 h k.3)

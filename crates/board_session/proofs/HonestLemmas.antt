@@ -11,13 +11,12 @@ use Rattle.settle_core.specs.Laws.{GivesScore, joined}
 use Rattle.settle_core.specs.HonestPlay.{HasWhole, IsFront}
 use Rattle.settle_core.proofs.Fronts.{honest_fronts}
 use Rattle.chess_game.specs.Games.{Content, Result}
-use Rattle.board_session.specs.declared.recording.Setup.{Setup}
-use Rattle.board_session.specs.Commands.{past_of}
-use Rattle.board_session.specs.Entries.{entry_at, is_entry}
+use Rattle.board_events.specs.declared.setup.Setup.{Setup}
+use Rattle.board_events.specs.Commands.{past_of}
+use Rattle.board_events.specs.Entries.{entry_at, is_entry}
 use Rattle.board_session.specs.Laws.{HonestFrontIsWritten, HonestPlayIsWritten, KingsEndIsWritten, ShowsEntries}
-use Rattle.board_session.specs.Recording.{setting_of}
-use Rattle.board_session.specs.Settings.{Setting}
-use Rattle.board_session.specs.Session.{entries_in}
+use Rattle.board_events.specs.Settings.{setting_of, Setting}
+use Rattle.board_events.specs.Session.{entries_in}
 use Rattle.board_session.proofs.GameLemmas.{honest_clocks_are_recorded, honest_play_is_recorded, kings_end_is_recorded}
 
 -- a stream shows one list of events

@@ -12,15 +12,15 @@ use Rattle.chess_clock.specs.declared.Reading.{Reading}
 use Rattle.settle_core.specs.Entries.{Entry, entry_of, last_picture, repeats, deduplicated}
 use Rattle.chess_game.specs.Games.{Content}
 use Rattle.chess_game.specs.Values.{TagValues}
-use Rattle.board_session.specs.Settings.{Setting}
-use Rattle.board_session.specs.History.{decides, is_fault, is_trusted, picture_of, reading_at, reading_said, turned}
-use Rattle.board_session.specs.Entries.{Idle, entries, entry_at, is_entry}
-use Rattle.board_session.specs.Session.{entries_in}
-use Rattle.board_session.specs.Game.{IsGameOf}
-use Rattle.board_session.specs.Commands.{asked, asks}
+use Rattle.board_events.specs.Settings.{Setting}
+use Rattle.board_events.specs.History.{decides, is_fault, is_trusted, picture_of, reading_at, reading_said, turned}
+use Rattle.board_events.specs.Entries.{Idle, entries, entry_at, is_entry}
+use Rattle.board_events.specs.Session.{entries_in}
+use Rattle.board_events.specs.Game.{IsGameOf}
+use Rattle.board_events.specs.Commands.{asked, asks}
 use Rattle.board_session.specs.Laws.{FaultsAskOnce, FaultsBeforeDumpsCanGo, IdleEventsCanGo, IsQuiet, IsTextOf, TellTheSame, Thins}
-use Rattle.board_session.proofs.PictureLemmas.{length-picture_of, picture_at, picture_is}
-use Rattle.board_session.proofs.TakeLemmas.{entries_updated, seen_before, some_same}
+use Rattle.board_events.proofs.PictureLemmas.{length-picture_of, picture_at, picture_is}
+use Rattle.board_events.proofs.TakeLemmas.{entries_updated, seen_before, some_same}
 
 -- The two lists leave a session alike.
 record Alike (first : First) (rotated : Bool) (a b : List Event) : Type 0 where

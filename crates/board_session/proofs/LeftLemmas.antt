@@ -19,14 +19,13 @@ use Rattle.settle_core.specs.Settling.{position_after}
 use Rattle.settle_core.proofs.Ending.{honest_play_ends, honest_play_stops_anywhere}
 use Rattle.settle_core.proofs.Returning.{made_again_stops}
 use Rattle.chess_game.specs.Games.{Content, Result}
-use Rattle.board_session.specs.declared.recording.Setup.{Setup}
+use Rattle.board_events.specs.declared.setup.Setup.{Setup}
 use Rattle.board_session.specs.AnyRecording.{BeginsWithDump, HonestEndIsRecorded, HonestEndIsWritten, HonestStopAnywhereIsRecorded, HonestStopAnywhereIsWritten, KingsInCentreWriteNoMove, Left, MadeAgainIsRecorded, MadeAgainIsWritten, NothingWrittenIsInvented, OnlyTheLastPlyIsRewritten, RestartsAreRecorded, RestartsAreWritten, ResumedEndIsWritten, ResumedPlayIsWritten, ResumedStopIsWritten}
-use Rattle.board_session.specs.Commands.{past_of}
-use Rattle.board_session.specs.Game.{IsGameOf}
+use Rattle.board_events.specs.Commands.{past_of}
+use Rattle.board_events.specs.Game.{IsGameOf}
 use Rattle.board_session.specs.Laws.{TellTheSame}
-use Rattle.board_session.specs.Recording.{setting_of}
-use Rattle.board_session.specs.Settings.{Setting}
-use Rattle.board_session.specs.Session.{entries_in}
+use Rattle.board_events.specs.Settings.{setting_of, Setting}
+use Rattle.board_events.specs.Session.{entries_in}
 use Rattle.board_session.proofs.AnyLemmas.{deduplicated_on, honest_play_resumes, kings_end_resumed_play, kings_in_centre_keep_the_plies, nothing_is_invented, only_the_last_ply_may_change, resumed_play_stops}
 use Rattle.board_session.proofs.HonestLemmas.{ShowsFronts, ShowsOnce, entries_on, past_on, valid_start}
 use Rattle.board_session.proofs.LawLemmas.{faults_before_dumps_can_go}

@@ -4,13 +4,10 @@ pub mod GameLemmas
 pub mod HearLemmas
 pub mod HonestLemmas
 pub mod LawLemmas
-pub mod PictureLemmas
 pub mod ReadLemmas
 pub mod RecordLemmas
 pub mod StreamLemmas
-pub mod TakeLemmas
 pub mod UnseenLemmas
-pub mod ViewLemmas
 pub mod LeftLemmas
 pub mod BoardLemmas
 pub mod SizeLemmas

@@ -10,8 +10,8 @@ use Rattle.dgt_frame.specs.Streams.{Timed}
 use Rattle.board_session.specs.declared.refusal.RecordError.{RecordError}
 use Rattle.board_session.specs.declared.refusal.RecordError.TheVariants.{Memory, Read, Board, Write, TooLong}
 use Rattle.board_session.specs.declared.recorder.Recorder.{Recorder}
-use Rattle.board_session.specs.Settings.{Setting}
-use Rattle.board_session.specs.Commands.{past_of}
+use Rattle.board_events.specs.Settings.{Setting}
+use Rattle.board_events.specs.Commands.{past_of}
 use Rattle.board_session.specs.Recording.{Ends, FailsAsking}
 use Rattle.board_session.specs.Recorder.{EndsAtFault, Listened, Live, Stopped, Stops}
 use Rattle.board_session.proofs.HearLemmas.{stopped_more}

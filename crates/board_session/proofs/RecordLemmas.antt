@@ -6,20 +6,20 @@ use Rattle.std.specs.Io.KnownBytes.{Appends, Consumes, IsAtEnd}
 use Rattle.dgt_frame.specs.Streams.{Shows, Timed}
 use Rattle.board_session.specs.declared.refusal.RecordError.{RecordError}
 use Rattle.board_session.specs.declared.refusal.RecordError.TheVariants.{Memory, Read, Board, Write, TooLong}
-use Rattle.board_session.specs.declared.recorder.Report.{Report}
-use Rattle.board_session.specs.declared.recording.Setup.{Setup}
+use Rattle.board_session.specs.declared.report.Report.{Report}
+use Rattle.board_events.specs.declared.setup.Setup.{Setup}
 use Rattle.settle_core.specs.Entries.{deduplicated}
 use Rattle.chess_game.specs.Games.{Content}
 use Rattle.pgn_book.specs.Laws.{TextsTellGames}
 use Rattle.pgn_book.specs.Pgn.{Pgn}
 use Rattle.chess_game.specs.Values.{TagValues}
-use Rattle.board_session.specs.Game.{IsGameOf}
+use Rattle.board_events.specs.Game.{IsGameOf}
 use Rattle.board_session.specs.Recorder.{Finished}
-use Rattle.board_session.specs.Settings.{Setting}
-use Rattle.board_session.specs.Commands.{past_of}
-use Rattle.board_session.specs.Session.{entries_in}
-use Rattle.board_session.proofs.GameLemmas.{one_each}
-use Rattle.board_session.specs.Recording.{Ends, Leaves, RecordsAll, RecordsGame, Sends, setting_of}
+use Rattle.board_events.specs.Settings.{Setting, setting_of}
+use Rattle.board_events.specs.Commands.{past_of}
+use Rattle.board_events.specs.Session.{entries_in}
+use Rattle.board_events.proofs.GameLemmas.{one_each}
+use Rattle.board_session.specs.Recording.{Ends, Leaves, RecordsAll, Sends, RecordsGame}
 use Rattle.watched_streams.specs.Output.{AppendsPart}
 
 -- the text was written, and reading had ended early

@@ -21,16 +21,16 @@ use Rattle.settle_core.proofs.Growing.{one_more}
 use Rattle.settle_core.proofs.Once.{folds_played}
 use Rattle.settle_core.proofs.Stages.{valid_reached}
 use Rattle.settle_core.proofs.Twice.{DiffersTwice, moves_differ}
-use Rattle.board_session.specs.Commands.{past_of}
-use Rattle.board_session.specs.Entries.{entry_at}
-use Rattle.board_session.specs.History.{code_of, is_trusted, picture_of, turned}
-use Rattle.board_session.specs.Settings.{Setting}
-use Rattle.board_session.specs.Session.{entries_in}
+use Rattle.board_events.specs.Commands.{past_of}
+use Rattle.board_events.specs.Entries.{entry_at}
+use Rattle.board_events.specs.History.{code_of, is_trusted, picture_of, turned}
+use Rattle.board_events.specs.Settings.{Setting}
+use Rattle.board_events.specs.Session.{entries_in}
 use Rattle.board_session.specs.Sizes.{FramesAreWithin, MovesTakeTenBytes, WrittenMovesTakeTenBytes, size_of, sizes}
 use Rattle.board_session.proofs.HonestLemmas.{past_on}
 use Rattle.board_session.proofs.LeftLemmas.{start_valid}
-use Rattle.board_session.proofs.PictureLemmas.{picture_at, turned_twice}
-use Rattle.board_session.proofs.TakeLemmas.{entries_updated, seen_before, some_same}
+use Rattle.board_events.proofs.PictureLemmas.{picture_at, turned_twice}
+use Rattle.board_events.proofs.TakeLemmas.{entries_updated, seen_before, some_same}
 
 -- ---- frames
 
@@ -256,7 +256,7 @@ written_moves_take_ten_bytes setup left =
     let l = left.leaves in
     omega (
       arith,
-      moves_take_ten_bytes (Rattle.board_session.specs.Recording.setting_of setup) setup.tags (past_of l.taken) l.game (start_valid setup left) l.game_is,
+      moves_take_ten_bytes (Rattle.board_events.specs.Settings.setting_of setup) setup.tags (past_of l.taken) l.game (start_valid setup left) l.game_is,
       frames_are_within l.front (l.taken ++ l.extra) l.rest l.shows,
       ap sizes (past_on l.taken l.extra),
       sizes_joined (past_of l.extra) (past_of l.taken),

@@ -15,11 +15,11 @@ use Rattle.settle_core.specs.Laws.{HasAnotherLast as HasAnotherLastPly}
 use Rattle.settle_core.specs.Settling.{position_after, reached}
 use Rattle.settle_core.proofs.Lists.{position_in_order}
 use Rattle.settle_core.proofs.Skipping.{three_unseen_add_nothing as three_add_nothing, two_unseen_change_nothing}
-use Rattle.board_session.specs.Entries.{entry_at, is_entry}
+use Rattle.board_events.specs.Entries.{entry_at, is_entry}
 use Rattle.board_session.specs.Laws.{ThreeUnseenAddNothing, TwoUnseenAreNotRecorded}
-use Rattle.board_session.specs.History.{picture_of}
-use Rattle.board_session.specs.Settings.{Setting}
-use Rattle.board_session.specs.Session.{entries_in}
+use Rattle.board_events.specs.History.{picture_of}
+use Rattle.board_events.specs.Settings.{Setting}
+use Rattle.board_events.specs.Session.{entries_in}
 use Rattle.board_session.proofs.GameLemmas.{events_tell_the_game}
 
 -- the position that plies in their order lead to

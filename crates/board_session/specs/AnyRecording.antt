@@ -20,15 +20,15 @@ use Rattle.settle_core.specs.Sign.{IsSign}
 use Rattle.chess_game.specs.Games.{Content, Result}
 use Rattle.chess_game.specs.Values.{TagValues}
 use Rattle.board_session.specs.declared.refusal.RecordError.{RecordError}
-use Rattle.board_session.specs.declared.recorder.Report.{Report}
-use Rattle.board_session.specs.declared.recording.Setup.{Setup}
+use Rattle.board_session.specs.declared.report.Report.{Report}
+use Rattle.board_events.specs.declared.setup.Setup.{Setup}
 use Rattle.board_session.specs.AnyStream.{Agrees, GivesOn, KeepsAllButLast, ShowsOn, WereShown, end_of}
-use Rattle.board_session.specs.Commands.{past_of}
-use Rattle.board_session.specs.Game.{IsGameOf}
+use Rattle.board_events.specs.Commands.{past_of}
+use Rattle.board_events.specs.Game.{IsGameOf}
 use Rattle.board_session.specs.Laws.{TellTheSame}
-use Rattle.board_session.specs.Recording.{Leaves, setting_of}
-use Rattle.board_session.specs.Settings.{Setting}
-use Rattle.board_session.specs.Session.{entries_in}
+use Rattle.board_session.specs.Recording.{Leaves}
+use Rattle.board_events.specs.Settings.{setting_of, Setting}
+use Rattle.board_events.specs.Session.{entries_in}
 
 -- What a recording that was set up so has left, whatever it returned, and whatever its streams held before and after.
 pub record Left (setup : Setup) : Type 0 where

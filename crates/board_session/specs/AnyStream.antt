@@ -18,11 +18,11 @@ use Rattle.settle_core.specs.Settling.{Line, position_after, reached}
 use Rattle.settle_core.specs.Sign.{IsSign}
 use Rattle.chess_game.specs.Games.{Content, Result}
 use Rattle.chess_game.specs.Values.{TagValues}
-use Rattle.board_session.specs.Entries.{is_entry}
-use Rattle.board_session.specs.Game.{IsGameOf}
-use Rattle.board_session.specs.History.{picture_of, reading_at}
-use Rattle.board_session.specs.Settings.{Setting}
-use Rattle.board_session.specs.Session.{entries_in}
+use Rattle.board_events.specs.Entries.{is_entry}
+use Rattle.board_events.specs.Game.{IsGameOf}
+use Rattle.board_events.specs.History.{picture_of, reading_at}
+use Rattle.board_events.specs.Settings.{Setting}
+use Rattle.board_events.specs.Session.{entries_in}
 
 -- Each of the plies, of which the latest comes first, was shown whole: at some event that gives an entry the picture was that
 -- after it, and in the reading then its mover had the time that is the ply's clock; and the plies before it were shown in the

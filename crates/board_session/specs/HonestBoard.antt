@@ -1,16 +1,12 @@
 -- What an honest board sends. Its events and its pictures stand in their order.
-use Rattle.std.specs.Prelude.{◌≡◌, ◌<◌, ℕ, Bool, List, [], ◌∷◌, ◌++◌, map, reverse, length, slice_set, if◌then◌else◌}
+use Rattle.std.specs.Prelude.{◌≡◌, ◌<◌, ℕ, Bool, List, [], ◌∷◌, ◌++◌, map, reverse, length, slice_set}
 use Rattle.dgt_frame.specs.declared.events.Message.TheVariants.{Dump, Update, Time, Other}
 use Rattle.dgt_frame.specs.declared.events.Event.{Event}
 use Rattle.dgt_frame.specs.declared.events.Event.TheVariants.{Message as MessageEvent, Fault}
 use Rattle.dgt_frame.specs.declared.First.{First}
 use Rattle.settle_core.specs.Entries.{Entry}
-use Rattle.board_session.specs.Entries.{entries}
-use Rattle.board_session.specs.History.{turned}
-
--- the codes of the fields, of a board that stands turned or not
-abbrev pub fields_of : Bool → List ℕ → List ℕ
-fields_of rotated picture = if rotated then reverse picture else picture
+use Rattle.board_events.specs.Entries.{entries}
+use Rattle.board_events.specs.History.{fields_of, turned}
 
 -- The board, which shows one picture now, goes on to show these, and sends for each of them one update of the one square that
 -- changes. Times and other messages may stand anywhere between.

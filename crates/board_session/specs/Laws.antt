@@ -24,15 +24,15 @@ use Rattle.chess_game.specs.Games.{Content, Result}
 use Rattle.pgn_book.specs.Pgn.{Pgn}
 use Rattle.chess_game.specs.Values.{TagValues}
 use Rattle.board_session.specs.declared.refusal.RecordError.{RecordError}
-use Rattle.board_session.specs.declared.recorder.Report.{Report}
-use Rattle.board_session.specs.declared.recording.Setup.{Setup}
-use Rattle.board_session.specs.Commands.{asks, past_of}
-use Rattle.board_session.specs.Entries.{Idle}
-use Rattle.board_session.specs.Game.{IsGameOf}
-use Rattle.board_session.specs.History.{picture_of}
-use Rattle.board_session.specs.Recording.{Leaves, RecordsGame, setting_of}
-use Rattle.board_session.specs.Settings.{Setting}
-use Rattle.board_session.specs.Session.{entries_in}
+use Rattle.board_session.specs.declared.report.Report.{Report}
+use Rattle.board_events.specs.declared.setup.Setup.{Setup}
+use Rattle.board_events.specs.Commands.{asks, past_of}
+use Rattle.board_events.specs.Entries.{Idle}
+use Rattle.board_events.specs.Game.{IsGameOf}
+use Rattle.board_events.specs.History.{picture_of}
+use Rattle.board_session.specs.Recording.{Leaves, RecordsGame}
+use Rattle.board_events.specs.Settings.{setting_of, Setting}
+use Rattle.board_events.specs.Session.{entries_in}
 
 -- The text is the PGN text of the game of these events.
 abbrev pub IsTextOf : List ℕ → Setting → TagValues → List Event → Type 0

@@ -1,15 +1,6 @@
-pub mod Commands
-pub mod Entries
-pub mod Game
 pub mod Recorder
 pub mod Laws
-pub mod History
 pub mod Recording
-pub mod Settings
-pub mod Session
-pub mod States
-pub mod Pictures
-pub mod View
 pub mod AnyStream
 pub mod AnyRecording
 pub mod HonestBoard

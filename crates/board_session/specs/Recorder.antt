@@ -10,15 +10,16 @@ use Rattle.pgn_book.specs.Pgn.{Pgn}
 use Rattle.chess_game.specs.Values.{TagValues}
 use Rattle.board_session.specs.declared.refusal.RecordError.{RecordError}
 use Rattle.board_session.specs.declared.refusal.RecordError.TheVariants.{Memory, Read, Board, Write, TooLong}
-use Rattle.board_session.specs.declared.recorder.Report.{Report}
+use Rattle.board_session.specs.declared.report.Report.{Report}
 use Rattle.board_session.specs.declared.recorder.Recorder.{Recorder}
-use Rattle.board_session.specs.Commands.{asked, commands, faults_in, messages_in, past_of}
-use Rattle.board_session.specs.Game.{IsGameOf}
-use Rattle.board_session.specs.History.{is_fault}
-use Rattle.board_session.specs.Recording.{Returns, Ends, Sends, limit}
+use Rattle.board_events.specs.Commands.{asked, commands, faults_in, messages_in, past_of}
+use Rattle.board_events.specs.Game.{IsGameOf}
+use Rattle.board_events.specs.History.{is_fault}
+use Rattle.board_session.specs.Recording.{Returns, Ends, Sends}
+use Rattle.board_events.specs.Limits.{limit}
 use Rattle.watched_streams.specs.Output.{AppendsPart}
-use Rattle.board_session.specs.Settings.{Setting}
-use Rattle.board_session.specs.Session.{StandsFor, WantsMemory}
+use Rattle.board_events.specs.Settings.{Setting}
+use Rattle.board_events.specs.Session.{StandsFor, WantsMemory}
 
 -- The recorder has taken these events.
 pub record Kept (recorder : Recorder) (setting : Setting) (taken : List Timed) : Type 0 where

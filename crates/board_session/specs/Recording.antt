@@ -3,26 +3,21 @@
 use Rattle.std.specs.Prelude.{◌≡◌, ℕ, ◌+◌, ◌≤◌, List, [], ◌∷◌, ◌++◌, length, true, Option, IfSome, Result, Ok, Err, ⊤}
 use Rattle.std.specs.Io.KnownBytes.{Appends, Consumes, IsAtEnd}
 use Rattle.dgt_frame.specs.declared.events.Event.{Event}
+use Rattle.watched_streams.specs.Output.{AppendsPart}
 use Rattle.dgt_frame.specs.Streams.{Shows, Timed}
 use Rattle.settle_core.specs.Entries.{deduplicated}
 use Rattle.chess_game.specs.Games.{Content}
 use Rattle.pgn_book.specs.Pgn.{Pgn}
 use Rattle.board_session.specs.declared.refusal.RecordError.{RecordError}
 use Rattle.board_session.specs.declared.refusal.RecordError.TheVariants.{Memory, Read, Board, Write, TooLong}
-use Rattle.board_session.specs.declared.recorder.Report.{Report}
-use Rattle.board_session.specs.declared.recording.Setup.{Setup}
-use Rattle.board_session.specs.Commands.{commands, faults_in, messages_in, past_of}
-use Rattle.board_session.specs.Game.{GivesOneEach, IsGameOf}
-use Rattle.board_session.specs.History.{is_fault}
-use Rattle.board_session.specs.Settings.{Setting}
-use Rattle.board_session.specs.Session.{WantsMemory, entries_in}
-
--- the most bytes of a stream
-abbrev pub limit : ℕ
-limit = 67108864
-
-abbrev pub setting_of : Setup → Setting
-setting_of setup = record { start = setup.start; first = setup.first; rotated = setup.rotated }
+use Rattle.board_session.specs.declared.report.Report.{Report}
+use Rattle.board_events.specs.declared.setup.Setup.{Setup}
+use Rattle.board_events.specs.Commands.{commands, faults_in, messages_in, past_of}
+use Rattle.board_events.specs.Game.{GivesOneEach, IsGameOf}
+use Rattle.board_events.specs.Limits.{limit}
+use Rattle.board_events.specs.History.{is_fault}
+use Rattle.board_events.specs.Settings.{Setting, setting_of}
+use Rattle.board_events.specs.Session.{WantsMemory, entries_in}
 
 -- The report has the numbers of messages and of faults, of the game's moves, and of the bytes of an unfinished frame.
 pub record Reports (report : Report) (events : List Timed) (game : Content) (rest : ℕ) : Type 0 where

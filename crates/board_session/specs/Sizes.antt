@@ -7,11 +7,11 @@ use Rattle.dgt_frame.specs.declared.events.Event.TheVariants.{Message as Message
 use Rattle.dgt_frame.specs.Streams.{Shows, Timed}
 use Rattle.chess_game.specs.Games.{Content}
 use Rattle.chess_game.specs.Values.{TagValues}
-use Rattle.board_session.specs.declared.recording.Setup.{Setup}
+use Rattle.board_events.specs.declared.setup.Setup.{Setup}
 use Rattle.board_session.specs.AnyRecording.{Left}
-use Rattle.board_session.specs.Commands.{past_of}
-use Rattle.board_session.specs.Game.{IsGameOf}
-use Rattle.board_session.specs.Settings.{Setting}
+use Rattle.board_events.specs.Commands.{past_of}
+use Rattle.board_events.specs.Game.{IsGameOf}
+use Rattle.board_events.specs.Settings.{Setting}
 
 -- the bytes of a message's frame; a fault has none
 abbrev pub size_of : Event → ℕ

@@ -7,10 +7,10 @@ ghost use Rattle.pgn_book.specs.Pgn.{Pgn};
 ghost use Rattle.chess_game.specs.Values.{TagValues};
 ghost use Rattle.board_session.specs.AnyRecording.{HonestEndIsRecorded, HonestEndIsWritten, HonestStopAnywhereIsRecorded, HonestStopAnywhereIsWritten, KingsInCentreWriteNoMove, MadeAgainIsRecorded, MadeAgainIsWritten, NothingWrittenIsInvented, OnlyTheLastPlyIsRewritten, RestartsAreRecorded, RestartsAreWritten, ResumedEndIsWritten, ResumedPlayIsWritten, ResumedStopIsWritten};
 ghost use Rattle.board_session.specs.AnyStream.{HonestPlayResumes, KingsEndResumedPlay, KingsInCentreKeepThePlies, NothingIsInvented, OnlyTheLastPlyMayChange, ResumedPlayStops};
-ghost use Rattle.board_session.specs.Game.{IsGameOf};
+ghost use Rattle.board_events.specs.Game.{IsGameOf};
 ghost use Rattle.board_session.specs.HonestBoard.{HonestBoardsAreRead};
 ghost use Rattle.board_session.specs.Laws.{EventsTellTheGame, FaultsAskOnce, FaultsBeforeDumpsCanGo, HonestClocksAreRecorded, HonestFrontIsWritten, HonestPlayIsRecorded, HonestPlayIsWritten, HonestStopIsRecorded, IdleEventsCanGo, KingsEndIsRecorded, KingsEndIsWritten, NoEventGivesTwo, ThreeUnseenAddNothing, TwoUnseenAreNotRecorded};
-ghost use Rattle.board_session.specs.Settings.{Setting};
+ghost use Rattle.board_events.specs.Settings.{Setting};
 ghost use Rattle.board_session.specs.Sizes.{FramesAreWithin, MovesTakeTenBytes, WrittenMovesTakeTenBytes};
 
 use dgt_frame::laws::{fronts_show_fronts, restarts_are_shown, shows_once};

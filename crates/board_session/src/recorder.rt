@@ -5,13 +5,14 @@ ghost use Rattle.dgt_frame.specs.Decoder.{Decoded};
 ghost use Rattle.dgt_frame.specs.Streams.{HasFrame, Timed};
 ghost use Rattle.watched_streams.specs.Watch.{IsFlushed, inner_of, has_failed};
 ghost use Rattle.pgn_book.specs.Pgn.{Pgn};
-ghost use Rattle.board_session.specs.Settings.{Setting};
-ghost use Rattle.board_session.specs.History.{is_fault};
+ghost use Rattle.board_events.specs.Settings.{Setting};
+ghost use Rattle.board_events.specs.History.{is_fault};
 ghost use Rattle.watched_streams.specs.Output.{AppendsPart};
 ghost use Rattle.board_session.specs.Recorder.{Finished, Hears, IsFed, IsRefusal, Kept, Listened, Live, TakesEvent, event_count};
 
 use crate::refusal::RecordError;
-use crate::session::Session;
+use crate::report::Report;
+use board_events::Session;
 use chess_rules::Position;
 use dgt_frame::{BLANK, Decoder, Event, First, LIMIT};
 use pgn_book::{Game, Tags, write_pgn};
@@ -32,19 +33,6 @@ pub struct Recorder {
     session: Session,
     messages: u32,
     faults: u32,
-}
-
-/// What a recording counted.
-#[derive(Clone, Copy, Debug, PartialEq, Eq)]
-pub struct Report {
-    /// The well-formed frames, those of other messages too.
-    pub messages: u32,
-    /// The places where the bytes are no frame; the board was asked for a dump at each of them.
-    pub faults: u32,
-    /// The plies of the game.
-    pub moves: u32,
-    /// The bytes of an unfinished frame at the end.
-    pub rest: u16,
 }
 
 /// Sends bytes to the board at once.

@@ -3,28 +3,14 @@ ghost use Rattle.std.specs.Prelude.{◌≡◌, ◌≢◌, ◌⊎◌, OnOk, IfOk,
 ghost use Rattle.watched_streams.specs.Watch.{IsFlushed, inner_of, has_failed};
 ghost use Rattle.board_session.specs.Recording.{Leaves, RecordsAll};
 
-use crate::recorder::{Recorder, Report};
+use crate::recorder::Recorder;
 use crate::refusal::RecordError;
-use chess_rules::Position;
-use dgt_frame::First;
-use pgn_book::Tags;
+use crate::report::Report;
+use board_events::Setup;
 use pgn_book::laws::one_game;
 use std::alloc::Global;
 use std::io::{Read, Write};
 use watched_streams::Watch;
-
-/// How a recording is set up.
-#[derive(Drop)]
-pub struct Setup {
-    /// The position on the board when the game begins.
-    pub start: Position,
-    /// Whose time the first group of a time message is.
-    pub first: First,
-    /// Field n means square 63 - n, in dumps and updates: Black has the connector on the left.
-    pub rotated: bool,
-    /// The tags of the text.
-    pub tags: Tags,
-}
 
 /// Records the game of a stream of board bytes (DGT Electronic Board Protocol) as PGN export text on `out`.
 ///

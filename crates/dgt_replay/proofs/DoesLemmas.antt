@@ -3,9 +3,9 @@ use Rattle.std.proofs.Common.{◌≡◌, ℕ, List, Option, Bool, false, codes, 
 use Rattle.std.specs.Io.KnownBytes.{Keeps}
 use Rattle.clap.specs.Walk.{Row, Text, first_of}
 use Rattle.chess_rules.specs.declared.parts.Parts.{Parts}
-use Rattle.board_session.specs.Recording.{limit}
-use Rattle.board_session.specs.Settings.{Setting}
-use Rattle.board_session.specs.declared.recording.Setup.{Setup}
+use Rattle.board_events.specs.Limits.{limit}
+use Rattle.board_events.specs.Settings.{Setting}
+use Rattle.board_events.specs.declared.setup.Setup.{Setup}
 use Rattle.board_listing.specs.EventLines.{rest_line}
 use Rattle.board_listing.specs.OneText.{event_lines, no_line, picture_lines}
 use Rattle.board_listing.specs.declared.listing.Listing.{Listing}

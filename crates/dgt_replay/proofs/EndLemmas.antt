@@ -1,7 +1,7 @@
 -- How a listing ends.
 use Rattle.std.proofs.Common.{◌≡◌, ℕ, List, [], Option, Some, None, Bool, true, false, ◌⊎◌, refl, subst, sym, inl, inr, arith}
 use Rattle.std.specs.Io.KnownBytes.{Keeps}
-use Rattle.board_session.specs.Recording.{limit}
+use Rattle.board_events.specs.Limits.{limit}
 use Rattle.watched_streams.specs.Input.{ReadsWithin}
 use Rattle.board_listing.specs.Listings.{EndsForMemory, ListingEnds, ListsAll, ListsFirst, ListsFront, ListsRead, ListsRefused}
 use Rattle.board_listing.specs.Status.{status_of, message_of}

@@ -1,3 +1,4 @@
+pub mod AgreementLemmas
 pub mod DoesLemmas
 pub mod EndLemmas
 pub mod FaultLemmas

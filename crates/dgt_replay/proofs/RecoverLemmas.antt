@@ -1,9 +1,9 @@
 -- How `recover` ends.
-use Rattle.std.proofs.Common.{◌≡◌, ℕ, List, [], ◌∷◌, Option, Some, None, Bool, true, false, ◌⊎◌, codes, inl, inr, refl, subst, sym, ◌∙◌, arith}
+use Rattle.std.proofs.Common.{◌≡◌, ℕ, List, Option, Some, None, Bool, true, false, ◌⊎◌, codes, inl, inr, refl, subst, sym, arith}
 use Rattle.std.proofs.KnownBytes.{Appends-kept}
 use Rattle.std.specs.Io.KnownBytes.{Appends, Keeps}
-use Rattle.board_session.specs.Recording.{limit}
-use Rattle.board_session.specs.Settings.{Setting}
+use Rattle.board_events.specs.Limits.{limit}
+use Rattle.board_events.specs.Settings.{Setting}
 use Rattle.watched_streams.specs.Input.{ReadsWithin}
 use Rattle.recovery.specs.declared.refusal.RecoverError.{RecoverError}
 use Rattle.recovery.specs.declared.refusal.RecoverError.TheVariants.{Read, Write, Lines, TooLong, Memory}

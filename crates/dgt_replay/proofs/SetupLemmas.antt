@@ -6,9 +6,9 @@ use Rattle.chess_text.specs.Laws.{TextsTellPositions}
 use Rattle.chess_game.specs.declared.values.Tag.{Tag}
 use Rattle.chess_game.specs.Values.{TagValues, value_of}
 use Rattle.chess_game.proofs.TagValues.{same_values}
-use Rattle.board_session.specs.declared.recording.Setup.{Setup}
-use Rattle.board_session.specs.Settings.{Setting}
-use Rattle.board_session.specs.Recording.{setting_of}
+use Rattle.board_events.specs.declared.setup.Setup.{Setup}
+use Rattle.board_events.specs.Settings.{Setting}
+use Rattle.board_events.specs.Settings.{setting_of}
 use Rattle.replay_arguments.specs.declared.setup.Refusal.{Refusal}
 use Rattle.board_listing.specs.declared.listing.Listing.TheVariants.{Game}
 use Rattle.replay_arguments.specs.declared.arguments.BoardArguments.{BoardArguments}

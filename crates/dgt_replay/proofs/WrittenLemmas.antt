@@ -1,14 +1,11 @@
 -- The texts that `record` makes are within the limit of `check`.
-use Rattle.std.proofs.Common.{◌≡◌, ◌≤◌, ℕ, List, Option, Some, length, ap, arith, inl, inr, length-append, subst}
-use Rattle.board_session.specs.AnyRecording.{Left}
+use Rattle.std.proofs.Common.{◌≤◌, ℕ, List, Option, Some, length, ap, arith, inl, inr, length-append, subst}
 use Rattle.board_session.specs.Sizes.{WrittenMovesTakeTenBytes}
-use Rattle.board_session.specs.declared.recording.Setup.{Setup}
 use Rattle.chess_game.specs.Games.{Content}
 use Rattle.pgn_book.specs.Laws.{TextsAreShort}
 use Rattle.pgn_book.specs.Pgn.{Pgn}
 use Rattle.text_subcommands.specs.Checked.{RefusesText, text_limit}
 use Rattle.dgt_replay.specs.Laws.{WrittenTextsAreWithin, WrittenTextsPass}
-use Rattle.text_subcommands.specs.Streams.{Streams}
 
 pub texts_are_within : WrittenMovesTakeTenBytes → TextsAreShort → WrittenTextsAreWithin
 texts_are_within ten short setup left =

@@ -2,9 +2,9 @@
 use Rattle.std.specs.Prelude.{◌≡◌, ◌⊎◌, ◌∷◌, [], ℕ, Contains, List, Option, codes, false, true}
 use Rattle.chess_rules.specs.declared.parts.Parts.{Parts}
 use Rattle.dgt_frame.specs.Streams.{Timed}
-use Rattle.board_session.specs.Recording.{limit}
-use Rattle.board_session.specs.Settings.{Setting}
-use Rattle.board_session.specs.declared.recording.Setup.{Setup}
+use Rattle.board_events.specs.Limits.{limit}
+use Rattle.board_events.specs.Settings.{Setting}
+use Rattle.board_events.specs.declared.setup.Setup.{Setup}
 use Rattle.board_session.specs.declared.refusal.RecordError.TheVariants.{Memory, TooLong}
 use Rattle.board_listing.specs.EventLines.{rest_line}
 use Rattle.watched_streams.specs.Input.{ReadsWithin}

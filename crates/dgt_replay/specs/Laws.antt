@@ -1,7 +1,7 @@
 -- What holds of the texts that `record` makes, under `check`.
 use Rattle.std.specs.Prelude.{◌≡◌, ◌≢◌, ◌≤◌, ℕ, Some, length}
 use Rattle.board_session.specs.AnyRecording.{Left}
-use Rattle.board_session.specs.declared.recording.Setup.{Setup}
+use Rattle.board_events.specs.declared.setup.Setup.{Setup}
 use Rattle.text_subcommands.specs.Checked.{text_limit, Checks}
 use Rattle.text_subcommands.specs.Streams.{Streams}
 

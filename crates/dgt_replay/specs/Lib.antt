@@ -1,3 +1,4 @@
+pub mod Agreement
 pub mod Does
 pub mod Laws
 pub mod Messages

@@ -3,8 +3,8 @@ use Rattle.std.specs.Prelude.{◌≡◌, ◌⊎◌, ℕ, List, ◌++◌, codes, 
 use Rattle.std.specs.Io.KnownBytes.{Appends}
 use Rattle.board_session.specs.declared.refusal.RecordError.{RecordError}
 use Rattle.board_session.specs.declared.refusal.RecordError.TheVariants.{Read, Board, Write}
-use Rattle.board_session.specs.declared.recorder.Report.{Report}
-use Rattle.board_session.specs.declared.recording.Setup.{Setup}
+use Rattle.board_session.specs.declared.report.Report.{Report}
+use Rattle.board_events.specs.declared.setup.Setup.{Setup}
 use Rattle.board_session.specs.Recording.{Leaves, RecordsAll}
 use Rattle.watched_streams.specs.Output.{AppendsPart}
 use Rattle.text_subcommands.specs.Messages.{Says}

@@ -1,8 +1,12 @@
-//! What holds of the texts that the program writes and reads, as the contract of a function.
+//! What one subcommand's output has to do with another's, each law as the contract of a function that does nothing.
+ghost use Rattle.dgt_replay.specs.Agreement.{FollowTellsTheGame, RecordsRecovered};
 ghost use Rattle.dgt_replay.specs.Laws.{WrittenTextsAreWithin, WrittenTextsPass};
 
+use board_listing::laws::lines_give_the_game;
 use board_session::laws::moves_take_ten_bytes;
+use dgt_frame::laws::shows_once;
 use pgn_book::laws::texts_are_short;
+use settle_core::laws::folds_once;
 
 /// `check` refuses no text that `record` made, neither for its size nor for its form.
 pub fn written_texts_pass()
@@ -12,4 +16,24 @@ pub fn written_texts_pass()
     // For its clause: the laws that these rest on.
     moves_take_ten_bytes();
     texts_are_short();
+}
+
+/// Of the same bytes `follow` tells the game that `record` writes.
+pub fn follow_tells_the_game()
+    ensures { FollowTellsTheGame }
+{
+    // For its clause: the bytes show one list of events.
+    shows_once();
+    // For its clause: the lines of events give their game.
+    lines_give_the_game();
+}
+
+/// Of bytes with what `recover` puts in, `record` writes the game of the bytes where unseen pairs are recovered.
+pub fn recovered_games_are_recorded()
+    ensures { RecordsRecovered }
+{
+    // For its clause: the bytes show one list of events.
+    shows_once();
+    // For its clause: the entries fold to one score.
+    folds_once();
 }

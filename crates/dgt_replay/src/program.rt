@@ -2,8 +2,8 @@
 ghost use Rattle.std.specs.Prelude.{◌≡◌, ◌≢◌, ◌≤◌, Bool, List, ℕ, Option, codes, map, string_bytes, false};
 ghost use Rattle.std.specs.Borrow.{Bor};
 ghost use Rattle.std.specs.Io.KnownBytes.{Keeps};
-ghost use Rattle.board_session.specs.declared.recording.Setup.{Setup};
-ghost use Rattle.board_session.specs.Settings.{Setting};
+ghost use Rattle.board_events.specs.declared.setup.Setup.{Setup};
+ghost use Rattle.board_events.specs.Settings.{Setting};
 ghost use Rattle.chess_rules.specs.declared.parts.Parts.{Parts as PartsOf};
 ghost use Rattle.clap.specs.Values.{kind_of};
 ghost use Rattle.clap.specs.Walk.{Row, first_of};

@@ -1,7 +1,7 @@
 //! The subcommand `record`.
 ghost use Rattle.std.specs.Prelude.{◌≡◌, ◌≢◌, ◌≤◌, ◌+◌, ◌++◌, false};
 ghost use Rattle.arrayvec.specs.ArrayVec.{array_vec_len};
-ghost use Rattle.board_session.specs.declared.recording.Setup.{Setup as SetupOf};
+ghost use Rattle.board_events.specs.declared.setup.Setup.{Setup as SetupOf};
 ghost use Rattle.watched_streams.specs.Watch.{IsFlushed, inner_of, has_failed};
 ghost use Rattle.dgt_replay.specs.Does.{Records};
 ghost use Rattle.text_subcommands.specs.Refusals.{Refuses};

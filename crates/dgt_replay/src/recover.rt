@@ -1,6 +1,6 @@
 //! The subcommand `recover`.
 ghost use Rattle.std.specs.Prelude.{◌≡◌, ◌≢◌, ◌≤◌, false};
-ghost use Rattle.board_session.specs.Settings.{Setting};
+ghost use Rattle.board_events.specs.Settings.{Setting};
 ghost use Rattle.watched_streams.specs.Watch.{IsFlushed, inner_of, has_failed};
 ghost use Rattle.dgt_replay.specs.Does.{Recovers};
 ghost use Rattle.text_subcommands.specs.Refusals.{Refuses, RefusesStart};

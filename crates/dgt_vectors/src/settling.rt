@@ -1,5 +1,5 @@
 //! Recordings and sessions against a slow settler, which tries every origin, target and promotion for each picture.
-ghost use Rattle.board_session.specs.History.{IsInRange};
+ghost use Rattle.board_events.specs.History.{IsInRange};
 ghost use Rattle.std.specs.Prelude.{IfSome};
 
 use crate::recording::{recorded, start_of};

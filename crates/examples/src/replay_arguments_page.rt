@@ -1,6 +1,6 @@
 //! The example on the page of `replay_arguments`.
 
-use board_session::Setup;
+use board_events::Setup;
 use replay_arguments::{Subcommand, read_arguments, setup_of};
 use std::alloc::Global;
 

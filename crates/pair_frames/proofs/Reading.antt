@@ -12,9 +12,9 @@ use Rattle.chess_clock.specs.Clock.{Clock}
 use Rattle.dgt_frame.specs.Times.{are_digits, group, number_of, tens, units}
 use Rattle.chess_rules.specs.Picture.{picture}
 use Rattle.settle_core.specs.Entries.{Entry, entry_of}
-use Rattle.board_session.specs.Entries.{entries}
-use Rattle.board_session.specs.History.{decides, is_trusted, picture_of, reading_at, reading_said}
-use Rattle.board_session.proofs.PictureLemmas.{plain_dump, rotated_dump}
+use Rattle.board_events.specs.Entries.{entries}
+use Rattle.board_events.specs.History.{decides, is_trusted, picture_of, reading_at, reading_said}
+use Rattle.board_events.proofs.PictureLemmas.{plain_dump, rotated_dump}
 use Rattle.pair_frames.specs.PutIn.{digits, dump_of, group_of, put_in, time_put_in, times_of}
 use Rattle.pair_frames.specs.Laws.{IsRead, IsTime, PutInIsRead}
 

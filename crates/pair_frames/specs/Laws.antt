@@ -10,9 +10,9 @@ use Rattle.dgt_frame.specs.Streams.{Shows, Timed}
 use Rattle.chess_rules.specs.Picture.{picture}
 use Rattle.settle_core.specs.Entries.{Entry, entry_of}
 use Rattle.unseen_pairs.specs.declared.pair.Recovery.{Recovery}
-use Rattle.board_session.specs.Commands.{past_of}
-use Rattle.board_session.specs.Entries.{entries}
-use Rattle.board_session.specs.History.{is_trusted, picture_of, reading_at}
+use Rattle.board_events.specs.Commands.{past_of}
+use Rattle.board_events.specs.Entries.{entries}
+use Rattle.board_events.specs.History.{is_trusted, picture_of, reading_at}
 use Rattle.pair_frames.specs.PutIn.{put_in}
 
 -- The latest event is no fault: no byte that follows belongs to it.

@@ -13,7 +13,7 @@ use Rattle.dgt_frame.specs.Streams.{Shows, Timed}
 use Rattle.chess_rules.specs.Picture.{picture}
 use Rattle.settle_core.specs.Entries.{Entry}
 use Rattle.unseen_pairs.specs.declared.pair.Recovery.{Recovery}
-use Rattle.board_session.specs.HonestBoard.{fields_of}
+use Rattle.board_events.specs.History.{fields_of}
 
 -- a minute or a second: its tens in bits 6 to 4, its units in bits 3 to 0
 abbrev pub digits : ℕ → ℕ

@@ -11,13 +11,13 @@ use Rattle.dgt_frame.specs.Restarts.{moved_on}
 use Rattle.dgt_frame.specs.Streams.{Timed}
 use Rattle.settle_core.specs.Entries.{Entry}
 use Rattle.unseen_pairs.specs.declared.pair.Recovery.{Recovery}
-use Rattle.board_session.specs.Commands.{past_of}
-use Rattle.board_session.specs.Entries.{entries, entry_at, is_entry}
-use Rattle.board_session.specs.History.{IsInRange, decides, is_trusted, picture_of, reading_at, reading_said, turned}
+use Rattle.board_events.specs.Commands.{past_of}
+use Rattle.board_events.specs.Entries.{entries, entry_at, is_entry}
+use Rattle.board_events.specs.History.{IsInRange, decides, is_trusted, picture_of, reading_at, reading_said, turned}
 use Rattle.chess_rules.specs.Picture.{picture}
-use Rattle.board_session.specs.Settings.{Setting}
-use Rattle.board_session.specs.Session.{entries_in}
-use Rattle.board_session.proofs.PictureLemmas.{updated_picture}
+use Rattle.board_events.specs.Settings.{Setting}
+use Rattle.board_events.specs.Session.{entries_in}
+use Rattle.board_events.proofs.PictureLemmas.{updated_picture}
 use Rattle.pair_frames.specs.Laws.{EndsWhole, IsReadBehind}
 use Rattle.pair_frames.specs.PutIn.{dump_of, put_in, time_put_in}
 use Rattle.recovery.specs.declared.keeper.Keeper.{Keeper}

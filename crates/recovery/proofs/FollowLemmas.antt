@@ -6,7 +6,7 @@ use Rattle.dgt_frame.specs.declared.events.Event.{Event}
 use Rattle.dgt_frame.specs.declared.events.Event.TheVariants.{Message as MessageEvent, Fault}
 use Rattle.dgt_frame.specs.Restarts.{moved_on}
 use Rattle.dgt_frame.specs.Streams.{Opens, Shows, ShowsFrom, Timed}
-use Rattle.board_session.specs.Commands.{past_of}
+use Rattle.board_events.specs.Commands.{past_of}
 use Rattle.pair_frames.specs.Laws.{EndsWhole, FramesArePutIn}
 use Rattle.recovery.specs.Passing.{EndsAt, Follows, IsMessage}
 

@@ -6,7 +6,7 @@ use Rattle.dgt_frame.specs.declared.decode.Decoder.{Decoder}
 use Rattle.dgt_frame.specs.declared.events.Event.{Event}
 use Rattle.unseen_pairs.specs.declared.pair.Recovery.{Recovery}
 use Rattle.watched_streams.specs.Output.{AppendsPart}
-use Rattle.board_session.specs.Settings.{Setting}
+use Rattle.board_events.specs.Settings.{Setting}
 use Rattle.recovery.specs.declared.keeper.Keeper.{Keeper}
 use Rattle.recovery.specs.declared.refusal.RecoverError.{RecoverError}
 use Rattle.recovery.specs.declared.refusal.RecoverError.TheVariants.{Read, Write, Lines, TooLong, Memory}

@@ -16,12 +16,12 @@ use Rattle.settle_core.specs.Settler.{StandsFor, has_seen}
 use Rattle.unseen_pairs.specs.declared.pair.Recovery.{Recovery}
 use Rattle.unseen_pairs.specs.declared.pair.Heard.{Heard}
 use Rattle.unseen_pairs.specs.Recoverer.{Desk, HoldsOf, ReturnsTold, StandsForRecovered, written_after}
-use Rattle.board_session.specs.Entries.{entries, entry_at, is_entry}
-use Rattle.board_session.specs.History.{picture_of, reading_at}
-use Rattle.board_session.specs.Pictures.{IsLast, pictures}
-use Rattle.board_session.specs.Settings.{Setting}
-use Rattle.board_session.specs.Session.{entries_in}
-use Rattle.board_session.specs.View.{Views}
+use Rattle.board_events.specs.Entries.{entries, entry_at, is_entry}
+use Rattle.board_events.specs.History.{picture_of, reading_at}
+use Rattle.board_events.specs.Pictures.{IsLast, pictures}
+use Rattle.board_events.specs.Settings.{Setting}
+use Rattle.board_events.specs.Session.{entries_in}
+use Rattle.board_events.specs.View.{Views}
 use Rattle.recovery.specs.declared.keeper.Keeper.{Keeper}
 use Rattle.recovery.specs.Keeping.{KeepsNext, RecoversAt}
 use Rattle.recovery.specs.Seeing.{Sees}

@@ -1,4 +1,4 @@
--- What is recorded of bytes with what is put in, and where nothing is.
+-- Where nothing is put in.
 use Rattle.std.proofs.Common.{◌≡◌, ℕ, Bool, true, false, List, [], ◌∷◌, map, reverse, Option, Some, None, refl, sym, ap, subst, ◌∙◌}
 use Rattle.std.proofs.lemmas.Bool.{cond-true, cond-false}
 use Rattle.settle_core.proofs.Lines.{map-reverse}
@@ -6,41 +6,19 @@ use Rattle.dgt_frame.specs.declared.events.Event.{Event}
 use Rattle.dgt_frame.specs.Streams.{Shows, Timed}
 use Rattle.chess_rules.specs.declared.parts.Parts.{Parts}
 use Rattle.settle_core.specs.Entries.{Entry, deduplicated, repeats}
-use Rattle.settle_core.specs.Folding.{Score, moves_of, score_of}
-use Rattle.settle_core.specs.Laws.{FoldsOnce}
 use Rattle.unseen_pairs.specs.declared.pair.Recovery.{Recovery}
 use Rattle.unseen_pairs.specs.Laws.{ConfirmNone}
-use Rattle.unseen_pairs.specs.Recovering.{FoldsRecovering}
-use Rattle.board_session.specs.Commands.{past_of}
-use Rattle.board_session.specs.Entries.{entry_at, is_entry}
-use Rattle.board_session.specs.Recording.{setting_of}
-use Rattle.board_session.specs.Settings.{Setting}
-use Rattle.board_session.specs.Session.{entries_in}
+use Rattle.board_events.specs.Commands.{past_of}
+use Rattle.board_events.specs.Entries.{entry_at, is_entry}
+use Rattle.board_events.specs.Settings.{Setting}
+use Rattle.board_events.specs.Session.{entries_in}
 use Rattle.recovery.specs.Keeping.{RecoversAt}
-use Rattle.recovery.specs.Laws.{LeavesAlone, RecordsRecovered}
+use Rattle.recovery.specs.Laws.{LeavesAlone}
 use Rattle.recovery.specs.Weaving.{Put, Puts, PutsAll, TellsPuts, Weaves}
 
 -- A stream shows one list of events.
 abbrev pub ShowsOnce : Type 0
 ShowsOnce = (bytes : List ℕ) (events others : List Timed) (rest other : ℕ) → Shows bytes events rest → Shows bytes others other → (events ≡ others) × (rest ≡ other)
-
-pub records_recovered : ShowsOnce → FoldsOnce → RecordsRecovered
-records_recovered once one setup report bytes woven text sent sent' written written' valid r game =
-    let setting = setting_of setup in
-    let same : r.written ≡ game.events = (once woven r.written game.events r.rest game.rest r.shown game.shows).0 in
-    let mine : Score = score_of game.game.plies game.game_is.sign in
-    let score_is : r.score ≡ mine =
-    one setup.start (deduplicated (entries_in setting (past_of game.events))) r.score mine valid
-    (subst (λ (es : List Timed). Rattle.settle_core.specs.Folding.Folds setup.start (deduplicated (entries_in setting (past_of es))) r.score) same r.game) game.game_is.folds in
-    record {
-      events = r.events;
-      rest = r.rest;
-      shows = r.shows;
-      sign = game.game_is.sign;
-      waiting = r.waiting;
-      folds = subst (λ (s : Score). FoldsRecovering setup.start (deduplicated (entries_in setting (past_of r.events))) s r.waiting) score_is r.recovers;
-      result_is = game.game_is.result_is;
-    }
 
 -- One entry less confirms none either.
 confirm_before : (start : Parts) (entry : Entry) (past : List Entry) (again : Bool) → repeats entry.picture past ≡ again → ConfirmNone start (deduplicated (entry ∷ past)) → ConfirmNone start (deduplicated past)

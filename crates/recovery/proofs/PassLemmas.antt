@@ -9,9 +9,9 @@ use Rattle.dgt_frame.specs.Decoder.{Decoded, TakesAll, TakesUpTo}
 use Rattle.dgt_frame.specs.Restarts.{moved_on}
 use Rattle.dgt_frame.specs.Streams.{Shows, Timed}
 use Rattle.unseen_pairs.specs.declared.pair.Recovery.{Recovery}
-use Rattle.board_session.specs.Commands.{past_of}
-use Rattle.board_session.specs.Entries.{entry_at, is_entry}
-use Rattle.board_session.specs.Settings.{Setting}
+use Rattle.board_events.specs.Commands.{past_of}
+use Rattle.board_events.specs.Entries.{entry_at, is_entry}
+use Rattle.board_events.specs.Settings.{Setting}
 use Rattle.pair_frames.specs.Laws.{EndsWhole, FramesArePutIn}
 use Rattle.pair_frames.specs.PutIn.{put_in}
 use Rattle.recovery.specs.declared.keeper.Keeper.{Keeper}

@@ -6,8 +6,8 @@ use Rattle.std.specs.Io.KnownBytes.{Appends, Consumes, IsAtEnd, Keeps}
 use Rattle.dgt_frame.specs.declared.decode.Decoder.{Decoder}
 use Rattle.watched_streams.specs.declared.chunks.ReadChunk.{ReadChunk}
 use Rattle.watched_streams.specs.Input.{GivesChunk}
-use Rattle.board_session.specs.Recording.{limit}
-use Rattle.board_session.specs.Settings.{Setting}
+use Rattle.board_events.specs.Limits.{limit}
+use Rattle.board_events.specs.Settings.{Setting}
 use Rattle.watched_streams.specs.Input.{ReadsWithin}
 use Rattle.recovery.specs.declared.keeper.Keeper.{Keeper}
 use Rattle.recovery.specs.declared.refusal.RecoverError.{RecoverError}

@@ -6,11 +6,11 @@ use Rattle.settle_core.specs.Entries.{Entry}
 use Rattle.unseen_pairs.specs.declared.pair.Recovery.{Recovery}
 use Rattle.unseen_pairs.specs.declared.pair.Told.TheVariants.{Shown, Recovered}
 use Rattle.unseen_pairs.specs.Recoverer.{ReturnsTold, StandsForRecovered, written_after}
-use Rattle.board_session.specs.Entries.{entry_at, is_entry}
-use Rattle.board_session.specs.History.{picture_of, reading_at}
-use Rattle.board_session.specs.Settings.{Setting}
-use Rattle.board_session.specs.Session.{entries_in}
-use Rattle.board_session.specs.View.{Views}
+use Rattle.board_events.specs.Entries.{entry_at, is_entry}
+use Rattle.board_events.specs.History.{picture_of, reading_at}
+use Rattle.board_events.specs.Settings.{Setting}
+use Rattle.board_events.specs.Session.{entries_in}
+use Rattle.board_events.specs.View.{Views}
 use Rattle.recovery.specs.declared.keeper.Keeper.{Keeper}
 
 -- What is recovered at an event after these: the pair that its picture confirms; or none, where it gives no entry, or one that

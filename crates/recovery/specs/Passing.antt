@@ -7,11 +7,11 @@ use Rattle.dgt_frame.specs.Decoder.{Decoded}
 use Rattle.dgt_frame.specs.Restarts.{moved_on}
 use Rattle.dgt_frame.specs.Streams.{Shows, Timed}
 use Rattle.unseen_pairs.specs.declared.pair.Recovery.{Recovery}
-use Rattle.board_session.specs.Commands.{past_of}
-use Rattle.board_session.specs.Entries.{entry_at}
-use Rattle.board_session.specs.History.{is_trusted, picture_of, reading_at}
-use Rattle.board_session.specs.Settings.{Setting}
-use Rattle.board_session.specs.Session.{entries_in}
+use Rattle.board_events.specs.Commands.{past_of}
+use Rattle.board_events.specs.Entries.{entry_at}
+use Rattle.board_events.specs.History.{is_trusted, picture_of, reading_at}
+use Rattle.board_events.specs.Settings.{Setting}
+use Rattle.board_events.specs.Session.{entries_in}
 use Rattle.pair_frames.specs.PutIn.{ShowsWhole, put_in}
 use Rattle.recovery.specs.declared.keeper.Keeper.{Keeper}
 use Rattle.recovery.specs.Keeping.{Keeps, RecoversAt}

@@ -3,9 +3,9 @@
 use Rattle.std.specs.Prelude.{◌≡◌, ◌<◌, ◌≤◌, ◌⊎◌, ℕ, List, [], ◌++◌, length, Option, IfSome, Bool, true}
 use Rattle.std.specs.Io.KnownBytes.{Appends, Consumes}
 use Rattle.unseen_pairs.specs.declared.pair.Recovery.{Recovery}
-use Rattle.board_session.specs.Recording.{limit}
+use Rattle.board_events.specs.Limits.{limit}
 use Rattle.watched_streams.specs.Output.{AppendsPart}
-use Rattle.board_session.specs.Settings.{Setting}
+use Rattle.board_events.specs.Settings.{Setting}
 use Rattle.recovery.specs.Weaving.{Recovers, TellsRecovered}
 
 -- All of the input was read, which is within the limit: its bytes were written, with what was put in, and the lines said.

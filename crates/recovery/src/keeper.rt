@@ -6,12 +6,12 @@ ghost use Rattle.chess_rules.specs.declared.parts.Parts.{Parts as PartsOf};
 ghost use Rattle.settle_core.specs.Entries.{Entry, entry_of};
 ghost use Rattle.settle_core.specs.Settler.{has_seen};
 ghost use Rattle.unseen_pairs.specs.Recoverer.{StandsForRecovered};
-ghost use Rattle.board_session.specs.Settings.{Setting};
-ghost use Rattle.board_session.specs.History.{IsInRange, reading_at};
+ghost use Rattle.board_events.specs.Settings.{Setting};
+ghost use Rattle.board_events.specs.History.{IsInRange, reading_at};
 ghost use Rattle.recovery.specs.Seeing.{Sees};
 
 use arrayvec::ArrayVec;
-use board_session::{Change, View};
+use board_events::{Change, View};
 use chess_clock::Reading;
 use chess_rules::{Position, Square};
 use dgt_frame::{Event, First, Message, read_time};
@@ -83,7 +83,7 @@ fn see_whole(
 }
 
 impl Keeper {
-    ghost use Rattle.board_session.specs.Entries.{entry_at};
+    ghost use Rattle.board_events.specs.Entries.{entry_at};
     ghost use Rattle.pair_frames.specs.Laws.{IsReadBehind};
     ghost use Rattle.pair_frames.specs.PutIn.{ShowsWhole, put_in as frames_for};
     ghost use Rattle.recovery.specs.Keeping.{Keeps, KeepsNext, RecoversAt};

@@ -3,9 +3,9 @@ ghost use Rattle.std.specs.Prelude.{◌≡◌, ◌<◌, ◌≤◌, ◌+◌, ◌^
 ghost use Rattle.dgt_frame.specs.declared.events.Event.{Event as EventOf};
 ghost use Rattle.dgt_frame.specs.Decoder.{Decoded};
 ghost use Rattle.settle_core.specs.Entries.{Entry};
-ghost use Rattle.board_session.specs.Settings.{Setting};
-ghost use Rattle.board_session.specs.Session.{entries_in};
-ghost use Rattle.board_session.specs.History.{IsInRange};
+ghost use Rattle.board_events.specs.Settings.{Setting};
+ghost use Rattle.board_events.specs.Session.{entries_in};
+ghost use Rattle.board_events.specs.History.{IsInRange};
 ghost use Rattle.recovery.specs.Keeping.{Keeps, KeepsNext};
 ghost use Rattle.recovery.specs.Passing.{Alike, Carries, Hears, Passes, Stands};
 ghost use Rattle.recovery.specs.Progress.{Concludes, HasBegun, IsPutIn};

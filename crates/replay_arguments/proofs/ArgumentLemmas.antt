@@ -16,7 +16,7 @@ use Rattle.clap.proofs.WalkLemmas.{first_value-rows, one_text-rows}
 use Rattle.chess_rules.specs.Initial.{initial}
 use Rattle.chess_game.specs.declared.values.Tag.{Tag}
 use Rattle.chess_game.specs.declared.values.Tag.TheVariants.{Event, Site, Date, Round, White, Black}
-use Rattle.board_session.specs.Recording.{setting_of}
+use Rattle.board_events.specs.Settings.{setting_of}
 use Rattle.replay_arguments.specs.declared.arguments.Subcommand.{Subcommand}
 use Rattle.replay_arguments.specs.Command.{replay}
 use Rattle.replay_arguments.specs.Subcommands.{Asks, AsksForPictures, AsksToCheck, AsksToShow, AsksForMoves, AsksForPositions, AsksToFollow, AsksToRecord, AsksToRecover, Chooses, IsCheck, IsFollow, IsMoves, IsPictures, IsPositions, IsRecord, IsRecover, IsShow, is_subcommand}

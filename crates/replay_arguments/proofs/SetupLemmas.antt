@@ -17,7 +17,7 @@ use Rattle.chess_game.specs.declared.values.TagError.TheVariants.{Text as NoText
 use Rattle.chess_game.specs.TagNames.{all_tags, is_tag, tag_index}
 use Rattle.chess_game.specs.Values.{RefusesText, TagValues, unknown_of, unknown_values, value_of, values_by}
 use Rattle.chess_game.proofs.TagValues.{by_value, index_below, tag_at, value_by}
-use Rattle.board_session.specs.Recording.{setting_of}
+use Rattle.board_events.specs.Settings.{setting_of}
 use Rattle.replay_arguments.specs.declared.setup.Refusal.{Refusal}
 use Rattle.replay_arguments.specs.declared.setup.Refusal.TheVariants.{Fen, Tag as OfTag}
 use Rattle.replay_arguments.specs.declared.arguments.BoardArguments.{BoardArguments}

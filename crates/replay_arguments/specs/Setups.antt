@@ -13,9 +13,8 @@ use Rattle.chess_game.specs.declared.values.Tag.TheVariants.{Event, Site, Date, 
 use Rattle.chess_game.specs.declared.values.TagError.TheVariants.{Memory}
 use Rattle.chess_game.specs.TagNames.{all_tags, is_tag}
 use Rattle.chess_game.specs.Values.{IsValue, RefusesText, TagValues, unknown_of, unknown_values, value_of, values_by}
-use Rattle.board_session.specs.declared.recording.Setup.{Setup}
-use Rattle.board_session.specs.Settings.{Setting}
-use Rattle.board_session.specs.Recording.{setting_of}
+use Rattle.board_events.specs.declared.setup.Setup.{Setup}
+use Rattle.board_events.specs.Settings.{Setting, setting_of}
 use Rattle.replay_arguments.specs.TagOptions.{option_of}
 use Rattle.replay_arguments.specs.declared.setup.Refusal.{Refusal}
 use Rattle.replay_arguments.specs.declared.setup.Refusal.TheVariants.{Fen, Tag as OfTag}

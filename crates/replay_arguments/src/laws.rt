@@ -1,6 +1,6 @@
 //! What arguments without options ask for, each law as the contract of a function that does nothing.
 ghost use Rattle.std.specs.Prelude.{Bool, List, ℕ, [], ◌∷◌, codes};
-ghost use Rattle.board_session.specs.Recording.{setting_of};
+ghost use Rattle.board_events.specs.Settings.{setting_of};
 ghost use Rattle.chess_rules.specs.Initial.{initial};
 ghost use Rattle.replay_arguments.specs.Setups.{plain_setup};
 ghost use Rattle.replay_arguments.specs.Subcommands.{AreMistaken, AsksForHelp, AsksForMoves, AsksForPictures, AsksForPositions, AsksForVersion, AsksToCheck, AsksToFollow, AsksToRecord, AsksToRecover, AsksToShow, IsCheck, IsFollow, IsHelp, IsMoves, IsPictures, IsPositions, IsRecord, IsRecover, IsShow, IsVersion};

@@ -6,8 +6,7 @@ ghost use Rattle.replay_arguments.specs.Setups.{ForMemory, HasValues, IsFirst, M
 ghost use Rattle.chess_text.specs.Start.{given};
 
 use crate::arguments::RecordArguments;
-use board_session::Setup;
-use chess_game::{Tag, TagError, Tags};
+use board_events::Setup;
 use chess_text::{FenError, start_of};
 use std::alloc::Global;
 

@@ -1,4 +1,4 @@
-//! Tests of the public calls of `board_session`.
+//! Tests of the public calls of `board_events` and `board_session`.
 #![tactic(auto)]
 
 #[cfg(test)]

@@ -1,8 +1,8 @@
 //! What a session trusts, what a view tells, and that what is recorded reads back.
-ghost use Rattle.board_session.specs.History.{IsInRange};
+ghost use Rattle.board_events.specs.History.{IsInRange};
 
+use board_events::{Change, Session, Taken, View};
 use board_session::laws::read_recorded;
-use board_session::{Change, Session, Taken, View};
 use chess_rules::Position;
 use dgt_frame::{Event, FaultKind, First, Message};
 use settle_core::Seen;

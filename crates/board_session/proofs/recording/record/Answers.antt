@@ -1,5 +1,5 @@
 use Rattle.watched_streams.specs.Watch.{inner_of}
-use Rattle.board_session.specs.Recording.{setting_of}
+use Rattle.board_events.specs.Settings.{setting_of}
 use Rattle.board_session.proofs.RecordLemmas.{records_all}
 use Rattle.board_session.proofs.recording.record.Goals as goal
 

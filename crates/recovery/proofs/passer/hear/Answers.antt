@@ -1,5 +1,5 @@
 use Rattle.std.proofs.Common.{Ok, None, ap, ◌∙◌, true, false, if◌then◌else◌}
-use Rattle.board_session.specs.Session.{entries_in}
+use Rattle.board_events.specs.Session.{entries_in}
 use Rattle.recovery.specs.Keeping.{KeepsNext}
 use Rattle.recovery.proofs.EventLemmas.{carries_none}
 use Rattle.recovery.proofs.KeepLemmas.{at_some}

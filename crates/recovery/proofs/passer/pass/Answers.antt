@@ -1,6 +1,6 @@
 use Rattle.std.proofs.Common.{◌+◌, ◌-◌, ◌∷◌, ◌++◌, refl, subst, append-nil, IfNone}
 use Rattle.dgt_frame.specs.Decoder.{TakesAll}
-use Rattle.board_session.specs.Commands.{past_of}
+use Rattle.board_events.specs.Commands.{past_of}
 use Rattle.recovery.proofs.GiveLemmas.{is_put_in}
 use Rattle.recovery.proofs.PassLemmas.{stands_event, stands_none}
 use Rattle.recovery.proofs.passer.pass.Goals as goal

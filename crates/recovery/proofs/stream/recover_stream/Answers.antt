@@ -2,7 +2,7 @@ use Rattle.std.proofs.Common.{◌≡◌, ◌∙◌, [], Err, sym, take, subst, a
 use Rattle.std.specs.Io.KnownBytes.{Consumes, IsAtEnd}
 use Rattle.watched_streams.specs.Input.{GivesChunk}
 use Rattle.watched_streams.specs.Watch.{inner_of, has_failed}
-use Rattle.board_session.specs.Settings.{Setting}
+use Rattle.board_events.specs.Settings.{Setting}
 use Rattle.recovery.specs.declared.refusal.RecoverError.{RecoverError}
 use Rattle.recovery.specs.declared.refusal.RecoverError.TheVariants.{Read, TooLong, Memory}
 use Rattle.recovery.specs.Progress.{BreaksOff}

@@ -1,7 +1,7 @@
 use Rattle.std.proofs.Common.{◌∷◌, refl, inl, inr}
 use Rattle.dgt_frame.specs.Streams.{Timed}
-use Rattle.board_session.specs.Entries.{entry_at}
-use Rattle.board_session.specs.Session.{entries_in}
+use Rattle.board_events.specs.Entries.{entry_at}
+use Rattle.board_events.specs.Session.{entries_in}
 use Rattle.board_listing.proofs.FollowLemmas.{added_fault, added_news, added_nothing, added_same, is_same, may_tell_news, news, told_waits}
 use Rattle.board_listing.proofs.follower.Follower.add.Goals as goal
 

@@ -1,6 +1,6 @@
 use Rattle.std.proofs.Common.{◌≤◌, length, arith}
 use Rattle.std.proofs.lemmas.Result.{err_from_is_err_and}
-use Rattle.board_session.specs.Commands.{past_of}
+use Rattle.board_events.specs.Commands.{past_of}
 use Rattle.board_session.proofs.CountLemmas.{few_moves}
 use Rattle.board_session.proofs.RecordLemmas.{ended, unwritten}
 use Rattle.board_session.proofs.recorder.Recorder.finish.Goals as goal

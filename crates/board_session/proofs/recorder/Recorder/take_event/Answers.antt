@@ -1,7 +1,7 @@
 use Rattle.std.proofs.Common.{◌≡◌, true, false, sym, ◌∙◌}
 use Rattle.std.proofs.KnownBytes.{Appends-nil, Keeps-refl}
-use Rattle.board_session.specs.Commands.{past_of}
-use Rattle.board_session.specs.History.{is_fault}
+use Rattle.board_events.specs.Commands.{past_of}
+use Rattle.board_events.specs.History.{is_fault}
 use Rattle.board_session.proofs.HearLemmas.{fault_taken, kept_more}
 use Rattle.board_session.proofs.recorder.Recorder.take_event.Goals as goal
 

@@ -1,8 +1,8 @@
 use Rattle.std.proofs.Common.{◌≡◌, ◌∷◌, Bool, sym, subst, ap, ◌∙◌}
 use Rattle.dgt_frame.specs.declared.First.{First}
 use Rattle.settle_core.specs.Entries.{Entry}
-use Rattle.board_session.specs.Entries.{entry_at}
-use Rattle.board_session.specs.History.{reading_at}
+use Rattle.board_events.specs.Entries.{entry_at}
+use Rattle.board_events.specs.History.{reading_at}
 use Rattle.pair_frames.specs.Laws.{IsReadBehind}
 use Rattle.pair_frames.specs.PutIn.{ShowsWhole, put_in}
 use Rattle.recovery.proofs.KeepLemmas.{entry_now, picture_now}

@@ -2,12 +2,12 @@ use Rattle.std.proofs.Common.{◌≡◌, ◌<◌, ◌∷◌, ℕ, List, None, if
 use Rattle.dgt_frame.specs.declared.First.{First}
 use Rattle.settle_core.specs.Entries.{Entry, entry_of}
 use Rattle.unseen_pairs.specs.Recoverer.{Desk, StandsForRecovered}
-use Rattle.board_session.specs.declared.view.Change.{Change}
-use Rattle.board_session.specs.declared.view.View.{View}
-use Rattle.board_session.specs.History.{reading_at}
-use Rattle.board_session.specs.Pictures.{ChangesPictures, IsLast, IsOnBoard, pictures}
-use Rattle.board_session.specs.Session.{entries_in}
-use Rattle.board_session.specs.View.{Views}
+use Rattle.board_events.specs.declared.view.Change.{Change}
+use Rattle.board_events.specs.declared.view.View.{View}
+use Rattle.board_events.specs.History.{reading_at}
+use Rattle.board_events.specs.Pictures.{ChangesPictures, IsLast, IsOnBoard, pictures}
+use Rattle.board_events.specs.Session.{entries_in}
+use Rattle.board_events.specs.View.{Views}
 use Rattle.recovery.specs.declared.keeper.Keeper.{Keeper}
 use Rattle.recovery.specs.Keeping.{KeepsNext}
 use Rattle.recovery.specs.Seeing.{Sees}

@@ -1,0 +1,9 @@
+use Prim.{search}
+use Rattle.std.proofs.Common.{rules}
+use Rattle.board_events.proofs.session.Session.new.Goals as goal
+
+pub invariant_of-result : goal.invariant_of-result
+invariant_of-result c = search rules
+
+pub returns : goal.returns
+returns c = search rules

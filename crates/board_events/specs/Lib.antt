@@ -1,0 +1,10 @@
+pub mod Commands
+pub mod Entries
+pub mod Game
+pub mod History
+pub mod Limits
+pub mod Pictures
+pub mod Session
+pub mod Settings
+pub mod States
+pub mod View

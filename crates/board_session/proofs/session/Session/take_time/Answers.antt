@@ -1,6 +1,0 @@
-use Prim.{search}
-use Rattle.std.proofs.Common.{rules}
-use Rattle.board_session.proofs.session.Session.take_time.Goals as goal
-
-pub returns : goal.returns
-returns c = search rules

@@ -1,5 +1,0 @@
-use Rattle.board_session.proofs.ViewLemmas.{view_last}
-use Rattle.board_session.proofs.view.View.picture.Goals as goal
-
-pub returns-clause-last : goal.returns-clause-last
-returns-clause-last c = view_last c.args.self.now

@@ -1,5 +1,0 @@
-use Rattle.board_session.proofs.ViewLemmas.{zero_codes}
-use Rattle.board_session.proofs.view.no_pieces.Goals as goal
-
-pub returns : goal.returns
-returns c = zero_codes

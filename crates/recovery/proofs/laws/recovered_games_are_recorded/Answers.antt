@@ -1,5 +1,0 @@
-use Rattle.recovery.proofs.LawLemmas.{records_recovered}
-use Rattle.recovery.proofs.laws.recovered_games_are_recorded.Goals as goal
-
-pub returns : goal.returns
-returns c = records_recovered c.shows_once.ensures c.folds_once.ensures
