@@ -10,7 +10,8 @@ use Rattle.board_listing.specs.declared.printer.Printer.{Printer}
 use Rattle.board_listing.specs.declared.stream.ListError.{ListError}
 use Rattle.board_listing.specs.declared.stream.ListError.TheVariants.{Write}
 use Rattle.board_listing.specs.Progress.{BreaksLines, BreaksOff, Broken, GathersEvent, HasTaken, ListsChunk}
-use Rattle.board_listing.proofs.GatherLemmas.{front_written, gathers_sent}
+use Rattle.board_listing.proofs.GatherLemmas.{front_written}
+use Rattle.watched_streams.proofs.OutputLemmas.{gathers_sent}
 
 -- nothing was taken yet
 pub lists_start : (decoder : Decoder) (printer : Printer) (start : ℕ) (written : Option (List ℕ)) (waiting : List ℕ) → waiting ≡ []

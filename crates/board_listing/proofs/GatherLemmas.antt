@@ -11,7 +11,9 @@ use Rattle.board_listing.specs.declared.listing.Listing.{Listing}
 use Rattle.board_listing.specs.Printers.{AddsLines, Follows}
 use Rattle.board_listing.specs.declared.stream.ListError.TheVariants.{Memory, Write}
 use Rattle.board_listing.specs.Progress.{BreaksLines, GathersEvent}
-use Rattle.board_listing.specs.Listings.{Gathers, LacksMemory, WritesFront}
+use Rattle.board_listing.specs.Listings.{LacksMemory, WritesFront}
+use Rattle.watched_streams.specs.Output.{Gathers}
+use Rattle.watched_streams.proofs.OutputLemmas.{gathers_sent}
 
 pub on_err : {T E : Type 0} (P : Type 0) (r : Result T E) → P → OnErr r P
 on_err P (Ok v) p = tt
@@ -38,12 +40,6 @@ front_written begin written written' waiting text n gathered more = (
 -- A front of a text of which nothing waits was written.
 pub front_of : (written written' : Option (List ℕ)) (text : List ℕ) (n : ℕ) → Appends written written' (take n text) → WritesFront written written' text
 front_of written written' text n more = (drop n text, (take n text, sym (take-append-drop n text), more))
-
--- What waits was written.
-pub gathers_sent : (begin written written' : Option (List ℕ)) (waiting text : List ℕ) → Gathers begin written waiting text → Appends written written' waiting
-    → Gathers begin written' [] text
-gathers_sent begin written written' waiting text gathered sent =
-    (gathered.0 ++ waiting, gathered.1 ∙ sym (append-nil (gathered.0 ++ waiting)), Appends-trans begin written written' gathered.0 waiting gathered.2 sent)
 
 -- The lines of one more event wait.
 pub gathers_event : (old new : Printer) (waiting waiting' : List ℕ) (x : Timed) (written : Option (List ℕ))

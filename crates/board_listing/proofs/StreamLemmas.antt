@@ -13,7 +13,8 @@ use Rattle.board_listing.specs.declared.printer.Printer.{Printer}
 use Rattle.board_listing.specs.declared.listing.Listing.{Listing}
 use Rattle.board_listing.specs.Printers.{HasBegun}
 use Rattle.watched_streams.specs.Input.{ReadsWithin}
-use Rattle.board_listing.specs.Listings.{Gathers, Leaves, ListsAll, ListsFirst, ListsFront, ListsRead, ListsRefused, WritesFront, last_line}
+use Rattle.board_listing.specs.Listings.{Leaves, ListsAll, ListsFirst, ListsFront, ListsRead, ListsRefused, WritesFront, last_line}
+use Rattle.watched_streams.specs.Output.{Gathers}
 use Rattle.board_listing.specs.Progress.{BreaksOff, FinishBreaksOff, Finishes, HasListed, HasTaken, ListsChunk, Stops}
 use Rattle.board_listing.specs.declared.stream.ListError.{ListError}
 use Rattle.board_listing.specs.declared.stream.ListError.TheVariants.{Memory, Read, TooLong, Write}

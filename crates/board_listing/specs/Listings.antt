@@ -2,6 +2,7 @@
 use Rattle.std.specs.Prelude.{◌≡◌, ◌<◌, ◌≤◌, ◌+◌, ◌⊎◌, ℕ, List, [], ◌∷◌, ◌++◌, length, reverse, Option, IfSome, Bool, true, false, Contains, ⊤}
 use Rattle.std.specs.List.{flat_map}
 use Rattle.std.specs.Io.KnownBytes.{Appends, Consumes, Keeps}
+use Rattle.watched_streams.specs.Output.{Gathers}
 use Rattle.watched_streams.specs.Input.{ReadsWithin}
 use Rattle.dgt_frame.specs.Streams.{Shows, Timed}
 use Rattle.board_events.specs.Commands.{past_of}
@@ -54,10 +55,6 @@ ListsFirst listing input written written' = IfSome input (λ bytes. (first more 
 abbrev pub ListsRead : Listing → Option (List ℕ) → Option (List ℕ) → Option (List ℕ) → Option (List ℕ) → Type 0
 ListsRead listing input input' written written' = (bytes : List ℕ) × (events : List Timed) × (rest : ℕ) × (text : List ℕ)
     × Consumes input input' bytes × Shows bytes events rest × HasLines listing events text × Appends written written' text
-
--- A front of the text was written, and the rest of it waits.
-abbrev pub Gathers : Option (List ℕ) → Option (List ℕ) → List ℕ → List ℕ → Type 0
-Gathers written written' waiting text = (sent : List ℕ) × (text ≡ sent ++ waiting) × Appends written written' sent
 
 -- A front of the text was written, and no other byte.
 abbrev pub WritesFront : Option (List ℕ) → Option (List ℕ) → List ℕ → Type 0

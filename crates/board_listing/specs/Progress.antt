@@ -9,7 +9,8 @@ use Rattle.board_listing.specs.declared.stream.ListError.TheVariants.{Memory, Re
 use Rattle.board_listing.specs.declared.printer.Printer.{Printer}
 use Rattle.board_listing.specs.declared.listing.Listing.{Listing}
 use Rattle.board_listing.specs.Printers.{Follows}
-use Rattle.board_listing.specs.Listings.{Gathers, HasLines, Leaves, WritesFront, last_line}
+use Rattle.board_listing.specs.Listings.{HasLines, Leaves, WritesFront, last_line}
+use Rattle.watched_streams.specs.Output.{Gathers}
 
 -- Whatever was gathered before, the lines of this event are gathered too.
 abbrev pub GathersEvent : Printer → Option (List ℕ) → List ℕ → Timed → Printer → Option (List ℕ) → List ℕ → Type 0

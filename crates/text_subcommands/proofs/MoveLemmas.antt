@@ -7,18 +7,8 @@ use Rattle.chess_rules.specs.declared.chess_move.Move.{Move}
 use Rattle.chess_rules.specs.declared.parts.Parts.{Parts}
 use Rattle.chess_rules.specs.Moves.{ListsLegal}
 use Rattle.chess_text.specs.San.{San}
-use Rattle.watched_streams.specs.Output.{AppendsPart}
+use Rattle.watched_streams.specs.Output.{AppendsPart, Gathers}
 use Rattle.text_subcommands.specs.Printed.{PrintsPart, TellsMoves}
-
--- A front of the text was written, and the rest of it waits.
-abbrev pub Gathers : Option (List ℕ) → Option (List ℕ) → List ℕ → List ℕ → Type 0
-Gathers written written' waiting text = (sent : List ℕ) × (text ≡ sent ++ waiting) × Appends written written' sent
-
--- What waits was written.
-pub gathers_sent : (begin written written' : Option (List ℕ)) (waiting text : List ℕ) → Gathers begin written waiting text → Appends written written' waiting
-    → Gathers begin written' [] text
-gathers_sent begin written written' waiting text gathered sent =
-    (gathered.0 ++ waiting, gathered.1 ∙ sym (append-nil (gathered.0 ++ waiting)), Appends-trans begin written written' gathered.0 waiting gathered.2 sent)
 
 tells_more : (p : Parts) (moves : List Move) (m : Move) (text san : List ℕ) → TellsMoves p moves text → San p m san → TellsMoves p (moves ++ m ∷ []) (text ++ (san ++ codes "\n"))
 tells_more p [] m text san told is = (san, [], is, ap (λ (x : List ℕ). x ++ (san ++ codes "\n")) told ∙ sym (append-nil (san ++ codes "\n")), refl)

@@ -1,6 +1,8 @@
 use Rattle.std.proofs.Common.{◌++◌, ◌∙◌, codes, rules, append_assoc, arith}
 use Rattle.watched_streams.specs.Watch.{inner_of}
-use Rattle.text_subcommands.proofs.MoveLemmas.{Gathers, gathers_sent, all_written, gathers_more, part_told, told_more, told_to_end}
+use Rattle.text_subcommands.proofs.MoveLemmas.{all_written, gathers_more, part_told, told_more, told_to_end}
+use Rattle.watched_streams.proofs.OutputLemmas.{gathers_sent}
+use Rattle.watched_streams.specs.Output.{Gathers}
 use Rattle.watched_streams.proofs.ResultLemmas.{on_ok}
 use Rattle.text_subcommands.proofs.MessageLemmas.{part_put}
 use Rattle.text_subcommands.proofs.printing.put_moves.Goals as goal

@@ -1,6 +1,6 @@
 use Rattle.std.proofs.Common.{◌≡◌, ℕ, List, take, false}
 use Rattle.watched_streams.specs.Watch.{inner_of, has_failed}
-use Rattle.text_subcommands.proofs.MoveLemmas.{Gathers}
+use Rattle.watched_streams.specs.Output.{Gathers}
 use Rattle.text_subcommands.specs.Printed.{TellsMoves}
 use Rattle.text_subcommands.proofs.printing.put_moves.Given as goal
 
