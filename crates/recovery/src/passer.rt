@@ -95,7 +95,7 @@ pub fn pass(
     ensures put_in { IfOk result (λ taken. IfSome taken (λ _. IsPutIn frames.new.items line.new.items)) }
     ensures taken { IfOk result (λ taken. IfSome taken (λ count. (0 < count) × (count ≤ length bytes.now))) }
 {
-    // For its clause: the frames show what is put in.
+    // For its clause: frames may be put in between bytes.
     frames_are_put_in();
     // For its clause: what the bytes given so far show.
     conclude(decoder, keeper);

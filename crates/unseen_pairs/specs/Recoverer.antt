@@ -36,8 +36,8 @@ written_after entry (Shown answer) written = entry ∷ written
 written_after entry (Recovered r) written =
     entry ∷ entry_of (picture r.after) r.reading ∷ entry_of (picture r.middle) r.reading ∷ entry ∷ written
 
--- P holds of what was told. Where no pair was, it is in `heard`; where one was, it is in `found`. A pair that was told and isn't
--- in `found` is never so.
+-- P holds of what was told. Where that was no pair, it is the answer that was heard. Where a pair was heard, it is the pair that
+-- was found; where none was found then, this is false.
 abbrev pub HoldsOf : (Told → Type 0) → Heard → Option Recovery → Type 0
 HoldsOf P (Heard.Shown answer) found = P (Shown answer)
 HoldsOf P Heard.Recovered (Some r) = P (Recovered r)
