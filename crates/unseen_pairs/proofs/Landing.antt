@@ -1,5 +1,5 @@
 -- The first ply of a pair goes to a square where a piece landed.
-use Rattle.std.proofs.Common.{◌≡◌, ◌≢◌, ℕ, ◌+◌, ◌/◌, ◌<◌, inl, inr, List, [], Contains, Option, None, Some, unwrap_or, true, false, get_or, refl, sym, ap, subst, arith, ◌∙◌}
+use Rattle.std.proofs.Common.{◌≡◌, ◌≢◌, ℕ, ◌+◌, ◌/◌, ◌<◌, inl, inr, List, [], Option, None, Some, unwrap_or, true, false, get_or, refl, sym, ap, subst, arith, ◌∙◌}
 use Rattle.std.proofs.lemmas.Bool.{both_ways, cases_Bool, cases_eq, cond-false, cond-true}
 use Rattle.chess_rules.specs.declared.pieces.Side.{Side}
 use Rattle.chess_rules.specs.declared.pieces.Side.TheVariants.{White, Black}
@@ -11,7 +11,7 @@ use Rattle.chess_rules.specs.declared.parts.Parts.{Parts}
 use Rattle.chess_rules.specs.Board.{Ahead, forward, last_row, on, other, piece_of, row, second_row}
 use Rattle.chess_rules.specs.After.{after, is_double_step}
 use Rattle.chess_rules.specs.Attack.{AttacksFrom}
-use Rattle.chess_rules.specs.Laws.{MovesKingAndRook, MovesOnePiece}
+use Rattle.chess_rules.specs.Laws.{MovesOnePiece}
 use Rattle.chess_rules.specs.Legal.{Goes as Moving, step, pawn_step, capture, double_step, en_passant, castling, DoubleSteps, Legal, NamesPromotion, TakesEnPassant}
 use Rattle.chess_rules.specs.Valid.{IsAtHome, Valid}
 use Rattle.chess_rules.specs.Picture.{code, code_of_piece, picture}

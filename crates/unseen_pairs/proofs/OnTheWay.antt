@@ -1,6 +1,5 @@
 -- Pictures on the way to a move: no move goes on from a pair that explains one of them.
-use Rattle.std.proofs.Common.{◌≡◌, ◌≢◌, ◌⊎◌, ℕ, ◌<◌, inl, inr, List, None, refl, sym, ap, subst, ◌∙◌}
-use Rattle.std.proofs.lemmas.Bool.{cases_eq}
+use Rattle.std.proofs.Common.{◌≡◌, ◌≢◌, ℕ, ◌<◌, inl, inr, List, None, refl, sym, ap, subst, ◌∙◌}
 use Rattle.chess_rules.specs.declared.pieces.Side.{Side}
 use Rattle.chess_rules.specs.declared.pieces.Kind.{Kind}
 use Rattle.chess_rules.specs.declared.pieces.Kind.TheVariants.{Pawn, King}
@@ -13,7 +12,7 @@ use Rattle.chess_rules.specs.Valid.{Valid, IsAtHome, IsTarget}
 use Rattle.chess_rules.specs.Picture.{picture}
 use Rattle.chess_rules.specs.Laws.{KeepsPieces, MovesOnePiece}
 use Rattle.chess_rules.proofs.LawLemmas.{moves_move_pieces, moves_stay_valid, pieces_tell_moves}
-use Rattle.settle_core.proofs.Boards.{side_of, kind_of, none_piece, sides_differ, other-other, king_no_pawn, same_unless, on_board, empty_differs, one_kept, castled_quiet}
+use Rattle.settle_core.proofs.Boards.{side_of, kind_of, none_piece, sides_differ, other-other, king_no_pawn, same_unless, on_board, one_kept, castled_quiet}
 use Rattle.settle_core.proofs.Pawns.{one_back, passed, no_target, pawn_stood}
 use Rattle.settle_core.proofs.Pieces.{on_shown, shown_on, piece_or_not, theirs_stood}
 use Rattle.settle_core.proofs.Unseen.{as_side, one_only, taken_on}

@@ -1,7 +1,5 @@
-use Rattle.std.proofs.Common.{◌≡◌, ◌≢◌, ◌↔◌, ℕ, true, get_or, sym, ap, ◌∙◌, arith}
+use Rattle.std.proofs.Common.{sym, ap, ◌∙◌, arith}
 use Rattle.std.specs.Int.{bit_at}
-use Rattle.std.proofs.lemmas.Bool.{both_ways}
-use Rattle.settle_core.specs.Candidate.{is_owned_code}
 use Rattle.settle_core.proofs.Gone.{owned_here, owned_more, owned_start, unowned_here}
 use Rattle.settle_core.proofs.candidate.owned_in.Goals.{then-is_owned, else-is_owned}
 use Rattle.settle_core.proofs.candidate.owned_in.Goals as goal

@@ -1,10 +1,10 @@
-use Rattle.std.proofs.Common.{◌≡◌, ◌≢◌, ◌<◌, ◌⊎◌, ℕ, inl, inr, List, [], None, get_or, sym, ap, arith, ◌∙◌}
+use Rattle.std.proofs.Common.{◌≡◌, ◌≢◌, ◌<◌, ℕ, inl, inr, [], None, get_or, sym, ap, arith, ◌∙◌}
 use Rattle.std.specs.Int.{bit_at}
 use Rattle.std.proofs.lemmas.Bool.{cases_eq}
 use Rattle.std.proofs.lemmas.Nat.Bits.{bit_at-zero}
 use Rattle.chess_rules.specs.Picture.{picture}
 use Rattle.chess_rules.specs.declared.chess_move.Move.{Move}
-use Rattle.unseen_pairs.specs.Beginning.{AddsMoves, LandsAt}
+use Rattle.unseen_pairs.specs.Beginning.{LandsAt}
 use Rattle.unseen_pairs.proofs.Adding.{adds_both}
 use Rattle.unseen_pairs.proofs.Landing.{all_listed}
 use Rattle.unseen_pairs.proofs.beginning.landing_moves.Goals as goal

@@ -1,4 +1,4 @@
-use Rattle.std.proofs.Common.{◌≡◌, ◌≢◌, ◌<◌, ℕ, [], None, get_or}
+use Rattle.std.proofs.Common.{◌≡◌, ◌≢◌, ◌<◌, [], None, get_or}
 use Rattle.std.specs.Int.{bit_at}
 use Rattle.chess_rules.specs.Picture.{picture}
 use Rattle.settle_core.specs.Masks.{IsDiff}

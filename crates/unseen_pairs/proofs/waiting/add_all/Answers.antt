@@ -1,4 +1,4 @@
-use Rattle.std.proofs.Common.{false, subst}
+use Rattle.std.proofs.Common.{subst}
 use Rattle.chess_rules.specs.Valid.{Valid}
 use Rattle.unseen_pairs.proofs.Aging.{all_added, none_near, valid_before}
 use Rattle.unseen_pairs.proofs.waiting.add_all.Goals as goal

@@ -1,4 +1,4 @@
-use Rattle.std.proofs.Common.{◌≡◌, true, inl, refl, sym, ◌∙◌}
+use Rattle.std.proofs.Common.{inl}
 use Rattle.unseen_pairs.proofs.waiting.add_pairs.Goals as goal
 
 pub returns-then-not-may_be_explained : goal.returns-then-not-may_be_explained

@@ -1,4 +1,4 @@
-use Rattle.std.proofs.Common.{◌≡◌, ◌∷◌, Bool, IsTrue, true, false, not, refl, subst}
+use Rattle.std.proofs.Common.{◌≡◌, Bool, IsTrue, true, false, not, refl, subst}
 use Rattle.std.proofs.lemmas.Bool.{both_ways}
 use Rattle.chess_rules.specs.Valid.{Valid}
 use Rattle.unseen_pairs.proofs.Aging.{none_hidden, none_left}

@@ -1,12 +1,10 @@
-use Rattle.std.proofs.Common.{◌≡◌, ◌∷◌, ℕ, Option, slice_index, slice_set, refl, sym, ap, subst, ◌∙◌}
+use Rattle.std.proofs.Common.{◌≡◌, ◌∷◌, ℕ, Option, slice_index, slice_set, sym, ap, subst, ◌∙◌}
 use Rattle.chess_clock.specs.declared.times.Reading.{Reading}
 use Rattle.chess_rules.specs.Valid.{Valid}
-use Rattle.settle_core.specs.Entries.{Entry, changed, entry_of}
+use Rattle.settle_core.specs.Entries.{Entry, entry_of}
 use Rattle.settle_core.specs.Settler.{ReturnsSeen, StandsFor}
-use Rattle.settle_core.specs.declared.plies.Seen.{Seen}
-use Rattle.unseen_pairs.specs.declared.pair.Heard.{Heard}
 use Rattle.unseen_pairs.specs.declared.pair.Told.{Told}
-use Rattle.unseen_pairs.specs.Recoverer.{Desk, HasTold, HoldsOf, IsWaiting, ReturnsTold, StandsForRecovered, written_after}
+use Rattle.unseen_pairs.specs.Recoverer.{Desk, HasTold, IsWaiting, ReturnsTold, StandsForRecovered, written_after}
 use Rattle.unseen_pairs.proofs.Telling.{changed_step, map_heard, shown_told, to_wait}
 use Rattle.unseen_pairs.proofs.recoverer.Recoverer.see_square.Goals as goal
 

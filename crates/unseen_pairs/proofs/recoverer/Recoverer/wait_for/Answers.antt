@@ -1,6 +1,5 @@
-use Rattle.std.proofs.Common.{◌≡◌, [], List, ap, sym, subst, arith, ◌∙◌}
+use Rattle.std.proofs.Common.{◌≡◌, [], ap, sym, arith, ◌∙◌}
 use Rattle.std.proofs.lemmas.Bool.Decides.{nat_tests}
-use Rattle.unseen_pairs.specs.declared.confirming.Candidate.{Candidate}
 use Rattle.unseen_pairs.specs.Recoverer.{Desk}
 use Rattle.unseen_pairs.proofs.Telling.{none_long, none_only}
 use Rattle.unseen_pairs.proofs.recoverer.Recoverer.wait_for.Goals as goal
