@@ -10,5 +10,6 @@ pub record Setting : Type 0 where
   pub first : First
   pub rotated : Bool
 
+-- that of a setup, which has tags too
 abbrev pub setting_of : Setup → Setting
 setting_of setup = record { start = setup.start; first = setup.first; rotated = setup.rotated }
