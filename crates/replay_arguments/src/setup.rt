@@ -7,6 +7,7 @@ ghost use Rattle.chess_text.specs.Start.{given};
 
 use crate::arguments::RecordArguments;
 use board_events::Setup;
+use chess_game::{Tag, TagError, Tags};
 use chess_text::{FenError, start_of};
 use std::alloc::Global;
 
