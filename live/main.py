@@ -14,7 +14,7 @@ from live.files import Capture, Paths, text_of
 from live.live_page import LiveGame, PageScreen
 from live.loop import Loop, Signals
 from live.making import make_now
-from live.options import Call, Options
+from live.options import FIRST, Call, Options
 from live.program import Program
 from live.refused import DONE, FAILED, REFUSED, Refused
 from live.round_page import RoundPage
@@ -25,7 +25,7 @@ from live.whole import pairs_of
 
 HELP = """\
 usage: dgt_live [--series] [--once] [--linger SECONDS] DEVICE NAME [OPTION..]
-       dgt_live --add WORDS NAME  dgt_live --recover NAME  dgt_live --devices
+       dgt_live (--add WORDS|--first SIDE|--recover|--strict) NAME | --devices
 
 Records the DGT board at DEVICE, tells the game line by line, and keeps
   NAME.dgt   what the board sent
@@ -48,6 +48,7 @@ OPTION says how the board lies, how the game begins, and what its tags say:
 Set up the pieces, and then:
   dgt_live /dev/ttyUSB0 game --white Anna --black Ben --date 31.05.2024
 """
+# What each tag is turned into, and what it is called where that can't be.
 TURNS: Dict[str, Callable[[str], str]] = {
     "--event": names.ascii_name,
     "--site": names.ascii_name,
@@ -55,6 +56,14 @@ TURNS: Dict[str, Callable[[str], str]] = {
     "--white": names.ascii_name,
     "--black": names.ascii_name,
     "--date": names.pgn_date,
+}
+CALLED: Dict[str, str] = {
+    "--event": "the name of the event",
+    "--site": "the name of the site",
+    "--round": "the round",
+    "--white": "the white player's name",
+    "--black": "the black player's name",
+    "--date": "the date",
 }
 PRINTED = 2.0  # seconds that a slow terminal has for the last lines
 
@@ -67,7 +76,7 @@ def turned(given: Options) -> Options:
             try:
                 return TURNS[option](value)
             except names.Unreadable as error:
-                raise Refused(REFUSED, f"{option} {error}") from None
+                raise Refused(REFUSED, f"{CALLED[option]} {error}") from None
 
         return of_value
 
@@ -95,20 +104,19 @@ def plies(program: Program, capture: Capture, kept: Options) -> int:
 
 
 def options_of(program: Program, paths: Paths, capture: Capture, given: Options) -> Options:
-    """Those that were kept; or those that were given, where the game has none yet, or has no ply. Whether pairs are recovered
-    may be changed at any time."""
+    """Those that were kept; or those that were given, where the game has none yet, or has no ply. Whose time comes first, and
+    whether pairs are recovered, may be changed at any time."""
     kept = files.kept_options(paths) if capture.size else None
-    wanted = given
-    if kept is not None:
-        game, others = Options(kept.of_record()), Options(given.of_record())
-        if not others.words or others.same_as(game):
-            wanted = kept
-        elif plies(program, capture, kept) > 0:
+    wanted = given if kept is None else kept
+    if kept is not None and not kept.is_said_by(given):
+        others = kept.going_on(given, plies(program, capture, kept) > 0)
+        if others is None:
             raise Refused(
                 REFUSED,
                 f"{paths.name} was begun with other options: give none to go on, or choose another NAME. They were",
-                " ".join(kept.words),
+                " ".join(kept.words) or "none",
             )
+        wanted = others
     wanted = wanted.recovering((kept or Options()).recovers_with(given))
     if wanted != kept:
         files.keep_options(paths, wanted)
@@ -183,24 +191,28 @@ def existing_game(name: str) -> Paths:
 
 
 def remake(call: Call, program: Program) -> int:
-    """Makes the text of a game anew that nobody records, with its pairs recovered or without them."""
+    """Makes the text of a game anew that nobody records: with its pairs recovered or without them, or with the other side's
+    time first."""
     given = Options(call.words)
     refuse_options(program, given)
     paths = existing_game(call.name)
     capture = files.open_game(paths)
     end = files.end_mark(paths)
-    kept = (files.kept_options(paths) or Options()).recovering(given.recover)
+    before = files.kept_options(paths) or Options()
+    kept = before.with_first(given.value(FIRST)).recovering(before.recovers_with(given))
     try:
         make_now(program, paths, capture, kept, end)
     except OSError as error:
         raise Refused(FAILED, f"{paths.pgn} can't be written ({text_of(error)}): is the disk full?") from None
     files.keep_options(paths, kept)
-    pairs = "; ".join(pairs_of(program, kept, capture.bytes(0, end))) or "nothing recovered"
+    said = [f"{kept.first.capitalize()}'s time comes first"] if given.value(FIRST) else []
+    pairs = pairs_of(program, kept, capture.bytes(0, end))
+    what = "; ".join(said + pairs if said or pairs else ["nothing recovered"])
     capture.close()
     screen = Screen(None)
     screen.keep(files.Log(paths.log))
-    screen.note(f"made anew: {pairs}")
-    print(f"dgt_live: {paths.pgn} is made anew: {pairs}")
+    screen.note(f"made anew: {what}")
+    print(f"dgt_live: {paths.pgn} is made anew: {what}")
     return DONE
 
 

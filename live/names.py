@@ -34,25 +34,21 @@ PARTS = {
 
 
 class Unreadable(Exception):
-    """What was typed can't be turned. Its text says what to type."""
+    """What was typed can't be turned. Its text says why, behind what it is, and what to write."""
 
 
 def ascii_name(text: str) -> str:
     """A name in printable ASCII: `Jörg Müller` is `Joerg Mueller`, `José` is `Jose`; one that is in ASCII stays as it is."""
     composed = unicodedata.normalize("NFC", text)
     turned: List[str] = []
-    unknown: List[str] = []
     for at, letter in enumerate(composed):
         written = _written(letter, composed[at - 1 : at], composed[at + 1 : at + 2])
         if written is None:
-            unknown.append(letter)
-        else:
-            turned.append(written)
+            raise Unreadable("has letters that PGN can't take: write it with the letters A to Z")
+        turned.append(written)
     name = "".join(turned)
-    if unknown:
-        raise Unreadable(f"{_shown(text)}: a PGN file has no {_listed(unknown)}. Type it with the letters A to Z")
     if len(name) > LONGEST:
-        raise Unreadable(f"{name[:20]}..: {len(name)} letters. Type at most {LONGEST}")
+        raise Unreadable(f"has {len(name)} letters: write at most {LONGEST}")
     return name
 
 
@@ -81,19 +77,13 @@ def _shown(text: str) -> str:
     return "".join(letter if letter.isprintable() else "?" for letter in text)
 
 
-def _listed(letters: List[str]) -> str:
-    """The first few of the characters, each once."""
-    named = list(dict.fromkeys(letter if letter.isprintable() else f"character U+{ord(letter):04X}" for letter in letters))
-    return ", ".join(named[:5]) + (", .." if len(named) > 5 else "")
-
-
 def pgn_date(text: str) -> str:
     """A date as PGN has it. `31.05.2024`, `2024-05-31`, `2024/5/31` are `2024.05.31`; `2024` is `2024.??.??`."""
     for pattern in PARTS.values():
         match = pattern.fullmatch(text.strip())
         if match:
             return _date(text, match)
-    raise Unreadable(f"{_shown(text)}: no date that is known here. Type it as 2024.05.31, with ? for what isn't known")
+    raise Unreadable(f"{_shown(text)!r} can't be read: write it as 2024.05.31, with ? for what isn't known")
 
 
 def _date(text: str, match: Match[str]) -> str:
@@ -105,7 +95,7 @@ def _date(text: str, match: Match[str]) -> str:
     try:
         datetime.date(*numbers)
     except ValueError:
-        raise Unreadable(f"{_shown(text)}: there is no such day. Type it as 2024.05.31, year, month and day") from None
+        raise Unreadable(f"{_shown(text)!r} isn't in the calendar: write it as 2024.05.31, year, month and day") from None
     return f"{year}.{month}.{day}"
 
 

@@ -7,7 +7,8 @@ from typing import Callable, Dict, Iterable, List, Optional, Sequence, Tuple
 
 from live.refused import ARGUMENTS, REFUSED, Refused
 
-BOARD = ("--first", "--fen")
+FIRST = "--first"
+BOARD = (FIRST, "--fen")
 TAGS = ("--event", "--site", "--date", "--round", "--white", "--black")
 VALUED = BOARD + TAGS
 RECOVER, STRICT = "--recover", "--strict"
@@ -71,7 +72,8 @@ def parse(arguments: Sequence[str]) -> Call:
         if len(arguments) > 1:
             raise Refused(ARGUMENTS, f"--devices stands alone: {SEE_HELP}")
         return Call(devices=True)
-    remakes = added is None and len(plain) == 1 and not flags["--series"] and words in ([RECOVER], [STRICT])
+    remakes = added is None and len(plain) == 1 and not flags["--series"] and bool(words)
+    remakes = remakes and not Options(tuple(words)).fixed().words
     wanted = 1 if added is not None or remakes else 2
     if len(plain) > wanted:
         raise Refused(ARGUMENTS, f"{plain[wanted]} is one argument too many: {SEE_HELP}")
@@ -140,6 +142,11 @@ class Options:
         return ([""] + [option for option, _ in self.pairs() if option in (RECOVER, STRICT)])[-1]
 
     @property
+    def first(self) -> str:
+        """Whose time comes first."""
+        return self.value(FIRST) or "white"
+
+    @property
     def fen(self) -> Optional[str]:
         return self.value("--fen")
 
@@ -158,6 +165,25 @@ class Options:
     def without(self, *options: str) -> Options:
         """All but these."""
         return Options(_words((option, value) for option, value in self.pairs() if option not in options))
+
+    def fixed(self) -> Options:
+        """Those that stay as they are once the game has a move: without those that only say how its capture is read."""
+        return self.without(FIRST, RECOVER, STRICT)
+
+    def is_said_by(self, given: Options) -> bool:
+        """Whether a game that was kept with these goes on as it is where those are given: none of them, or the same."""
+        return not given.of_record() or Options(self.of_record()).same_as(Options(given.of_record()))
+
+    def going_on(self, given: Options, has_moves: bool) -> Optional[Options]:
+        """What a game that was kept with these goes on with where those are given. Whose time comes first may be changed at
+        any time, and stays where nothing is said. All others are taken while the game has no move; None where it has one."""
+        if not given.fixed().words or (has_moves and given.fixed().same_as(self.fixed())):
+            return self.with_first(given.value(FIRST))
+        return None if has_moves else given
+
+    def with_first(self, side: Optional[str]) -> Options:
+        """The same, but whose time comes first, where that is said."""
+        return self if side in (None, self.first) else Options((FIRST, str(side), *self.without(FIRST).words))
 
     def with_tags_of(self, other: Options) -> Options:
         """The same game with the tags of another one."""

@@ -45,7 +45,7 @@ class Program:
             with _deaf_children():
                 found = subprocess.run([finder], stdin=subprocess.DEVNULL, stdout=subprocess.PIPE)
             if found.returncode != 0:
-                raise Refused(NO_PROGRAM, "there is no program to record with, as is said above")
+                raise Refused(NO_PROGRAM, f"there is no program to record with. Type {finder}: it says what to do")
             path = pathlib.Path(os.fsdecode(found.stdout.rstrip(b"\n")))
         if not os.access(path, os.X_OK):
             raise Refused(NO_PROGRAM, f"there is no dgt_replay in {beside}: it belongs beside dgt_live")

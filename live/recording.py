@@ -32,7 +32,7 @@ NO_PICTURE: protocol.Picture = ()
 class Reason(enum.Enum):
     """Why a game is over."""
 
-    RESULT = "its result stands"
+    RESULT = "it has a result"
     TYPED = "its result was typed"
     SET_UP = "the pieces stand at the start again"
     LIMIT = "its capture has 64 MiB, and none may have more"
@@ -208,7 +208,7 @@ class Recording:
             self._ends.cancel()
             self._ends = None
         if result != "*" and not self._is_over:
-            self._screen.say(f"ends in {self._linger} seconds, where the result stands")
+            self._screen.say(f"ends in {self._linger} seconds, unless the result changes")
             self._wait_for_end(self._linger)
 
     def _wait_for_end(self, seconds: float) -> None:

@@ -196,18 +196,20 @@ class Row:
     def _options_of(self, paths: Paths, capture: Capture, given: Options) -> Options:
         """Those of the line; but a game that has moves keeps how the board lies and the position at the start."""
         try:
-            return options_of(self._program, paths, capture, given)
+            wanted = options_of(self._program, paths, capture, given)
         except Refused as refused:
             kept = files.kept_options(paths)
             if kept is None or refused.status != REFUSED:
                 raise
-            if kept.of_board() != given.of_board():
-                words = " ".join(kept.of_board()) or "nothing in the columns rotated, first and fen"
+            stays = kept.fixed().of_board()
+            if stays != given.fixed().of_board():
+                words = " ".join(stays) or "nothing in the columns rotated and fen"
                 self._screen.say(f"the game has moves, and keeps what it was begun with: {words}")
             wanted = kept.with_tags_of(given).recovering(kept.recovers_with(given))
-            if wanted != kept:
-                files.keep_options(paths, wanted)
-            return wanted
+        wanted = wanted.with_first(given.first)
+        if wanted != files.kept_options(paths):
+            files.keep_options(paths, wanted)
+        return wanted
 
     def _stopped(self) -> None:
         """All that was recorded here has ended."""

@@ -87,8 +87,8 @@ class Screen:
         """NAME.pgn was made anew. Others may want to know that."""
 
     def turn(self, rotated: bool) -> str:
-        """What to do where the board lies the other way round than is said."""
-        return "Leave --rotated out" if rotated else "--rotated"
+        """What to do where the board lies the other way round than is said. The last line has room for no more."""
+        return f"Ctrl-C, start again {'without' if rotated else 'with'} --rotated"
 
     def hint(self, text: str) -> None:
         """What somebody is to look at: told where it is new, beside the state that says it too."""

@@ -5,6 +5,7 @@ from __future__ import annotations
 import fcntl
 import os
 import pathlib
+import pwd
 import stat
 import termios
 import time
@@ -47,6 +48,19 @@ def devices() -> List[Tuple[str, str]]:
     return sorted((device, "" if name == device else name) for device, name in named.items())
 
 
+def login_name() -> str:
+    """That of the one who runs this."""
+    try:
+        return pwd.getpwuid(os.getuid()).pw_name
+    except KeyError:
+        return "NAME"
+
+
+def may_not_open(device: str, user: str) -> str:
+    """What is told where the system doesn't let this user have it."""
+    return f"{device} may not be opened: let an administrator type 'sudo adduser {user} dialout', and then log in again"
+
+
 def check(device: str, may_wait: bool) -> None:
     """Refused where it is no serial line that may be opened; one that isn't there may be waited for."""
     try:
@@ -62,9 +76,7 @@ def check(device: str, may_wait: bool) -> None:
     try:
         line = os.open(device, os.O_RDWR | os.O_NOCTTY | os.O_NONBLOCK)
     except PermissionError:
-        raise Refused(
-            FAILED, f"{device} may not be opened: let an administrator say 'adduser $USER dialout', and log in again"
-        ) from None
+        raise Refused(FAILED, may_not_open(device, login_name())) from None
     except OSError:
         if may_wait:
             return

@@ -285,7 +285,7 @@ class Player:
     def unplugged(self) -> None:
         self._unplugged, self._silent = True, False
         if not self._call.once:
-            self._screen.say(f"{self._board.cable} isn't there: plug the board in, it is waited for")
+            self._screen.say(f"{self._board.cable} isn't there: plug it in again; the recording then goes on")
         game = self._recording or self._setting_up
         if game:
             game.standing.unplugged()
@@ -309,7 +309,7 @@ class Player:
         self._fail(f"{self._call.device} {BUSY}")
 
     def _broken(self, what: str) -> None:
-        self._fail(f"a part of it has broken off ({what}); what was played is in {self.paths.pgn}")
+        self._fail(f"a part of the program failed again and again ({what}); what was played is in {self.paths.pgn}")
 
     def _fail(self, message: str) -> None:
         if self.refused is None:

@@ -1,9 +1,9 @@
 """The state of a board, as an arbiter reads it: from the lines of `follow`, what the line and the disk do, and the time.
 
-- `agrees`: the board shows the game's position. `result 1-0`: it has shown the result.
+- `agrees`: the board shows the game's position. `result 1-0`: it has shown the result; wherever the pieces are put then.
 - `in hand g1 f3`: a few squares differ, none of them for 10 s. `WRONG since 40 s: e2 d5`: those that have differed so long.
-- `setting up`: more squares differ than hands change in a move, and pieces are still moved, or no move has been played; or the
-  game has a result. When a few are left they are `WRONG` once nothing has moved for 10 s.
+- `setting up`: more squares differ than hands change in a move, and pieces are still moved, or no move has been played. When a
+  few are left they are `WRONG` once nothing has moved for 10 s.
 - `SILENT`, `UNPLUGGED`: the board answers no more, or its line is gone; whatever was shown before. `DISK FULL` beside any.
 """
 
@@ -20,7 +20,7 @@ HAND = 10.0  # seconds that a hand may take
 MOST_IN_HAND = 6  # squares: castling changes four, and a neighbour or two may be straightened
 MOST_LISTED = 8
 ONE_MOVE = 4  # squares that a move changes, at most
-TURNED_ROUND = "is the board the other way round?"
+TURNED_ROUND = "is the board turned round?"
 OTHER_BOARD = "another board may be on this cable"
 
 
@@ -69,7 +69,9 @@ class State:
             front += f" {self.result}"
         elif words:
             rest = f" {words}" if self.kind is Kind.IN_HAND else f": {words}"
-        if self.hint:
+        if self.hint.startswith(TURNED_ROUND):
+            front, rest = self.hint, ""  # that says why it is being set up, and has no room beside it
+        elif self.hint:
             rest += f"; {self.hint}"
         return (f"DISK FULL, {front}" if self.disk_full else front), rest
 
@@ -117,8 +119,9 @@ class BoardState:
             self._played = True
             self.differs(now, ())
         elif what == "result":
-            self._result = "" if words == ["*"] else words[0]
+            self._result = ""
             self.differs(now, ())
+            self._result = "" if words == ["*"] else words[0]
         elif what == "agrees":
             self.differs(now, ())
         elif what == "differs":
@@ -135,7 +138,7 @@ class BoardState:
             self._setting_up, self._hint = False, ""
         elif len(self._squares) > MOST_IN_HAND:
             self._setting_up = True
-        if not (self._seen and before and self._squares):
+        if not self._result and not (self._seen and before and self._squares):
             self._since = now
         self._seen = True
 
@@ -183,11 +186,13 @@ class BoardState:
         """What the pictures say, and the squares that are told with it."""
         if not self._seen:
             return Kind.WAITS, ()
+        if self._result:
+            return Kind.RESULT, ()
         if not self._squares:
-            return (Kind.RESULT if self._result else Kind.AGREES), ()
+            return Kind.AGREES, ()
         moving = now < self._changed_at + HAND
         many = len(self._squares) > MOST_IN_HAND
-        if self._result or (self._setting_up and (moving or (many and not self._played))):
+        if self._setting_up and (moving or (many and not self._played)):
             return Kind.SETTING_UP, ()
         old = tuple(square for square, since in self._squares.items() if now >= since + HAND)
         return (Kind.WRONG, old) if old else (Kind.IN_HAND, tuple(self._squares))

@@ -1,12 +1,16 @@
-"""What is told where options or a NAME are refused, and where a disk has room again."""
+"""What is told where options or a NAME are refused, a device or a program can't be had, and where a disk has room again."""
 
+import os
 import pathlib
+import pwd
 import tempfile
 
 from live.disk import Disk
 from live.files import Log, check_name
+from live.program import Program
 from live.refusal import reason
 from live.refused import Refused
+from live.serial_line import login_name, may_not_open
 
 from decided.table import refused, same
 
@@ -56,6 +60,19 @@ def no_names() -> None:
         same("a game that was begun so", check_name(str(old.with_suffix(""))), None)
 
 
+def not_had() -> None:
+    """What to do is told with the name and the path that are this user's."""
+    told = may_not_open("/dev/ttyUSB0", "anna")
+    same("a device", "type 'sudo adduser anna dialout'" in told and told.startswith("/dev/ttyUSB0 "), True)
+    same("whose name", login_name(), pwd.getpwuid(os.getuid()).pw_name)
+    with tempfile.TemporaryDirectory() as folder:
+        finder = pathlib.Path(folder) / "program"
+        finder.write_text("#!/bin/sh\nexit 70\n")
+        finder.chmod(0o755)
+        told = refused("a program", Refused, Program.find, pathlib.Path(folder))
+        same("a program", told.endswith(f"Type {finder}: it says what to do"), True)
+
+
 class Full:
     """A capture, a screen and a state of the board, as far as a disk asks for them."""
 
@@ -103,4 +120,4 @@ def logs() -> None:
         same("a log", path.read_text().splitlines(), [missing, "10:00:02  1... e5", "10:00:03  agrees"])
 
 
-TABLES = [reasons, no_names, disks, logs]
+TABLES = [reasons, no_names, not_had, disks, logs]

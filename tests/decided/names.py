@@ -2,7 +2,10 @@
 
 import unicodedata
 
+from live.main import CALLED, TURNS, turned
 from live.names import Unreadable, ascii_name, pgn_date
+from live.options import TAGS, Options
+from live.refused import Refused
 
 from decided.table import refused, same
 
@@ -34,15 +37,16 @@ NAMES = {
     unicodedata.normalize("NFD", "Jörg Müller"): "Joerg Mueller",
     "x" * 100: "x" * 100,
 }
+LETTERS = "has letters that PGN can't take: write it with the letters A to Z"
 NO_NAMES = {
-    "Иванов": "И",
-    "Γιώργος": "Γ",
-    "王浩": "王",
-    "Anna ☺": "☺",
-    "a\nb": "U+000A",
-    "J\udcf6rg": "U+DCF6",
-    "x" * 101: "101",
-    "ö" * 51: "102",
+    "Иванов": LETTERS,
+    "Γιώργος": LETTERS,
+    "王浩": LETTERS,
+    "Anna ☺": LETTERS,
+    "a\nb": LETTERS,
+    "J\udcf6rg": LETTERS,
+    "x" * 101: "has 101 letters: write at most 100",
+    "ö" * 51: "has 102 letters: write at most 100",
 }
 DATES = {
     "2024.05.31": "2024.05.31",
@@ -75,9 +79,8 @@ def names():
     for text, expected in NAMES.items():
         same(text, ascii_name(text), expected)
         same(text + ", twice", ascii_name(expected), expected)
-    for text, part in NO_NAMES.items():
-        told = refused(text, Unreadable, ascii_name, text)
-        same(repr(text), (part in told, "Type" in told, told.isprintable()), (True, True, True))
+    for text, expected in NO_NAMES.items():
+        same(repr(text), refused(text, Unreadable, ascii_name, text), expected)
 
 
 def dates():
@@ -86,7 +89,19 @@ def dates():
         same(text, pgn_date(text), expected)
     for text in NO_DATES:
         told = refused(text, Unreadable, pgn_date, text)
-        same(repr(text), ("2024.05.31" in told, told.isprintable()), (True, True))
+        same(repr(text), ("write it as 2024.05.31" in told, told.isprintable()), (True, True))
 
 
-TABLES = [names, dates]
+def tags():
+    """Each tag is turned, and what can't be is called what an arbiter calls it, who has a table and never typed an option."""
+    same("each tag is turned", sorted(TURNS), sorted(TAGS))
+    same("each tag has a name", sorted(CALLED), sorted(TAGS))
+    for tag in TAGS:
+        told = refused(tag, Refused, turned, Options((tag, "王")))
+        same(f"{tag} is called something else", (tag in told, CALLED[tag] in told), (False, True))
+    same("a player", refused("王", Refused, turned, Options(("--black", "王"))), f"the black player's name {LETTERS}")
+    told = refused("no such day", Refused, turned, Options(("--date=30.02.2024",)))
+    same("a date", told, "the date '30.02.2024' isn't in the calendar: write it as 2024.05.31, year, month and day")
+
+
+TABLES = [names, dates, tags]

@@ -1,4 +1,5 @@
-"""Pairs of moves that two hands hid: when they are recovered, what is told of them, and where what was put in belongs."""
+"""Pairs of moves that two hands hid: when they are recovered, what is told of them, and where what was put in belongs; and
+which other options a game goes on with."""
 
 from live.options import Options, parse
 from live.refused import Refused
@@ -19,6 +20,27 @@ KEPT = {
     ((), (*YES, *NO)): False,  # of a round and of its line: the last one counts
     ((), (*NO, *YES)): True,
 }
+ANNA, BEN, TURNED = ("--white", "Anna"), ("--white", "Ben"), ("--rotated",)
+WHITE, BLACK = ("--first", "white"), ("--first", "black")
+# What was kept and what is given, in a game with a move, and with what it goes on; None where that is refused.
+GOES_ON = {
+    ((), ()): (),
+    (ANNA, ()): ANNA,
+    (ANNA, ANNA): ANNA,
+    (ANNA, BEN): None,
+    (ANNA, TURNED): None,
+    (ANNA, BLACK): BLACK + ANNA,
+    (ANNA, ("--first=black",)): BLACK + ANNA,
+    (ANNA, WHITE): ANNA,  # White's time comes first where nothing is said
+    (ANNA, ANNA + BLACK): BLACK + ANNA,
+    (ANNA, BEN + BLACK): None,
+    (BLACK + ANNA, ()): BLACK + ANNA,
+    (BLACK + ANNA, ANNA): BLACK + ANNA,  # the command with which it was begun, before that was put right
+    (BLACK + ANNA, ANNA + BLACK): BLACK + ANNA,
+    (BLACK + ANNA, WHITE): WHITE + ANNA,
+    (ANNA + BLACK + YES, WHITE + YES): WHITE + ANNA + YES,
+    (TURNED + ANNA, ANNA + BLACK): None,
+}
 LINES = {
     "350 recovered 3. Bc4 3... Nc6": Pair(350, "recovered 3. Bc4 3... Nc6"),
     "0 recovered 12... Qxd5 13. O-O-O+": Pair(0, "recovered 12... Qxd5 13. O-O-O+"),
@@ -38,14 +60,28 @@ def kept() -> None:
     same("no longer", options.recovering(False).words, ("--rotated", "--white", "Anna"))
 
 
+def goes_on() -> None:
+    for (before, given), words in GOES_ON.items():
+        options = Options(before).going_on(Options(given), True)
+        same(f"{before}, {given}", options and options.words, words)
+    for given, words in (((), ANNA), (BEN, BEN), (TURNED, TURNED), (BLACK, BLACK + ANNA), (BEN + BLACK, BEN + BLACK)):
+        options = Options(ANNA).going_on(Options(given), False)
+        same(f"{given}, and no move", options and options.words, words)
+    for given, says in ((), True), (ANNA, True), (("--white=Anna",), True), (BLACK, False), (BEN, False), (YES, True):
+        same(f"the same: {given}", Options(ANNA).is_said_by(Options(given)), says)
+    firsts = [Options(words).first for words in ((), WHITE, BLACK, ("--first=black",))]
+    same("whose time", firsts, ["white", "white", "black", "black"])
+
+
 def calls() -> None:
     """With a device a game is recorded so; without one its text is made anew."""
-    for words in (YES, NO):
+    for words in (YES, NO, BLACK, (*YES, *BLACK)):
         call = parse(["/dev/ttyUSB0", "game", *words])
         same(f"{words} with a device", (call.device, call.name, call.words), ("/dev/ttyUSB0", "game", words))
         call = parse([*words, "game"])
         same(f"{words} without", (call.device, call.name, call.words), ("", "game", words))
-    for words in ([*YES], [*YES, *NO, "game"], [*YES, "--rotated", "game"], [*YES, "--series", "game"], ["game"]):
+    wrong = [[*YES], [*YES, *NO, "game"], [*YES, "--rotated", "game"], [*YES, "--series", "game"], [*BLACK, *ANNA, "game"]]
+    for words in (*wrong, ["game"]):
         refused(" ".join(words), Refused, parse, words)
 
 
@@ -73,4 +109,4 @@ def places() -> None:
     same("nothing was put in", place_in(content, (), 97), Place(97))
 
 
-TABLES = [kept, calls, told, places]
+TABLES = [kept, goes_on, calls, told, places]

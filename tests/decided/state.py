@@ -3,8 +3,8 @@
 import math
 
 from live.protocol import SQUARES, dump, picture_of_dump, picture_of_placement
-from live.screen import Screen
-from live.state import BoardState, Kind, lasting, turned_round
+from live.screen import PROMPT, Screen
+from live.state import TURNED_ROUND, BoardState, Kind, lasting, turned_round
 
 from decided.table import same
 
@@ -58,7 +58,12 @@ CASES = [
     (
         "a result by the kings, and the pieces are put away",
         [(0, "66 agrees"), (5, "71 differs e1"), (6, "86 result 1-0"), (9, "91 differs d1"), (50, "96 result *")],
-        [(5.5, "in hand e1"), (7, "result 1-0"), (30, "setting up"), (50.5, "agrees")],
+        [(5.5, "in hand e1"), (7, "result 1-0"), (30, "result 1-0"), (50.5, "agrees")],
+    ),
+    (
+        "a typed result, while the kings stand elsewhere",
+        [(0, "66 agrees"), (5, "71 result 1/2-1/2"), (6, f"76 differs {SEVEN}"), (7, "81 differs e1 e8")],
+        [(6, "result 1/2-1/2"), (6.5, "result 1/2-1/2"), (60, "result 1/2-1/2")],
     ),
     (
         "mate",
@@ -126,6 +131,12 @@ def times():
     news = [board.state(when).news for when in (7, 8, 15, 16, 17, 90)]
     same("news", [one == other for one, other in zip(news, news[1:])], [True, False, True, False, True])
     same("alarms", [board.state(when).is_alarm for when in (7, 15, 90)], [False, True, True])
+    ended = BoardState()
+    for when, line in ((0, "agrees"), (5, "result 1-0"), (7, "differs g1"), (9, "differs g1 f3"), (11, "agrees")):
+        ended.told(when, f"66 {line}")
+        same(f"since when a result stands, at {when}", ended.state(when).since, min(when, 5))
+    ended.told(13, "91 result *")
+    same("and when it is gone", ended.state(13).since, 13)
     board.disk(True)
     board.told(20, "81 agrees")
     same("a full disk is one", board.state(21).is_alarm, True)
@@ -151,8 +162,12 @@ def hints():
     no_queen = tuple(0 if square == "d1" else code for square, code in zip(SQUARES, INITIAL))
     far = tuple(0 if square in ("a1", "b1", "c1", "d1", "e1") else code for square, code in zip(SQUARES, INITIAL))
     near = tuple(0 if square in ("a1", "b1", "c1", "d1") else code for square, code in zip(SQUARES, INITIAL))
-    rotated = ("setting up; is the board the other way round?", True)
-    same("what to do then", [Screen(None).turn(given) for given in (False, True)], ["--rotated", "Leave --rotated out"])
+    rotated = (TURNED_ROUND, True)
+    ways = [Screen(None).turn(given) for given in (False, True)]
+    same("what to do then", ways, ["Ctrl-C, start again with --rotated", "Ctrl-C, start again without --rotated"])
+    for way in ways:
+        last = f"13:11:08  {TURNED_ROUND} {way}{PROMPT}"
+        same(f"it has room: {last!r}", len(last) < 80, True)
     all_differ = f"66 differs {CAMPS}"
     same("turned round", with_pictures(INITIAL, [turned, all_differ]), rotated)
     same("a piece is still to come", with_pictures(INITIAL, [no_queen[::-1], all_differ]), rotated)

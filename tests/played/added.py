@@ -53,6 +53,7 @@ def typed_results(folder: pathlib.Path) -> None:
         text = run("record", *options, given=bytes_of(live.name + ".dgt")).stdout
         same(text, bytes_of(live.name + ".pgn"))
         assert result in (place / "game.log").read_text()
+        assert words.SETTING_UP not in live.lines(), live.lines()
 
 
 def typed_moves(folder: pathlib.Path) -> None:

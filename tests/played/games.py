@@ -81,6 +81,7 @@ def mate(folder: pathlib.Path) -> None:
         board.show(number, EMPTY)
     same(ended(live), 0)
     assert time.monotonic() - start >= 10, "it ended too soon"
+    assert words.SETTING_UP not in live.lines(), live.lines()
     same(movetext(live.name), "1. f3 e5 2. g4 Qh4# 0-1")
 
 

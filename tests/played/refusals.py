@@ -4,6 +4,7 @@ import os
 import pathlib
 import shutil
 import subprocess
+from typing import List, Tuple
 
 from played import TOP, words
 from played.recorder import LIVE, Live
@@ -18,6 +19,7 @@ from played.stage import (
     begun,
     bytes_of,
     go_on,
+    movetext,
     refuses,
     same,
     stop,
@@ -39,7 +41,7 @@ def refused(folder: pathlib.Path) -> None:
         ([board.device, "game", "--fen", "nonsense"], 1, "six fields"),
         ([board.device, "game", "--date", "last Sunday"], 1, "2024.05.31"),
         ([board.device, "game", "--white", "A" * 101], 1, "100"),
-        ([board.device, "game", "--white", "王"], 1, "--white"),
+        ([board.device, "game", "--white", "王"], 1, words.WHITE_NAME),
         ([board.device, "game", "--colour", "red"], 2, "--colour"),
         ([board.device, "game", "--linger", "soon"], 2, "--linger"),
         ([board.device, "game", "--linger"], 2, "--linger"),
@@ -79,7 +81,8 @@ def refused(folder: pathlib.Path) -> None:
 
 
 def old_name(folder: pathlib.Path) -> None:
-    """Other options with an old NAME are refused once a ply stands; the same, and none, go on."""
+    """Other options with an old NAME are refused once a ply stands; the same, and none, go on. Whose time comes first may be
+    changed, while it is recorded and afterwards, and stays so."""
     board = a_board(folder)
     options = ["--white", "Anna O'Neil \\ \"x\" $HOME *", "--event", "", "--first=black"]
     live = Live(board.device, folder / "game", *options)
@@ -105,10 +108,27 @@ def old_name(folder: pathlib.Path) -> None:
     same(stop(again), 0)
     again = go_on(board, live, *options)
     board.play("g1f3")
-    until_game(live.name, "1. e4 {[%clk 0:08:20]} 1... e5 {[%clk 0:09:50]} 2. Nf3 {[%clk 0:08:20]} *")
+    black_first = "1. e4 {[%clk 0:08:20]} 1... e5 {[%clk 0:09:50]} 2. Nf3 {[%clk 0:08:20]} *"
+    white_first = "1. e4 {[%clk 0:10:00]} 1... e5 {[%clk 0:08:20]} 2. Nf3 {[%clk 0:09:50]} *"
+    until_game(live.name, black_first)
     same(stop(again), 0)
+    calls: List[Tuple[List[str], str]] = [(["--first", "white"], white_first), ([], white_first), (options, black_first)]
+    for given, text in calls:
+        again = go_on(board, live, *given)
+        until_game(live.name, text)
+        until_line(again, "2. Nf3  0:09:50" if text == white_first else "2. Nf3  0:08:20")
+        same(stop(again), 0)
+    answer = subprocess.run([LIVE, "--first", "white", live.name], stdout=subprocess.PIPE)
+    same((answer.returncode, movetext(live.name)), (0, white_first))
+    assert b"White's time comes first" in answer.stdout, answer.stdout
     assert '[White "Anna O\'Neil \\\\ \\"x\\" $HOME *"]\n' in bytes_of(live.name + ".pgn").decode()
     assert '[Event ""]\n' in bytes_of(live.name + ".pgn").decode()
+    (folder / "bare").mkdir()
+    board, live = begin_game(folder / "bare")
+    same(stop(live), 0)
+    answer = Live(board.device, live.name, "--white", "Ben")
+    refuses(answer, 1, words.OTHER_OPTIONS)
+    assert "They were\n  none\n" in answer.complaint(), answer.complaint()
 
 
 def options_changed(folder: pathlib.Path) -> None:

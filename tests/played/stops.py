@@ -232,7 +232,7 @@ def cable(folder: pathlib.Path) -> None:
     board.pull()
     same(ended(once), 3)
     assert words.GONE_AWAY in once.complaint(), once.complaint()
-    assert "it is waited for" not in once.lines(), once.lines()
+    assert words.GOES_ON not in once.lines(), once.lines()
     same(movetext(live.name), "1. e4 e5 2. Nf3 Nc6 3. Bb5 a6 *")
 
 

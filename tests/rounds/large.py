@@ -148,7 +148,7 @@ def always_failing(folder: pathlib.Path) -> None:
             called = command(child)
             if "follow" in called and "--rotated" in called:
                 os.kill(child, signal.SIGKILL)
-        return live.says("  2  isn't recorded: a part of it has broken off")
+        return live.says("  2  isn't recorded: a part of the program failed again and again")
 
     until(fails, "that board 2 is given up")
     hall.play(2, 4, (0, 2))

@@ -13,7 +13,7 @@ from typing import Any, Dict, List
 from played import TOP, words
 from played.recorder import Live
 from played.recovered import PAIR, hurried
-from played.stage import bytes_of, check, ended, kill, program, refuses, run, same, stop, until, until_line
+from played.stage import bytes_of, check, ended, kill, movetext, program, refuses, run, same, stop, until, until_line
 from rounds.hall import ROUND, Hall, Reader, games_of, moves, text, told
 
 
@@ -80,7 +80,7 @@ def troubles(folder: pathlib.Path) -> None:
         "line 7 of round.csv is wrong: board 2 stands in line 3 already",
         "line 8 of round.csv is wrong: 'x' is no number of a board",
         "line 9 of round.csv is wrong: a quote isn't closed",
-        "  7  isn't recorded: --white",
+        "  7  isn't recorded: the white player's name has letters that PGN can't take",
         f"line 11 of round.csv is wrong: {folder}/other is the device of board 1, line 2",
     ):
         until_line(live, part)
@@ -130,10 +130,12 @@ def typed(folder: pathlib.Path) -> None:
 
 
 def read_again(folder: pathlib.Path) -> None:
-    """HUP reads the file again: a name put right, another device, a new line, a line that is gone, a result, an empty file."""
+    """HUP reads the file again: a name and whose time comes first are put right, another device, a new line, a line that is
+    gone, a result, an empty file."""
     hall = Hall(folder, 3)
     live = hall.record(typed=True)
     hall.begun(live)
+    hall.boards[0].clock(600, 500)
     hall.boards[0].play("e2e4")
     hall.until_text(1, "1. e4 *")
     lines = hall.file.read_text().splitlines()
@@ -143,7 +145,7 @@ def read_again(folder: pathlib.Path) -> None:
     hall.boards[1].pull()
     hall.boards[1].device = str(folder / "elsewhere")
     hall.boards[1].plug()
-    changed = [f"{lines[0]},rotated,result", f"{lines[1].replace('White 1', 'Anna')},yes", f"2,{folder}/elsewhere,Ben,Black 2"]
+    changed = [f"{lines[0]},first,rotated,result", f"{lines[1].replace('White 1', 'Anna')},black,yes", f"2,{folder}/elsewhere,Ben,Black 2"]
     hall.file.write_text("\n".join([*changed, f"4,{folder}/nowhere,A,B", ""]))
     live.send(signal.SIGHUP)
     until_line(live, "is read again: 3 boards")
@@ -155,6 +157,7 @@ def read_again(folder: pathlib.Path) -> None:
     hall.boards[1].play("d2d4")
     hall.until_text(2, "1. d4 *")
     until(lambda: b'[White "Anna"]' in bytes_of(hall.name(1) + ".pgn"), "the name of board 1, whose game has a move")
+    assert b"1. e4 {[%clk 0:08:20]}" in bytes_of(hall.name(1) + ".pgn"), bytes_of(hall.name(1) + ".pgn")
     until(lambda: hall.boards[0].asked_for_updates, "a request on board 1")
     hall.boards[0].play("e7e5")
     hall.until_text(1, "1. e4 e5 *")
@@ -163,12 +166,13 @@ def read_again(folder: pathlib.Path) -> None:
     live.send(signal.SIGHUP)
     hall.until_text(1, "1. e4 e5 1-0")
     same(len(games_of(bytes_of(hall.games / "03.pgn"))), 1)
-    # A name is put right where the game is over.
+    # Both are put right where the game is over.
     hall.until_over(live, 1, "1-0")
-    changed[1] = changed[1].replace("Anna", "Anne")
+    changed[1] = changed[1].replace("Anna", "Anne").replace(",black,", ",,")
     hall.file.write_text("\n".join([*changed, f"4,{folder}/nowhere,A,B", ""]))
     live.send(signal.SIGHUP)
     until(lambda: b'[White "Anne"]' in bytes_of(hall.games / "round.pgn"), "the name of board 1, whose game is over")
+    assert movetext(hall.name(1)).startswith("1. e4 {[%clk 0:10:00]}"), movetext(hall.name(1))
     same(hall.text(1), "1. e4 e5 1-0")
     same(stop(live), 0)
 
@@ -399,9 +403,9 @@ def turned_round(folder: pathlib.Path) -> None:
     hall.boards[1].rotated = True
     live = hall.record(terminal=True, environment={"TERM": "xterm"})
     until_line(live, "turned round?")
-    until_line(live, "2: is the board the other way round? Write yes in its column rotated,")
+    until_line(live, "2: is the board turned round? Write yes in its column rotated,")
     live.type("2")
-    until_line(live, "2: setting up; is the board the other way round? Write yes")
+    until_line(live, "2: is the board turned round? Write yes", 2)
     hall.extra[2] = ",yes"
     hall.write(header="board,device,white,black,rotated")
     live.type("r")
@@ -415,7 +419,7 @@ def turned_round(folder: pathlib.Path) -> None:
     hall.extra[1] = ",yes"
     hall.write(header="board,device,white,black,rotated")
     live.type("r")
-    until_line(live, "1: is the board the other way round? Write no in its column rotated")
+    until_line(live, "1: is the board turned round? Write no in its column rotated")
     live.type("q")
     same(ended(live), 0)
 

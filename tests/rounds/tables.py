@@ -107,15 +107,15 @@ def rows_of_any_width(_: pathlib.Path) -> None:
 def messages(_: pathlib.Path) -> None:
     """A message takes as many lines as it needs, and the newest are there as wholes; the screen has as many lines as before."""
     cable = "/dev/serial/by-id/usb-Digital_Game_Technology_DGT_Board_3.1-if00-port0"
-    gone = f"14:02:59  4: {cable} isn't there: plug the board in, it is waited for"
+    gone = f"14:02:59  4: {cable} isn't there: plug it in again; the recording then goes on"
     board = RowView(1, "Anna", "Ben", state="agrees", since=0.0)
     shown = screen("t", [board] * 8, [gone], 9, 24)
     same(" ".join(line.strip() for line in shown[11:]).rstrip(), gone)
     assert cable in shown[12] and all(len(line) < 80 for line in shown), shown
-    same(screen("t", [board] * 8, [gone], 9, 24, 140)[11:13], [gone, ""])
+    same(screen("t", [board] * 8, [gone], 9, 24, 150)[11:13], [gone, ""])
     few = screen("t", [board] * 30, ["10:00:00  one", gone, "10:00:01  two"], 9, 24)
     same(few[-3:], ["10:00:01  two", "", ""])
-    same(screen("t", [board] * 30, [gone, "10:00:01  two"], 9, 24, 140)[-3:], [gone, "10:00:01  two", ""])
+    same(screen("t", [board] * 30, [gone, "10:00:01  two"], 9, 24, 150)[-3:], [gone, "10:00:01  two", ""])
     endless = screen("t", [board] * 30, ["10:00:00  " + "more " * 90], 9, 24)
     assert endless[-1].endswith(".."), endless
     for number, height in ((1, 24), (8, 24), (30, 24), (30, 60), (3, 8)):
