@@ -1,4 +1,4 @@
-//! How a game is read out of events.
+//! What a recording is set up with.
 use chess_game::Tags;
 use chess_rules::Position;
 use dgt_frame::First;
@@ -10,8 +10,9 @@ pub struct Setup {
     pub start: Position,
     /// Whose time the first group of a time message is.
     pub first: First,
-    /// Field n means square 63 - n, in dumps and updates: Black has the connector on the left.
+    /// Whether field n means square 63 - n, in dumps and updates: so it is where Black has the connector on the left. Else it
+    /// means square n.
     pub rotated: bool,
-    /// The tags of the text.
+    /// The tags that the game's text gets.
     pub tags: Tags,
 }

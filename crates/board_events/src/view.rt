@@ -66,7 +66,8 @@ impl View {
         }
     }
 
-    /// The picture that was shown last: where none was, that of an empty board.
+    /// The picture that was shown last: 64 codes of at most 15, by square number. Where none was shown yet, it is an empty
+    /// board; the contract then says of it no more than the range of its codes.
     pub fn picture(&self) -> &[u8; 64]
         ensures last { (rotated : Bool) (past : List Event) → Views self.now rotated past → IsLast result.now (pictures rotated past) }
         ensures codes { All (λ code. code < 16) result.now }

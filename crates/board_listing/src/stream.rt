@@ -19,13 +19,13 @@ use watched_streams::{CHUNK, GATHERED, LONGEST, Lines, Watch, WriteFault, put, r
 /// Why a listing gave up.
 #[derive(Clone, Copy, Debug, PartialEq, Eq)]
 pub enum ListError {
-    /// A read failed.
+    /// A read failed; one that was interrupted counts as failed.
     Read,
-    /// A write failed.
+    /// A write failed or took no byte.
     Write,
-    /// There is a byte past the limit.
+    /// The stream has more than 67,108,864 bytes.
     TooLong,
-    /// Memory ran out.
+    /// There was no memory for a move.
     Memory,
 }
 
@@ -142,8 +142,19 @@ fn finish<O: Write>(
     put(out, lines.as_slice())
 }
 
-/// Writes the lines of a stream. Those of a chunk are written before the next read, so that those of a slow board stand
-/// as they come. It doesn't flush.
+/// Writes the lines of a stream of board bytes. Those of a chunk are written before the next read, so that those of a slow
+/// board stand as they come. It doesn't flush. At most 67,108,865 bytes are read, the last one only to see that there are more
+/// than a stream may have. No stream may have failed before. Memory is taken under `Listing::Game` alone, for plies.
+///
+/// # Errors
+///
+/// - `Read`: a read failed. The lines of the bytes before it were written.
+/// - `Write`: a write failed or took no byte. The lines are cut off somewhere, and nothing else was written.
+/// - `TooLong`: there are more than 67,108,864 bytes. The lines of the first 67,108,864 were written.
+/// - `Memory`: there was none for the move that an event gives. The lines of the events before this one were written.
+///
+/// Under `Listing::Events` and `Listing::Game` a last line tells how many bytes of an unfinished frame are left. It comes only
+/// at the end of the stream.
 pub fn list_stream<R: Read, O: Write>(
     alloc: Global,
     listing: Listing,

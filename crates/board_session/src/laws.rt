@@ -44,7 +44,7 @@ pub fn honest_play_is_recorded()
     ensures { HonestPlayIsRecorded }
 {}
 
-/// The ply of each move then has its mover's time in the reading of the first entry that shows the whole move.
+/// In honest play the ply of each move has its mover's time in the reading of the first entry that shows the whole move.
 pub fn honest_clocks_are_recorded()
     ensures { HonestClocksAreRecorded }
 {}
@@ -109,15 +109,16 @@ pub fn only_the_last_ply_may_change()
     fronts_show_fronts();
 }
 
-/// Honest play resumes: whatever was sent before, where the board agrees with the game, the moves that are shown honestly from
-/// there on are added, and nothing else is. So it is where that play stops, and where the kings end it.
+/// Honest play resumes: whatever was sent before, where the game has no result and the board agrees with it, the moves that
+/// are shown honestly from there on are added, and nothing else is. So it is where the kings end it. Where that play stops
+/// between two moves, there may be one ply more, of a move that was tried and takes no piece.
 pub fn honest_play_resumes()
     ensures adds { HonestPlayResumes }
     ensures stops { ResumedPlayStops }
     ensures ends { KingsEndResumedPlay }
 {}
 
-/// So it is in what `record` leaves, whatever it returned.
+/// What `honest_play_resumes` says holds of the game that `record` leaves, whatever it returned.
 pub fn resumed_play_is_written()
     ensures adds { ResumedPlayIsWritten }
     ensures stops { ResumedStopIsWritten }
@@ -137,7 +138,8 @@ pub fn honest_end_is_recorded()
     ensures stops { HonestStopAnywhereIsRecorded }
 {}
 
-/// What `record` leaves of honest play and its end, whatever it returned.
+/// Honest play with its end, as `record` leaves it, whatever it returned, unless memory ran out: the game has the plies of the
+/// line, with their clocks, and the result of its last position, else that of the kings.
 pub fn honest_end_is_written()
     ensures { HonestEndIsWritten }
 {
@@ -145,7 +147,9 @@ pub fn honest_end_is_written()
     shows_once();
 }
 
-/// And wherever it ended.
+/// Honest play with its end, wherever `record` stopped in it, and whatever it returned: the game has the plies of the moves
+/// that were shown whole, and at most one more, of a move that was tried and takes no piece. After the last move the kings'
+/// result may stand.
 pub fn honest_stop_anywhere_is_written()
     ensures { HonestStopAnywhereIsWritten }
 {
@@ -153,7 +157,8 @@ pub fn honest_stop_anywhere_is_written()
     fronts_show_fronts();
 }
 
-/// A move that takes no piece may be made whole, taken back and made again: the game has the moves of the line.
+/// A move that takes no piece may be made whole, taken back and made again: the game has the moves of the line. Where such
+/// play stops between two moves, there may be one ply more, of a move that was tried and takes no piece.
 pub fn moves_may_be_made_again()
     ensures recorded { MadeAgainIsRecorded }
     ensures written { MadeAgainIsWritten }

@@ -36,7 +36,7 @@ impl Model for Game {
     ghost invariant = { λ g. IsGame (content_in g) };
 }
 
-/// A reading of a clock is in range.
+/// The time of a clock, if there is one, is in range: 0:00:00 to 9:59:59.
 fn count_clock(clock: &Option<Hms>)
     ensures { ForSome clock.now IsTime }
 {
@@ -53,7 +53,7 @@ fn last_position(start: &Position, plies: &[Ply]) -> Position
 {
     let mut position = *start;
     for ply in plies {
-        // For its clause: a reading of a clock is in range.
+        // For its clause: the time of a clock is in range.
         count_clock(&ply.clock);
         position = position.play(ply.mv);
     }
@@ -69,7 +69,8 @@ fn winner_over(side: Side) -> Outcome
     }
 }
 
-/// The result where the last position is this one and a sign stands.
+/// The result of a game whose last position is this one: a win of the other side at checkmate, a draw at stalemate. Else it is
+/// the sign, if one stands.
 pub fn result_at(last: &Position, sign: Option<Outcome>) -> Option<Outcome>
     ensures { IsResult last.now sign result }
 {
@@ -106,8 +107,9 @@ impl Game {
     {
         let last = last_position(&start, &plies);
         let result = result_at(&last, sign);
-        // For its clause: what the tags and the start are by their types' invariants.
+        // For its clause: each tag has a value that it may have.
         tags.get(Tag::Event);
+        // For its clause: the start is valid.
         start.parts();
         Game {
             tags,

@@ -227,7 +227,7 @@ impl Position {
         &self.parts
     }
 
-    /// What stands on each of the 64 squares, by square number.
+    /// The piece on each of the 64 squares, `None` where there is none. Place n is that of the square with number n.
     pub fn board(&self) -> &[Option<Piece>; 64]
         ensures { result.now ≡ self.now.board }
     {

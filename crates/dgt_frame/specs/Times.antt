@@ -21,16 +21,16 @@ is_acknowledgement times = (units (slice_index times 0) == 10) || (units (slice_
 abbrev pub lacks_clock : List ℕ → Bool
 lacks_clock times = (slice_index times 6 / 32 % 2) == 1
 
--- tens and units of a minute or a second
+-- the byte has the tens and units of minutes or seconds, 0 to 59
 abbrev pub are_digits : ℕ → Bool
 are_digits byte = nat_lt (tens byte) 6 && nat_lt (units byte) 10
 
--- the group from here on is a time
+-- the three bytes from here on are hours, minutes and seconds, 0:00:00 to 9:59:59
 abbrev pub is_group : List ℕ → ℕ → Bool
 is_group times start = nat_lt (units (slice_index times start)) 10
     && are_digits (slice_index times (start + 1)) && are_digits (slice_index times (start + 2))
 
--- both groups are times
+-- each of the two groups is a time
 abbrev pub has_digits : List ℕ → Bool
 has_digits times = is_group times 0 && is_group times 3
 
@@ -45,16 +45,17 @@ group times start = record {
   seconds = number_of (slice_index times (start + 2));
 }
 
--- the first group is that of this side
+-- both times, where the first group is the time of this side
 abbrev pub reading_of : First → List ℕ → Reading
 reading_of White times = record { white = group times 0; black = group times 3 }
 reading_of Black times = record { white = group times 3; black = group times 0 }
 
--- the reading after a time message, and before it
+-- The reading after a time message, where it was `before` until then: the same where the message acknowledges, none where no
+-- clock is connected, both groups where they are times, else the same.
 abbrev pub reading_after : First → List ℕ → Option Reading → Option Reading
 reading_after first times before = if is_acknowledgement times then before
     else (if lacks_clock times then None else (if has_digits times then Some (reading_of first times) else before))
 
--- the time of the group, where it is one
+-- the time of the group from here on, where it is a time
 abbrev pub group_read : List ℕ → ℕ → Option Clock
 group_read times start = if is_group times start then Some (group times start) else None

@@ -105,10 +105,11 @@ impl Decoder {
         }
     }
 
-    /// Takes the next byte, and returns the event that comes at it, if one does.
+    /// Takes the next byte, which may be any. Returns the event that comes at it: the message whose frame it ends, or the
+    /// fault that stands at it. `None` where no event comes.
     pub fn push(&mut self, byte: u8) -> Option<Event>
-        // Whatever bytes the decoder was given and whatever events it has returned, it has now been given
-        // this byte too, and has returned this event too.
+        // Before, the decoder was given some bytes, and returned some events. Now it was given this byte too, and has returned
+        // the event that comes at it too, if one does.
         ensures decoded { (bytes : List ℕ) (events : List Timed) → Decoded self.old bytes events
             → Decoded self.new (bytes ++ byte ∷ []) (events ++ timed (length bytes) result) }
         ensures frame { (bytes : List ℕ) (events : List Timed) → Decoded self.old bytes events → IfSome result HasFrame }

@@ -1,6 +1,6 @@
 //! What a stream of bytes shows: the messages of the DGT Electronic Board Protocol, and this project's faults.
 
-/// The most bytes of a board's stream that are read.
+/// The most bytes that a stream of a board may have, 64 MiB. One more may be read, to see that a stream is too long.
 pub const LIMIT: u32 = 67_108_864;
 
 /// What a frame says (DGT Electronic Board Protocol). A decoder returns messages in these ranges alone.

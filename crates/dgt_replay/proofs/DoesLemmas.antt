@@ -17,7 +17,7 @@ use Rattle.replay_arguments.specs.Subcommands.{Asks, AsksFor, AsksForPictures, A
 use Rattle.replay_arguments.specs.Setups.{SetsUpNothing, tag_text}
 use Rattle.chess_text.specs.Start.{HasNoStart, StartsAt, given}
 use Rattle.replay_arguments.specs.TagOptions.{option_of}
-use Rattle.text_subcommands.specs.Checked.{RefusesText, text_limit, Checks}
+use Rattle.text_subcommands.specs.Checked.{RefusesPgn, text_limit, Checks}
 use Rattle.dgt_replay.specs.Does.{Does, Lists, Records, Recovers, WritesText}
 use Rattle.text_subcommands.specs.Played.{Plays, RefusesMoves, line_limit}
 use Rattle.text_subcommands.specs.Printed.{Prints}
@@ -100,7 +100,7 @@ checks_memory status s lacks =
     let four : status ≡ 4 = lacks.four in
     record {
       done = λ e. absurd (omega arith);
-      tells = tells_memory status (RefusesText s.input) s.said s.said' s.reader_failed s.out_failed s.err_failed four lacks.says;
+      tells = tells_memory status (RefusesPgn s.input) s.said s.said' s.reader_failed s.out_failed s.err_failed four lacks.says;
       bounded = none_read text_limit s.input s.input' lacks.untouched.0;
       fault = λ e. absurd (omega arith);
       unread = λ e. lacks.untouched.1;

@@ -1,7 +1,7 @@
 -- How `recover` ends.
 use Rattle.std.proofs.Common.{◌≡◌, ℕ, List, Option, Some, None, Bool, true, false, ◌⊎◌, codes, inl, inr, refl, subst, sym, arith}
 use Rattle.std.proofs.KnownBytes.{Appends-kept}
-use Rattle.std.specs.Io.KnownBytes.{Appends, Keeps}
+use Rattle.std.specs.Io.KnownBytes.{Keeps}
 use Rattle.board_events.specs.Limits.{limit}
 use Rattle.board_events.specs.Settings.{Setting}
 use Rattle.watched_streams.specs.Input.{ReadsWithin}

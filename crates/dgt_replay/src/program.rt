@@ -1,5 +1,5 @@
 //! The program over any streams.
-ghost use Rattle.std.specs.Prelude.{◌≡◌, ◌≢◌, ◌≤◌, Bool, List, ℕ, Option, codes, map, string_bytes, false};
+ghost use Rattle.std.specs.Prelude.{◌≡◌, ◌≢◌, ◌≤◌, Bool, List, ℕ, Option, codes, map, string_bytes, false, true};
 ghost use Rattle.std.specs.Borrow.{Bor};
 ghost use Rattle.std.specs.Io.KnownBytes.{Keeps};
 ghost use Rattle.board_events.specs.declared.setup.Setup.{Setup};
@@ -58,6 +58,7 @@ fn refused_arguments<O: Write, E: Write>(
     ensures version { kind_of error.now ≡ ErrorKind.DisplayVersion → GivesText result (O.contents (inner_of out.old)) (O.contents (inner_of out.new))
         (E.contents (inner_of err.old)) (E.contents (inner_of err.new)) (has_failed out.new) (has_failed err.new) }
     ensures works { result ≡ 0 → (has_failed out.new ≡ false) × (has_failed err.new ≡ false) }
+    ensures out_blamed { has_failed out.new ≡ true → result ≡ 3 }
     ensures known { result ≤ 4 }
     ensures flushed { IsFlushed out.old → IsFlushed out.new }
 {
@@ -88,6 +89,8 @@ fn list<R: Read, O: Write, E: Write>(
     requires erring { has_failed err.old ≡ false }
     ensures lists { Lists listing result (streams R.remaining O.contents E.contents reader.old reader.new out.old out.new err.old err.new) }
     ensures works { result ≡ 0 → (has_failed reader.new ≡ false) × ((has_failed out.new ≡ false) × (has_failed err.new ≡ false)) }
+    ensures reader_blamed { has_failed reader.new ≡ true → result ≡ 3 }
+    ensures out_blamed { has_failed out.new ≡ true → result ≡ 3 }
     ensures known { result ≤ 4 }
     ensures status { result ≢ 2 }
     ensures flushed { IsFlushed out.new }
@@ -117,7 +120,10 @@ fn follow<R: Read, O: Write, E: Write>(
         (streams R.remaining O.contents E.contents reader.old reader.new out.old out.new err.old err.new) }
     ensures refuses { HasNoStart (given options.now.fen) → Refuses (RefusesStart (given options.now.fen)) result
         (streams R.remaining O.contents E.contents reader.old reader.new out.old out.new err.old err.new) }
+    ensures refused { HasNoStart (given options.now.fen) → result ≡ 1 }
     ensures works { result ≡ 0 → (has_failed reader.new ≡ false) × ((has_failed out.new ≡ false) × (has_failed err.new ≡ false)) }
+    ensures reader_blamed { has_failed reader.new ≡ true → result ≡ 3 }
+    ensures out_blamed { has_failed out.new ≡ true → result ≡ 3 }
     ensures known { result ≤ 4 }
     ensures status { result ≢ 2 }
     ensures flushed { IsFlushed out.old → IsFlushed out.new }
@@ -149,6 +155,8 @@ fn dispatch<R: Read, O: Write, E: Write>(
     ensures does { Does subcommand.now result (streams R.remaining O.contents E.contents reader.old reader.new out.old out.new err.old err.new) }
     ensures moves_unread { (fen : Option (Bor (List ℕ))) → subcommand.now ≡ Subcommand.Moves fen → reader.new ≡ reader.old }
     ensures works { result ≡ 0 → (has_failed reader.new ≡ false) × ((has_failed out.new ≡ false) × (has_failed err.new ≡ false)) }
+    ensures reader_blamed { has_failed reader.new ≡ true → result ≡ 3 }
+    ensures out_blamed { has_failed out.new ≡ true → result ≡ 3 }
     ensures known { result ≤ 4 }
     ensures status { result ≢ 2 }
     ensures flushed { IsFlushed out.old → IsFlushed out.new }
@@ -185,11 +193,11 @@ pub fn run<R: Read, O: Write, E: Write>(
     requires working { has_failed out.old ≡ false }
     requires erring { has_failed err.old ≡ false }
 
-    // NAME `show`: the lines of the events, and of the rest.
+    // `show`: the lines of the events, and of the rest.
     ensures show { IsShow (map string_bytes arguments.now) → WritesText event_lines rest_line result
         (streams R.remaining O.contents E.contents reader.old reader.new out.old out.new err.old err.new) }
 
-    // NAME `pictures`, with or without `--rotated`: the placements.
+    // `pictures`, with or without `--rotated`: the placements.
     ensures pictures { (rotated : Bool) → IsPictures rotated (map string_bytes arguments.now) → WritesText (picture_lines rotated) no_line result
         (streams R.remaining O.contents E.contents reader.old reader.new out.old out.new err.old err.new) }
 
@@ -217,7 +225,7 @@ pub fn run<R: Read, O: Write, E: Write>(
         → Refuses (RefusesStart (first_of (codes "fen") rows)) result
         (streams R.remaining O.contents E.contents reader.old reader.new out.old out.new err.old err.new) }
 
-    // NAME `check`: the input is the export text of a game.
+    // `check`: the input is the export text of a game.
     ensures check { IsCheck (map string_bytes arguments.now) → Checks result (streams R.remaining O.contents E.contents reader.old reader.new out.old out.new err.old err.new) }
 
     // `moves` with any options: the legal moves of the position that they say. It reads nothing.
@@ -242,8 +250,10 @@ pub fn run<R: Read, O: Write, E: Write>(
     ensures version { AsksForVersion (map string_bytes arguments.now) → (reader.new ≡ reader.old) × GivesText result (O.contents (inner_of out.old)) (O.contents (inner_of out.new))
         (E.contents (inner_of err.old)) (E.contents (inner_of err.new)) (has_failed out.new) (has_failed err.new) }
 
-    // Whatever was asked for, status 0 comes only where no stream has failed.
+    // Whatever was asked for, status 0 comes only where no stream has failed; where the input or the output has, it is 3.
     ensures works { result ≡ 0 → (has_failed reader.new ≡ false) × ((has_failed out.new ≡ false) × (has_failed err.new ≡ false)) }
+    ensures reader_blamed { has_failed reader.new ≡ true → result ≡ 3 }
+    ensures out_blamed { has_failed out.new ≡ true → result ≡ 3 }
 
     // Whatever was asked for, what was written to the output doesn't wait for a flush, unless a call on it has failed. Under
     // `recover` with status 0 neither does a line on standard error.

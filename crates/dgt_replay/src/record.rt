@@ -1,5 +1,5 @@
 //! The subcommand `record`.
-ghost use Rattle.std.specs.Prelude.{◌≡◌, ◌≢◌, ◌≤◌, ◌+◌, ◌++◌, false};
+ghost use Rattle.std.specs.Prelude.{◌≡◌, ◌≢◌, ◌≤◌, ◌+◌, ◌++◌, false, true};
 ghost use Rattle.arrayvec.specs.ArrayVec.{array_vec_len};
 ghost use Rattle.board_events.specs.declared.setup.Setup.{Setup as SetupOf};
 ghost use Rattle.watched_streams.specs.Watch.{IsFlushed, inner_of, has_failed};
@@ -64,6 +64,8 @@ fn record_as<R: Read, O: Write, E: Write>(
     ensures fails { result ≡ 3 → Fails setup (streams R.remaining O.contents E.contents reader.old reader.new out.old out.new err.old err.new) }
     ensures memory { result ≡ 4 → EndsFor RecordError.Memory setup (streams R.remaining O.contents E.contents reader.old reader.new out.old out.new err.old err.new) }
     ensures works { result ≡ 0 → (has_failed reader.new ≡ false) × ((has_failed out.new ≡ false) × (has_failed err.new ≡ false)) }
+    ensures reader_blamed { has_failed reader.new ≡ true → result ≡ 3 }
+    ensures out_blamed { has_failed out.new ≡ true → result ≡ 3 }
     ensures known { result ≤ 4 }
     ensures status { result ≢ 2 }
     ensures flushed { IsFlushed out.new }
@@ -100,6 +102,8 @@ pub fn record_game<R: Read, O: Write, E: Write>(
     ensures records { (setup : SetupOf) → Meets options.now setup → Records setup result (streams R.remaining O.contents E.contents reader.old reader.new out.old out.new err.old err.new) }
     ensures refuses { MeetsNothing options.now → Refuses (RefusesSetup (given options.now.board.fen) (tag_text options.now)) result (streams R.remaining O.contents E.contents reader.old reader.new out.old out.new err.old err.new) }
     ensures works { result ≡ 0 → (has_failed reader.new ≡ false) × ((has_failed out.new ≡ false) × (has_failed err.new ≡ false)) }
+    ensures reader_blamed { has_failed reader.new ≡ true → result ≡ 3 }
+    ensures out_blamed { has_failed out.new ≡ true → result ≡ 3 }
     ensures known { result ≤ 4 }
     ensures status { result ≢ 2 }
     ensures flushed { IsFlushed out.old → IsFlushed out.new }

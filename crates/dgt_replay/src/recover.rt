@@ -1,5 +1,5 @@
 //! The subcommand `recover`.
-ghost use Rattle.std.specs.Prelude.{◌≡◌, ◌≢◌, ◌≤◌, false};
+ghost use Rattle.std.specs.Prelude.{◌≡◌, ◌≢◌, ◌≤◌, false, true};
 ghost use Rattle.board_events.specs.Settings.{Setting};
 ghost use Rattle.watched_streams.specs.Watch.{IsFlushed, inner_of, has_failed};
 ghost use Rattle.dgt_replay.specs.Does.{Recovers};
@@ -32,6 +32,8 @@ fn recover_from<R: Read, O: Write, E: Write>(
     ensures recovers { Recovers (record { start = start; first = options.now.first; rotated = options.now.rotated }) result
         (streams R.remaining O.contents E.contents reader.old reader.new out.old out.new err.old err.new) }
     ensures works { result ≡ 0 → (has_failed reader.new ≡ false) × ((has_failed out.new ≡ false) × (has_failed err.new ≡ false)) }
+    ensures reader_blamed { has_failed reader.new ≡ true → result ≡ 3 }
+    ensures out_blamed { has_failed out.new ≡ true → result ≡ 3 }
     ensures known { result ≤ 4 }
     ensures status { result ≢ 2 }
     ensures flushed { IsFlushed out.new }
@@ -71,7 +73,10 @@ pub fn recover<R: Read, O: Write, E: Write>(
         (streams R.remaining O.contents E.contents reader.old reader.new out.old out.new err.old err.new) }
     ensures refuses { HasNoStart (given options.now.fen) → Refuses (RefusesStart (given options.now.fen)) result
         (streams R.remaining O.contents E.contents reader.old reader.new out.old out.new err.old err.new) }
+    ensures refused { HasNoStart (given options.now.fen) → result ≡ 1 }
     ensures works { result ≡ 0 → (has_failed reader.new ≡ false) × ((has_failed out.new ≡ false) × (has_failed err.new ≡ false)) }
+    ensures reader_blamed { has_failed reader.new ≡ true → result ≡ 3 }
+    ensures out_blamed { has_failed out.new ≡ true → result ≡ 3 }
     ensures known { result ≤ 4 }
     ensures status { result ≢ 2 }
     ensures flushed { IsFlushed out.old → IsFlushed out.new }

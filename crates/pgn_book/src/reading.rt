@@ -193,6 +193,7 @@ fn is_text_of(alloc: Global, game: &Game, text: &[u8]) -> Result<bool, PgnError>
 {
     // For its clause: a move has 2 to 7 printable characters, and no space.
     texts_are_plain();
+    // For its clause: a legal move has one text at most.
     moves_tell_texts();
     let mut written = Watch::new(Vec::new(alloc));
     match write_pgn(game, &mut written) {

@@ -131,12 +131,18 @@ fn give_chunk<O: Write, E: Write>(
 /// written.
 ///
 /// With `rotated`, field n means square 63 - n. What was read in one go is given on and flushed before more is read. Memory is
-/// taken for plies and for candidates alone. At most 67,108,865 bytes are read, the last one only to see that there are more
-/// than a stream may have. No stream may have failed before.
+/// taken for plies, for moves with which a pair may begin, and for pairs that explain a picture. At most 67,108,865 bytes are
+/// read, the last one only to see that there are more than a stream may have. No stream may have failed before.
 ///
 /// # Errors
 ///
-/// `Read` and `TooLong`: all bytes before are given on. `Memory`: those up to the event before. `Write` and `Lines`: a part.
+/// - `Read`: a read failed. All bytes before it were given on.
+/// - `TooLong`: there are more than 67,108,864 bytes. The first 67,108,864 were given on.
+/// - `Memory`: memory ran out. Some first bytes of those that were read were given on, with what is put in among them.
+/// - `Write`: a write of the bytes failed or took no byte, or their flush failed. A first part was written of what some first
+///   bytes give, and the lines of all pairs in it were told.
+/// - `Lines`: a write of a line failed or took no byte, or its flush failed. The bytes are as under `Write`; of the line that
+///   failed, a part may be told.
 pub fn recover_stream<R: Read, O: Write, E: Write>(
     alloc: Global,
     start: Position,

@@ -1,4 +1,4 @@
--- What the arguments of `record`, of `follow` and `recover`, of `moves` and of `positions` mean.
+-- What the options of `record`, `follow` and `recover` set up.
 use Rattle.std.specs.Prelude.{◌≡◌, ◌⊎◌, Bool, List, ◌∷◌, ◌++◌, All, ℕ, codes, Option, Some, None, MatchOption, unwrap_or, true, false, if◌then◌else◌, ⊤}
 use Rattle.std.specs.Str.{bytes_eq}
 use Rattle.clap.specs.Walk.{Row, Text, first_of, one_of}
@@ -26,7 +26,7 @@ abbrev pub flag_text : Bool → Text
 flag_text true = codes "true"
 flag_text false = codes "false"
 
--- the side that the text after `--first` names, or White where there is none
+-- the side that the text after `--first` names; White where there is no text; none where it is another text
 abbrev pub side_in : Option Text → Option First
 side_in None = Some first.White
 side_in (Some text) = if bytes_eq text (codes "white") then Some first.White else (if bytes_eq text (codes "black") then Some first.Black else None)
@@ -47,7 +47,7 @@ pub record SetsUp (rows : List Row) (setup : Setup) : Type 0 where
   pub board : SetsBoardUp rows (setting_of setup)
   pub tags : (tag : Tag) → HasValue tag (first_of (option_of tag) rows) (value_of tag setup.tags)
 
--- the setup without options but that one: the initial position, White's time first, unknown tags
+-- the setup where no option is given but perhaps `--rotated`: the initial position, White's time first, unknown tags
 abbrev pub plain_setup : Bool → Setup
 plain_setup rotated = record { start = initial; first = first.White; rotated = rotated; tags = unknown_values }
 
@@ -79,7 +79,7 @@ pub record WantsBoard (rows : List Row) (options : BoardArguments) : Type 0 wher
   pub first : side_in (first_of (codes "first") rows) ≡ Some options.first
   pub fen : given options.fen ≡ first_of (codes "fen") rows
 
--- The fields of the arguments of a recording are.
+-- So are the fields of the arguments of a recording.
 pub record Wants (rows : List Row) (options : RecordArguments) : Type 0 where
   pub board : WantsBoard rows options.board
   pub tags : (tag : Tag) → tag_text options tag ≡ first_of (option_of tag) rows
@@ -112,13 +112,13 @@ abbrev pub ForMemory : Refusal → Type 0
 ForMemory (Fen error) = ⊥
 ForMemory (OfTag tag error) = error ≡ Memory
 
--- The refusal is that of a tag whose text is refused, and the tags before it may have theirs.
+-- The refusal is that of a tag whose text, or memory for it, is refused. The tags before it may have the texts given for them.
 abbrev pub OfFirstTag : (Tag → Option Text) → Refusal → Type 0
 OfFirstTag text (Fen error) = ⊥
 OfFirstTag text (OfTag tag error) = (before after : List Tag) × (all_tags ≡ before ++ tag ∷ after)
     × All (λ t. MayHave t (text t)) before × MatchOption (text tag) ⊥ (λ value. RefusesText tag value error)
 
--- The refusal is the first one.
+-- The refusal is the first there is: of the FEN, else of the first tag that is refused.
 abbrev pub IsFirst : RecordArguments → Refusal → Type 0
 IsFirst options (Fen error) = MatchOption (given options.board.fen) ⊥ (λ text. RefusedFirst text error)
 IsFirst options (OfTag tag error) = ((start : Parts) × StartsAt (given options.board.fen) start) × OfFirstTag (tag_text options) (OfTag tag error)

@@ -15,8 +15,8 @@ use Rattle.settle_core.specs.Folding.{score_of}
 use Rattle.settle_core.specs.Masks.{IsDiff, IsOwned, IsShown}
 use Rattle.settle_core.specs.Settler.{Sheet}
 
--- The picture is the position's, the mask has the squares on which another picture differs from it, and two more have the pieces of
--- the side to move, and of the other side.
+-- `picture` is that of the position. `mask` has the squares on which the picture that was seen differs from it. `ours` has the
+-- squares on which the side to move has pieces, and `theirs` those on which the other side has.
 pub record IsCompared (compared : Compared) (seen : List ℕ) : Type 0 where
   pub picture : compared.picture ≡ picture compared.position
   pub mask : IsDiff compared.mask compared.picture seen
@@ -40,13 +40,13 @@ abbrev pub position_in : Option Compared → Option Parts
 position_in None = None
 position_in (Some compared) = Some compared.position
 
--- so is the one that stands here, if there is one
+-- the same of the position that stands here, if one does
 abbrev pub IsComparedIn : Option Compared → List ℕ → Type 0
 IsComparedIn None seen = Unit {0}
 IsComparedIn (Some compared) seen = IsCompared compared seen
 
--- The moves, of which the latest comes first, are legal in their turn and lead to `here`, the last one from `before`; both
--- are compared with the last picture, of which it is known where it shows pieces.
+-- The moves, of which the latest comes first, are legal in their turn. They lead to `here`, and the last one was made in
+-- `before`. Both are compared with the last picture, and `shown` has the squares on which this picture shows pieces.
 pub record IsKept (start : Parts) (moves : List Move) (here : Compared) (before : Option Compared) (seen : List ℕ) (shown : ℕ) : Type 0 where
   pub played : Played start moves
   pub position : here.position ≡ reached start moves
@@ -67,6 +67,6 @@ abbrev pub CanReplace : Parts → List Move → Move → Type 0
 CanReplace start [] m = ⊥
 CanReplace start (last ∷ earlier) m = Legal (reached start earlier) m
 
--- in the latest place of a list stands this ply, if there is one
+-- The last ply of a list, if it has one, became this ply.
 abbrev pub IsLastSet : List Ply → Ply → List Ply → Type 0
 IsLastSet old ply new = (other : Ply) (earlier : List Ply) → reverse old ≡ other ∷ earlier → reverse new ≡ ply ∷ earlier

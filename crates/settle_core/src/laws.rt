@@ -1,4 +1,5 @@
-//! What holds of all games, each law as the contract of a function; and how a move is read off two pictures.
+//! What holds of all games: each law is the contract of a function, which changes nothing. `candidate` and `diff_mask`, which
+//! read a move off two pictures, can be had from here too.
 ghost use Rattle.settle_core.specs.AnyHands.{MadeAgainStops, OneHandStops, TakenBackAndMadeAgain, WholeMoveIsInHand};
 ghost use Rattle.settle_core.specs.AnyPlay.{HonestPlayResumes, KingsEndResumedPlay, KingsInCentreKeepThePlies, KingsInCentreMakeNoMove, NothingIsInvented, OnlyTheLastPlyMayChange, ResumedPlayStops};
 ghost use Rattle.settle_core.specs.Endings.{HonestPlayEnds, HonestPlayStopsAnywhere};
@@ -19,17 +20,18 @@ pub fn honest_play_is_kept()
     ensures { HonestPlayIsKept }
 {}
 
-/// The ply of each move then has its mover's time in the reading of the first entry that shows the whole move.
+/// In honest play the ply of each move has its mover's time in the reading of the first entry that shows the whole move.
 pub fn honest_play_keeps_clocks()
     ensures { HonestPlayKeepsClocks }
 {}
 
-/// Where honest play stops between two moves, the whole moves stand, and at most one try that takes no piece.
+/// Where honest play stops between two moves, the plies are those of the moves that were shown whole. There may be one more,
+/// of a move that was tried and takes no piece. No sign stands.
 pub fn honest_play_stops()
     ensures { HonestPlayStops }
 {}
 
-/// So it is after any front of honest play.
+/// What `honest_play_stops` says holds wherever honest play is broken off, also on the way to a move.
 pub fn fronts_of_honest_play()
     ensures { FrontsOfHonestPlay }
 {}
@@ -45,8 +47,8 @@ pub fn two_unseen_wait()
     ensures score { TwoUnseenChangeNothing }
 {}
 
-/// Where three plies were not seen, the picture after them settles no move, and no sign: it adds nothing to the score, and may
-/// correct the last ply.
+/// Where three plies were not seen, the picture after them settles no move of the position reached, and is no sign. So it adds
+/// no ply. It may put another move in the place of the last one.
 pub fn three_unseen_settle_nothing()
     ensures settles { ThreeUnseenSettleNothing }
     ensures score { ThreeUnseenAddNothing }
@@ -68,7 +70,7 @@ pub fn under_way_is_in_hand()
     ensures { UnderWayIsInHand }
 {}
 
-/// So has a picture that shows no more than the position has.
+/// A picture has pieces in hand, too, where each square shows what the position has there, or nothing.
 pub fn no_more_is_in_hand()
     ensures { NoMoreIsInHand }
 {}
@@ -152,15 +154,17 @@ pub fn honest_play_stops_anywhere()
     ensures stops { HonestPlayStopsAnywhere }
 {}
 
-/// A move that takes no piece may be made whole, taken back and made again before the other side begins: its whole picture has
-/// pieces in hand, and honest play with such pictures folds to its moves.
+/// A move that takes no piece may be made whole, taken back and made again before the other side begins. Its whole picture has
+/// pieces in hand, and honest play with such pictures folds to its moves. Where it stops between two moves, there may be one
+/// ply more, of a move that was tried.
 pub fn moves_may_be_made_again()
     ensures hand { WholeMoveIsInHand }
     ensures folds { TakenBackAndMadeAgain }
     ensures stops { MadeAgainStops }
 {}
 
-/// So it is wherever honest play with one piece in hand is broken off: the one ply more, if there is one, is of this piece.
+/// Where honest play is broken off on the way to a move, and each picture since the last whole move has one piece in hand, the
+/// one ply more, if there is one, is of this piece; or of the rook, where the move to be made castles.
 pub fn one_hand_stops()
     ensures { OneHandStops }
 {}

@@ -2,8 +2,8 @@
 use chess_clock::Hms;
 use chess_rules::Move;
 
-/// How a game ended, as the kings in the centre say: e4 and d5 White wins, d4 and e5 Black wins, one light and one dark
-/// square a draw.
+/// The result of a game. The sign of the kings tells it too: with one king on e4 and one on d5 White wins, on d4 and e5 Black
+/// wins, and on one light and one dark of these squares it is a draw.
 #[derive(Clone, Copy, PartialEq, Eq, Debug)]
 pub enum Outcome {
     WhiteWins,
@@ -18,7 +18,7 @@ pub struct Ply {
     pub clock: Option<Hms>,
 }
 
-/// What a settler returns for a picture: the first of these that holds.
+/// What a picture shows: the first of these that holds.
 #[derive(Clone, Copy, PartialEq, Eq, Debug)]
 pub enum Seen {
     /// The picture is the last one again: nothing has changed.
@@ -27,8 +27,8 @@ pub enum Seen {
     Moved(Move),
     /// The picture is the sign of this result, which now stands.
     Sign(Outcome),
-    /// The picture is that after this legal move of the position before the last ply, whose place it took.
+    /// The picture is that after this legal move from the position before the last ply. The move took the last ply's place.
     Replaced(Move),
-    /// The picture shows no more than itself.
+    /// None of the others: the picture tells nothing yet. The plies and the sign stay as they were.
     Waits,
 }

@@ -72,7 +72,7 @@ fn set_last(plies: &mut [Ply], ply: Ply)
     }
 }
 
-/// Each compared with this picture.
+/// Compares the position, if there is one, with this picture.
 fn compare_all(compared: &mut Option<Compared>, seen: &[u8; 64])
     ensures positions { position_in compared.new ≡ position_in compared.old }
     ensures compared { (old : List ℕ) → IsComparedIn compared.old old → IsComparedIn compared.new seen.now }
@@ -82,7 +82,7 @@ fn compare_all(compared: &mut Option<Compared>, seen: &[u8; 64])
     }
 }
 
-/// Each compared with a picture that shows this code on one square.
+/// Compares the position, if there is one, with a picture that is the last one but for one square, which shows this code.
 fn change_all(compared: &mut Option<Compared>, at: u8, code: u8)
     requires { at < 64 }
     ensures positions { position_in compared.new ≡ position_in compared.old }
@@ -296,7 +296,8 @@ impl Settler {
         self.sign = None;
     }
 
-    /// The plies, in their order: each move with its clock. The name is that of the published surface.
+    /// The plies so far, in their order. They are plies, though the name says moves: each is a move and its mover's time, if
+    /// there was one.
     pub fn moves(&self) -> &[Ply]
         ensures plies { result.now ≡ plies_of self.now }
         // Each move is legal where it stands.

@@ -29,14 +29,14 @@ ChecksPart input written written' = Keeps written written' ⊎ IfSome input (λ 
     × AppendsPart written written' (summary_line (length game.plies) game.result))
 
 -- The message about a refused text: it is longer than a text may be; or it is not, and is the export text of no game.
-abbrev pub RefusesText : Option (List ℕ) → List ℕ → Type 0
-RefusesText input message = (IfSome input (λ bytes. text_limit < length bytes) × IsTooLong message)
+abbrev pub RefusesPgn : Option (List ℕ) → List ℕ → Type 0
+RefusesPgn input message = (IfSome input (λ bytes. text_limit < length bytes) × IsTooLong message)
     ⊎ (IfSome input (λ bytes. (length bytes ≤ text_limit) × ((game : Content) → Pgn game bytes → ⊥)) × (message ≡ codes "pgn: not export\n"))
 
 -- The input is the export text of a game, or why not was said.
 pub record Checks (status : ℕ) (s : Streams) : Type 0 where
   pub done : status ≡ 0 → ChecksGame s.input s.written s.written'
-  pub tells : Tells status (RefusesText s.input) s.said s.said' s.reader_failed s.out_failed s.err_failed
+  pub tells : Tells status (RefusesPgn s.input) s.said s.said' s.reader_failed s.out_failed s.err_failed
   -- at most one byte past the limit was read
   pub bounded : ReadsWithin text_limit s.input s.input'
   -- a stream has failed: a first part of the line stands, and nothing where it is the reader

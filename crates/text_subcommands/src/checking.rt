@@ -3,7 +3,7 @@ ghost use Rattle.std.specs.Prelude.{◌≡◌, ◌≢◌, ◌≤◌, ◌⊎◌, 
 ghost use Rattle.std.specs.Io.KnownBytes.{Keeps};
 ghost use Rattle.arrayvec.specs.ArrayVec.{array_vec_len};
 ghost use Rattle.watched_streams.specs.Watch.{IsFlushed, inner_of, has_failed};
-ghost use Rattle.text_subcommands.specs.Checked.{ChecksGame, ChecksPart, RefusesText, summary_line};
+ghost use Rattle.text_subcommands.specs.Checked.{ChecksGame, ChecksPart, RefusesPgn, summary_line};
 ghost use Rattle.watched_streams.specs.Input.{ReadsWithin};
 ghost use Rattle.text_subcommands.specs.Messages.{Tells};
 
@@ -44,12 +44,13 @@ pub fn check<R: Read, O: Write, E: Write>(
     requires reading { has_failed reader.old ≡ false }
     requires working { has_failed out.old ≡ false }
     ensures passes { result ≡ 0 → ChecksGame (R.remaining (inner_of reader.old)) (O.contents (inner_of out.old)) (O.contents (inner_of out.new)) }
-    ensures tells { Tells result (RefusesText (R.remaining (inner_of reader.old))) (E.contents (inner_of err.old)) (E.contents (inner_of err.new))
+    ensures tells { Tells result (RefusesPgn (R.remaining (inner_of reader.old))) (E.contents (inner_of err.old)) (E.contents (inner_of err.new))
         (has_failed reader.new) (has_failed out.new) (has_failed err.new) }
     ensures bounded { ReadsWithin TEXT_LIMIT (R.remaining (inner_of reader.old)) (R.remaining (inner_of reader.new)) }
     ensures fault { result ≡ 3 → ChecksPart (R.remaining (inner_of reader.old)) (O.contents (inner_of out.old)) (O.contents (inner_of out.new)) }
     ensures unread { has_failed reader.new ≡ true → Keeps (O.contents (inner_of out.old)) (O.contents (inner_of out.new)) }
     ensures blamed { has_failed reader.new ≡ true → result ≡ 3 }
+    ensures out_blamed { has_failed out.new ≡ true → result ≡ 3 }
     ensures silent { (result ≡ 1) ⊎ (result ≡ 4) → Keeps (O.contents (inner_of out.old)) (O.contents (inner_of out.new)) }
     ensures works { result ≡ 0 → (has_failed reader.new ≡ false) × ((has_failed out.new ≡ false) × (err.new ≡ err.old)) }
     ensures known { result ≤ 4 }

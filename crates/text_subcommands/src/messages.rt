@@ -34,6 +34,7 @@ pub fn refused_run<O: Write, E: Write>(
     ensures ended { ((result ≡ status) × Says (E.contents (inner_of err.old)) (E.contents (inner_of err.new)) (has_failed err.new) message.now)
         ⊎ ((result ≡ 3) × (has_failed out.new ≡ true) × Says (E.contents (inner_of err.old)) (E.contents (inner_of err.new)) (has_failed err.new) (codes "write fault\n")) }
     ensures kept { Keeps (O.contents (inner_of out.old)) (O.contents (inner_of out.new)) }
+    ensures out_blamed { has_failed out.new ≡ true → result ≡ 3 }
     ensures flushed { IsFlushed out.new }
 {
     if out.flush().is_err() {
@@ -61,6 +62,7 @@ fn message_of(error: FenError) -> &'static [u8]
 pub fn refused_fen<E: Write>(err: &mut Watch<E>, error: FenError) -> u8
     ensures status { result ≡ 1 }
     ensures says { Says (E.contents (inner_of err.old)) (E.contents (inner_of err.new)) (has_failed err.new) (fen_message error) }
+    ensures silent { has_failed err.old ≡ true → err.new ≡ err.old }
 {
     refused(err, message_of(error), 1)
 }
@@ -70,6 +72,7 @@ fn refused_value<E: Write>(err: &mut Watch<E>, tag: Tag, reason: &[u8]) -> u8
     ensures status { result ≡ 1 }
     ensures says { Says (E.contents (inner_of err.old)) (E.contents (inner_of err.new)) (has_failed err.new)
         (codes "tag " ++ tag_name tag ++ reason.now) }
+    ensures silent { has_failed err.old ≡ true → err.new ≡ err.old }
 {
     let mut line = Lines::new();
     add(&mut line, b"tag ");
@@ -84,6 +87,7 @@ pub fn refused_tag<E: Write>(err: &mut Watch<E>, tag: Tag, error: TagError) -> u
     ensures memory { error ≡ TagError.Memory → result ≡ 4 }
     ensures value { error ≢ TagError.Memory → result ≡ 1 }
     ensures says { Says (E.contents (inner_of err.old)) (E.contents (inner_of err.new)) (has_failed err.new) (tag_message tag error) }
+    ensures silent { has_failed err.old ≡ true → err.new ≡ err.old }
 {
     match error {
         TagError::Text => refused_value(err, tag, b": text\n"),

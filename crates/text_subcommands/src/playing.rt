@@ -122,6 +122,7 @@ fn put_positions<O: Write, E: Write>(
         × Says (E.contents (inner_of err.old)) (E.contents (inner_of err.new)) (has_failed err.new) (word_message number) }
     ensures fault { result ≡ 3 → AppendsPart (O.contents (inner_of out.old)) (O.contents (inner_of out.new)) lines.now × (has_failed out.new ≡ true)
         × Says (E.contents (inner_of err.old)) (E.contents (inner_of err.new)) (has_failed err.new) (codes "write fault\n") }
+    ensures out_blamed { has_failed out.new ≡ true → result ≡ 3 }
     ensures known { result ≤ 3 }
     ensures status { result ≢ 2 }
     ensures flushed { IsFlushed out.new }
@@ -151,6 +152,7 @@ fn play_text<O: Write, E: Write>(
     ensures tells { Tells result (RefusesMoves start (Some text.now) (O.contents (inner_of out.old)) (O.contents (inner_of out.new)))
         (E.contents (inner_of err.old)) (E.contents (inner_of err.new)) false (has_failed out.new) (has_failed err.new) }
     ensures works { result ≡ 0 → (has_failed out.new ≡ false) × (err.new ≡ err.old) }
+    ensures out_blamed { has_failed out.new ≡ true → result ≡ 3 }
     ensures known { result ≤ 4 }
     ensures status { result ≢ 2 }
     ensures flushed { IsFlushed out.new }
@@ -174,6 +176,8 @@ fn play<R: Read, O: Write, E: Write>(
     requires working { has_failed out.old ≡ false }
     ensures plays { Plays start result (streams R.remaining O.contents E.contents reader.old reader.new out.old out.new err.old err.new) }
     ensures works { result ≡ 0 → (has_failed reader.new ≡ false) × ((has_failed out.new ≡ false) × (err.new ≡ err.old)) }
+    ensures reader_blamed { has_failed reader.new ≡ true → result ≡ 3 }
+    ensures out_blamed { has_failed out.new ≡ true → result ≡ 3 }
     ensures known { result ≤ 4 }
     ensures status { result ≢ 2 }
     ensures flushed { IsFlushed out.new }
@@ -203,7 +207,10 @@ pub fn positions<R: Read, O: Write, E: Write>(
         (streams R.remaining O.contents E.contents reader.old reader.new out.old out.new err.old err.new) }
     ensures refuses { HasNoStart (given fen.entry) → Refuses (RefusesStart (given fen.entry)) result
         (streams R.remaining O.contents E.contents reader.old reader.new out.old out.new err.old err.new) }
+    ensures refused { HasNoStart (given fen.entry) → result ≡ 1 }
     ensures works { result ≡ 0 → (has_failed reader.new ≡ false) × ((has_failed out.new ≡ false) × (err.new ≡ err.old)) }
+    ensures reader_blamed { has_failed reader.new ≡ true → result ≡ 3 }
+    ensures out_blamed { has_failed out.new ≡ true → result ≡ 3 }
     ensures known { result ≤ 4 }
     ensures status { result ≢ 2 }
     ensures flushed { IsFlushed out.old → IsFlushed out.new }

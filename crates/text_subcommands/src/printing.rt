@@ -72,6 +72,7 @@ pub fn moves<O: Write, E: Write>(
     ensures tells { Tells result (RefusesStart (given fen.entry)) (E.contents (inner_of err.old)) (E.contents (inner_of err.new)) false (has_failed out.new) (has_failed err.new) }
     ensures silent { result ≡ 4 → Keeps (O.contents (inner_of out.old)) (O.contents (inner_of out.new)) }
     ensures works { result ≡ 0 → (has_failed out.new ≡ false) × (err.new ≡ err.old) }
+    ensures out_blamed { has_failed out.new ≡ true → result ≡ 3 }
     ensures known { result ≤ 4 }
     ensures status { result ≢ 2 }
     ensures flushed { IsFlushed out.old → IsFlushed out.new }

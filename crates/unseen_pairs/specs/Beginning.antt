@@ -27,7 +27,8 @@ pub record TheirsLand (p : Parts) (seen : List ℕ) : Type 0 where
   pub lands : LandsAt p seen square
   pub owned : is_owned_code (other p.side) (slice_index seen square) ≡ true
 
--- One of them landed; and of the side to move no pawn that is lost does more than to go to where a piece landed.
+-- A piece of the side that is not to move landed. And no pawn of the side to move that is off its square is taken in passing
+-- or promotes.
 pub record BeginsPlainly (p : Parts) (seen : List ℕ) : Type 0 where
   pub theirs : TheirsLand p seen
   pub pawns : (s : ℕ) → s < 64 → slice_index (picture p) s ≢ slice_index seen s → on p.board s ≡ piece_of p.side Pawn → IsPlainPawn p seen s
@@ -37,7 +38,7 @@ pub record ListsFirst (p : Parts) (seen : List ℕ) (moves : List Move) : Type 0
   pub legal : (m : Move) → Contains moves m → Legal p m
   pub whole : (m n : Move) → IsAfterTwo p seen m n → Contains moves m
 
--- Legal moves were put to the others, among them all of these.
+-- Legal moves were put to the old ones, among them all of these that are legal.
 pub record AddsMoves (p : Parts) (These : Move → Type 0) (old new : List Move) : Type 0 where
   pub legal : (m : Move) → Contains new m → Contains old m ⊎ Legal p m
   pub keeps : (m : Move) → Contains old m → Contains new m

@@ -1,4 +1,5 @@
--- The pairs that explain what waits, as they are kept. Private definitions.
+-- Candidates: the pairs that explain entries which wait, as a recoverer keeps them. The public contracts cite
+-- `ListsCandidates`, through `StandsForRecovered` of Recoverer, and `IsCandidate` in it. The other definitions are private.
 use Rattle.std.specs.Prelude.{◌≡◌, ◌<◌, ◌≤◌, ◌+◌, ◌⊎◌, ℕ, Bool, true, false, List, [], ◌∷◌, Contains, Option, Some, None, slice_index, slice_index_or}
 use Rattle.chess_clock.specs.declared.times.Reading.{Reading}
 use Rattle.chess_rules.specs.declared.chess_move.Move.{Move}
@@ -24,7 +25,8 @@ pub record IsOnlyOne (candidates : List Candidate) (seen : List ℕ) (one : Conf
   pub alone : (c : Candidate) (a : Seen) → Contains candidates c → GoesOn c.after seen a → c.pair ≡ one.candidate.pair
   pub oldest : (c : Candidate) (a : Seen) → Contains candidates c → GoesOn c.after seen a → c.age ≤ one.candidate.age
 
--- the same for the first n of them, where one goes on; or none does
+-- The picture goes on from none of the first n candidates. Or it goes on from this one, and of the first n from none that has
+-- another pair or is older.
 abbrev pub FoundBelow : List Candidate → List ℕ → ℕ → Option Confirmed → Type 0
 FoundBelow candidates seen n None =
     (c : Candidate) (a : Seen) (k : ℕ) → k < n → slice_index_or candidates k c ≡ c → ¬ GoesOn c.after seen a
@@ -39,7 +41,7 @@ pub record IsOlder (a b found : Confirmed) : Type 0 where
   pub first : a.candidate.age ≤ found.candidate.age
   pub second : b.candidate.age ≤ found.candidate.age
 
--- The candidate's pair explains the entry that waits at the place that is its age: after one more entry it is one older.
+-- The candidate's pair explains an entry that waits: the one that came as many entries before the last one as its age says.
 pub record IsCandidate (start : Parts) (moves : List Move) (waiting : List Entry) (c : Candidate) : Type 0 where
   pub entry : Entry
   pub at : ExplainsAt start moves waiting c.pair c.age entry
@@ -48,7 +50,7 @@ pub record IsCandidate (start : Parts) (moves : List Move) (waiting : List Entry
   pub middle_is : c.middle ≡ after (begins start moves c.pair) c.pair.first
   pub after_is : c.after ≡ ends start moves c.pair
 
--- The candidates are the pairs that explain one of the last 256 entries that wait, for each such entry.
+-- There is a candidate for each of the last 256 entries that wait and each pair that explains it, and no other.
 pub record ListsCandidates (start : Parts) (moves : List Move) (waiting : List Entry) (candidates : List Candidate) : Type 0 where
   pub each : (c : Candidate) → Contains candidates c → IsCandidate start moves waiting c
   pub whole : (pair : Pair) (place : ℕ) (entry : Entry) → ExplainsAt start moves waiting pair place entry
@@ -58,11 +60,12 @@ pub record ListsCandidates (start : Parts) (moves : List Move) (waiting : List E
 abbrev pub aged : Candidate → Candidate
 aged c = record c { age = c.age + 1 }
 
--- The first n of these candidates were kept, one entry older, but for those that were as old as can be.
+-- The new candidates are old ones, one entry older. Of the first n old ones all are there but those of age 255, the greatest.
 pub record AgedBelow (old : List Candidate) (n : ℕ) (new : List Candidate) : Type 0 where
   pub sound : (c : Candidate) → Contains new c → (b : Candidate) × Contains old b × (b.age < 255) × (c ≡ aged b)
   pub whole : (b : Candidate) (k : ℕ) → k < n → slice_index_or old k b ≡ b → b.age < 255 → Contains new (aged b)
 
+-- The new candidates are all the old ones, one entry older, but those of age 255.
 pub record AreAged (old new : List Candidate) : Type 0 where
   pub sound : (c : Candidate) → Contains new c → (b : Candidate) × Contains old b × (b.age < 255) × (c ≡ aged b)
   pub whole : (b : Candidate) → Contains old b → b.age < 255 → Contains new (aged b)
@@ -78,22 +81,22 @@ pub record IsNew (corrects : Bool) (p : Parts) (reading : Option Reading) (x : T
   pub reading_is : c.reading ≡ reading
   pub age_is : c.age ≡ 0
 
--- Those of the first n of these were put to the others.
+-- The new candidates are the old ones and candidates of these pairs from this position: those of the first n are all there.
 pub record AddedBelow (corrects : Bool) (p : Parts) (reading : Option Reading) (xs : List TwoPlies) (n : ℕ) (old new : List Candidate) : Type 0 where
   pub sound : (c : Candidate) → Contains new c
       → Contains old c ⊎ ((x : TwoPlies) × Contains xs x × IsNew corrects p reading x c)
   pub keeps : (c : Candidate) → Contains old c → Contains new c
   pub whole : (x : TwoPlies) (k : ℕ) → k < n → slice_index_or xs k x ≡ x → (c : Candidate) × Contains new c × IsNew corrects p reading x c
 
--- Those of the pairs from this position that explain the picture were put to the others.
+-- The new candidates are the old ones, and those of all pairs from this position that explain the picture.
 pub record AreAdded (corrects : Bool) (p : Parts) (seen : List ℕ) (reading : Option Reading) (old new : List Candidate) : Type 0 where
   pub sound : (c : Candidate) → Contains new c
       → Contains old c ⊎ ((x : TwoPlies) × IsAfterTwo p seen x.first x.second × IsNew corrects p reading x c)
   pub keeps : (c : Candidate) → Contains old c → Contains new c
   pub whole : (x : TwoPlies) → IsAfterTwo p seen x.first x.second → (c : Candidate) × Contains new c × IsNew corrects p reading x c
 
--- Those of all pairs after these plies that explain the picture were put to the others: of those from the position reached, and
--- of those in which another move takes the place of the last one.
+-- The new candidates are the old ones, and those of all pairs that explain the picture after these plies: from the position
+-- reached, and from the position before the last ply, whose place the first ply of the pair takes.
 pub record AreAllAdded (start : Parts) (plies : List Ply) (seen : List ℕ) (reading : Option Reading) (old new : List Candidate) : Type 0 where
   pub one : List Candidate
   pub next : AreAdded false (reached start (moves_of plies)) seen reading old one

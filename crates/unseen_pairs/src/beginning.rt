@@ -39,7 +39,8 @@ fn lands_theirs(p: &Position, seen: &[u8; 64], mask: u64) -> bool
     false
 }
 
-/// Whether no pawn of the side to move that is lost here does more than to go to where a piece landed.
+/// Whether the position has no pawn of the side to move on this square, or one that is not taken in passing and does not
+/// promote.
 fn is_plain_on(p: &Position, seen: &[u8; 64], from: u8) -> bool
     requires { from < 64 }
     ensures { IsTrue result → on p.now.board from ≡ piece_of p.now.side Pawn → IsPlainPawn p.now seen.now from }
@@ -121,7 +122,7 @@ fn push_from(
     Ok(())
 }
 
-/// The same between the squares of these numbers.
+/// As `push_move`, between the squares of these numbers.
 fn push_between(moves: &mut Vec<Move>, p: &Position, from: u8, to: u8) -> Result<(), AllocError>
     requires from { from < 64 }
     requires to { to < 64 }

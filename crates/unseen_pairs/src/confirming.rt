@@ -116,7 +116,7 @@ fn older(a: &Confirmed, b: &Confirmed) -> Confirmed
     }
 }
 
-/// The same of some candidates: apart, since a picture seldom meets any.
+/// What `only_one` returns, however many candidates there are: apart, since a picture seldom meets any.
 #[inline(never)]
 fn only_one_of(
     alloc: Global,

@@ -63,7 +63,7 @@ pub fn has_more(mask: u64, most: u32) -> bool
     mask.count_ones() > most
 }
 
-/// Whether each side has left a square, and no more differ than two plies change: without that, no pair explains the picture.
+/// Whether each side has left a square, and no more than eight squares differ: without that, no pair explains the picture.
 pub fn may_be_explained(p: &Position, seen: &[u8; 64]) -> bool
     ensures { (m n : MoveOf) → IsAfterTwo p.now seen.now m n → IsTrue result }
 {
@@ -79,7 +79,7 @@ pub fn may_be_explained(p: &Position, seen: &[u8; 64]) -> bool
     loses(p, &before, seen, other(side))
 }
 
-/// Whether the move's own square is as it was: then it is neither ply of a pair.
+/// Whether the square that the move leaves is as it was: then no pair that explains the picture begins with this move.
 fn stays(before: &[u8; 64], seen: &[u8; 64], m: &Move) -> bool
     ensures { IsTrue result ↔ (slice_index before.now m.now.from ≡ slice_index seen.now m.now.from) }
 {

@@ -21,7 +21,7 @@ pub fn recovers_once()
     ensures written { WritesOnce }
 {}
 
-/// Each move of such a score is legal where it stands.
+/// Where unseen pairs are recovered, each move of the score is legal in the position after those before it.
 pub fn plies_are_legal()
     ensures { PliesAreLegal }
 {}
@@ -31,8 +31,9 @@ pub fn nothing_is_invented()
     ensures { NothingIsInvented }
 {}
 
-/// Honest hands are left alone: where the other side's pieces stand still up to each move, but the one that it takes, and
-/// while that is off, the mover's too, but those that the move moves, no pair is confirmed, and nothing is put in.
+/// Honest hands are left alone: no pair is confirmed, and nothing is put in. Such hands leave the other side's pieces where
+/// they stand, but may take off the one that the move takes. While it is off, the mover's pieces stand still too, but those
+/// that the move moves. The kings are not both in the centre. While a king is off the board, anything may show.
 pub fn honest_hands_are_left_alone()
     ensures confirms { HonestHandsConfirmNone }
     ensures written { HonestHandsAreLeftAlone }

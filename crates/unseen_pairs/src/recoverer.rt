@@ -81,8 +81,9 @@ impl Recoverer {
         }
     }
 
-    /// Takes a picture that is the last one but for this square; one must have been seen. A pair that it confirms is put into
-    /// `found`, which else stays as it is. Changes one square, and one bit of each mask; most pictures that wait cost no more.
+    /// Takes a picture that is the last one but for this square; one must have been seen. Where it returns
+    /// `Heard::Recovered`, the pair that the picture confirms is in `found`; else what `found` holds tells nothing. Changes
+    /// one square, and one bit of each mask; most pictures that wait cost no more.
     ///
     /// # Errors
     ///
@@ -136,7 +137,7 @@ impl Recoverer {
         self.candidates.is_empty() && hides_none(&self.settler)
     }
 
-    /// As `wait`: apart, since few pictures come so far.
+    /// As `wait`, but a pair is put into `found`: apart, since few pictures come so far.
     #[inline(never)]
     fn wait_for(
         &mut self,
@@ -156,7 +157,7 @@ impl Recoverer {
         self.wait_among(alloc, picture, clock, found)
     }
 
-    /// The same of some candidates: apart, since fewer do.
+    /// As `wait_for`, where there are candidates: apart, since fewer pictures come so far.
     #[inline(never)]
     fn wait_among(
         &mut self,
@@ -252,7 +253,7 @@ impl Recoverer {
         Ok(())
     }
 
-    /// The settler, which has seen all that was seen and put in.
+    /// The settler in it, which was given all pictures that were seen and all that were put in.
     pub fn settler(&self) -> &Settler
         ensures { result.now ≡ self.now.settler }
     {

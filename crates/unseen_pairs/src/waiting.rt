@@ -31,7 +31,7 @@ fn copy_move(m: &Move) -> Move
     *m
 }
 
-/// The same of some candidates: apart, since a picture seldom meets any.
+/// What `all_aged` returns, however many candidates there are: apart, since a picture seldom meets any.
 #[inline(never)]
 fn aged_each(alloc: Global, candidates: &[Candidate]) -> Result<Vec<Candidate>, AllocError>
     ensures { IfOk result (λ aged. AreAged candidates.now aged.items) }
@@ -85,7 +85,7 @@ fn candidate_of(
     }
 }
 
-/// The same where some may: apart, since few pictures come so far.
+/// Adds the pairs from a position that explain the picture, without a test before: apart, since few pictures come so far.
 #[inline(never)]
 fn add_explaining(
     alloc: Global,
@@ -104,7 +104,7 @@ fn add_explaining(
     Ok(())
 }
 
-/// Adds the pairs from a position that explain the picture.
+/// Adds the pairs from a position that explain the picture. Tests first whether any may.
 fn add_pairs(
     alloc: Global,
     candidates: &mut Vec<Candidate>,
@@ -121,7 +121,7 @@ fn add_pairs(
     add_explaining(alloc, candidates, corrects, p, picture, reading)
 }
 
-/// Adds those from the settler's position.
+/// Adds the pairs from the settler's position that explain the picture.
 fn add_next(
     alloc: Global,
     candidates: &mut Vec<Candidate>,
@@ -134,7 +134,7 @@ fn add_next(
 {
     // For its clause: the position is valid.
     settler.position().parts();
-    // No ply changes more than four squares.
+    // No ply changes more than four squares, so two change no more than eight.
     if has_more(settler.differs(), 8) {
         return Ok(());
     }
@@ -151,7 +151,7 @@ fn add_next(
     )
 }
 
-/// Adds those from the position before the settler's last ply.
+/// Adds the pairs from the position before the settler's last ply that explain the picture; none where no ply was made.
 fn add_correcting(
     alloc: Global,
     candidates: &mut Vec<Candidate>,
@@ -206,7 +206,7 @@ pub fn add_all(
 {
     // For its clause: the start is valid.
     settler.start().parts();
-    // No ply changes more than four squares.
+    // No ply changes more than four squares. Where the last ply is taken back and two others are made, that is twelve at most.
     if has_more(settler.differs(), 12) {
         return Ok(());
     }

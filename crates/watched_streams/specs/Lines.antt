@@ -1,4 +1,4 @@
--- Lines of a text.
+-- The form of a line that tells of an event.
 use Rattle.std.specs.Prelude.{ℕ, List, ◌++◌, codes, decimal}
 
 -- a line on an event: the offset of the byte at which it came, and what is said of it

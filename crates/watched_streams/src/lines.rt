@@ -8,7 +8,7 @@ use itoa::Buffer;
 /// The most bytes of lines that wait.
 pub const GATHERED: usize = 8192;
 
-/// More bytes than the lines of an event have.
+/// Room for the lines of one event: they have no more bytes than this.
 pub const LONGEST: usize = 256;
 
 /// Lines that wait to be written.

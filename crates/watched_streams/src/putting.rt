@@ -6,10 +6,10 @@ ghost use Rattle.watched_streams.specs.Watch.{inner_of, has_failed};
 use crate::watched::Watch;
 use std::io::Write;
 
-/// A write failed or took no byte; so many bytes were taken before it. The count stands still at 2^64 - 1.
+/// A write failed, or took no byte.
 #[derive(Clone, Copy, Debug, PartialEq, Eq)]
 pub struct WriteFault {
-    /// For callers who want to know what stands: the program tells only that it failed.
+    /// How many bytes of the text were written before it. Where there were more than 2^64 - 1, it is 2^64 - 1.
     pub written: u64,
 }
 

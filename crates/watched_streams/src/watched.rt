@@ -39,7 +39,7 @@ impl<T> Watch<T> {
         self.failed
     }
 
-    /// Whether it was written to through this value after the last flush that succeeded.
+    /// Whether `write` was called through this value after the last flush that succeeded, or at all where none has.
     pub fn unflushed(&self) -> bool
         ensures { result ≡ is_unflushed self.now }
     {

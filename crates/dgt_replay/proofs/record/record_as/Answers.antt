@@ -1,4 +1,4 @@
-use Rattle.std.proofs.Common.{◌≡◌, ◌++◌, ◌∙◌, List, ℕ, ap, arith, inl, inr, rules, subst}
+use Rattle.std.proofs.Common.{◌≡◌, ◌++◌, ◌∙◌, List, ℕ, ap, arith, false, inl, inr, rules, subst, sym, true}
 use Rattle.watched_streams.specs.Watch.{inner_of}
 use Rattle.watched_streams.specs.Output.{AppendsPart}
 use Rattle.dgt_replay.specs.Recorded.{report_line}
@@ -37,3 +37,11 @@ returns-in-Err-Read-clause-long g c one = let three = c.refused-in-Err-Read.ensu
 
 pub returns-in-Err-TooLong-clause-long : goal.returns-in-Err-TooLong-clause-long
 returns-in-Err-TooLong-clause-long g c one = (g.E.Write.contents (inner_of c.record.new.board), search rules, c.refused-in-Err-TooLong.ensures.says)
+
+pub returns-in-Err-TooLong-clause-out_blamed : goal.returns-in-Err-TooLong-clause-out_blamed
+returns-in-Err-TooLong-clause-out_blamed g c failed =
+    let is = c.in-Err-TooLong.is in
+    let long = c.in-Err-TooLong.field-0-is in
+    let works = c.record.ensures.written (λ write. (cc)) in
+    let bad : true ≡ false = sym failed ∙ works in
+    cc

@@ -4,7 +4,6 @@ use Rattle.std.specs.Io.KnownBytes.{Keeps}
 use Rattle.std.specs.Prelude.{is_err}
 use Rattle.watched_streams.specs.Watch.{inner_of, has_failed}
 use Rattle.board_events.specs.Settings.{Setting}
-use Rattle.recovery.specs.declared.refusal.RecoverError.TheVariants.{Read, Write}
 use Rattle.text_subcommands.specs.Streams.{Streams, streams}
 use Rattle.text_subcommands.proofs.TestLemmas.{true_or}
 use Rattle.dgt_replay.proofs.RecoverLemmas.{recover_broken, recover_done, recover_refused, refused_not_done}

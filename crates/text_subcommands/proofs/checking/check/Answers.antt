@@ -3,7 +3,7 @@ use Rattle.std.proofs.KnownBytes.{Appends-kept}
 use Rattle.std.specs.Io.KnownBytes.{Appends}
 use Rattle.watched_streams.specs.Watch.{inner_of, has_failed}
 use Rattle.watched_streams.specs.Output.{AppendsPart}
-use Rattle.text_subcommands.specs.Checked.{RefusesText, summary_line}
+use Rattle.text_subcommands.specs.Checked.{RefusesPgn, summary_line}
 use Rattle.text_subcommands.proofs.CheckLemmas.{checked, checked_part, no_game}
 use Rattle.pgn_book.specs.Pgn.{Pgn}
 use Rattle.text_subcommands.proofs.TestLemmas.{true_or}
@@ -36,8 +36,8 @@ returns-in-Err-NotExport-clause-tells g c =
     let memory = c.in-Err-NotExport.ensures.only game (subst P (sym c.as_slice.ensures.value) pgn) in
     let not_export = c.in-Err-NotExport.field-0-is in
     absurd (cc)) in
-    tells_or_fault c.refused_run-in-Err-NotExport.result 1 (RefusesText input) _ _ _ _ _ _ c.refused_run-in-Err-NotExport.ensures.ended
-    (λ one says. tells_refused c.refused_run-in-Err-NotExport.result (RefusesText input) _ _ _ _ _ (codes "pgn: not export\n") one (inr (none, refl)) says)
+    tells_or_fault c.refused_run-in-Err-NotExport.result 1 (RefusesPgn input) _ _ _ _ _ _ c.refused_run-in-Err-NotExport.ensures.ended
+    (λ one says. tells_refused c.refused_run-in-Err-NotExport.result (RefusesPgn input) _ _ _ _ _ (codes "pgn: not export\n") one (inr (none, refl)) says)
 
 pub returns-then-is_err-clause-tells : goal.returns-then-is_err-clause-tells
 returns-then-is_err-clause-tells g c =
@@ -45,27 +45,27 @@ returns-then-is_err-clause-tells g c =
       | then-is_err-via-then-is_err w ↦ rw w.out-is (at_err _ c.put.result (sym c.is_err.ensures.value ∙ w.if-is_err.true) c.put.ensures.failed)
       | then-is_err-via-else-is_err+then-is_err-2 w ↦ rw w.out-is (w.flush.ensures.failed ∙ true_or _ _ (sym w.is_err-else-is_err.ensures.value ∙ w.if-is_err-2.true))
     ] in
-    tells_fault c.refused.result (RefusesText (g.R.Read.remaining (inner_of c.args.reader.now))) _ _ _ _ _ c.refused.ensures.status
+    tells_fault c.refused.result (RefusesPgn (g.R.Read.remaining (inner_of c.args.reader.now))) _ _ _ _ _ c.refused.ensures.status
     (inr (failed, c.refused.ensures.says))
 
 pub returns-in-Err-Read-clause-tells : goal.returns-in-Err-Read-clause-tells
 returns-in-Err-Read-clause-tells g c =
     let input = g.R.Read.remaining (inner_of c.args.reader.now) in
     let failed : has_failed c.read_text.new.reader ≡ true = search rules in
-    tells_or_fault c.refused_run-in-Err-Read.result 3 (RefusesText input) _ _ _ _ _ _ c.refused_run-in-Err-Read.ensures.ended
-    (λ three says. tells_fault c.refused_run-in-Err-Read.result (RefusesText input) _ _ _ _ _ three (inl (failed, says)))
+    tells_or_fault c.refused_run-in-Err-Read.result 3 (RefusesPgn input) _ _ _ _ _ _ c.refused_run-in-Err-Read.ensures.ended
+    (λ three says. tells_fault c.refused_run-in-Err-Read.result (RefusesPgn input) _ _ _ _ _ three (inl (failed, says)))
 
 pub returns-in-Err-TooLong-clause-tells : goal.returns-in-Err-TooLong-clause-tells
 returns-in-Err-TooLong-clause-tells g c =
     let input = g.R.Read.remaining (inner_of c.args.reader.now) in
-    tells_or_fault c.refused_run-in-Err-TooLong.result 1 (RefusesText input) _ _ _ _ _ _ c.refused_run-in-Err-TooLong.ensures.ended
-    (λ one says. tells_refused c.refused_run-in-Err-TooLong.result (RefusesText input) _ _ _ _ _ (codes "input: too long\n") one (inl (search rules, refl)) says)
+    tells_or_fault c.refused_run-in-Err-TooLong.result 1 (RefusesPgn input) _ _ _ _ _ _ c.refused_run-in-Err-TooLong.ensures.ended
+    (λ one says. tells_refused c.refused_run-in-Err-TooLong.result (RefusesPgn input) _ _ _ _ _ (codes "input: too long\n") one (inl (search rules, refl)) says)
 
 pub returns-in-Err-Memory-read_pgn-clause-tells : goal.returns-in-Err-Memory-read_pgn-clause-tells
 returns-in-Err-Memory-read_pgn-clause-tells g c =
     let input = g.R.Read.remaining (inner_of c.args.reader.now) in
-    tells_or_fault c.refused_run-in-Err-Memory-read_pgn.result 4 (RefusesText input) _ _ _ _ _ _ c.refused_run-in-Err-Memory-read_pgn.ensures.ended
-    (λ four says. tells_memory c.refused_run-in-Err-Memory-read_pgn.result (RefusesText input) _ _ _ _ _ four says)
+    tells_or_fault c.refused_run-in-Err-Memory-read_pgn.result 4 (RefusesPgn input) _ _ _ _ _ _ c.refused_run-in-Err-Memory-read_pgn.ensures.ended
+    (λ four says. tells_memory c.refused_run-in-Err-Memory-read_pgn.result (RefusesPgn input) _ _ _ _ _ four says)
 
 pub returns-in-Err-NotExport-clause-passes : goal.returns-in-Err-NotExport-clause-passes
 returns-in-Err-NotExport-clause-passes g c zero = never_done c.refused_run-in-Err-NotExport.result 1 _ _ _ _ _ (omega arith) c.refused_run-in-Err-NotExport.ensures.ended zero

@@ -17,6 +17,9 @@ returns-in-Ok-clause-plays g c start starts =
 pub returns-in-Ok-clause-refuses : goal.returns-in-Ok-clause-refuses
 returns-in-Ok-clause-refuses g c none = absurd (none c.in-Ok.start ((c.start_of.ensures.start c.in-Ok.start).0 c.in-Ok.is))
 
+pub returns-in-Ok-clause-refused : goal.returns-in-Ok-clause-refused
+returns-in-Ok-clause-refused g c none = absurd (none c.in-Ok.start ((c.start_of.ensures.start c.in-Ok.start).0 c.in-Ok.is))
+
 pub returns-in-Err-clause-plays : goal.returns-in-Err-clause-plays
 returns-in-Err-clause-plays g c start starts = absurd (let bad = sym c.in-Err.is ∙ (c.start_of.ensures.start start).1 starts in cc)
 
