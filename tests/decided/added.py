@@ -127,7 +127,8 @@ def words():
         told = refused(text, Refused, read_words, text, name)
         same(f"{text} in {name}", part in told, True)
     same("a move that is spelt as the name", read_words("Nf3 g3", "g3"), Moves(("Nf3", "g3")))
-    same("a result alone", [text for text in TYPED if is_result(text)], [text for text in TYPED if read_words(text) in RESULTS])
+    for text, expected in TYPED.items():
+        same(f"a result alone: {text}", is_result(text), expected in RESULTS)
     same("named", refused("Sf3", Refused, read_words, "e4 Sf3")[:4], "Sf3:")
     same("a check left out", spellings("Bb5"), ("Bb5", "Bb5+", "Bb5#"))
     same("a check too many", spellings("Bb5+"), ("Bb5+", "Bb5", "Bb5#"))

@@ -183,7 +183,7 @@ def with_a_device(folder: pathlib.Path) -> None:
 
 
 def other_device(folder: pathlib.Path) -> None:
-    """A game goes on with a device that isn't there: it may be mistyped, and that is said. One that goes away later was right."""
+    """A game goes on with a device that isn't there: it may be mistyped, and that is said. One that goes away later isn't."""
     board, live = begin_game(folder)
     assert words.OTHER_DEVICE not in live.lines(), live.lines()
     board.pull()

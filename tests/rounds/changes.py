@@ -10,8 +10,8 @@ from rounds.hall import Hall, games_of
 
 
 def another_round(folder: pathlib.Path) -> None:
-    """The next round's file, and the old folder: all is refused before anything is changed. One player's name may be put right,
-    and so may one that wasn't known, and a game that has no move; typed r changes both names, and that is told."""
+    """The next round's file, and the old folder: all is refused before anything is changed. One player's name may be put
+    right, and so may one that wasn't known, and those of a game without a move; r changes both names, and that is told."""
     hall = Hall(folder, 4)
     header = "board,device,white,black"
     devices = [f"{number},{folder}/board{number}" for number in range(1, 5)]
@@ -74,7 +74,8 @@ def read_again(folder: pathlib.Path) -> None:
     hall.boards[1].pull()
     hall.boards[1].device = str(folder / "elsewhere")
     hall.boards[1].plug()
-    changed = [f"{lines[0]},first,rotated,result", f"{lines[1].replace('White 1', 'Anna')},black,yes", f"2,{folder}/elsewhere,Ben,Black 2"]
+    anna = f"{lines[1].replace('White 1', 'Anna')},black,yes"
+    changed = [f"{lines[0]},first,rotated,result", anna, f"2,{folder}/elsewhere,Ben,Black 2"]
     hall.file.write_text("\n".join([*changed, f"4,{folder}/nowhere,A,B", ""]))
     live.send(signal.SIGHUP)
     until_line(live, "is read again: 3 boards")
@@ -109,8 +110,8 @@ def read_again(folder: pathlib.Path) -> None:
     until_line(live, "  1  White's time comes first\n")
     same(stop(live), 0)
     log = bytes_of(hall.name(1) + ".log").decode()
-    for told in ("Black's time comes first", "White's time comes first", "its game is now Anne - Black 1, and was Anna - Black 1"):
-        same(log.count(f"  {told}\n"), 1)
+    for told in ("Black's time comes first", "White's time comes first", "its game is now Anne - Black 1, and was Anna"):
+        same(log.count(f"  {told}"), 1)
     # Board 2 had no move yet, and no time of another side.
     for never in ("  2  its game", "  2  White's", "  2  Black's"):
         assert never not in live.lines(), live.lines()
@@ -150,9 +151,10 @@ def recovered(folder: pathlib.Path) -> None:
     hall.until_text(2, whole)
     # The kings were put in over the whole game's position, where the strict one has no result.
     hall.until_text(3, strict)
-    for told in ("  1  nothing recovered\n", f"  2  {PAIR}\n", "  3  nothing recovered; the result 1-0 is gone: add it again\n"):
+    gone = f"nothing recovered; {words.RESULT_GONE.format('1-0')}\n"
+    for told in ("  1  nothing recovered\n", f"  2  {PAIR}\n", f"  3  {gone}"):
         until_line(live, told)
-    assert "nothing recovered; the result 1-0 is gone" in bytes_of(hall.name(3) + ".log").decode()
+    assert gone in bytes_of(hall.name(3) + ".log").decode()
     hall.until_round()
     same(stop(live), 0)
     for number in (1, 2, 3):
@@ -161,7 +163,7 @@ def recovered(folder: pathlib.Path) -> None:
 
 
 def renamed(folder: pathlib.Path) -> None:
-    """A board comes back under another name, and then its player's name is put right: it is found by its cable all the same."""
+    """A board comes back under another name, and then its player's name is put right: it is found by its cable nevertheless."""
     hall = Hall(folder, 1, cabled=(0,))
     file = f"board,device,white,black\n1,{hall.boards[0].device},Ana,Ben\n"
     hall.file.write_text(file)
