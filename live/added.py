@@ -15,6 +15,7 @@ from live.protocol import LETTERS, SQUARES, Picture, dump, picture_of_placement
 
 WHITE_WINS, BLACK_WINS, DRAW = "1-0", "0-1", "1/2-1/2"
 WAYS = "Type a result (1-0, 0-1, 1/2-1/2), or moves as Nf3 Nc6"
+ALONE = "type {} alone, in a line of its own"
 QUIT_TOO = ", or q to end the recording"
 
 EMPTY = 0
@@ -63,8 +64,9 @@ class Nothing:
 Typed = Union[Result, Moves, Quit, Nothing]
 
 
-def read_words(text: str) -> Typed:
-    """What was typed in one line. Refused where it is none of these, and where it is two of them."""
+def read_words(text: str, name: str = "") -> Typed:
+    """What was typed in one line. Refused where it is none of these, and where it is two of them, or where the game's own name
+    stands behind a result: that may be spelt as a move is."""
     words = text.replace("–", "-").replace("—", "-").split()
     if not words:
         return Nothing()
@@ -73,12 +75,33 @@ def read_words(text: str) -> Typed:
     outcome = _outcome("".join(words))
     if outcome:
         return Result(outcome)
-    if _outcome(words[-1]):
-        raise Refused(f"moves and a result in one line. Type the moves, and then {_outcome(words[-1])} in a line of its own")
+    named = _outcome("".join(words[: -len(name.split())])) if name and text.strip().endswith(f" {name}") else None
+    if named:
+        raise Refused(ALONE.format(named))
+    results = [word for word in words if _outcome(word) and (word != "=" or word is words[-1])]
+    if results:
+        raise Refused(_two_in_one(results, [word for word in words if word not in results]))
     moves = [_move(word) for word in words]
     if not any(moves):
         raise Refused(f"{_shown(text)}: no move. {WAYS}")
     return Moves(tuple(move for move in moves if move))
+
+
+def is_result(text: str) -> bool:
+    """Whether the text is a result and nothing else."""
+    return _outcome("".join(text.replace("–", "-").replace("—", "-").split())) is not None
+
+
+def _two_in_one(results: Sequence[str], others: Sequence[str]) -> str:
+    """What is told of a line with results in it, and with other words."""
+    outcome = _outcome(results[0])
+    try:
+        are_moves = any([_move(word) for word in others])
+    except Refused:
+        are_moves = False
+    if are_moves and len(results) == 1:
+        return f"moves and a result in one line. Type the moves, and then {outcome} in a line of its own"
+    return ALONE.format(outcome) if len(set(map(_outcome, results))) == 1 else "two results in one line. Type one of them"
 
 
 def _outcome(word: str) -> Optional[str]:

@@ -93,6 +93,10 @@ def text_of(error: OSError) -> str:
     return error.strerror or str(error)
 
 
+class Recorded(Refused):
+    """Another process records this game."""
+
+
 class Capture:
     """NAME.dgt, open and locked. What can't be written is kept in memory, and tried again."""
 
@@ -120,7 +124,7 @@ class Capture:
             except OSError:
                 if time.monotonic() >= ends:
                     os.close(number)
-                    raise Refused(
+                    raise Recorded(
                         REFUSED, f"{path} is being recorded by another dgt_live: end that one, or choose another NAME"
                     ) from None
             time.sleep(0.05)

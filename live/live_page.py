@@ -24,6 +24,14 @@ def result_of(pgn: bytes) -> str:
     return found.group(1).decode("ascii", "replace") if found else "*"
 
 
+def result_in(paths: files.Paths) -> str:
+    """The result that NAME.pgn has, as far as it can be read."""
+    try:
+        return result_of(files.existing(paths.pgn))
+    except OSError:
+        return "*"
+
+
 class PageScreen(Screen):
     """A screen that tells of each change."""
 

@@ -11,9 +11,9 @@ from live import added, control, files, names, options, refusal, serial_line
 from live.adding import add_to_closed
 from live.address import read_address
 from live.files import Capture, Paths, text_of
-from live.live_page import LiveGame, PageScreen
+from live.live_page import LiveGame, PageScreen, result_in
 from live.loop import Loop, Signals
-from live.making import make_now
+from live.making import make_now, told_of_reading, told_of_result
 from live.options import FIRST, Call, Options
 from live.program import Program
 from live.refused import DONE, FAILED, REFUSED, Refused
@@ -96,10 +96,10 @@ def refuse_options(program: Program, given: Options) -> None:
         raise Refused(answer.returncode, refusal.reason(answer.stderr.decode("utf-8", "replace")))
 
 
-def plies(program: Program, capture: Capture, kept: Options) -> int:
-    """How many plies the game has."""
-    sent = program.whole(kept, capture.bytes())
-    report = program.run("record", *kept.of_record(), given=sent).stderr.rpartition(b"moves ")[2]
+def plies(program: Program, sent: bytes, kept: Options) -> int:
+    """How many plies the game of these bytes has."""
+    whole = program.whole(kept, sent)
+    report = program.run("record", *kept.of_record(), given=whole).stderr.rpartition(b"moves ")[2]
     return int(report.split(b",")[0] or b"0")
 
 
@@ -109,7 +109,7 @@ def options_of(program: Program, paths: Paths, capture: Capture, given: Options)
     kept = files.kept_options(paths) if capture.size else None
     wanted = given if kept is None else kept
     if kept is not None and not kept.is_said_by(given):
-        others = kept.going_on(given, plies(program, capture, kept) > 0)
+        others = kept.going_on(given, plies(program, capture.bytes(), kept) > 0)
         if others is None:
             raise Refused(
                 REFUSED,
@@ -128,11 +128,14 @@ def open_to_record(call: Call, paths: Paths) -> Capture:
     capture = files.open_game(paths)
     if not call.series:
         if files.end_mark(paths) is not None:
-            raise Refused(
-                REFUSED,
+            what = [
                 f"{paths.name} is over: choose another NAME. To add to it: dgt_live --add 1-0 {paths.name}.",
                 f"To go on with it all the same, remove {paths.end}",
-            )
+            ]
+            reading = " ".join(Options(call.words).reading().words)
+            if reading:
+                what.append(f"For --first, --recover and --strict leave the device out: dgt_live {reading} {paths.name}")
+            raise Refused(REFUSED, *what)
         if capture.at_limit:
             raise Refused(REFUSED, f"{paths.capture} has 64 MiB, and none may have more: choose another NAME")
     return capture
@@ -150,16 +153,26 @@ def record(call: Call, program: Program, signals: Signals) -> int:
     serial_line.check(call.device, may_wait=files.size_of(paths.capture) > 0)
     serial_line.check_free(call.device)
     capture = open_to_record(call, paths)
+    before = files.kept_options(paths) if capture.size else None
     kept = options_of(program, paths, capture, given)
+    result, end = result_in(paths), files.end_mark(paths)
     try:
-        make_now(program, paths, capture, kept, files.end_mark(paths))
+        make_now(program, paths, capture, kept, end)
     except OSError as error:
         raise Refused(FAILED, f"{paths.pgn} can't be written ({text_of(error)}): is the disk full?") from None
 
     terminal = Terminal(loop)
     screen = PageScreen(terminal)
+    screen.keep(files.Log(paths.log))
     for change in changes(typed, given):
         screen.say(change)
+    told = kept.told_of_all(before or kept)
+    if told:
+        screen.say(told)
+    pairs = pairs_of(program, kept, capture.bytes(0, end)) if before and before.recover != kept.recover else []
+    anew = told_of_reading(before or kept, kept, pairs) + told_of_result(result, result_in(paths))
+    if anew:
+        screen.say(f"{paths.pgn} is made anew: {'; '.join(anew)}")
     player = Player(loop, program, screen, call, paths, capture, kept, loop.stop)
     if page:
         screen.on_change = page.changed
@@ -196,9 +209,13 @@ def remake(call: Call, program: Program) -> int:
     given = Options(call.words)
     refuse_options(program, given)
     paths = existing_game(call.name)
-    capture = files.open_game(paths)
+    try:
+        capture = files.open_game(paths)
+    except files.Recorded:
+        raise Refused(REFUSED, f"{paths.name} is being recorded: Ctrl-C there, and then this again") from None
     end = files.end_mark(paths)
     before = files.kept_options(paths) or Options()
+    result = result_in(paths)
     kept = before.with_first(given.value(FIRST)).recovering(before.recovers_with(given))
     try:
         make_now(program, paths, capture, kept, end)
@@ -207,7 +224,7 @@ def remake(call: Call, program: Program) -> int:
     files.keep_options(paths, kept)
     said = [f"{kept.first.capitalize()}'s time comes first"] if given.value(FIRST) else []
     pairs = pairs_of(program, kept, capture.bytes(0, end))
-    what = "; ".join(said + pairs if said or pairs else ["nothing recovered"])
+    what = "; ".join((said + pairs or ["nothing recovered"]) + told_of_result(result, result_in(paths)))
     capture.close()
     screen = Screen(None)
     screen.keep(files.Log(paths.log))
@@ -224,9 +241,8 @@ def add(call: Call, program: Program) -> int:
     if answer is None:
         capture = files.open_game(paths)
         try:
-            capture, what = add_to_closed(
-                program, paths, capture, files.kept_options(paths) or Options(), added.read_words(words)
-            )
+            typed = added.read_words(words, os.path.basename(paths.name))
+            capture, what = add_to_closed(program, paths, capture, files.kept_options(paths) or Options(), typed)
         except added.Refused as refused:
             answer = REFUSED, f"refused: {refused}" if words in str(refused) else f"refused: {words}: {refused}"
         except OSError as error:

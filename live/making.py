@@ -7,7 +7,7 @@ import os
 import signal
 import subprocess
 from dataclasses import dataclass
-from typing import Callable, Optional, Tuple
+from typing import Callable, List, Optional, Sequence, Tuple
 
 from live.beside import Worker
 from live.files import Capture, Paths, new_of, put_in_place, sync_folder, text_of
@@ -18,6 +18,23 @@ from live.program import Program, ending_of, wake
 AGAIN = 1.0  # seconds after a try that failed
 WRITE_FAULT = 3  # of the program, whose streams failed
 SLOWEST = 60.0  # seconds that a call may take before it is ended and begun anew
+
+
+def told_of_reading(before: Options, now: Options, pairs: Sequence[str]) -> List[str]:
+    """What is told where a game is made anew since its capture is read otherwise; `pairs` are those that are recovered now."""
+    told = [f"{now.first.capitalize()}'s time comes first"] if now.first != before.first else []
+    if now.recover != before.recover:
+        told += list(pairs) or ["nothing recovered"]
+    return told
+
+
+def told_of_result(before: str, now: str) -> List[str]:
+    """What is told where a game has another result, since it was made anew."""
+    if before == now:
+        return []
+    if now == "*":
+        return [f"the result {before} is gone: add it again"]
+    return [f"the result is {now}" if before == "*" else f"the result is {now}, and was {before}"]
 
 
 def make_now(program: Program, paths: Paths, capture: Capture, options: Options, limit: Optional[int]) -> None:

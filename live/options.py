@@ -9,7 +9,9 @@ from live.refused import ARGUMENTS, REFUSED, Refused
 
 FIRST = "--first"
 BOARD = (FIRST, "--fen")
-TAGS = ("--event", "--site", "--date", "--round", "--white", "--black")
+PLAYERS = ("--white", "--black")
+TAGS = ("--event", "--site", "--date", "--round", *PLAYERS)
+UNKNOWN = "?"  # what PGN has for a tag that isn't known
 VALUED = BOARD + TAGS
 RECOVER, STRICT = "--recover", "--strict"
 PLAIN = ("--rotated", RECOVER, STRICT)
@@ -197,6 +199,39 @@ class Options:
     def recovers_with(self, given: Options) -> bool:
         """Whether pairs are recovered where these were kept and those are given."""
         return given.recover or (self.recover and not given.strict)
+
+    def reading(self) -> Options:
+        """Those alone that only say how a capture is read."""
+        return self.without(*(option for option, _ in self.fixed().pairs()))
+
+    def tag(self, option: str) -> str:
+        """What a tag says."""
+        return self.value(option) or UNKNOWN
+
+    @property
+    def players(self) -> str:
+        """White's name and Black's."""
+        return " - ".join(map(self.tag, PLAYERS))
+
+    def has_other_players_than(self, before: Options) -> bool:
+        """Whether neither player is the one of before. Nobody is another one than somebody who wasn't known."""
+        return all(before.tag(option) not in (UNKNOWN, self.tag(option)) for option in PLAYERS)
+
+    def told_of_tags(self, before: Options) -> str:
+        """What is told where the tags are others than before; nothing where they are the same."""
+        told = []
+        if self.players != before.players:
+            told.append(f"its game is now {self.players}, and was {before.players}")
+        for option in TAGS:
+            if option not in PLAYERS and self.tag(option) != before.tag(option):
+                told.append(f"its {option[2:]} is now {self.tag(option)}, and was {before.tag(option)}")
+        return "; ".join(told)
+
+    def told_of_all(self, before: Options) -> str:
+        """What is told where a game without a move has others than before; nothing where it hasn't."""
+        if set(self.fixed().pairs()) == set(before.fixed().pairs()):
+            return ""
+        return f"its options are now {' '.join(self.words) or 'none'}, and were {' '.join(before.words) or 'none'}"
 
     def turned(self, turns: Dict[str, Callable[[str], str]]) -> Options:
         """With the value of each of these options turned into what PGN takes."""

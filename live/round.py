@@ -5,9 +5,10 @@ from __future__ import annotations
 import datetime
 import os
 import pathlib
-from typing import Callable, Dict, List, Optional, Set, Tuple
+import shlex
+from typing import Callable, Dict, List, Optional, Sequence, Set, Tuple
 
-from live import files
+from live import added, files
 from live.beside import Worker
 from live.files import text_of
 from live.loop import Loop, Timer
@@ -16,13 +17,12 @@ from live.painter import Painter
 from live.pairings import Pairing, Pairings, Wrong, read_pairings
 from live.program import Program
 from live.refused import DONE, FAILED, REFUSED, Refused
-from live.row import Row
+from live.row import Row, game_of_others
 from live.series import printable
-from live.table import RowView, counted, lines_are_wrong, screen
+from live.table import RowView, boards_are, counted, lines_are_wrong, screen
 from live.terminal import Terminal, Typed
 from live.view import round_pgn
 
-WAYS = "type 3 1-0, 3 Nf3 Nc6, 3 (how board 3 stands), r (read the file again) or q (end)"
 NARROWEST = 40  # columns of a terminal: in one with fewer the rows are broken
 KEPT = 20  # messages
 DRAWS_EACH = 0.1  # seconds
@@ -36,6 +36,29 @@ LONGEST = 1.0  # seconds
 def same_device(device: str) -> str:
     """What a device is, by whatever name."""
     return os.path.realpath(device)
+
+
+def another_folder(folder: str) -> str:
+    """A folder for another round: `round4` beside `round3`, `club-2` beside `club`."""
+    if not os.path.basename(folder).strip("."):
+        return "round2"  # beside what is here, or above
+    stem = folder.rstrip("0123456789")
+    number = folder[len(stem) :]
+    return stem + str(int(number) + 1).zfill(len(number)) if number else f"{stem}-2"
+
+
+def ways(text: str, numbers: Sequence[int]) -> str:
+    """What is to be typed, in the place of a text that begins with no board's number."""
+    number = 3 if 3 in numbers or not numbers else numbers[-1]  # as --help has it, where there is such a board
+    try:
+        typed = added.read_words(text)
+    except added.Refused:
+        typed = added.Nothing()
+    if isinstance(typed, added.Result):
+        return f"of which board? Type its number first, as {number} {typed.outcome}"
+    if isinstance(typed, added.Moves):
+        return f"of which board? Type its number first, as {number} {typed.words[0]}"
+    return f"type {number} 1-0, {number} Nf3 Nc6, {number} (how board {number} stands), r (read the file again) or q (end)"
 
 
 def written(path: pathlib.Path, text: bytes) -> str:
@@ -92,7 +115,24 @@ class Round:
             raise Refused(REFUSED, f"{self._file}: {refused.lines[0]}") from None
         if not read.boards and not read.wrong:
             raise Refused(REFUSED, f"{self._file} names no board: each line after the first is one")
+        self._refuse_another_round(read)
         self._take(read)
+
+    def _refuse_another_round(self, read: Pairings) -> None:
+        """A table that has other players for what was played is another round's: nothing is changed then."""
+        for pairing in self._without_twice(read)[0]:
+            kept = game_of_others(self._program, str(self._folder), self._call.words, pairing)
+            if kept:
+                folder = another_folder(str(self._folder))
+                while os.path.lexists(folder):
+                    folder = another_folder(folder)
+                call = shlex.join(["dgt_round", str(self._file), folder])
+                game = self._folder / pairing.file_name
+                raise Refused(
+                    REFUSED,
+                    f"{game} has moves of {kept.players}: for another round take another folder, as {call}",
+                    "To change both names of a game, start with the old table, change it, and type r",
+                )
 
     def read_again(self) -> str:
         """Reads the file again. Where it can't be read nothing changes."""
@@ -254,16 +294,16 @@ class Round:
             return
         elif words[0].lower() == "r" and len(words) == 1:
             self.say(self.read_again())
-        elif words[0].isascii() and words[0].isdigit():
+        elif words[0].isascii() and words[0].isdigit() and not added.is_result(text):
             self.say(self._of_board(int(words[0]), words[1:]))
         else:
-            self.say(f"refused: {printable(text)}: {WAYS}")
+            self.say(f"refused: {printable(text)}: {ways(text, sorted(self.rows))}")
         self._changed()
 
     def _of_board(self, number: int, words: List[str]) -> str:
         row = self.rows.get(number)
         if row is None:
-            return f"refused: there is no board {number}: {WAYS}"
+            return f"refused: there is no board {number}: {boards_are(sorted(self.rows))}"
         if not words:
             parts = [row.standing()[0], *row.recovered, f"{row.pairing.device}, {row.paths.capture}"]
             return f"{number}: {'; '.join(parts)}"

@@ -9,10 +9,10 @@ from live import added, files, serial_line
 from live.adding import add_to_closed
 from live.control import Answer
 from live.files import Capture, Log, Paths, text_of
-from live.live_page import result_of
+from live.live_page import result_in, result_of
 from live.loop import Loop, Timer
-from live.main import options_of, refuse_options, turned
-from live.making import make_now
+from live.main import options_of, plies, refuse_options, turned
+from live.making import make_now, told_of_reading, told_of_result
 from live.options import Call, Options
 from live.pairings import Pairing
 from live.program import Program, lines_of
@@ -70,6 +70,9 @@ class RowScreen(Screen):
     def turn(self, rotated: bool) -> str:
         return f"Write {'no' if rotated else 'yes'} in its column rotated, save the table, and type r; or turn the board"
 
+    def other_device(self) -> str:
+        return "Write it in its column device, save the table, and type r"
+
     def hint(self, text: str) -> None:
         if self._has_table:
             self._says(f"{self._number}: {text}")
@@ -85,6 +88,19 @@ def plies_of(program: Program, options: Options, sent: bytes) -> List[Told]:
         if told and told.kind in ("move", "correction"):
             plies.append(told)
     return plies
+
+
+def game_of_others(program: Program, folder: str, tags: Tuple[str, ...], pairing: Pairing) -> Optional[Options]:
+    """The options of the game of a line, where it has moves and the line would give it to two other players."""
+    paths = Paths(f"{folder}/{pairing.file_name}")
+    try:
+        given = turned(Options(pairing.words(tags)))
+        kept = files.kept_options(paths)
+        if kept is None or kept.is_said_by(given) or not kept.with_tags_of(given).has_other_players_than(kept):
+            return None
+        return kept if plies(program, files.existing(paths.capture), kept) else None
+    except (Refused, OSError):
+        return None  # that its row will say
 
 
 class Row:
@@ -174,13 +190,17 @@ class Row:
         capture = files.open_game(paths, 0)
         try:
             self._screen.keep(Log(paths.log))
+            before = files.kept_options(paths) if capture.size else None
             kept = self._options_of(paths, capture, given)
             self.options = kept
-            end = files.end_mark(paths)
+            result, end = result_in(paths), files.end_mark(paths)
             make_now(self._program, paths, capture, kept, end)
             self._read_pgn()
             self._plies = plies_of(self._program, kept, capture.bytes(0, end))
             self._recovered = pairs_of(self._program, kept, capture.bytes(0, end))
+            anew = told_of_reading(before or kept, kept, self._recovered) + told_of_result(result, self.result)
+            if anew:
+                self._screen.say("; ".join(anew))
             self._over = is_over(paths, capture)
             if not self._over:
                 call = Call(device=device, name=paths.name, linger=self._linger)
@@ -195,6 +215,7 @@ class Row:
 
     def _options_of(self, paths: Paths, capture: Capture, given: Options) -> Options:
         """Those of the line; but a game that has moves keeps how the board lies and the position at the start."""
+        told = ""
         try:
             wanted = options_of(self._program, paths, capture, given)
         except Refused as refused:
@@ -206,9 +227,12 @@ class Row:
                 words = " ".join(stays) or "nothing in the columns rotated and fen"
                 self._screen.say(f"the game has moves, and keeps what it was begun with: {words}")
             wanted = kept.with_tags_of(given).recovering(kept.recovers_with(given))
+            told = wanted.told_of_tags(kept)
         wanted = wanted.with_first(given.first)
         if wanted != files.kept_options(paths):
             files.keep_options(paths, wanted)
+        if told:
+            self._screen.say(told)
         return wanted
 
     def _stopped(self) -> None:

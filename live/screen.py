@@ -90,6 +90,10 @@ class Screen:
         """What to do where the board lies the other way round than is said. The last line has room for no more."""
         return f"Ctrl-C, start again {'without' if rotated else 'with'} --rotated"
 
+    def other_device(self) -> str:
+        """What to do where the device that isn't there is another one than is meant."""
+        return "Ctrl-C, and see dgt_live --devices"
+
     def hint(self, text: str) -> None:
         """What somebody is to look at: told where it is new, beside the state that says it too."""
 

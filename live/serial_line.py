@@ -72,7 +72,7 @@ def check(device: str, may_wait: bool) -> None:
     except OSError as error:
         raise Refused(FAILED, f"{device} can't be looked at: {error.strerror}") from None
     if not stat.S_ISCHR(mode):
-        raise Refused(FAILED, f"{device} is no device")
+        raise Refused(FAILED, f"{device} is no device: see dgt_live --devices")
     try:
         line = os.open(device, os.O_RDWR | os.O_NOCTTY | os.O_NONBLOCK)
     except PermissionError:

@@ -80,7 +80,7 @@ class Player:
         self._recovered: List[str] = []
         self._setting_up: Optional[SettingUp] = None
         self._control: Optional[Control] = None
-        self._unplugged = self._silent = False
+        self._unplugged = self._silent = self._was_plugged = False
         self._reason: Optional[Reason] = None  # why the game is over
         self._ending = self._closing = False
         self._board = Board(loop, call.device, self)
@@ -277,7 +277,7 @@ class Player:
             self._screen.say(f"{self._board.cable} is there")
         elif self._board.cable != self._call.device:
             self._screen.say(f"{self._call.device} has the cable {self._board.cable}: under that name it is waited for")
-        self._unplugged = False
+        self._unplugged, self._was_plugged = False, True
         game = self._recording or self._setting_up
         if game:
             game.standing.plugged()
@@ -285,7 +285,9 @@ class Player:
     def unplugged(self) -> None:
         self._unplugged, self._silent = True, False
         if not self._call.once:
-            self._screen.say(f"{self._board.cable} isn't there: plug it in again; the recording then goes on")
+            again = "plug it in again; the recording then goes on"
+            what = again if self._was_plugged else f"plug it in. Is it another device? {self._screen.other_device()}"
+            self._screen.say(f"{self._board.cable} isn't there: {what}")
         game = self._recording or self._setting_up
         if game:
             game.standing.unplugged()
@@ -336,7 +338,7 @@ class Player:
 
     def _add(self, text: str, before: Optional[Paths], sure: bool, may_quit: bool) -> Answer:
         try:
-            typed = added.read_words(text)
+            typed = added.read_words(text, os.path.basename(self.paths.name))
             if isinstance(typed, added.Nothing):
                 return DONE, ""
             if isinstance(typed, added.Quit) and may_quit:

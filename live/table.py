@@ -11,6 +11,7 @@ NARROW = 72  # columns below which there are no clocks
 INDENT = " " * 4  # a name of a cable has room behind it
 MESSAGES = 3  # lines that messages always have
 MOST_MESSAGES = 8  # and where there is room
+MOST_LISTED = 8  # boards, or boards in a row, whose numbers are listed
 LONGEST_ROW = 3  # lines of a row that tells a trouble
 
 
@@ -107,6 +108,24 @@ def counted(number: int, what: str) -> str:
 def lines_are_wrong(number: int) -> str:
     """What is added to that for lines of the file."""
     return "" if number == 0 else ", 1 line is wrong" if number == 1 else f", {number} lines are wrong"
+
+
+def boards_are(numbers: Sequence[int]) -> str:
+    """Which boards there are, of their numbers in order: `the boards are 1 to 8`."""
+    if len(numbers) < 2:
+        return f"the only board is {numbers[0]}" if numbers else "no line of the table is right"
+    runs: List[List[int]] = []
+    for number in numbers:
+        if runs and runs[-1][-1] + 1 == number:
+            runs[-1].append(number)
+        else:
+            runs.append([number])
+    parts: List[str] = []
+    for run in runs:
+        parts += [f"{run[0]} to {run[-1]}"] if len(run) > 2 else [str(number) for number in run]
+    if len(parts) > MOST_LISTED:
+        parts = [*parts[: MOST_LISTED - 2], "..", parts[-1]]
+    return "the boards are " + (" and ".join([", ".join(parts[:-1]), parts[-1]]) if len(parts) > 1 else parts[0])
 
 
 def title_line(title: str, rows: Sequence[RowView], width: int) -> str:

@@ -9,6 +9,7 @@ from live.added import (
     check_result,
     dumps_of_moves,
     dumps_of_result,
+    is_result,
     outcome_of_sign,
     read_words,
     sign_of_result,
@@ -52,6 +53,26 @@ NOT_TYPED = [
     "Sf3", "nf3", "1-1", "2-0", "e9", "12.", "1. 2.", "Nf3 Nc6 1-0", "1-0 Nf3", "Nf3 q", "O-O-O-O", "e8=K", "Qa1xb2#+",
     "12 Nf3", "help", "\x1b[A", "N" * 1000, "3 e4", "e4,e5", "½-0", "exd6ep", "Nf３",
 ]  # fmt: skip
+RESULTS = [Result("1-0"), Result("0-1"), Result("1/2-1/2")]
+IN_ONE_LINE = {
+    "Nf3 1-0": "moves and a result in one line. Type the moves, and then 1-0 in a line of its own",
+    "1-0 Nf3": "moves and a result in one line. Type the moves, and then 1-0 in a line of its own",
+    "Nc6 1:0 Bb5": "moves and a result in one line. Type the moves, and then 1-0 in a line of its own",
+    "Nc6 =": "moves and a result in one line. Type the moves, and then 1/2-1/2 in a line of its own",
+    "1-0 game": "type 1-0 alone, in a line of its own",
+    "hello 0-1": "type 0-1 alone, in a line of its own",
+    "1-0 1:0": "type 1-0 alone, in a line of its own",
+    "1-0 0-1": "two results in one line. Type one of them",
+    "e8 = Q": "=: neither a move nor a result",
+}
+# A line, the name of the game, and what is told.
+WITH_NAME = [
+    ("1-0 g3", "g3", "type 1-0 alone, in a line of its own"),
+    ("1 - 0 g3 ", "g3", "type 1-0 alone, in a line of its own"),
+    ("½ a 4", "a 4", "type 1/2-1/2 alone, in a line of its own"),
+    ("1-0 g3", "g4", "moves and a result in one line"),
+    ("e4 1-0 g3", "g3", "moves and a result in one line"),
+]
 SIGNS = [
     # position, result, the squares of the sign that differ from the position, with what they show
     (INITIAL, "1-0", "e8. e1. e4K d5k"),
@@ -100,6 +121,14 @@ def words():
         told = refused(repr(text), Refused, read_words, text)
         same(repr(text), ("Type" in told, told.isprintable(), len(told) < 127), (True, True, True))
     same("moves, then a result", "then 1-0 in" in refused("both", Refused, read_words, "Nf3 1-0"), True)
+    for text, part in IN_ONE_LINE.items():
+        same(text, part in refused(text, Refused, read_words, text), True)
+    for text, name, part in WITH_NAME:
+        told = refused(text, Refused, read_words, text, name)
+        same(f"{text} in {name}", part in told, True)
+    same("a move that is spelt as the name", read_words("Nf3 g3", "g3"), Moves(("Nf3", "g3")))
+    for text, expected in TYPED.items():
+        same(f"a result alone: {text}", is_result(text), expected in RESULTS)
     same("named", refused("Sf3", Refused, read_words, "e4 Sf3")[:4], "Sf3:")
     same("a check left out", spellings("Bb5"), ("Bb5", "Bb5+", "Bb5#"))
     same("a check too many", spellings("Bb5+"), ("Bb5+", "Bb5", "Bb5#"))

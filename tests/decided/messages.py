@@ -1,4 +1,5 @@
-"""What is told where options or a NAME are refused, a device or a program can't be had, and where a disk has room again."""
+"""What is told where options or a NAME are refused, a device or a program can't be had, where a disk has room again, and
+where a round has no such board."""
 
 import os
 import pathlib
@@ -10,7 +11,9 @@ from live.files import Log, check_name
 from live.program import Program
 from live.refusal import reason
 from live.refused import Refused
+from live.round import another_folder, ways
 from live.serial_line import login_name, may_not_open
+from live.table import boards_are
 
 from decided.table import refused, same
 
@@ -35,6 +38,34 @@ NAMES = {
     "club/blitz-2.before.dgt": "club/blitz-2",
     "game.": "game",
     "a.b.end": "a.b",
+}
+BOARDS = [
+    ([], "no line of the table is right"),
+    ([4], "the only board is 4"),
+    ([1, 2], "the boards are 1 and 2"),
+    ([1, 2, 3], "the boards are 1 to 3"),
+    ([2, 4, 5], "the boards are 2, 4 and 5"),
+    ([1, 2, 3, 4, 7, 9, 10, 11], "the boards are 1 to 4, 7 and 9 to 11"),
+    (list(range(1, 20, 2)), "the boards are 1, 3, 5, 7, 9, 11, .. and 19"),
+]
+# What is typed in a round of these boards without a number, and what is told.
+NO_BOARD = [
+    ("1-0", [1, 2], "of which board? Type its number first, as 2 1-0"),
+    ("1 - 0", [1, 2, 3, 4], "of which board? Type its number first, as 3 1-0"),
+    ("½", [7], "of which board? Type its number first, as 7 1/2-1/2"),
+    ("12. Nf3 Nc6", [1, 2], "of which board? Type its number first, as 2 Nf3"),
+    ("hello", [1, 2], "type 2 1-0, 2 Nf3 Nc6, 2 (how board 2 stands), r (read the file again) or q (end)"),
+    ("Nf3 1-0", [1, 2, 3], "type 3 1-0, 3 Nf3 Nc6, 3 (how board 3 stands), r (read the file again) or q (end)"),
+]
+FOLDERS = {
+    "round3": "round4",
+    "club/round09": "club/round10",
+    "games": "games-2",
+    "games-2": "games-3",
+    "/": "round2",
+    ".": "round2",
+    "..": "round2",
+    "2024": "2025",
 }
 PLAIN = ["game", "blitz-1", "1.1", "game.pgn.old", ".", "..", ".pgn", "./.dgt", "a\0b"]
 
@@ -120,4 +151,14 @@ def logs() -> None:
         same("a log", path.read_text().splitlines(), [missing, "10:00:02  1... e5", "10:00:03  agrees"])
 
 
-TABLES = [reasons, no_names, not_had, disks, logs]
+def rounds() -> None:
+    """No such board, no number of one, and the folder of another round."""
+    for numbers, said in BOARDS:
+        same(said, boards_are(numbers), said)
+    for text, numbers, said in NO_BOARD:
+        same(f"{text} of {numbers}", ways(text, numbers), said)
+    for folder, other in FOLDERS.items():
+        same(folder, another_folder(folder), other)
+
+
+TABLES = [reasons, no_names, not_had, disks, logs, rounds]

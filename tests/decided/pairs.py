@@ -1,6 +1,7 @@
 """Pairs of moves that two hands hid: when they are recovered, what is told of them, and where what was put in belongs; and
-which other options a game goes on with."""
+which other options a game goes on with, and what is told of that."""
 
+from live.making import told_of_reading, told_of_result
 from live.options import Options, parse
 from live.refused import Refused
 from live.whole import Pair, Place, place_in
@@ -40,6 +41,55 @@ GOES_ON = {
     (BLACK + ANNA, WHITE): WHITE + ANNA,
     (ANNA + BLACK + YES, WHITE + YES): WHITE + ANNA + YES,
     (TURNED + ANNA, ANNA + BLACK): None,
+}
+TWO, OTHERS = ANNA + ("--black", "Ben"), ("--white", "Cleo", "--black", "Dan")
+# The players of before and of now, and whether they are others.
+PLAYERS = [
+    (TWO, TWO, False),
+    (TWO, OTHERS, True),
+    (TWO, ("--black", "Anna", "--white", "Ben"), True),  # the next game of a match
+    (TWO, (), True),  # both names would be gone
+    (TWO, ANNA, False),
+    (TWO, ("--white", "Cleo", "--black", "Ben"), False),
+    ((), OTHERS, False),
+    (("--white", "?", "--black", "?"), OTHERS, False),  # they weren't known
+    (("--white", "", "--black", "Ben"), OTHERS, False),
+    (ANNA, OTHERS, False),
+]
+# The tags of before and of now, and what is told of that.
+TAGS = [
+    (TWO, TWO, ""),
+    (TWO, ("--black", "Ben", "--white=Anna"), ""),
+    (TWO, TWO + TURNED + BLACK + YES, ""),  # they are no tags
+    (("--white", "Anne", "--black", "Ben"), TWO, "its game is now Anna - Ben, and was Anne - Ben"),
+    (ANNA, TWO, "its game is now Anna - Ben, and was Anna - ?"),
+    (TWO + ("--round", "3"), TWO + ("--round", "4"), "its round is now 4, and was 3"),
+    (TWO, ("--event", "Club"), "its game is now ? - ?, and was Anna - Ben; its event is now Club, and was ?"),
+]
+# The options of before and of now, of a game without a move, and what is told of that.
+ALL = [
+    (TWO, TWO, ""),
+    (TWO, ("--black=Ben", *ANNA), ""),
+    (TWO, TWO + BLACK + YES, ""),  # these are told otherwise
+    (TWO, ("--black", "Jim"), "its options are now --black Jim, and were --white Anna --black Ben"),
+    ((), TURNED, "its options are now --rotated, and were none"),
+]
+# The options of before and of now, and what is told where the game is made anew.
+READING = [
+    (TWO, OTHERS, []),
+    (WHITE, (), []),
+    ((), BLACK, ["Black's time comes first"]),
+    (BLACK + YES, WHITE + YES, ["White's time comes first"]),
+    ((), YES, ["recovered 3. Bc4 3... Nc6"]),
+    (BLACK, YES, ["White's time comes first", "recovered 3. Bc4 3... Nc6"]),
+    (YES, (), ["nothing recovered"]),
+]
+RESULTS = {
+    ("*", "*"): [],
+    ("1-0", "1-0"): [],
+    ("1-0", "*"): ["the result 1-0 is gone: add it again"],
+    ("*", "0-1"): ["the result is 0-1"],
+    ("1-0", "1/2-1/2"): ["the result is 1/2-1/2, and was 1-0"],
 }
 LINES = {
     "350 recovered 3. Bc4 3... Nc6": Pair(350, "recovered 3. Bc4 3... Nc6"),
@@ -85,6 +135,23 @@ def calls() -> None:
         refused(" ".join(words), Refused, parse, words)
 
 
+def told_of_options() -> None:
+    """What is told of other players, other tags, and of a game that is made anew."""
+    for before, now, are_others in PLAYERS:
+        same(f"{before}, {now}", Options(now).has_other_players_than(Options(before)), are_others)
+    for before, now, line in TAGS:
+        same(f"tags {before}, {now}", Options(now).told_of_tags(Options(before)), line)
+    for before, now, line in ALL:
+        same(f"all {before}, {now}", Options(now).told_of_all(Options(before)), line)
+    for before, now, lines in READING:
+        pairs = ["recovered 3. Bc4 3... Nc6"] if Options(now).recover else []
+        same(f"read {before}, {now}", told_of_reading(Options(before), Options(now), pairs), lines)
+    for (was, is_now), lines in RESULTS.items():
+        same(f"{was}, {is_now}", told_of_result(was, is_now), lines)
+    for words, reading in ((BLACK + ANNA + YES, BLACK + YES), (ANNA + TURNED, ()), (NO, NO), (("--first=black",), BLACK)):
+        same(f"of {words}", Options(words).reading().words, reading)
+
+
 def told() -> None:
     for line, pair in LINES.items():
         same(line, Pair.of_line(line), pair)
@@ -109,4 +176,4 @@ def places() -> None:
     same("nothing was put in", place_in(content, (), 97), Place(97))
 
 
-TABLES = [kept, goes_on, calls, told, places]
+TABLES = [kept, goes_on, calls, told_of_options, told, places]

@@ -140,11 +140,19 @@ def recovered_and_added(folder: pathlib.Path) -> None:
     same(movetext(live.name), WHOLE_TEXT.replace("*", "a6 1-0"))
     size = (folder / "game.end").read_text()
     same(int(size), len(bytes_of(live.name + ".dgt")))
-    for words, text in ((["--add", "0-1"], "0-1"), (["--strict"], ""), (["--strict"], ""), (["--recover"], "0-1")):
-        answer = subprocess.run([LIVE, *words, live.name], stdout=subprocess.PIPE, stderr=subprocess.PIPE)
+    for given, text, told in (
+        (["--add", "0-1"], "0-1", []),
+        (["--strict"], "", ["nothing recovered", words.RESULT_GONE.format("0-1")]),
+        (["--strict"], "", ["nothing recovered"]),
+        (["--recover"], "0-1", [PAIR, "the result is 0-1"]),
+        (["--recover"], "0-1", [PAIR]),
+    ):
+        answer = subprocess.run([LIVE, *given, live.name], stdout=subprocess.PIPE, stderr=subprocess.PIPE)
+        if told:
+            same(answer.stdout.decode(), f"dgt_live: {live.name}.pgn is made anew: {'; '.join(told)}\n")
         whole = WHOLE_TEXT.replace("*", f"a6 {text}")
         same((answer.returncode, movetext(live.name)), (0, whole if text else STRICT_TEXT))
-        same(PAIR.encode() in answer.stdout, words == ["--recover"])
+        same(PAIR.encode() in answer.stdout, given == ["--recover"])
     same(bytes_of(folder / "game.options"), b"--recover\n")
     for name, status in ((str(folder / "other"), 1), ("/dev/null", 2)):
         same(subprocess.run([LIVE, "--strict", name], stderr=subprocess.DEVNULL).returncode, status)
@@ -177,3 +185,41 @@ def recovered_series(folder: pathlib.Path) -> None:
     until_game(f"{live.name}-2", "1. d4 d5 2. Nf3 Nc6 3. c4 *")
     same(stop(live), 0)
     same(movetext(f"{live.name}-1"), "1. e4 e5 2. Nf3 Nc6 3. Ng5 a6 4. Qh5 a5 5. Qxf7# 1-0")
+
+
+def result_gone(folder: pathlib.Path) -> None:
+    """A result was typed where a pair was hidden, and then the pair is recovered: the result belongs to another position, and
+    that it is gone is told and kept in the log; by the call alone, and where the game is recorded again."""
+    board = a_board(folder)
+    live = Live(board.device, folder / "game", typed=True)
+    begun(live)
+    for move in ("e2e4", "e7e5"):
+        board.play(move)
+    until_game(live.name, STRICT_TEXT)
+    hurried(board)
+    board.play("f1b5")
+    until(lambda: PAIR.encode() in run("recover", given=bytes_of(live.name + ".dgt")).stderr, "the pair in the capture", 0.05)
+    live.type("1-0")
+    same(ended(live), 0)
+    same(movetext(live.name), STRICT_TEXT.replace("*", "1-0"))
+    gone = words.RESULT_GONE.format("1-0")
+    for given, text, told in (
+        (["--recover"], WHOLE_TEXT, f"{PAIR}; {gone}"),
+        (["--first", "black"], WHOLE_TEXT, f"Black's time comes first; {PAIR}"),
+        (["--strict"], STRICT_TEXT.replace("*", "1-0"), "nothing recovered; the result is 1-0"),
+    ):
+        answer = subprocess.run([LIVE, *given, live.name], stdout=subprocess.PIPE)
+        same(answer.stdout.decode(), f"dgt_live: {live.name}.pgn is made anew: {told}\n")
+        same(movetext(live.name), text)
+    assert f"  made anew: {PAIR}; {gone}\n" in (folder / "game.log").read_text(), (folder / "game.log").read_text()
+    (folder / "game.end").unlink()
+    again = go_on(board, live, "--recover", "--first", "white")
+    until_game(live.name, WHOLE_TEXT)
+    told = f"game.pgn is made anew: White's time comes first; {PAIR}; {gone}"
+    until_line(again, told)
+    same((folder / "game.log").read_text().count(told), 1)
+    same(stop(again), 0)
+    again = go_on(board, live)
+    begun(again)
+    same(stop(again), 0)
+    assert "made anew" not in again.lines(), again.lines()

@@ -18,6 +18,7 @@ from played.stage import (
     begin_game,
     begun,
     bytes_of,
+    ended,
     go_on,
     movetext,
     refuses,
@@ -140,11 +141,66 @@ def options_changed(folder: pathlib.Path) -> None:
     same(stop(wrong), 0)
     right = Live(board.device, wrong.name, "--rotated", "--white", "Ben")
     begun(right)
+    told = "its options are now --rotated --white Ben, and were --white Anna"
+    same((right.lines().count(told), (folder / "game.log").read_text().count(told)), (1, 1))
     for move in RUY:
         board.play(move)
     until_game(right.name, RUY_TEXT)
     same(stop(right), 0)
     assert b'[White "Ben"]' in bytes_of(right.name + ".pgn")
+    again = go_on(board, right, "--rotated", "--white", "Ben")
+    begun(again)
+    assert "its options" not in again.lines(), again.lines()
+    same(stop(again), 0)
+
+
+def with_a_device(folder: pathlib.Path) -> None:
+    """What makes a game anew is called while it is recorded, and with its device when it is over: each answer says what to do.
+    So does that to the game's own name, typed behind a result."""
+    board = a_board(folder)
+    live = Live(board.device, folder / "g3", typed=True)
+    begun(live)
+    for move in RUY:
+        board.play(move)
+    until_game(live.name, RUY_TEXT)
+    for answer in [Live("", live.name, *option) for option in (["--first", "black"], ["--recover"], ["--strict"])]:
+        refuses(answer, 1, f"{live.name} {words.IS_RECORDED}")
+    live.type("1-0 g3")
+    until_line(live, "refused: 1-0 g3: type 1-0 alone, in a line of its own")
+    live.type("Nc6 1-0 Bb5")
+    until_line(live, "refused: Nc6 1-0 Bb5: moves and a result in one line. Type the moves, and then 1-0 in a line of its own")
+    same(movetext(live.name), RUY_TEXT)
+    live.type("1-0")
+    same(ended(live), 0)
+    for option in (["--first", "black"], ["--recover", "--first=black"], ["--strict", "--white", "Anna"]):
+        answer = Live(board.device, live.name, *option)
+        refuses(answer, 1, "g3 is over")
+        wanted = {"--first": "--first black", "--recover": "--recover --first black", "--strict": "--strict"}[option[0]]
+        assert f"  {words.LEAVE_IT_OUT} {wanted} {live.name}\n" in answer.complaint(), answer.complaint()
+    answer = Live(board.device, live.name)
+    refuses(answer, 1, "g3 is over")
+    assert words.LEAVE_IT_OUT not in answer.complaint(), answer.complaint()
+
+
+def other_device(folder: pathlib.Path) -> None:
+    """A game goes on with a device that isn't there: it may be mistyped, and that is said. One that goes away later isn't."""
+    board, live = begin_game(folder)
+    assert words.OTHER_DEVICE not in live.lines(), live.lines()
+    board.pull()
+    until_line(live, words.GOES_ON)
+    same(stop(live), 0)
+    nowhere = folder / "nowhere"
+    again = Live(nowhere, live.name)
+    until_line(again, f"{nowhere} {words.OTHER_DEVICE}")
+    until_line(again, words.UNPLUGGED)
+    same(stop(again), 0)
+    again = Live(board.device, live.name)
+    until_line(again, words.OTHER_DEVICE)
+    board.plug()
+    until_line(again, words.BACK)
+    board.pull()
+    until_line(again, words.GOES_ON)
+    same((again.lines().count(words.OTHER_DEVICE), stop(again)), (1, 0))
 
 
 def names_and_dates(folder: pathlib.Path) -> None:

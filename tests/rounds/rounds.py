@@ -12,8 +12,7 @@ from typing import Any, Dict, List
 
 from played import TOP, words
 from played.recorder import Live
-from played.recovered import PAIR, hurried
-from played.stage import bytes_of, check, ended, kill, movetext, program, refuses, run, same, stop, until, until_line
+from played.stage import bytes_of, check, ended, kill, program, refuses, same, stop, until, until_line
 from rounds.hall import ROUND, Hall, Reader, games_of, moves, text, told
 
 
@@ -74,6 +73,7 @@ def troubles(folder: pathlib.Path) -> None:
     live = hall.record()
     hall.begun(live)
     for part in (
+        f"  3  {folder}/nowhere isn't there: plug it in. Is it another device? Write it in its column device, save the table,",
         "  3  UNPLUGGED",
         f"  4  isn't recorded: {folder}/file is no device",
         f"line 6 of round.csv is wrong: {folder}/board2 is the device of board 2, line 3",
@@ -106,8 +106,10 @@ def typed(folder: pathlib.Path) -> None:
     until_line(live, "3: added to ")
     for line, answer in (
         ("2 Qh5", "2 refused"),
-        ("9 1-0", "there is no board 9"),
-        ("hello", "refused: hello"),
+        ("9 1-0", "refused: there is no board 9: the boards are 1 to 3"),
+        ("1-0", "refused: 1-0: of which board? Type its number first, as 3 1-0"),
+        ("1 - 0", "refused: 1 - 0: of which board? Type its number first, as 3 1-0"),
+        ("hello", "refused: hello: type 3 1-0, "),
         ("2", "2: agrees"),
         ("r", "is read again: 3 boards"),
     ):
@@ -127,95 +129,6 @@ def typed(folder: pathlib.Path) -> None:
     live.type("q")
     same(ended(live), 0)
     same(hall.text(3), "1. e4 c5 0-1")
-
-
-def read_again(folder: pathlib.Path) -> None:
-    """HUP reads the file again: a name and whose time comes first are put right, another device, a new line, a line that is
-    gone, a result, an empty file."""
-    hall = Hall(folder, 3)
-    live = hall.record(typed=True)
-    hall.begun(live)
-    hall.boards[0].clock(600, 500)
-    hall.boards[0].play("e2e4")
-    hall.until_text(1, "1. e4 *")
-    lines = hall.file.read_text().splitlines()
-    hall.file.write_text("")
-    live.send(signal.SIGHUP)
-    until_line(live, "nothing is changed")
-    hall.boards[1].pull()
-    hall.boards[1].device = str(folder / "elsewhere")
-    hall.boards[1].plug()
-    changed = [f"{lines[0]},first,rotated,result", f"{lines[1].replace('White 1', 'Anna')},black,yes", f"2,{folder}/elsewhere,Ben,Black 2"]
-    hall.file.write_text("\n".join([*changed, f"4,{folder}/nowhere,A,B", ""]))
-    live.send(signal.SIGHUP)
-    until_line(live, "is read again: 3 boards")
-    until_line(live, "  1  the game has moves, and keeps what it was begun with")
-    until_line(live, "3: no line names it any more")
-    until_line(live, "  4  UNPLUGGED")
-    until(lambda: b'[White "Ben"]' in bytes_of(hall.name(2) + ".pgn"), "the name of board 2")
-    until(lambda: hall.boards[1].asked_for_updates, "a request on the other device")
-    hall.boards[1].play("d2d4")
-    hall.until_text(2, "1. d4 *")
-    until(lambda: b'[White "Anna"]' in bytes_of(hall.name(1) + ".pgn"), "the name of board 1, whose game has a move")
-    assert b"1. e4 {[%clk 0:08:20]}" in bytes_of(hall.name(1) + ".pgn"), bytes_of(hall.name(1) + ".pgn")
-    until(lambda: hall.boards[0].asked_for_updates, "a request on board 1")
-    hall.boards[0].play("e7e5")
-    hall.until_text(1, "1. e4 e5 *")
-    changed[1] += ",1-0"
-    hall.file.write_text("\n".join([*changed, f"4,{folder}/nowhere,A,B", ""]))
-    live.send(signal.SIGHUP)
-    hall.until_text(1, "1. e4 e5 1-0")
-    same(len(games_of(bytes_of(hall.games / "03.pgn"))), 1)
-    # Both are put right where the game is over.
-    hall.until_over(live, 1, "1-0")
-    changed[1] = changed[1].replace("Anna", "Anne").replace(",black,", ",,")
-    hall.file.write_text("\n".join([*changed, f"4,{folder}/nowhere,A,B", ""]))
-    live.send(signal.SIGHUP)
-    until(lambda: b'[White "Anne"]' in bytes_of(hall.games / "round.pgn"), "the name of board 1, whose game is over")
-    assert movetext(hall.name(1)).startswith("1. e4 {[%clk 0:10:00]}"), movetext(hall.name(1))
-    same(hall.text(1), "1. e4 e5 1-0")
-    same(stop(live), 0)
-
-
-def recovered(folder: pathlib.Path) -> None:
-    """A column says on which boards pairs are recovered, and the file read again says otherwise: both games are made anew, and
-    so is one that is over. What was recovered is told with the board's number, and when its number is typed."""
-    hall = Hall(folder, 3)
-    header = "board,device,white,black,recover"
-    hall.extra = {1: ",yes", 2: ",no"}
-    hall.write(header=header)
-    live = hall.record("--recover", typed=True)
-    hall.begun(live)
-    for board in hall.boards:
-        for move in ("e2e4", "e7e5"):
-            board.play(move)
-    for number in (1, 2, 3):
-        hall.until_text(number, "1. e4 e5 *")
-    for board in hall.boards:
-        hurried(board)
-        board.play("f1b5")
-    strict, whole = "1. e4 e5 *", "1. e4 e5 2. Nf3 Nc6 3. Bb5 *"
-    for number in (1, 3):
-        hall.until_text(number, whole)
-        until_line(live, f"{number:>3}  {PAIR}")
-    until_line(live, f"  2  {words.IN_HAND}")
-    same(hall.text(2), strict)
-    live.type("3")
-    until_line(live, f"3: agrees; {PAIR}; ")
-    live.type("3 1-0")
-    hall.until_over(live, 3, "1-0")
-    hall.extra = {1: ",no", 2: ",yes", 3: ",no"}
-    hall.write(header=header)
-    live.type("r")
-    hall.until_text(1, strict)
-    hall.until_text(2, whole)
-    # The kings were put in over the whole game's position, where the strict one has no result.
-    hall.until_text(3, strict)
-    hall.until_round()
-    same(stop(live), 0)
-    for number in (1, 2, 3):
-        capture = bytes_of(hall.name(number) + ".dgt")
-        same(" ".join(run("record", given=capture).stdout.decode().split("\n\n")[1].split()), strict)
 
 
 def killed(folder: pathlib.Path) -> None:
@@ -371,30 +284,6 @@ def on_a_terminal(folder: pathlib.Path) -> None:
     same([line for line in lines if len(words.plain(line)) > 79], [])
     live.type("q")
     same(ended(live), 0)
-
-
-def renamed(folder: pathlib.Path) -> None:
-    """A board comes back under another name, and then its player's name is put right: it is found by its cable all the same."""
-    hall = Hall(folder, 1, cabled=(0,))
-    file = f"board,device,white,black\n1,{hall.boards[0].device},Ana,Ben\n"
-    hall.file.write_text(file)
-    live = hall.record()
-    hall.begun(live)
-    hall.boards[0].play("e2e4")
-    hall.until_text(1, "1. e4 *")
-    hall.boards[0].pull()
-    until_line(live, "  1  UNPLUGGED")
-    hall.cables.plug(hall.boards[0], 7)
-    until(lambda: hall.boards[0].asked_for_updates, "a request as ttyUSB7")
-    hall.boards[0].play("e7e5")
-    hall.until_text(1, "1. e4 e5 *")
-    hall.file.write_text(file.replace("Ana", "Anna"))
-    live.send(signal.SIGHUP)
-    until(lambda: b'[White "Anna"]' in bytes_of(hall.name(1) + ".pgn"), "the name that was put right")
-    hall.boards[0].play("g1f3")
-    hall.until_text(1, "1. e4 e5 2. Nf3 *")
-    same(live.lines().count("  1  UNPLUGGED"), 1)
-    same(stop(live), 0)
 
 
 def turned_round(folder: pathlib.Path) -> None:

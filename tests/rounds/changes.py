@@ -1,0 +1,186 @@
+"""The file of a round is changed: names, devices, whose time comes first; and the file of another round is given."""
+
+import pathlib
+import signal
+
+from played import words
+from played.recovered import PAIR, hurried
+from played.stage import bytes_of, movetext, refuses, run, same, stop, until, until_line
+from rounds.hall import Hall, games_of
+
+
+def another_round(folder: pathlib.Path) -> None:
+    """The next round's file, and the old folder: all is refused before anything is changed. One player's name may be put
+    right, and so may one that wasn't known, and those of a game without a move; r changes both names, and that is told."""
+    hall = Hall(folder, 4)
+    header = "board,device,white,black"
+    devices = [f"{number},{folder}/board{number}" for number in range(1, 5)]
+
+    def write(*players: str) -> None:
+        hall.file.write_text("\n".join([header, *map(",".join, zip(devices, players)), ""]))
+
+    def tags(number: int) -> str:
+        game = bytes_of(hall.name(number) + ".pgn").decode()
+        return " - ".join(game.partition(f'[{tag} "')[2].partition('"')[0] for tag in ("White", "Black"))
+
+    write("Anne,Ben", "M\u00fcller,Kern", ",", "Eva,Finn")
+    live = hall.record()
+    hall.begun(live)
+    hall.play(0, 2, [0, 1, 2])
+    same(stop(live), 0)
+    files = {path: bytes_of(path) for path in sorted(hall.games.iterdir())}
+    write("Anna,Ben", "Gus,Hal", "Ida,Jan", "Kim,Lea")
+    place = hall.games.parent / "games-2"
+    for options in ((), ("--round", "4")):
+        live = hall.record(*options)
+        refuses(live, 1, f"dgt_round: {hall.games}/02 has moves of Mueller - Kern: for another round take another folder, as")
+        assert live.complaint().splitlines()[0].endswith(f" dgt_round {hall.file} {place}"), live.complaint()
+        assert "\n  To change both names of a game, start with the old table, change it, and type r\n" in live.complaint()
+        same({path: bytes_of(path) for path in sorted(hall.games.iterdir())}, files)
+    place.mkdir()
+    refuses(hall.record(), 1, f"dgt_round {hall.file} {hall.games}-3")
+
+    write("Anna,Ben", "M\u00fcller,Hal", "Ida,Jan", "Kim,Lea")
+    live = hall.record(typed=True)
+    hall.begun(live)
+    until_line(live, "  1  its game is now Anna - Ben, and was Anne - Ben\n")
+    until_line(live, "  2  its game is now Mueller - Hal, and was Mueller - Kern\n")
+    until_line(live, "  3  its game is now Ida - Jan, and was ? - ?\n")
+    assert "Kim" not in live.lines(), live.lines()
+    write("Anna,Ben", "Gus,Nora", "Ida,Jan", "Kim,Lea")
+    live.type("r")
+    until_line(live, "  2  its game is now Gus - Nora, and was Mueller - Hal\n")
+    until(lambda: tags(2) == "Gus - Nora", "both names of board 2")
+    same([tags(number) for number in (1, 3, 4)], ["Anna - Ben", "Ida - Jan", "Kim - Lea"])
+    same(stop(live), 0)
+    live = hall.record("--round", "4")
+    until_line(live, "  2  its round is now 4, and was ?\n")
+    same(stop(live), 0)
+
+
+def read_again(folder: pathlib.Path) -> None:
+    """HUP reads the file again: a name and whose time comes first are put right, another device, a new line, a line that is
+    gone, a result, an empty file."""
+    hall = Hall(folder, 3)
+    live = hall.record(typed=True)
+    hall.begun(live)
+    hall.boards[0].clock(600, 500)
+    hall.boards[0].play("e2e4")
+    hall.until_text(1, "1. e4 *")
+    lines = hall.file.read_text().splitlines()
+    hall.file.write_text("")
+    live.send(signal.SIGHUP)
+    until_line(live, "nothing is changed")
+    hall.boards[1].pull()
+    hall.boards[1].device = str(folder / "elsewhere")
+    hall.boards[1].plug()
+    anna = f"{lines[1].replace('White 1', 'Anna')},black,yes"
+    changed = [f"{lines[0]},first,rotated,result", anna, f"2,{folder}/elsewhere,Ben,Black 2"]
+    hall.file.write_text("\n".join([*changed, f"4,{folder}/nowhere,A,B", ""]))
+    live.send(signal.SIGHUP)
+    until_line(live, "is read again: 3 boards")
+    until_line(live, "  1  the game has moves, and keeps what it was begun with")
+    until_line(live, "  1  its game is now Anna - Black 1, and was White 1 - Black 1\n")
+    until_line(live, "  1  Black's time comes first\n")
+    until_line(live, "3: no line names it any more")
+    until_line(live, "  4  UNPLUGGED")
+    until(lambda: b'[White "Ben"]' in bytes_of(hall.name(2) + ".pgn"), "the name of board 2")
+    until(lambda: hall.boards[1].asked_for_updates, "a request on the other device")
+    hall.boards[1].play("d2d4")
+    hall.until_text(2, "1. d4 *")
+    until(lambda: b'[White "Anna"]' in bytes_of(hall.name(1) + ".pgn"), "the name of board 1, whose game has a move")
+    assert b"1. e4 {[%clk 0:08:20]}" in bytes_of(hall.name(1) + ".pgn"), bytes_of(hall.name(1) + ".pgn")
+    until(lambda: hall.boards[0].asked_for_updates, "a request on board 1")
+    hall.boards[0].play("e7e5")
+    hall.until_text(1, "1. e4 e5 *")
+    changed[1] += ",1-0"
+    hall.file.write_text("\n".join([*changed, f"4,{folder}/nowhere,A,B", ""]))
+    live.send(signal.SIGHUP)
+    hall.until_text(1, "1. e4 e5 1-0")
+    same(len(games_of(bytes_of(hall.games / "03.pgn"))), 1)
+    # Both are put right where the game is over.
+    hall.until_over(live, 1, "1-0")
+    changed[1] = changed[1].replace("Anna", "Anne").replace(",black,", ",,")
+    hall.file.write_text("\n".join([*changed, f"4,{folder}/nowhere,A,B", ""]))
+    live.send(signal.SIGHUP)
+    until(lambda: b'[White "Anne"]' in bytes_of(hall.games / "round.pgn"), "the name of board 1, whose game is over")
+    assert movetext(hall.name(1)).startswith("1. e4 {[%clk 0:10:00]}"), movetext(hall.name(1))
+    same(hall.text(1), "1. e4 e5 1-0")
+    until_line(live, "  1  its game is now Anne - Black 1, and was Anna - Black 1\n")
+    until_line(live, "  1  White's time comes first\n")
+    same(stop(live), 0)
+    log = bytes_of(hall.name(1) + ".log").decode()
+    for told in ("Black's time comes first", "White's time comes first", "its game is now Anne - Black 1, and was Anna"):
+        same(log.count(f"  {told}"), 1)
+    # Board 2 had no move yet, and no time of another side.
+    for never in ("  2  its game", "  2  White's", "  2  Black's"):
+        assert never not in live.lines(), live.lines()
+
+
+def recovered(folder: pathlib.Path) -> None:
+    """A column says on which boards pairs are recovered, and the file read again says otherwise: both games are made anew, and
+    so is one that is over. What was recovered is told with the board's number, and when its number is typed."""
+    hall = Hall(folder, 3)
+    header = "board,device,white,black,recover"
+    hall.extra = {1: ",yes", 2: ",no"}
+    hall.write(header=header)
+    live = hall.record("--recover", typed=True)
+    hall.begun(live)
+    for board in hall.boards:
+        for move in ("e2e4", "e7e5"):
+            board.play(move)
+    for number in (1, 2, 3):
+        hall.until_text(number, "1. e4 e5 *")
+    for board in hall.boards:
+        hurried(board)
+        board.play("f1b5")
+    strict, whole = "1. e4 e5 *", "1. e4 e5 2. Nf3 Nc6 3. Bb5 *"
+    for number in (1, 3):
+        hall.until_text(number, whole)
+        until_line(live, f"{number:>3}  {PAIR}")
+    until_line(live, f"  2  {words.IN_HAND}")
+    same(hall.text(2), strict)
+    live.type("3")
+    until_line(live, f"3: agrees; {PAIR}; ")
+    live.type("3 1-0")
+    hall.until_over(live, 3, "1-0")
+    hall.extra = {1: ",no", 2: ",yes", 3: ",no"}
+    hall.write(header=header)
+    live.type("r")
+    hall.until_text(1, strict)
+    hall.until_text(2, whole)
+    # The kings were put in over the whole game's position, where the strict one has no result.
+    hall.until_text(3, strict)
+    gone = f"nothing recovered; {words.RESULT_GONE.format('1-0')}\n"
+    for told in ("  1  nothing recovered\n", f"  2  {PAIR}\n", f"  3  {gone}"):
+        until_line(live, told)
+    assert gone in bytes_of(hall.name(3) + ".log").decode()
+    hall.until_round()
+    same(stop(live), 0)
+    for number in (1, 2, 3):
+        capture = bytes_of(hall.name(number) + ".dgt")
+        same(" ".join(run("record", given=capture).stdout.decode().split("\n\n")[1].split()), strict)
+
+
+def renamed(folder: pathlib.Path) -> None:
+    """A board comes back under another name, and then its player's name is put right: it is found by its cable nevertheless."""
+    hall = Hall(folder, 1, cabled=(0,))
+    file = f"board,device,white,black\n1,{hall.boards[0].device},Ana,Ben\n"
+    hall.file.write_text(file)
+    live = hall.record()
+    hall.begun(live)
+    hall.boards[0].play("e2e4")
+    hall.until_text(1, "1. e4 *")
+    hall.boards[0].pull()
+    until_line(live, "  1  UNPLUGGED")
+    hall.cables.plug(hall.boards[0], 7)
+    until(lambda: hall.boards[0].asked_for_updates, "a request as ttyUSB7")
+    hall.boards[0].play("e7e5")
+    hall.until_text(1, "1. e4 e5 *")
+    hall.file.write_text(file.replace("Ana", "Anna"))
+    live.send(signal.SIGHUP)
+    until(lambda: b'[White "Anna"]' in bytes_of(hall.name(1) + ".pgn"), "the name that was put right")
+    hall.boards[0].play("g1f3")
+    hall.until_text(1, "1. e4 e5 2. Nf3 *")
+    same(live.lines().count("  1  UNPLUGGED"), 1)
+    same(stop(live), 0)
