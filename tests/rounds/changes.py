@@ -163,7 +163,7 @@ def recovered(folder: pathlib.Path) -> None:
 
 
 def renamed(folder: pathlib.Path) -> None:
-    """A board comes back under another name, and then its player's name is put right: it is found by its cable nevertheless."""
+    """A board comes back under another name, and then its player's name is put right: it is found by its cable."""
     hall = Hall(folder, 1, cabled=(0,))
     file = f"board,device,white,black\n1,{hall.boards[0].device},Ana,Ben\n"
     hall.file.write_text(file)
