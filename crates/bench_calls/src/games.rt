@@ -1,6 +1,5 @@
 //! Games of random legal moves, to compare: their texts, one after another, or their moves by their squares, a game a line.
 
-ghost use Rattle.std.specs.Prelude.{◌≡◌};
 
 use crate::rules::MIDDLE_GAME;
 use chess_clock::Hms;
@@ -78,12 +77,6 @@ fn ply(m: &Move, clock: Option<Hms>) -> Ply {
     Ply { mv: *m, clock }
 }
 
-fn copy(m: &Move) -> Move
-    ensures { result ≡ m.now }
-{
-    *m
-}
-
 /// A line of at most so many plies.
 fn line(
     alloc: Global,
@@ -97,7 +90,7 @@ fn line(
         let Some(m) = some_move(alloc, &position, numbers)? else {
             return Ok(plies);
         };
-        if !position.is_legal(copy(&m)) {
+        if !position.is_legal(m.copy()) {
             return Ok(plies);
         }
         plies.push(ply(&m, clock(numbers)))?;

@@ -8,7 +8,7 @@ use crate::chess_move::Move;
 use crate::lines::Wing;
 use crate::parts::{MOST_COUNTED, Parts, Rights};
 use crate::pieces::{Kind, Piece, Side};
-use crate::rules::{crossed_of, holds_right, other_side, rook_home_of};
+use crate::rules::{crossed_of, holds_right, rook_home_of};
 use crate::square::Square;
 
 type Board = [Option<Piece>; 64];
@@ -188,7 +188,7 @@ pub fn parts_after(parts: &Parts, m: &Move) -> Parts
 {
     Parts {
         board: board_after(parts, m),
-        side: other_side(parts.side),
+        side: parts.side.other(),
         rights: rights_left(parts, m),
         target: passed_square(parts, m),
         halfmove: halfmove_after(parts, m),

@@ -1,4 +1,5 @@
 //! Moves.
+ghost use Rattle.std.specs.Prelude.{◌≡◌};
 
 use crate::pieces::Kind;
 use crate::square::Square;
@@ -11,4 +12,13 @@ pub struct Move {
     pub to: Square,
     /// Queen, rook, bishop or knight where a pawn comes to its last rank, else `None`.
     pub promotion: Option<Kind>,
+}
+
+impl Move {
+    /// A copy, since a move by value is given away.
+    pub fn copy(&self) -> Move
+        ensures { result ≡ self.now }
+    {
+        *self
+    }
 }

@@ -1,5 +1,6 @@
 //! The pieces, and the two sides.
 ghost use Rattle.std.specs.Prelude.{◌≡◌, IsTrue, ◌↔◌};
+ghost use Rattle.chess_rules.specs.Board.{other as other_side};
 
 /// One of the two players (Article 1).
 #[derive(Clone, Copy, PartialEq, Eq, Debug)]
@@ -9,6 +10,16 @@ pub enum Side {
 }
 
 impl Side {
+    /// The other side.
+    pub fn other(self) -> Side
+        ensures { result ≡ other_side self }
+    {
+        match self {
+            Side::White => Side::Black,
+            Side::Black => Side::White,
+        }
+    }
+
     /// Whether both are one side.
     pub fn is(self, other: Side) -> bool
         ensures { IsTrue result ↔ (self ≡ other) }

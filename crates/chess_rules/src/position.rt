@@ -19,7 +19,7 @@ use crate::picture::codes_of;
 use crate::pieces::{Piece, Side};
 use crate::rules::{
     goes, holds_right, is_empty, is_in_check, is_king_attacked, is_king_of, is_pawn_of, is_rook_of,
-    king_home_of, other_side, rook_home_of,
+    king_home_of, rook_home_of,
 };
 use std::alloc::{AllocError, Global};
 use std::marker::Model;
@@ -108,7 +108,7 @@ fn has_rights_of(parts: &Parts, side: Side) -> bool
 fn has_no_check(parts: &Parts) -> bool
     ensures { IsTrue result ↔ HasNoCheck parts.now }
 {
-    !is_in_check(&parts.board, other_side(parts.side))
+    !is_in_check(&parts.board, parts.side.other())
 }
 
 fn is_target_of(board: &Board, side: Side, target: u8) -> bool
@@ -122,7 +122,7 @@ fn is_target_of(board: &Board, side: Side, target: u8) -> bool
         Side::White => (target - 8, target + 8),
         Side::Black => (target + 8, target - 8),
     };
-    is_empty(board, target) && is_empty(board, behind) && is_pawn_of(board, other_side(side), ahead)
+    is_empty(board, target) && is_empty(board, behind) && is_pawn_of(board, side.other(), ahead)
 }
 
 fn target_row_of(side: Side) -> u8

@@ -14,16 +14,6 @@ use crate::pieces::{Kind, Piece, Side};
 use crate::square::Square;
 use crate::walk::{attacks_from, is_attacked};
 
-/// The other side.
-pub fn other_side(side: Side) -> Side
-    ensures { result ≡ other side }
-{
-    match side {
-        Side::White => Side::Black,
-        Side::Black => Side::White,
-    }
-}
-
 /// The kind of this side's piece on the square, 0 to 63.
 pub fn kind_on(board: &[Option<Piece>; 64], side: Side, square: u8) -> Option<Kind>
     requires { square < 64 }
@@ -138,7 +128,7 @@ fn is_capture(parts: &Parts, m: &Move) -> bool
     let to = m.to.number();
     match (
         kind_on(&parts.board, parts.side, from),
-        kind_on(&parts.board, other_side(parts.side), to),
+        kind_on(&parts.board, parts.side.other(), to),
     ) {
         (Some(kind), Some(_)) => {
             names_promotion(parts.side, kind, m)
@@ -277,7 +267,7 @@ fn is_safe(board: &[Option<Piece>; 64], attackers: Side, square: u8) -> bool
 fn is_way_safe(board: &[Option<Piece>; 64], side: Side, wing: Wing) -> bool
     ensures { IsTrue result ↔ IsWaySafe board.now side wing }
 {
-    let attackers = other_side(side);
+    let attackers = side.other();
     if !is_safe(board, attackers, king_home_of(side)) {
         return false;
     }
@@ -365,7 +355,7 @@ pub fn is_king_attacked(board: &[Option<Piece>; 64], side: Side) -> bool
     requires { HasOneKing board.now side }
     ensures { IsTrue result ↔ InCheck board.now side (other side) }
 {
-    let attackers = other_side(side);
+    let attackers = side.other();
     for i in 0..64u8 {
         let square = from_home(side, i);
         if is_king_of(board, side, square) {
@@ -379,7 +369,7 @@ pub fn is_king_attacked(board: &[Option<Piece>; 64], side: Side) -> bool
 pub fn is_in_check(board: &[Option<Piece>; 64], side: Side) -> bool
     ensures { IsTrue result ↔ InCheck board.now side (other side) }
 {
-    let attackers = other_side(side);
+    let attackers = side.other();
     for square in 0..64u8 {
         if is_king_of(board, side, square) && is_attacked(board, attackers, square) {
             return true;

@@ -59,13 +59,6 @@ fn push(plies: &mut Vec<Ply>, mv: Move, clock: Option<Hms>) -> Result<(), AllocE
     Ok(())
 }
 
-/// A copy, since a move by value is given away.
-fn copy(m: &Move) -> Move
-    ensures { result ≡ m.now }
-{
-    *m
-}
-
 /// Reads one more ply, and gives the position after it.
 fn read_turn(
     plies: &mut Vec<Ply>,
@@ -80,7 +73,7 @@ fn read_turn(
     let Some(ply) = read_ply(position, word, behind) else {
         return Err(PgnError::NotExport);
     };
-    let next = position.play(copy(&ply.mv));
+    let next = position.play(ply.mv.copy());
     match push(plies, ply.mv, ply.clock) {
         Ok(()) => Ok(next),
         Err(AllocError) => Err(PgnError::Memory),

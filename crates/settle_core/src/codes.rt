@@ -1,7 +1,6 @@
 //! Piece codes of the DGT Electronic Board Protocol: 1 to 6 are White's pawn, rook, knight, bishop, king and queen, 7 to 12
 //! Black's in this order; and whose pieces they are.
 ghost use Rattle.std.specs.Prelude.{◌≡◌};
-ghost use Rattle.chess_rules.specs.Board.{other as other_side};
 ghost use Rattle.settle_core.specs.Candidate.{is_owned_code, side_number};
 
 use chess_rules::Side;
@@ -41,15 +40,5 @@ pub fn is_owned(side: Side, code: u8) -> bool
     match side {
         Side::White => side_of(code) == 1,
         Side::Black => side_of(code) == 2,
-    }
-}
-
-/// The other side.
-pub fn other(side: Side) -> Side
-    ensures { result ≡ other_side side }
-{
-    match side {
-        Side::White => Side::Black,
-        Side::Black => Side::White,
     }
 }

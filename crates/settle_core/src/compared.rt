@@ -8,7 +8,7 @@ ghost use Rattle.chess_rules.specs.Board.{other as other_side};
 ghost use Rattle.settle_core.specs.Lost.{Bares, Loses, MayHideTwo};
 
 use crate::candidate::{candidate_among, landing, owned_in};
-use crate::codes::{is_owned, other};
+use crate::codes::is_owned;
 use crate::masks::{diff_mask, exceeds, meets};
 use chess_rules::laws::pictures_tell_moves;
 use chess_rules::{Move, Position};
@@ -57,7 +57,7 @@ impl Compared {
             picture,
             mask: diff_mask(&picture, seen),
             ours: owned_in(side, &picture),
-            theirs: owned_in(other(side), &picture),
+            theirs: owned_in(side.other(), &picture),
         }
     }
 
@@ -136,7 +136,7 @@ impl Compared {
         // For its clause: the position is valid, and no other legal move gives the same picture.
         self.position.parts();
         pictures_tell_moves();
-        self.position.is_legal(copy(m)) && self.position.play(copy(m)).picture() == *seen
+        self.position.is_legal(m.copy()) && self.position.play(m.copy()).picture() == *seen
     }
 
     /// Whether the piece that landed is not of the side to move: then the picture settles no move.
@@ -223,11 +223,4 @@ pub fn same_move(a: &Move, b: &Move) -> bool
     ensures { IsTrue result ↔ (a.now ≡ b.now) }
 {
     *a == *b
-}
-
-/// A copy, since a move by value is given away.
-pub fn copy(m: &Move) -> Move
-    ensures { result ≡ m.now }
-{
-    *m
 }

@@ -14,7 +14,7 @@ ghost use Rattle.settle_core.specs.Folding.{Folds, Replaces, SeenAs, moves_of, p
 ghost use Rattle.settle_core.specs.Settler.{StandsFor, ReturnsSeen, GivesMove, has_seen, plies_of, position_of};
 ghost use Rattle.settle_core.specs.Kept.{CanReplace, IsComparedIn, IsLastSet, last_of, position_in};
 
-use crate::compared::{Compared, copy, shown_after};
+use crate::compared::{Compared, shown_after};
 use crate::masks::shown_in;
 use crate::plies::{Outcome, Ply, Seen};
 use crate::signs::sign_of;
@@ -232,7 +232,7 @@ impl Settler {
             return Ok(Seen::Waits);
         };
         if let Some(m) = self.here.settled_by(&self.picture, self.shown, landed) {
-            self.add(copy(&m), clock)?;
+            self.add(m.copy(), clock)?;
             return Ok(Seen::Moved(m));
         }
         if let Some(outcome) = sign_of(&self.here, &self.picture) {
@@ -240,7 +240,7 @@ impl Settler {
             return Ok(Seen::Sign(outcome));
         }
         if let Some(m) = self.instead() {
-            self.replace(copy(&m), clock);
+            self.replace(m.copy(), clock);
             return Ok(Seen::Replaced(m));
         }
         Ok(Seen::Waits)
@@ -253,7 +253,7 @@ impl Settler {
         ensures err { OnErr result (self.new ≡ self.old) }
     {
         let ply = Ply {
-            mv: copy(&m),
+            mv: m.copy(),
             clock: time_of(self.here.position.parts().side, clock),
         };
         self.plies.push(ply)?;
@@ -288,7 +288,7 @@ impl Settler {
             unreachable!();
         };
         let ply = Ply {
-            mv: copy(&m),
+            mv: m.copy(),
             clock: time_of(before.position.parts().side, clock),
         };
         set_last(&mut self.plies, ply);

@@ -8,7 +8,7 @@ ghost use Rattle.chess_rules.specs.Legal.{Legal};
 ghost use Rattle.settle_core.specs.Entries.{Entry, repeats};
 ghost use Rattle.settle_core.specs.Tips.{IsTip, IsOther, LeadsTo};
 
-use crate::compared::{Compared, copy, same_move};
+use crate::compared::{Compared, same_move};
 use crate::masks::shown_in;
 use crate::signs::sign_of;
 use chess_rules::{Move, Position};
@@ -33,7 +33,7 @@ fn played(before: Position, m: Move) -> Tip
     ensures here { result.here ≡ after before m }
     ensures last { result.last ≡ Some (record { before = before; mv = m }) }
 {
-    let here = before.play(copy(&m));
+    let here = before.play(m.copy());
     Tip {
         here,
         last: Some(Last { before, mv: m }),

@@ -1,5 +1,4 @@
 //! Known positions, from outside the proofs.
-ghost use Rattle.std.specs.Prelude.{◌≡◌};
 
 use chess_rules::{Invalid, Kind, Move, Parts, Piece, Position, Rights, Side, Square, Status};
 use std::alloc::{AllocError, Global};
@@ -71,16 +70,10 @@ fn with_counters(pieces: &[u8; 64], side: Side, halfmove: u16, fullmove: u16) ->
     parts
 }
 
-fn copy(m: &Move) -> Move
-    ensures { result ≡ m.now }
-{
-    *m
-}
-
 /// The position after the move, if it is legal.
 fn played(position: &Position, m: &Move) -> Option<Position> {
-    if position.is_legal(copy(m)) {
-        Some(position.play(copy(m)))
+    if position.is_legal(m.copy()) {
+        Some(position.play(m.copy()))
     } else {
         None
     }

@@ -7,7 +7,7 @@ ghost use Rattle.settle_core.specs.Masks.{IsDiff};
 ghost use Rattle.unseen_pairs.specs.Beginning.{AddsMoves, BeginsPlainly, IsPlainPawn, LandsAt, ListsFirst, TheirsLand};
 
 use chess_rules::{Kind, Move, Position, Side, Square, kind_on};
-use settle_core::codes::{BLACK_PAWN, WHITE_PAWN, is_owned, other};
+use settle_core::codes::{BLACK_PAWN, WHITE_PAWN, is_owned};
 use settle_core::masks::{diff_mask, first_square, without};
 use std::alloc::{AllocError, Global};
 
@@ -27,7 +27,7 @@ fn is_plain_pawn(p: &Position, seen: &[u8; 64], from: u8) -> bool
 fn lands_theirs(p: &Position, seen: &[u8; 64], mask: u64) -> bool
     ensures { IsTrue result → IsDiff mask (picture p.now) seen.now → TheirsLand p.now seen.now }
 {
-    let side = other(p.parts().side);
+    let side = p.parts().side.other();
     let mut rest = mask;
     while rest > 0 {
         let square = first_square(rest);

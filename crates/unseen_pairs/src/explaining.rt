@@ -14,16 +14,8 @@ use crate::beginning::first_plies;
 use crate::pair::TwoPlies;
 use crate::settled::settled_in;
 use chess_rules::{Move, Position, Side, kind_on};
-use settle_core::codes::other;
 use settle_core::masks::diff_mask;
 use std::alloc::{AllocError, Global};
-
-/// A copy, since a move by value is given away.
-fn copy(m: &Move) -> Move
-    ensures { result ≡ m.now }
-{
-    *m
-}
 
 /// Whether a piece of this side stands on the square and the picture shows something else there.
 fn loses_at(p: &Position, before: &[u8; 64], seen: &[u8; 64], side: Side, square: u8) -> bool
@@ -76,7 +68,7 @@ pub fn may_be_explained(p: &Position, seen: &[u8; 64]) -> bool
     if !loses(p, &before, seen, side) {
         return false;
     }
-    loses(p, &before, seen, other(side))
+    loses(p, &before, seen, side.other())
 }
 
 /// Whether the square that the move leaves is as it was: then no pair that explains the picture begins with this move.
@@ -104,12 +96,12 @@ fn push_pair_with(
     if stays(before, seen, first) {
         return Ok(());
     }
-    let middle = p.play(copy(first));
+    let middle = p.play(first.copy());
     let Some(second) = settled_in(&middle, seen) else {
         return Ok(());
     };
     pairs.push(TwoPlies {
-        first: copy(first),
+        first: first.copy(),
         second,
     })?;
     Ok(())

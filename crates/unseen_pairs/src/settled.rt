@@ -8,13 +8,6 @@ use chess_rules::{Move, Position};
 use settle_core::laws::candidate;
 use settle_core::masks::diff_mask;
 
-/// A copy, since a move by value is given away.
-fn copy(m: &Move) -> Move
-    ensures { result ≡ m.now }
-{
-    *m
-}
-
 /// Whether the picture settles this move.
 fn settles(p: &Position, seen: &[u8; 64], m: &Move) -> bool
     ensures { IsTrue result ↔ Settles p.now seen.now m.now }
@@ -22,7 +15,7 @@ fn settles(p: &Position, seen: &[u8; 64], m: &Move) -> bool
     // For its clause: the position is valid, and no other legal move gives the same picture.
     p.parts();
     pictures_tell_moves();
-    p.is_legal(copy(m)) && p.play(copy(m)).picture() == *seen
+    p.is_legal(m.copy()) && p.play(m.copy()).picture() == *seen
 }
 
 /// The one move that the squares may show on which the picture differs from the position's, if any.

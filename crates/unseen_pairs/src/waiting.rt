@@ -25,12 +25,6 @@ pub fn copy(reading: &Option<Reading>) -> Option<Reading>
     *reading
 }
 
-fn copy_move(m: &Move) -> Move
-    ensures { result ≡ m.now }
-{
-    *m
-}
-
 /// What `all_aged` returns, however many candidates there are: apart, since a picture seldom meets any.
 #[inline(never)]
 fn aged_each(alloc: Global, candidates: &[Candidate]) -> Result<Vec<Candidate>, AllocError>
@@ -69,13 +63,13 @@ fn candidate_of(
     requires second { Legal (after p.now two.now.first) two.now.second }
     ensures { IsNew corrects p.now reading.now two.now result }
 {
-    let middle = p.play(copy_move(&two.first));
-    let after = middle.play(copy_move(&two.second));
+    let middle = p.play(two.first.copy());
+    let after = middle.play(two.second.copy());
     Candidate {
         pair: Pair {
             corrects,
-            first: copy_move(&two.first),
-            second: copy_move(&two.second),
+            first: two.first.copy(),
+            second: two.second.copy(),
         },
         before: *p,
         middle,

@@ -4,7 +4,7 @@ use Rattle.chess_rules.proofs.rules.is_king_attacked.Goals as goal
 
 pub returns-then-is_king_of : goal.returns-then-is_king_of
 returns-then-is_king_of c =
-    let a = attacked_king _ _ _ _ c.other_side-attackers.ensures (c.is_king_of.ensures.0 c.if-is_king_of.true) c.requires in
+    let a = attacked_king _ _ _ _ c.other-attackers.ensures (c.is_king_of.ensures.0 c.if-is_king_of.true) c.requires in
     (λ t. a.0 (c.is_attacked.ensures.0 t), λ h. c.is_attacked.ensures.1 (a.1 h))
 
 pub returns : goal.returns
