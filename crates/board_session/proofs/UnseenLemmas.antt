@@ -11,7 +11,7 @@ use Rattle.dgt_frame.specs.declared.events.Event.{Event}
 use Rattle.settle_core.specs.declared.plies.Ply.{Ply}
 use Rattle.settle_core.specs.Entries.{Entry, repeats, deduplicated}
 use Rattle.settle_core.specs.Folding.{Folds, Score, moves_of, score_of}
-use Rattle.settle_core.specs.Laws.{HasAnotherLast as HasAnotherLastPly}
+use Rattle.settle_core.specs.Laws.{HasAnotherLastPly}
 use Rattle.settle_core.specs.Settling.{position_after, reached}
 use Rattle.settle_core.proofs.Lists.{position_in_order}
 use Rattle.settle_core.proofs.Skipping.{three_unseen_add_nothing as three_add_nothing, two_unseen_change_nothing}

@@ -1,7 +1,7 @@
 -- What a game contains.
-use Rattle.std.specs.Prelude.{◌≤◌, List, Option, All}
+use Rattle.std.specs.Prelude.{List, Option, All}
 use Rattle.std.specs.Option.{ForSome}
-use Rattle.chess_clock.specs.declared.Hms.{Hms}
+use Rattle.chess_clock.specs.Clock.{IsTime}
 use Rattle.chess_rules.specs.declared.parts.Parts.{Parts}
 use Rattle.chess_rules.specs.Valid.{Valid}
 use Rattle.settle_core.specs.declared.plies.Outcome.{Outcome}
@@ -21,10 +21,6 @@ pub record Content : Type 0 where
 -- The result of a line over which this sign stands: the winner at checkmate, a draw at stalemate, else the sign, if any.
 abbrev pub Result : Parts → List Ply → Option Outcome → Option Outcome → Type 0
 Result start plies sign result = IsResult (position_after start (moves_of plies)) sign result
-
--- a clock's time, 0:00:00 to 9:59:59
-abbrev pub IsTime : Hms → Type 0
-IsTime time = (time.hours ≤ 9) × (time.minutes ≤ 59) × (time.seconds ≤ 59)
 
 abbrev pub IsTimed : Ply → Type 0
 IsTimed ply = ForSome ply.clock IsTime

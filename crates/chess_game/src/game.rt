@@ -5,7 +5,8 @@ ghost use Rattle.chess_rules.specs.Board.{other};
 ghost use Rattle.settle_core.specs.Settling.{Line, position_after};
 ghost use Rattle.settle_core.specs.Folding.{moves_of};
 ghost use Rattle.settle_core.specs.GameResult.{IsResult, win_of};
-ghost use Rattle.chess_game.specs.Games.{IsGame, IsTime, IsTimed, Result};
+ghost use Rattle.chess_game.specs.Games.{IsGame, IsTimed, Result};
+ghost use Rattle.chess_clock.specs.Clock.{IsTime};
 
 use crate::tags::Tags;
 use crate::values::Tag;

@@ -18,7 +18,7 @@ use Rattle.replay_arguments.specs.Setups.{SetsUpNothing, tag_text}
 use Rattle.chess_text.specs.Start.{HasNoStart, StartsAt, given}
 use Rattle.replay_arguments.specs.TagOptions.{option_of}
 use Rattle.text_subcommands.specs.Checked.{RefusesPgn, text_limit, Checks}
-use Rattle.dgt_replay.specs.Does.{Does, Lists, Records, Recovers, WritesText}
+use Rattle.dgt_replay.specs.Does.{Does, Lists, Records, RecoversPairs, WritesText}
 use Rattle.text_subcommands.specs.Played.{Plays, RefusesMoves, line_limit}
 use Rattle.text_subcommands.specs.Printed.{Prints}
 use Rattle.text_subcommands.specs.Refusals.{Refuses, Untouched, RefusesStart}
@@ -75,7 +75,7 @@ records_memory setup status s lacks =
       memory = λ e. inr (lacks.untouched, lacks.says);
     }
 
-pub recovers_memory : (setting : Setting) (status : ℕ) (s : Streams) → LacksMemory status s → Recovers setting status s
+pub recovers_memory : (setting : Setting) (status : ℕ) (s : Streams) → LacksMemory status s → RecoversPairs setting status s
 recovers_memory setting status s lacks =
     let four : status ≡ 4 = lacks.four in
     record {
@@ -191,7 +191,7 @@ does_refuse_start arguments subcommand status s asked does rows asks none =
     ((does_as subcommand _ status s chosen.1 does).1 (subst HasNoStart (sym same) none))
 
 pub does_recover : (arguments : List Text) (subcommand : Subcommand) (status : ℕ) (s : Streams) → AsksFor arguments subcommand → Does subcommand status s
-    → (setting : Setting) → AsksToRecover arguments setting → Recovers setting status s
+    → (setting : Setting) → AsksToRecover arguments setting → RecoversPairs setting status s
 does_recover arguments subcommand status s asked does setting asks =
     let chosen = chooses_recover arguments setting subcommand asks asked in
     (does_as subcommand _ status s chosen.1 does).0 setting chosen.2

@@ -9,7 +9,7 @@ use Rattle.recovery.specs.declared.refusal.RecoverError.{RecoverError}
 use Rattle.recovery.specs.declared.refusal.RecoverError.TheVariants.{Read, Write, Lines, TooLong, Memory}
 use Rattle.recovery.specs.Status.{message_of, status_of}
 use Rattle.recovery.specs.Streams.{RecoversAll, RecoversFirst, RecoversFront, RecoversRead, RecoversSome}
-use Rattle.dgt_replay.specs.Does.{Recovers}
+use Rattle.dgt_replay.specs.Does.{RecoversPairs}
 use Rattle.text_subcommands.specs.Messages.{Says}
 use Rattle.text_subcommands.specs.Streams.{Streams}
 use Rattle.dgt_replay.proofs.EndLemmas.{not_both}
@@ -48,7 +48,7 @@ front_flushed setting input left written so_far after said told failed front kep
 
 -- The whole was given on.
 pub recover_done : (setting : Setting) (s : Streams) (so_far : Option (List ℕ)) → RecoversAll setting s.input s.written so_far s.said s.said' → Keeps so_far s.written'
-    → ReadsWithin limit s.input s.input' → s.reader_failed ≡ false → Recovers setting 0 s
+    → ReadsWithin limit s.input s.input' → s.reader_failed ≡ false → RecoversPairs setting 0 s
 recover_done setting s so_far all kept within reading = record {
   done = λ e. all_flushed setting s.input s.written so_far s.written' s.said s.said' all kept;
   long = λ e. absurd (omega arith);
@@ -77,7 +77,7 @@ front_stands setting s so_far told true front kept failed says silent =
 pub recover_broken : (setting : Setting) (status : ℕ) (s : Streams) (so_far told : Option (List ℕ)) (failed : Bool) → status ≡ 3
     → RecoversFront setting s.input s.input' s.written so_far s.said told failed → Keeps so_far s.written'
     → s.out_failed ≡ true → Says told s.said' s.err_failed (codes "write fault\n") → (failed ≡ true → (s.said' ≡ told) × (s.err_failed ≡ true))
-    → ReadsWithin limit s.input s.input' → (s.reader_failed ≡ true → RecoversRead setting s.input s.input' s.written so_far s.said told) → Recovers setting status s
+    → ReadsWithin limit s.input s.input' → (s.reader_failed ≡ true → RecoversRead setting s.input s.input' s.written so_far s.said told) → RecoversPairs setting status s
 recover_broken setting status s so_far told failed three front kept broken says silent within read = record {
   done = λ e. absurd (omega arith);
   long = λ e. absurd (omega arith);
@@ -94,7 +94,7 @@ pub recover_refused : (error : RecoverError) (setting : Setting) (status : ℕ) 
     → (error ≡ Read → s.reader_failed ≡ true) → (error ≡ Write → s.out_failed ≡ true) → (error ≡ Lines → failed ≡ true)
     → (error ≡ Read → RecoversRead setting s.input s.input' s.written so_far s.said told) → (error ≡ TooLong → RecoversFirst setting s.input s.written so_far s.said told)
     → (error ≡ Memory → RecoversSome setting s.input s.input' s.written so_far s.said told) → RecoversFront setting s.input s.input' s.written so_far s.said told failed
-    → ReadsWithin limit s.input s.input' → (s.reader_failed ≡ true → error ≡ Read) → Recovers setting status s
+    → ReadsWithin limit s.input s.input' → (s.reader_failed ≡ true → error ≡ Read) → RecoversPairs setting status s
 recover_refused Read setting status s message so_far told failed is are says silent kept reading working telling read first some front within blamed = record {
   done = λ e. absurd (omega arith);
   long = λ e. absurd (omega arith);

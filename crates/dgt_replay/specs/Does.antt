@@ -53,7 +53,7 @@ abbrev pub TellsAfter : (Option (List ℕ) → Type 0) → Streams → List ℕ 
 TellsAfter Stood s message = (told : Option (List ℕ)) × Stood told × Says told s.said' s.err_failed message
 
 -- A stream was given on, with the pairs put in that no picture showed, and their lines were told; what ended it is said after them.
-pub record Recovers (setting : Setting) (status : ℕ) (s : Streams) : Type 0 where
+pub record RecoversPairs (setting : Setting) (status : ℕ) (s : Streams) : Type 0 where
   -- the whole of it
   pub done : status ≡ 0 → RecoversAll setting s.input s.written s.written' s.said s.said'
   -- the stream is past its limit, and what is within it was given on
@@ -78,7 +78,7 @@ Does (Record options) status s = ((setup : Setup) → Meets options setup → Re
     × (MeetsNothing options → Refuses (RefusesSetup (given options.board.fen) (tag_text options)) status s)
 Does (Follow options) status s = ((setting : Setting) → MeetsBoard options setting → Lists (Game setting.start setting.first setting.rotated) status s)
     × (HasNoStart (given options.fen) → Refuses (RefusesStart (given options.fen)) status s)
-Does (Recover options) status s = ((setting : Setting) → MeetsBoard options setting → Recovers setting status s)
+Does (Recover options) status s = ((setting : Setting) → MeetsBoard options setting → RecoversPairs setting status s)
     × (HasNoStart (given options.fen) → Refuses (RefusesStart (given options.fen)) status s)
 Does Check status s = Checks status s
 Does (Moves fen) status s = Prints (given fen) status s

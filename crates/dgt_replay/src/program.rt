@@ -17,7 +17,7 @@ ghost use Rattle.replay_arguments.specs.Setups.{MeetsBoard, SetsUpNothing};
 ghost use Rattle.chess_text.specs.Start.{HasNoStart, StartsAt, given};
 ghost use Rattle.replay_arguments.specs.TagOptions.{option_of};
 ghost use Rattle.text_subcommands.specs.Checked.{Checks};
-ghost use Rattle.dgt_replay.specs.Does.{Does, Lists, Records, Recovers, WritesText};
+ghost use Rattle.dgt_replay.specs.Does.{Does, Lists, Records, RecoversPairs, WritesText};
 ghost use Rattle.text_subcommands.specs.Played.{Plays};
 ghost use Rattle.text_subcommands.specs.Printed.{Prints};
 ghost use Rattle.text_subcommands.specs.Refusals.{Refuses, RefusesStart};
@@ -219,7 +219,7 @@ pub fn run<R: Read, O: Write, E: Write>(
 
     // `recover` with any options: the bytes with what is put in, and its lines, from the start that they say. Where no
     // position has the FEN, the reason is said.
-    ensures recover { (setting : Setting) → AsksToRecover (map string_bytes arguments.now) setting → Recovers setting result
+    ensures recover { (setting : Setting) → AsksToRecover (map string_bytes arguments.now) setting → RecoversPairs setting result
         (streams R.remaining O.contents E.contents reader.old reader.new out.old out.new err.old err.new) }
     ensures recover_refuses { (rows : List Row) → Asks (map string_bytes arguments.now) (codes "recover") rows → HasNoStart (first_of (codes "fen") rows)
         → Refuses (RefusesStart (first_of (codes "fen") rows)) result

@@ -2,7 +2,7 @@
 ghost use Rattle.std.specs.Prelude.{◌≡◌, ◌≢◌, ◌≤◌, false, true};
 ghost use Rattle.board_events.specs.Settings.{Setting};
 ghost use Rattle.watched_streams.specs.Watch.{IsFlushed, inner_of, has_failed};
-ghost use Rattle.dgt_replay.specs.Does.{Recovers};
+ghost use Rattle.dgt_replay.specs.Does.{RecoversPairs};
 ghost use Rattle.text_subcommands.specs.Refusals.{Refuses, RefusesStart};
 ghost use Rattle.text_subcommands.specs.Streams.{streams};
 ghost use Rattle.replay_arguments.specs.Setups.{MeetsBoard};
@@ -29,7 +29,7 @@ fn recover_from<R: Read, O: Write, E: Write>(
     requires reading { has_failed reader.old ≡ false }
     requires working { has_failed out.old ≡ false }
     requires erring { has_failed err.old ≡ false }
-    ensures recovers { Recovers (record { start = start; first = options.now.first; rotated = options.now.rotated }) result
+    ensures recovers { RecoversPairs (record { start = start; first = options.now.first; rotated = options.now.rotated }) result
         (streams R.remaining O.contents E.contents reader.old reader.new out.old out.new err.old err.new) }
     ensures works { result ≡ 0 → (has_failed reader.new ≡ false) × ((has_failed out.new ≡ false) × (has_failed err.new ≡ false)) }
     ensures reader_blamed { has_failed reader.new ≡ true → result ≡ 3 }
@@ -69,7 +69,7 @@ pub fn recover<R: Read, O: Write, E: Write>(
     requires reading { has_failed reader.old ≡ false }
     requires working { has_failed out.old ≡ false }
     requires erring { has_failed err.old ≡ false }
-    ensures recovers { (setting : Setting) → MeetsBoard options.now setting → Recovers setting result
+    ensures recovers { (setting : Setting) → MeetsBoard options.now setting → RecoversPairs setting result
         (streams R.remaining O.contents E.contents reader.old reader.new out.old out.new err.old err.new) }
     ensures refuses { HasNoStart (given options.now.fen) → Refuses (RefusesStart (given options.now.fen)) result
         (streams R.remaining O.contents E.contents reader.old reader.new out.old out.new err.old err.new) }

@@ -8,7 +8,7 @@ use Rattle.dgt_frame.specs.declared.events.Event.TheVariants.{Message as Message
 use Rattle.dgt_frame.specs.declared.First.{First}
 use Rattle.dgt_frame.specs.declared.First.TheVariants.{White, Black}
 use Rattle.chess_clock.specs.declared.Reading.{Reading}
-use Rattle.chess_clock.specs.Clock.{Clock}
+use Rattle.chess_clock.specs.Clock.{Clock, IsTime}
 use Rattle.dgt_frame.specs.Times.{are_digits, group, number_of, tens, units}
 use Rattle.chess_rules.specs.Picture.{picture}
 use Rattle.settle_core.specs.Entries.{Entry, entry_of}
@@ -16,7 +16,7 @@ use Rattle.board_events.specs.Entries.{entries}
 use Rattle.board_events.specs.History.{decides, is_trusted, picture_of, reading_at, reading_said}
 use Rattle.board_events.proofs.PictureLemmas.{plain_dump, rotated_dump}
 use Rattle.pair_frames.specs.PutIn.{digits, dump_of, group_of, put_in, time_put_in, times_of}
-use Rattle.pair_frames.specs.Laws.{IsRead, IsTime, PutInIsRead}
+use Rattle.pair_frames.specs.Laws.{IsRead, PutInIsRead}
 
 -- two digits, read back
 tens_back : (n : ℕ) → n ≤ 59 → tens (digits n) ≡ n / 10
@@ -44,22 +44,22 @@ no_acknowledgement n h = ne_eqb (units n) 10 (λ e. omega (arith, hours_back n h
 is_group_back : (clock : Clock) → IsTime clock
     → (nat_lt (units clock.hours) 10 && are_digits (digits clock.minutes) && are_digits (digits clock.seconds)) ≡ true
 is_group_back clock h =
-    let low : units clock.hours < 10 = omega arith in
-    rw (lt-ltb (units clock.hours) 10 low, digits_good clock.minutes h.minutes, digits_good clock.seconds h.seconds) refl
+    let low : units clock.hours < 10 = omega (arith, h.0) in
+    rw (lt-ltb (units clock.hours) 10 low, digits_good clock.minutes h.1, digits_good clock.seconds h.2) refl
 
 abbrev clock_of : ℕ → ℕ → ℕ → Clock
 clock_of a b c = record { hours = a; minutes = b; seconds = c }
 
 clock_back : (clock : Clock) → IsTime clock
     → clock_of (units clock.hours) (number_of (digits clock.minutes)) (number_of (digits clock.seconds)) ≡ clock
-clock_back clock h = rw (hours_back clock.hours h.hours, number_back clock.minutes h.minutes, number_back clock.seconds h.seconds) refl
+clock_back clock h = rw (hours_back clock.hours h.0, number_back clock.minutes h.1, number_back clock.seconds h.2) refl
 
 abbrev two : Clock → Clock → List ℕ
 two a b = group_of a ++ group_of b ++ 0 ∷ []
 
 decides_two : (a b : Clock) → IsTime a → IsTime b → decides (two a b) ≡ true
 decides_two a b h k =
-    rw (no_acknowledgement a.hours h.hours, no_acknowledgement b.hours k.hours, is_group_back a h, is_group_back b k) refl
+    rw (no_acknowledgement a.hours h.0, no_acknowledgement b.hours k.0, is_group_back a h, is_group_back b k) refl
 
 first_back : (a b : Clock) → IsTime a → group (two a b) 0 ≡ a
 first_back a b h = clock_back a h

@@ -4,7 +4,7 @@ use Rattle.dgt_frame.specs.declared.events.Event.{Event}
 use Rattle.dgt_frame.specs.declared.events.Event.TheVariants.{Message as MessageEvent, Fault}
 use Rattle.dgt_frame.specs.declared.First.{First}
 use Rattle.chess_clock.specs.declared.Reading.{Reading}
-use Rattle.chess_clock.specs.Clock.{Clock}
+use Rattle.chess_clock.specs.Clock.{IsTime}
 use Rattle.dgt_frame.specs.Restarts.{moved_on}
 use Rattle.dgt_frame.specs.Streams.{Shows, Timed}
 use Rattle.chess_rules.specs.Picture.{picture}
@@ -33,12 +33,6 @@ FramesArePutIn = (front frames back : List ℕ) (events middle others : List Tim
     → EndsWhole (past_of events) → Shows front events 0 → EndsWhole (past_of middle) → Shows frames middle 0 → Shows back others rest
     → Shows (front ++ frames ++ back)
     (events ++ moved_on (length front) middle ++ moved_on (length front + length frames) others) rest
-
--- a time that a clock can show
-pub record IsTime (clock : Clock) : Type 0 where
-  pub hours : clock.hours ≤ 9
-  pub minutes : clock.minutes ≤ 59
-  pub seconds : clock.seconds ≤ 59
 
 abbrev pub IsRead : Option Reading → Type 0
 IsRead None = ⊤

@@ -8,7 +8,7 @@ ghost use Rattle.dgt_frame.specs.Frames.{Frame, IsCode, IsLow};
 ghost use Rattle.settle_core.specs.Entries.{entry_of};
 ghost use Rattle.board_events.specs.History.{reading_at, fields_of};
 ghost use Rattle.pair_frames.specs.PutIn.{ShowsWhole, digits, dump_of, group_of, put_in, time_put_in, times_of};
-ghost use Rattle.pair_frames.specs.Laws.{IsRead, IsReadBehind, IsTime};
+ghost use Rattle.pair_frames.specs.Laws.{IsRead, IsReadBehind};
 
 use arrayvec::ArrayVec;
 use chess_clock::Reading;

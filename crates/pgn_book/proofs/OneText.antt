@@ -20,7 +20,7 @@ use Rattle.chess_game.specs.Values.{TagValues}
 use Rattle.chess_game.specs.Games.{Content, IsGame}
 use Rattle.pgn_book.specs.Movetext.{ShownMove, AreShown}
 use Rattle.pgn_book.specs.Pgn.{Pgn, IsSetUp, at_initial, elsewhere}
-use Rattle.pgn_book.specs.Parse.{Turn, IsTurn, AreTurns, StartsAt, Parses, fen_at, set_up_part, moves_part, words, turns_at}
+use Rattle.pgn_book.specs.Parse.{Turn, IsTurn, AreTurns, HasStart, Parses, fen_at, set_up_part, moves_part, words, turns_at}
 use Rattle.pgn_book.proofs.Export.{pieces, pgn_is_pieces}
 use Rattle.pgn_book.proofs.TagsRead.{one_list}
 
@@ -76,7 +76,7 @@ one_line tell p (a ∷ xs_) (b ∷ bs) (turn ∷ turns) v h k =
     let rest = subst (λ (x : Ply). AreTurns (after p x.mv) bs turns) (sym first) k.1 in
     ap (λ (x : Ply). x ∷ xs_) first ∙ ap (λ (xs : List Ply). b ∷ xs) (one_line tell (after p a.mv) xs_ bs turns (valid_after p a.mv v h.0.legal) h.1 rest)
 
-one_start : TextsTellPositions → (p q : Parts) (set_up : Option (List ℕ)) → Valid p → Valid q → StartsAt p set_up → StartsAt q set_up → p ≡ q
+one_start : TextsTellPositions → (p q : Parts) (set_up : Option (List ℕ)) → Valid p → Valid q → HasStart p set_up → HasStart q set_up → p ≡ q
 one_start tell p q None v w h k = h ∙ sym k
 one_start tell p q (Some text) v w h k = tell p q text v w (whole h) (whole k)
 

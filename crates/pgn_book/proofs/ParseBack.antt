@@ -21,7 +21,7 @@ use Rattle.chess_game.specs.Games.{Content, IsTimed}
 use Rattle.pgn_book.specs.Movetext.{ShownMove, AreShown, result_text, game_tokens}
 use Rattle.pgn_book.specs.Pgn.{Pgn, IsSetUp, at_initial, elsewhere, escape, escaped, tag_line, tag_lines, roster}
 use Rattle.pgn_book.specs.Flow.{flow}
-use Rattle.pgn_book.specs.Parse.{Turn, AreTurns, StartsAt, Parses, words, turns_at, value_at, after_value, result_at, HaveValues, behind_lines, value_part, next_part, next_line, result_part, set_up_part, has_fen, fen_part, fen_at, moves_part}
+use Rattle.pgn_book.specs.Parse.{Turn, AreTurns, HasStart, Parses, words, turns_at, value_at, after_value, result_at, HaveValues, behind_lines, value_part, next_part, next_line, result_part, set_up_part, has_fen, fen_part, fen_at, moves_part}
 use Rattle.pgn_book.proofs.Export.{pgn_is_pieces}
 use Rattle.pgn_book.proofs.Tokens.{moves_fit, game_fits}
 use Rattle.pgn_book.proofs.WordLemmas.{turn_of, movetext_back}
@@ -120,13 +120,13 @@ roster_back values result more text e =
 
 -- what the set-up part holds
 record HasSetUp (bytes : List ℕ) (start : Parts) (moves : List ℕ) : Type 0 where
-  starts : StartsAt start (fen_at bytes)
+  starts : HasStart start (fen_at bytes)
   has_moves : moves_part bytes ≡ moves
 
-starts_with : (bytes : List ℕ) (start : Parts) (e : has_fen bytes ≡ true) → fen start ≡ value_at false (fen_part bytes) → StartsAt start (fen_at bytes)
+starts_with : (bytes : List ℕ) (start : Parts) (e : has_fen bytes ≡ true) → fen start ≡ value_at false (fen_part bytes) → HasStart start (fen_at bytes)
 starts_with bytes start e h = rw e (sym h)
 
-starts_without : (bytes : List ℕ) (start : Parts) (e : has_fen bytes ≡ false) → start ≡ initial → StartsAt start (fen_at bytes)
+starts_without : (bytes : List ℕ) (start : Parts) (e : has_fen bytes ≡ false) → start ≡ initial → HasStart start (fen_at bytes)
 starts_without bytes start e h = rw e h
 
 set_up_back : (start : Parts) (set_up moves bytes : List ℕ) → IsSetUp start set_up → bytes ≡ set_up ++ (10 ∷ [] ++ moves) → HasSetUp bytes start moves

@@ -5,20 +5,20 @@ use Rattle.std.proofs.KnownBytes.{Appends-trans, Appends-nil, Keeps-trans, Keeps
 use Rattle.std.proofs.lemmas.List.{take-append-le}
 use Rattle.std.proofs.Math.Seq.{take-append-add}
 use Rattle.pgn_book.specs.declared.place.Place.{Place}
-use Rattle.pgn_book.specs.Flow.{flow, column_after, Stands, Stops, AddsFrom, Adds, Writes}
+use Rattle.pgn_book.specs.Flow.{flow, column_after, HasAdded, Stops, AddsFrom, Adds, Writes}
 use Rattle.pgn_book.proofs.Flowing.{flow-append, column_after-append}
 
-pub Stands-then : (a b c : Option (List ℕ)) (x y z : ℕ) (s t : List ℕ) → Stands a b x s y → Stands b c y t z → Stands a c x (s ++ t) z
-Stands-then a b c x y z s t h k =
+pub HasAdded-then : (a b c : Option (List ℕ)) (x y z : ℕ) (s t : List ℕ) → HasAdded a b x s y → HasAdded b c y t z → HasAdded a c x (s ++ t) z
+HasAdded-then a b c x y z s t h k =
     record { bytes = Appends-trans a b c s t h.bytes k.bytes; count = omega (arith, h.count, k.count, length-append s t) }
 
 pub Stops-more : (a b : Option (List ℕ)) (x z : ℕ) (s t : List ℕ) → Stops a b x s z → Stops a b x (s ++ t) z
 Stops-more a b x z s t h =
-    (h.0, omega (arith, h.1, length-append s t), subst (λ (u : List ℕ). Stands a b x u z) (sym (take-append-le h.0 s t (omega (arith, h.1)))) h.2)
+    (h.0, omega (arith, h.1, length-append s t), subst (λ (u : List ℕ). HasAdded a b x u z) (sym (take-append-le h.0 s t (omega (arith, h.1)))) h.2)
 
-pub Stops-after : (a b c : Option (List ℕ)) (x y z : ℕ) (s t : List ℕ) → Stands a b x s y → Stops b c y t z → Stops a c x (s ++ t) z
+pub Stops-after : (a b c : Option (List ℕ)) (x y z : ℕ) (s t : List ℕ) → HasAdded a b x s y → Stops b c y t z → Stops a c x (s ++ t) z
 Stops-after a b c x y z s t h k =
-    (length s + k.0, omega (arith, k.1, length-append s t), rw (take-append-add s t k.0) (Stands-then a b c x y z s (take k.0 t) h k.2))
+    (length s + k.0, omega (arith, k.1, length-append s t), rw (take-append-add s t k.0) (HasAdded-then a b c x y z s (take k.0 t) h k.2))
 
 -- ---- with the flag
 
@@ -37,7 +37,7 @@ AddsFrom-then a b c false x true y true z s t p q =
     (m.0, m.1, record { bytes = Appends-kept a b c (take m.0 (s ++ t)) m.2.bytes q.0; count = q.2 ∙ m.2.count })
 AddsFrom-then a b c false x true y false z s t p q = absurd cc
 AddsFrom-then a b c false x false y true z s t p q = Stops-after a b c x y z s t p q
-AddsFrom-then a b c false x false y false z s t p q = Stands-then a b c x y z s t p q
+AddsFrom-then a b c false x false y false z s t p q = HasAdded-then a b c x y z s t p q
 
 pub Adds-then : (a b c : Option (List ℕ)) (f g h : Bool) (p q r : Place) (s t : List ℕ) → Adds a b f g p q s → Adds b c g h q r t → Adds a c f h p r (s ++ t)
 Adds-then a b c f g h p q r s t x y = AddsFrom-then a b c f p.written g q.written h r.written s t x y

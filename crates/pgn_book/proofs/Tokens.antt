@@ -24,7 +24,8 @@ use Rattle.settle_core.specs.declared.plies.Outcome.TheVariants.{WhiteWins, Blac
 use Rattle.settle_core.specs.declared.plies.Ply.{Ply}
 use Rattle.settle_core.specs.Settling.{Line}
 use Rattle.settle_core.specs.Folding.{moves_of}
-use Rattle.chess_game.specs.Games.{IsTime, IsTimed}
+use Rattle.chess_clock.specs.Clock.{IsTime}
+use Rattle.chess_game.specs.Games.{IsTimed}
 use Rattle.pgn_book.specs.Lines.{IsToken}
 use Rattle.pgn_book.specs.Movetext.{ShownMove, AreShown, number_token, number_tokens, clock_tokens, move_tokens, tokens_of, result_text, game_tokens}
 

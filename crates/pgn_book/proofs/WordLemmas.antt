@@ -16,7 +16,7 @@ use Rattle.chess_rules.specs.declared.pieces.Side.TheVariants.{White, Black}
 use Rattle.chess_text.specs.Laws.{IsSanByte, IsSanText}
 use Rattle.settle_core.specs.declared.plies.Outcome.{Outcome}
 use Rattle.settle_core.specs.declared.plies.Outcome.TheVariants.{WhiteWins, BlackWins, Drawn}
-use Rattle.chess_game.specs.Games.{IsTime}
+use Rattle.chess_clock.specs.Clock.{IsTime}
 use Rattle.pgn_book.specs.Lines.{IsToken}
 use Rattle.pgn_book.specs.Flow.{piece, column, flow}
 use Rattle.pgn_book.specs.Movetext.{ShownMove, number_token, number_tokens, clock_text, clock_tokens, two_digits, tokens_of, result_text, game_tokens}

@@ -20,19 +20,19 @@ column_after col [] = col
 column_after col (t ∷ ts) = column_after (column col t) ts
 
 -- a text came whole behind the known bytes, and base + its length is total, which stops at 2^64 - 1
-pub record Stands (old new : Option (List ℕ)) (base : ℕ) (text : List ℕ) (total : ℕ) : Type 0 where
+pub record HasAdded (old new : Option (List ℕ)) (base : ℕ) (text : List ℕ) (total : ℕ) : Type 0 where
   pub bytes : Appends old new text
   pub count : total ≡ min (base + length text) (2 ^ 64 - 1)
 
 -- only a front of it came
 abbrev pub Stops : Option (List ℕ) → Option (List ℕ) → ℕ → List ℕ → ℕ → Type 0
-Stops old new base text total = (n : ℕ) × (n < length text) × Stands old new base (take n text) total
+Stops old new base text total = (n : ℕ) × (n < length text) × HasAdded old new base (take n text) total
 
 -- a text was written, unless the stream failed before it or in it
 abbrev pub AddsFrom : Option (List ℕ) → Option (List ℕ) → Bool → ℕ → Bool → ℕ → List ℕ → Type 0
 AddsFrom old new true base failed total text = Keeps old new × (failed ≡ true) × (total ≡ base)
 AddsFrom old new false base true total text = Stops old new base text total
-AddsFrom old new false base false total text = Stands old new base text total
+AddsFrom old new false base false total text = HasAdded old new base text total
 
 abbrev pub Adds : Option (List ℕ) → Option (List ℕ) → Bool → Bool → Place → Place → List ℕ → Type 0
 Adds old new failed failed' from to text = AddsFrom old new failed from.written failed' to.written text

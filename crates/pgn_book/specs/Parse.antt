@@ -159,13 +159,13 @@ pub record TakesTurn (p next : Parts) (old new : List Ply) (turn : Turn) : Type 
   pub only : (other : Ply) → IsTurn p other turn → other ≡ ply
 
 -- The start of this FEN, or the initial position.
-abbrev pub StartsAt : Parts → Option (List ℕ) → Type 0
-StartsAt start None = start ≡ initial
-StartsAt start (Some text) = text ≡ fen start
+abbrev pub HasStart : Parts → Option (List ℕ) → Type 0
+HasStart start None = start ≡ initial
+HasStart start (Some text) = text ≡ fen start
 
 -- The text would be that of this game.
 pub record Parses (game : Content) (text : List ℕ) : Type 0 where
   pub tags : HaveValues all_tags game.tags text
-  pub start : StartsAt game.start (fen_at (set_up_part text))
+  pub start : HasStart game.start (fen_at (set_up_part text))
   pub plies : AreTurns game.start game.plies (turns_at (words (moves_part (set_up_part text))))
   pub result : game.result ≡ result_at (result_part text)

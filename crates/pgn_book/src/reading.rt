@@ -10,7 +10,7 @@ ghost use Rattle.chess_game.specs.TagNames.{all_tags};
 ghost use Rattle.chess_game.specs.Values.{TagValues, AreValues, IsValue, with_value};
 ghost use Rattle.chess_game.specs.Games.{Content, IsGame};
 ghost use Rattle.pgn_book.specs.Pgn.{Pgn};
-ghost use Rattle.pgn_book.specs.Parse.{IsTurn, AreTurns, TakesTurn, StartsAt, Parses, HaveValues, words, words_behind, turns_at, clock_at, value_at, fen_at};
+ghost use Rattle.pgn_book.specs.Parse.{IsTurn, AreTurns, TakesTurn, HasStart, Parses, HaveValues, words, words_behind, turns_at, clock_at, value_at, fen_at};
 
 use crate::sections::{
     behind_tags, fen_of, has_fen, moves_of, next_line, read_result, read_value, value_of,
@@ -104,7 +104,7 @@ fn read_plies(alloc: Global, start: &Position, bytes: &[u8]) -> Result<Vec<Ply>,
 
 /// The start where a set-up part stands.
 fn read_start(set_up: &[u8]) -> Option<Position>
-    ensures { (start : PartsOf) → Valid start → StartsAt start (fen_at set_up.now) → result ≡ Some start }
+    ensures { (start : PartsOf) → Valid start → HasStart start (fen_at set_up.now) → result ≡ Some start }
 {
     // For its clause: a FEN has no quotation mark and no backslash.
     fens_are_plain();

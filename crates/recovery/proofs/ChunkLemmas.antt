@@ -8,7 +8,7 @@ use Rattle.recovery.specs.declared.keeper.Keeper.{Keeper}
 use Rattle.recovery.specs.declared.refusal.RecoverError.{RecoverError}
 use Rattle.recovery.specs.declared.refusal.RecoverError.TheVariants.{Read, Write, Lines, TooLong, Memory}
 use Rattle.recovery.specs.Passing.{Passes}
-use Rattle.recovery.specs.Progress.{BreaksOff, Concludes, GivesOn, IsPutIn, PutsPart}
+use Rattle.recovery.specs.Progress.{BreaksOff, Concludes, PassesOn, IsPutIn, PutsPart}
 use Rattle.recovery.proofs.GiveLemmas.{breaks_memory, breaks_pair, breaks_write, gives_more, gives_pair, gives_sent}
 
 -- the bytes of the chunk that were taken and not sent
@@ -35,13 +35,13 @@ offset_of start taken chunk inside = ap (λ n. start + n) (sym (length-take-le t
 -- an event came, and nothing was put in
 pub event_passed : (old now new : Decoder) (keeper k k' : Keeper) (start taken more sent : ℕ) (chunk frames line : List ℕ) (written written' said said' : Option (List ℕ))
     → sent ≤ taken → taken ≤ length chunk → length line ≡ 0 → IsPutIn frames line → Passes now k (start + taken) (take more (drop taken chunk)) new k' frames line
-    → GivesOn old keeper start (take taken chunk) now k (waiting sent taken chunk) written written' said said'
-    → GivesOn old keeper start (take (taken + more) chunk) new k' (waiting sent (taken + more) chunk) written written' said said'
+    → PassesOn old keeper start (take taken chunk) now k (waiting sent taken chunk) written written' said said'
+    → PassesOn old keeper start (take (taken + more) chunk) new k' (waiting sent (taken + more) chunk) written written' said said'
 event_passed old now new keeper k k' start taken more sent chunk frames line written written' said said' low inside empty put passes part =
     let none = none_put_in frames line put empty in
     let P : List ℕ → List ℕ → Type 0 = λ fs l. Passes now k (start + taken) (take more (drop taken chunk)) new k' fs l in
     let passes' : P [] [] = subst (P []) none.1 (subst (λ fs. P fs line) none.0 passes) in
-    let G : List ℕ → List ℕ → Type 0 = λ bs ws. GivesOn old keeper start bs new k' ws written written' said said' in
+    let G : List ℕ → List ℕ → Type 0 = λ bs ws. PassesOn old keeper start bs new k' ws written written' said said' in
     let here = gives_more old now new keeper k k' start (start + taken) (take taken chunk) (take more (drop taken chunk)) (waiting sent taken chunk) written written' said said'
     (offset_of start taken chunk inside) passes' part in
     subst (λ bs. G bs (waiting sent (taken + more) chunk)) (sym (take-add taken more chunk)) (subst (G (take taken chunk ++ take more (drop taken chunk))) (sym (waiting_more sent taken more chunk low)) here)
@@ -50,12 +50,12 @@ event_passed old now new keeper k k' start taken more sent chunk frames line wri
 pub event_put : (old now new : Decoder) (keeper k k' : Keeper) (start taken more sent : ℕ) (chunk frames line : List ℕ) (written written' after said said' told : Option (List ℕ))
     → sent ≤ taken → taken ≤ length chunk → Passes now k (start + taken) (take more (drop taken chunk)) new k' frames line
     → Appends written' after (waiting sent (taken + more) chunk ++ frames) → Appends said' told line
-    → GivesOn old keeper start (take taken chunk) now k (waiting sent taken chunk) written written' said said'
-    → GivesOn old keeper start (take (taken + more) chunk) new k' (waiting (taken + more) (taken + more) chunk) written after said told
+    → PassesOn old keeper start (take taken chunk) now k (waiting sent taken chunk) written written' said said'
+    → PassesOn old keeper start (take (taken + more) chunk) new k' (waiting (taken + more) (taken + more) chunk) written after said told
 event_put old now new keeper k k' start taken more sent chunk frames line written written' after said said' told low inside passes sends tells part =
     let sends' : Appends written' after ((waiting sent taken chunk ++ take more (drop taken chunk)) ++ frames) =
     subst (λ ws. Appends written' after (ws ++ frames)) (waiting_more sent taken more chunk low) sends in
-    let G : List ℕ → List ℕ → Type 0 = λ bs ws. GivesOn old keeper start bs new k' ws written after said told in
+    let G : List ℕ → List ℕ → Type 0 = λ bs ws. PassesOn old keeper start bs new k' ws written after said told in
     let here = gives_pair old now new keeper k k' start (start + taken) (take taken chunk) (take more (drop taken chunk)) (waiting sent taken chunk) frames line written written' after said said' told
     (offset_of start taken chunk inside) passes sends' tells part in
     subst (λ bs. G bs (waiting (taken + more) (taken + more) chunk)) (sym (take-add taken more chunk)) (subst (G (take taken chunk ++ take more (drop taken chunk))) (sym (none_waits (taken + more) chunk)) here)
@@ -63,30 +63,30 @@ event_put old now new keeper k k' start taken more sent chunk frames line writte
 -- no event came any more
 whole_waits : (old now new : Decoder) (keeper k k' : Keeper) (start taken sent : ℕ) (chunk : List ℕ) (written written' said said' : Option (List ℕ))
     → sent ≤ taken → taken ≤ length chunk → Passes now k (start + taken) (drop taken chunk) new k' [] []
-    → GivesOn old keeper start (take taken chunk) now k (waiting sent taken chunk) written written' said said'
-    → GivesOn old keeper start chunk new k' (drop sent chunk) written written' said said'
+    → PassesOn old keeper start (take taken chunk) now k (waiting sent taken chunk) written written' said said'
+    → PassesOn old keeper start chunk new k' (drop sent chunk) written written' said said'
 whole_waits old now new keeper k k' start taken sent chunk written written' said said' low inside passes part =
     let all : take (length chunk - taken) (drop taken chunk) ≡ drop taken chunk = take_all (length chunk - taken) (drop taken chunk) (omega (arith, length-drop taken chunk)) in
     let sum : taken + (length chunk - taken) ≡ length chunk = omega arith in
     let rest : waiting sent taken chunk ++ drop taken chunk ≡ drop sent chunk =
     ap (λ xs. waiting sent taken chunk ++ xs) (sym all) ∙ sym (waiting_more sent taken (length chunk - taken) chunk low) ∙ ap (λ n. take (n - sent) (drop sent chunk)) sum
     ∙ take_all (length chunk - sent) (drop sent chunk) (omega (arith, length-drop sent chunk)) in
-    let G : List ℕ → List ℕ → Type 0 = λ bs ws. GivesOn old keeper start bs new k' ws written written' said said' in
+    let G : List ℕ → List ℕ → Type 0 = λ bs ws. PassesOn old keeper start bs new k' ws written written' said said' in
     let here = gives_more old now new keeper k k' start (start + taken) (take taken chunk) (drop taken chunk) (waiting sent taken chunk) written written' said said'
     (offset_of start taken chunk inside) passes part in
     subst (λ bs. G bs (drop sent chunk)) (take-append-drop taken chunk) (subst (G (take taken chunk ++ drop taken chunk)) rest here)
 
 pub chunk_sent : (old now new : Decoder) (keeper k k' : Keeper) (start taken sent : ℕ) (chunk : List ℕ) (written written' after said said' : Option (List ℕ))
     → sent ≤ taken → taken ≤ length chunk → Passes now k (start + taken) (drop taken chunk) new k' [] [] → Appends written' after (drop sent chunk)
-    → GivesOn old keeper start (take taken chunk) now k (waiting sent taken chunk) written written' said said'
-    → GivesOn old keeper start chunk new k' [] written after said said'
+    → PassesOn old keeper start (take taken chunk) now k (waiting sent taken chunk) written written' said said'
+    → PassesOn old keeper start chunk new k' [] written after said said'
 chunk_sent old now new keeper k k' start taken sent chunk written written' after said said' low inside passes sends part =
     gives_sent old new keeper k' start chunk (drop sent chunk) written written' after said said' sends
     (whole_waits old now new keeper k k' start taken sent chunk written written' said said' low inside passes part)
 
 pub chunk_broken : (old now new : Decoder) (keeper k k' : Keeper) (start taken sent : ℕ) (chunk : List ℕ) (written written' after said said' : Option (List ℕ))
     → sent ≤ taken → taken ≤ length chunk → Passes now k (start + taken) (drop taken chunk) new k' [] [] → Concludes new k' → AppendsPart written' after (drop sent chunk)
-    → GivesOn old keeper start (take taken chunk) now k (waiting sent taken chunk) written written' said said'
+    → PassesOn old keeper start (take taken chunk) now k (waiting sent taken chunk) written written' said said'
     → BreaksOff Write old keeper start chunk written after said said'
 chunk_broken old now new keeper k k' start taken sent chunk written written' after said said' low inside passes concludes part_sent part =
     breaks_write old new keeper k' start chunk chunk [] (drop sent chunk) written written' after said said' (sym (append-nil chunk)) concludes part_sent
@@ -94,13 +94,13 @@ chunk_broken old now new keeper k k' start taken sent chunk written written' aft
 
 -- Memory ran out at the next event.
 pub memory_broken : (old now : Decoder) (keeper k : Keeper) (start taken sent : ℕ) (chunk : List ℕ) (written written' after said said' : Option (List ℕ))
-    → Concludes now k → Appends written' after (waiting sent taken chunk) → GivesOn old keeper start (take taken chunk) now k (waiting sent taken chunk) written written' said said'
+    → Concludes now k → Appends written' after (waiting sent taken chunk) → PassesOn old keeper start (take taken chunk) now k (waiting sent taken chunk) written written' said said'
     → BreaksOff Memory old keeper start chunk written after said said'
 memory_broken old now keeper k start taken sent chunk written written' after said said' concludes sends part =
     breaks_memory old now keeper k start chunk (take taken chunk) (drop taken chunk) (waiting sent taken chunk) written written' after said said' (sym (take-append-drop taken chunk)) concludes sends part
 
 pub both_broken : (old now : Decoder) (keeper k : Keeper) (start taken sent : ℕ) (chunk : List ℕ) (written written' after said said' : Option (List ℕ))
-    → Concludes now k → AppendsPart written' after (waiting sent taken chunk) → GivesOn old keeper start (take taken chunk) now k (waiting sent taken chunk) written written' said said'
+    → Concludes now k → AppendsPart written' after (waiting sent taken chunk) → PassesOn old keeper start (take taken chunk) now k (waiting sent taken chunk) written written' said said'
     → BreaksOff Write old keeper start chunk written after said said'
 both_broken old now keeper k start taken sent chunk written written' after said said' concludes sends part =
     breaks_write old now keeper k start chunk (take taken chunk) (drop taken chunk) (waiting sent taken chunk) written written' after said said' (sym (take-append-drop taken chunk)) concludes sends part
@@ -109,7 +109,7 @@ both_broken old now keeper k start taken sent chunk written written' after said 
 pub pair_broken : (error : RecoverError) (old now new : Decoder) (keeper k k' : Keeper) (start taken more sent : ℕ) (chunk frames line : List ℕ) (written written' after said said' told : Option (List ℕ))
     → sent ≤ taken → taken ≤ length chunk → 0 < length line → IsPutIn frames line → Concludes now k → Concludes new k' → Passes now k (start + taken) (take more (drop taken chunk)) new k' frames line
     → PutsPart error (waiting sent (taken + more) chunk ++ frames) line written' after said' told
-    → GivesOn old keeper start (take taken chunk) now k (waiting sent taken chunk) written written' said said'
+    → PassesOn old keeper start (take taken chunk) now k (waiting sent taken chunk) written written' said said'
     → BreaksOff error old keeper start chunk written after said told
 pair_broken error old now new keeper k k' start taken more sent chunk frames line written written' after said said' told low inside some put concluded concludes passes puts part =
     let parts : chunk ≡ (take taken chunk ++ take more (drop taken chunk)) ++ drop (taken + more) chunk =

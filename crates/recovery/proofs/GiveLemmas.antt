@@ -11,7 +11,7 @@ use Rattle.recovery.specs.declared.keeper.Keeper.{Keeper}
 use Rattle.recovery.specs.declared.refusal.RecoverError.{RecoverError}
 use Rattle.recovery.specs.declared.refusal.RecoverError.TheVariants.{Read, Write, Lines, TooLong, Memory}
 use Rattle.recovery.specs.Passing.{Adds, Passes, Stands}
-use Rattle.recovery.specs.Progress.{BreaksOff, Concludes, GivesOn, HasBegun, IsPutIn, PutsPart}
+use Rattle.recovery.specs.Progress.{BreaksOff, Concludes, PassesOn, HasBegun, IsPutIn, PutsPart}
 use Rattle.recovery.specs.Streams.{IsLine}
 use Rattle.recovery.specs.Weaving.{Recovers}
 
@@ -33,7 +33,7 @@ is_put_in setting past offset (Some r) frames line adds =
     inr (omega (arith, ap length told.4, length-append {A = ℕ}), (offset, r, told))
 
 -- nothing was given yet
-pub gives_start : (decoder : Decoder) (keeper : Keeper) (start : ℕ) (written said : Option (List ℕ)) → GivesOn decoder keeper start [] decoder keeper [] written written said said
+pub gives_start : (decoder : Decoder) (keeper : Keeper) (start : ℕ) (written said : Option (List ℕ)) → PassesOn decoder keeper start [] decoder keeper [] written written said said
 gives_start decoder keeper start written said setting bytes woven text at stands = (
   [],
   [],
@@ -47,8 +47,8 @@ passed decoder keeper setting start offset bytes chunk offset_is at = omega (ari
 
 -- more bytes, behind which nothing was put in
 pub gives_more : (old now new : Decoder) (keeper k k' : Keeper) (start offset : ℕ) (chunk more waiting : List ℕ) (written written' said said' : Option (List ℕ))
-    → offset ≡ start + length chunk → Passes now k offset more new k' [] [] → GivesOn old keeper start chunk now k waiting written written' said said'
-    → GivesOn old keeper start (chunk ++ more) new k' (waiting ++ more) written written' said said'
+    → offset ≡ start + length chunk → Passes now k offset more new k' [] [] → PassesOn old keeper start chunk now k waiting written written' said said'
+    → PassesOn old keeper start (chunk ++ more) new k' (waiting ++ more) written written' said said'
 gives_more old now new keeper k k' start offset chunk more waiting written written' said said' offset_is passes part setting bytes woven text at stands =
     let before = part setting bytes woven text at stands in
     let sent = woven ++ before.0 in
@@ -65,7 +65,7 @@ gives_more old now new keeper k k' start offset chunk more waiting written writt
 -- a pair was put in behind them
 pub gives_pair : (old now new : Decoder) (keeper k k' : Keeper) (start offset : ℕ) (chunk more waiting frames line : List ℕ) (written written' after said said' told : Option (List ℕ))
     → offset ≡ start + length chunk → Passes now k offset more new k' frames line → Appends written' after ((waiting ++ more) ++ frames) → Appends said' told line
-    → GivesOn old keeper start chunk now k waiting written written' said said' → GivesOn old keeper start (chunk ++ more) new k' [] written after said told
+    → PassesOn old keeper start chunk now k waiting written written' said said' → PassesOn old keeper start (chunk ++ more) new k' [] written after said told
 gives_pair old now new keeper k k' start offset chunk more waiting frames line written written' after said said' told offset_is passes sent tells part setting bytes woven text at stands =
     let before = part setting bytes woven text at stands in
     let all = (waiting ++ more) ++ frames in
@@ -81,7 +81,7 @@ gives_pair old now new keeper k k' start offset chunk more waiting frames line w
 
 -- what waited was written
 pub gives_sent : (old new : Decoder) (keeper k : Keeper) (start : ℕ) (chunk waiting : List ℕ) (written written' after said said' : Option (List ℕ))
-    → Appends written' after waiting → GivesOn old keeper start chunk new k waiting written written' said said' → GivesOn old keeper start chunk new k [] written after said said'
+    → Appends written' after waiting → PassesOn old keeper start chunk new k waiting written written' said said' → PassesOn old keeper start chunk new k [] written after said said'
 gives_sent old new keeper k start chunk waiting written written' after said said' sent part setting bytes woven text at stands =
     let before = part setting bytes woven text at stands in
     let woven_is : ((woven ++ before.0) ++ waiting) ≡ ((woven ++ (before.0 ++ waiting)) ++ []) = simp (append_assoc, append-nil) in (
@@ -94,7 +94,7 @@ gives_sent old new keeper k start chunk waiting written written' after said said
 
 -- So many bytes were given.
 pub begun_on : (old new : Decoder) (keeper k : Keeper) (start : ℕ) (chunk waiting : List ℕ) (written written' said said' : Option (List ℕ))
-    → HasBegun old keeper start → GivesOn old keeper start chunk new k waiting written written' said said' → HasBegun new k (start + length chunk)
+    → HasBegun old keeper start → PassesOn old keeper start chunk new k waiting written written' said said' → HasBegun new k (start + length chunk)
 begun_on old new keeper k start chunk waiting written written' said said' begun part =
     let setting = begun.0 in
     let bytes = begun.1 in
@@ -112,7 +112,7 @@ part_longer written after bytes more part = (part.0, part.1 ++ more, ap (λ bs. 
 
 -- Memory ran out at the next event, and what waited was written.
 pub breaks_memory : (old now : Decoder) (keeper k : Keeper) (start : ℕ) (chunk whole after waiting : List ℕ) (written written' written'' said said' : Option (List ℕ))
-    → chunk ≡ whole ++ after → Concludes now k → Appends written' written'' waiting → GivesOn old keeper start whole now k waiting written written' said said'
+    → chunk ≡ whole ++ after → Concludes now k → Appends written' written'' waiting → PassesOn old keeper start whole now k waiting written written' said said'
     → BreaksOff Memory old keeper start chunk written written'' said said'
 breaks_memory old now keeper k start chunk whole after waiting written written' written'' said said' parts concludes sent part setting bytes woven text at stands =
     let before = part setting bytes woven text at stands in (
@@ -128,7 +128,7 @@ breaks_memory old now keeper k start chunk whole after waiting written written' 
 
 -- Of what waited a part was written, and the output has failed.
 pub breaks_write : (old now : Decoder) (keeper k : Keeper) (start : ℕ) (chunk whole after waiting : List ℕ) (written written' written'' said said' : Option (List ℕ))
-    → chunk ≡ whole ++ after → Concludes now k → AppendsPart written' written'' waiting → GivesOn old keeper start whole now k waiting written written' said said'
+    → chunk ≡ whole ++ after → Concludes now k → AppendsPart written' written'' waiting → PassesOn old keeper start whole now k waiting written written' said said'
     → BreaksOff Write old keeper start chunk written written'' said said'
 breaks_write old now keeper k start chunk whole after waiting written written' written'' said said' parts concludes sent part setting bytes woven text at stands =
     let before = part setting bytes woven text at stands in (
@@ -149,7 +149,7 @@ line_of frames line some (inr is) = is.1
 -- A pair was recovered, and its line or its frames were written in part.
 pub breaks_pair : (error : RecoverError) (old now new : Decoder) (keeper k k' : Keeper) (start offset : ℕ) (chunk whole more after waiting frames line : List ℕ) (written written' written'' said said' said'' : Option (List ℕ))
     → chunk ≡ (whole ++ more) ++ after → offset ≡ start + length whole → 0 < length line → IsPutIn frames line → Concludes now k → Concludes new k' → Passes now k offset more new k' frames line
-    → PutsPart error ((waiting ++ more) ++ frames) line written' written'' said' said'' → GivesOn old keeper start whole now k waiting written written' said said'
+    → PutsPart error ((waiting ++ more) ++ frames) line written' written'' said' said'' → PassesOn old keeper start whole now k waiting written written' said said'
     → BreaksOff error old keeper start chunk written written'' said said''
 breaks_pair Lines old now new keeper k k' start offset chunk whole more after waiting frames line written written' written'' said said' said'' parts offset_is some put concluded concludes passes puts part setting bytes woven text at stands =
     let before = part setting bytes woven text at stands in

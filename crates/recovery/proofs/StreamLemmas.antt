@@ -13,7 +13,7 @@ use Rattle.recovery.specs.declared.keeper.Keeper.{Keeper}
 use Rattle.recovery.specs.declared.refusal.RecoverError.{RecoverError}
 use Rattle.recovery.specs.declared.refusal.RecoverError.TheVariants.{Read, Write, Lines, TooLong, Memory}
 use Rattle.recovery.specs.Passing.{Stands}
-use Rattle.recovery.specs.Progress.{BreaksOff, Concludes, GivesOn, HasBegun, HasGiven, Stops}
+use Rattle.recovery.specs.Progress.{BreaksOff, Concludes, PassesOn, HasBegun, HasGiven, Stops}
 use Rattle.recovery.specs.Streams.{RecoversAll, RecoversFirst, RecoversFront, RecoversRead, RecoversSome}
 use Rattle.recovery.specs.Weaving.{Recovers}
 use Rattle.recovery.proofs.GiveLemmas.{part_behind}
@@ -36,7 +36,7 @@ record Given (decoder : Decoder) (keeper : Keeper) (setting : Setting) (bytes : 
   says : Appends said said' text
 
 with_chunk : (old new : Decoder) (keeper k : Keeper) (setting : Setting) (count : ℕ) (chunk : List ℕ) (input now written so_far after said told told' : Option (List ℕ))
-    → (done : HasGiven old keeper setting count input now written so_far said told) → GivesOn old keeper count chunk new k [] so_far after told told'
+    → (done : HasGiven old keeper setting count input now written so_far said told) → PassesOn old keeper count chunk new k [] so_far after told told'
     → Given new k setting (done.0 ++ chunk) written after said told'
 with_chunk old new keeper k setting count chunk input now written so_far after said told told' done gives =
     let given = gives setting done.0 done.1 done.2 done.3 done.5 in
@@ -51,7 +51,7 @@ with_chunk old new keeper k setting count chunk input now written so_far after s
 -- A chunk was given on.
 pub given_more : (old new : Decoder) (keeper k : Keeper) (setting : Setting) (count room : ℕ) (buffer : List ℕ) (chunk : ReadChunk) (input now left written so_far after said told told' : Option (List ℕ))
     → chunk.past ≡ false → HasGiven old keeper setting count input now written so_far said told → GivesChunk room buffer chunk now left
-    → GivesOn old keeper count (take chunk.within buffer) new k [] so_far after told told'
+    → PassesOn old keeper count (take chunk.within buffer) new k [] so_far after told told'
     → HasGiven new k setting (count + chunk.within) input left written after said told'
 given_more old new keeper k setting count room buffer chunk input now left written so_far after said told told' within done gives on =
     let heard = take chunk.within buffer in
@@ -96,7 +96,7 @@ all_given decoder keeper setting count (Some all) (Some ahead) (Some left) writt
 -- There are more bytes than may be.
 pub first_given : (old new : Decoder) (keeper k : Keeper) (setting : Setting) (count room : ℕ) (buffer : List ℕ) (chunk : ReadChunk) (input now left written so_far after said told told' : Option (List ℕ))
     → count + room ≡ limit → chunk.past ≡ true → HasGiven old keeper setting count input now written so_far said told → GivesChunk room buffer chunk now left
-    → GivesOn old keeper count (take chunk.within buffer) new k [] so_far after told told' → Concludes new k → RecoversFirst setting input written after said told'
+    → PassesOn old keeper count (take chunk.within buffer) new k [] so_far after told told' → Concludes new k → RecoversFirst setting input written after said told'
 first_given old new keeper k setting count room buffer chunk None now left written so_far after said told told' full past done gives on concludes = tt
 first_given old new keeper k setting count room buffer chunk (Some all) None left written so_far after said told told' full past done gives on concludes = absurd done.4
 first_given old new keeper k setting count room buffer chunk (Some all) (Some ahead) None written so_far after said told told' full past done gives on concludes = absurd gives.consumes
@@ -138,7 +138,7 @@ some_of_read setting input left written after said told read =
 -- A chunk was given on, and more was read.
 pub some_past : (old new : Decoder) (keeper k : Keeper) (setting : Setting) (count room : ℕ) (buffer : List ℕ) (chunk : ReadChunk) (input now left written so_far after said told told' : Option (List ℕ))
     → HasGiven old keeper setting count input now written so_far said told → GivesChunk room buffer chunk now left
-    → GivesOn old keeper count (take chunk.within buffer) new k [] so_far after told told' → Concludes new k → RecoversSome setting input left written after said told'
+    → PassesOn old keeper count (take chunk.within buffer) new k [] so_far after told told' → Concludes new k → RecoversSome setting input left written after said told'
 some_past old new keeper k setting count room buffer chunk input now left written so_far after said told told' done gives on concludes =
     let heard = take chunk.within buffer in
     let g = with_chunk old new keeper k setting count heard input now written so_far after said told told' done on in

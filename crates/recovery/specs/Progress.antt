@@ -25,8 +25,8 @@ IsPutIn frames line = ((frames ≡ []) × (line ≡ [])) ⊎ ((0 < length line) 
 
 -- Where that stood, these bytes were given too, the first of which has this offset: they were written with what was put in, but
 -- for those that wait, and the lines were said.
-abbrev pub GivesOn : Decoder → Keeper → ℕ → List ℕ → Decoder → Keeper → List ℕ → Option (List ℕ) → Option (List ℕ) → Option (List ℕ) → Option (List ℕ) → Type 0
-GivesOn old keeper start chunk new keeper' waiting written written' said said' = (setting : Setting) (bytes woven text : List ℕ) → length bytes ≡ start
+abbrev pub PassesOn : Decoder → Keeper → ℕ → List ℕ → Decoder → Keeper → List ℕ → Option (List ℕ) → Option (List ℕ) → Option (List ℕ) → Option (List ℕ) → Type 0
+PassesOn old keeper start chunk new keeper' waiting written written' said said' = (setting : Setting) (bytes woven text : List ℕ) → length bytes ≡ start
     → Stands old keeper setting bytes woven text
     → (more lines : List ℕ) × Stands new keeper' setting (bytes ++ chunk) (woven ++ more ++ waiting) (text ++ lines)
     × Appends written written' more × Appends said said' lines

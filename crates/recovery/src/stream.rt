@@ -5,7 +5,7 @@ ghost use Rattle.watched_streams.specs.Watch.{IsFlushed, inner_of, has_failed};
 ghost use Rattle.watched_streams.specs.Input.{ReadsWithin};
 ghost use Rattle.watched_streams.specs.Output.{AppendsPart};
 ghost use Rattle.board_events.specs.Settings.{Setting};
-ghost use Rattle.recovery.specs.Progress.{BreaksOff, GivesOn, HasBegun, IsPutIn, PutsPart};
+ghost use Rattle.recovery.specs.Progress.{BreaksOff, PassesOn, HasBegun, IsPutIn, PutsPart};
 ghost use Rattle.recovery.specs.Streams.{RecoversAll, RecoversFirst, RecoversFront, RecoversRead, RecoversSome};
 
 use crate::keeper::Keeper;
@@ -75,7 +75,7 @@ fn give_chunk<O: Write, E: Write>(
     requires telling { has_failed err.old ≡ false }
     requires room { start + length chunk.now < 2 ^ 32 }
     requires begun { HasBegun decoder.old keeper.old start }
-    ensures ok { OnOk result (GivesOn decoder.old keeper.old start chunk.now decoder.new keeper.new [] (O.contents (inner_of out.old)) (O.contents (inner_of out.new))
+    ensures ok { OnOk result (PassesOn decoder.old keeper.old start chunk.now decoder.new keeper.new [] (O.contents (inner_of out.old)) (O.contents (inner_of out.new))
         (E.contents (inner_of err.old)) (E.contents (inner_of err.new))) }
     ensures working { OnOk result ((has_failed out.new ≡ false) × (has_failed err.new ≡ false)) }
     ensures broken { IfErr result (λ error. BreaksOff error decoder.old keeper.old start chunk.now (O.contents (inner_of out.old)) (O.contents (inner_of out.new))

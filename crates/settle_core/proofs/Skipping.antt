@@ -10,7 +10,7 @@ use Rattle.settle_core.specs.Entries.{Entry}
 use Rattle.settle_core.specs.Settling.{Played, Settles, reached}
 use Rattle.settle_core.specs.Sign.{IsSign}
 use Rattle.settle_core.specs.Folding.{Replaces, Score, SeenAs, moves_of, score_after, time_of}
-use Rattle.settle_core.specs.Laws.{HasAnotherLast, ThreeUnseenAddNothing, TwoUnseenChangeNothing}
+use Rattle.settle_core.specs.Laws.{HasAnotherLastPly, ThreeUnseenAddNothing, TwoUnseenChangeNothing}
 use Rattle.settle_core.proofs.Once.{folds_once, folds_played, shows_once}
 use Rattle.settle_core.proofs.Stages.{valid_reached, shows_at}
 use Rattle.settle_core.proofs.Unseen.{three_settle_nothing, two_unseen_wait}
@@ -39,7 +39,7 @@ adds_nothing :
     → ((outcome : Outcome) → ¬ IsSign (reached start (moves_of before.plies)) entry.picture outcome)
     → SeenAs start (moves_of before.plies) entry.picture seen
     → score ≡ score_after start before entry.reading seen
-    → (score ≡ before) ⊎ HasAnotherLast before score
+    → (score ≡ before) ⊎ HasAnotherLastPly before score
 adds_nothing start entry before score (Moved n) moves signs h e = absurd (moves n h)
 adds_nothing start entry before score (Sign outcome) moves signs h e = absurd (signs outcome h)
 adds_nothing start entry before score (Replaced n) moves signs h e =

@@ -127,7 +127,7 @@ ThreeUnseenSettleNothing =
     × ((over : Parts) (outcome : Outcome) → ¬ IsSign over (picture (after (after (after p m) reply) next)) outcome)
 
 -- The score has another last ply, and the same ones before it; no sign stands.
-pub record HasAnotherLast (before score : Score) : Type 0 where
+pub record HasAnotherLastPly (before score : Score) : Type 0 where
   pub old : Ply
   pub new : Ply
   pub earlier : List Ply
@@ -146,7 +146,7 @@ ThreeUnseenAddNothing =
     → Legal (after (after (reached start (moves_of before.plies)) m) reply) next
     → entry.picture ≡ picture (after (after (after (reached start (moves_of before.plies)) m) reply) next)
     → Folds start (entry ∷ past) score
-    → (score ≡ before) ⊎ HasAnotherLast before score
+    → (score ≡ before) ⊎ HasAnotherLastPly before score
 
 -- A move that is tried while another one is to be made, with its piece in hand and no other, is a move of that piece, or the
 -- rook's where the move castles.

@@ -5,7 +5,7 @@ use Rattle.settle_core.specs.declared.plies.Ply.{Ply}
 use Rattle.settle_core.specs.Folding.{moves_of}
 use Rattle.settle_core.specs.Settling.{position_after}
 use Rattle.settle_core.specs.GameResult.{IsResult}
-use Rattle.pgn_book.specs.Parse.{AreTurns, StartsAt, Turn, fen_at, moves_part, next_line, result_at, turns_at, value_part, words}
+use Rattle.pgn_book.specs.Parse.{AreTurns, HasStart, Turn, fen_at, moves_part, next_line, result_at, turns_at, value_part, words}
 use Rattle.pgn_book.proofs.OneText.{same_game, own_sign}
 use Rattle.pgn_book.proofs.reading.parse.Goals as goal
 
@@ -14,7 +14,7 @@ returns-in-Ok-read_plies c = λ game is p.
     let marker = c.value_of-marker.ensures ∙ ap (value_part (codes "Result")) c.behind_tags.ensures in
     let set_up = c.next_line-set_up.ensures ∙ ap next_line marker in
     let tags = c.in-Ok.ensures game.tags is.tags p.tags in
-    let F : List ℕ → Type 0 = λ bytes. StartsAt game.start (fen_at bytes) in
+    let F : List ℕ → Type 0 = λ bytes. HasStart game.start (fen_at bytes) in
     let some : Some c.in-Some.start ≡ Some game.start = c.in-Some.ensures game.start is.start (subst F (sym set_up) p.start) in
     let start : c.in-Some.start ≡ game.start = cc in
     let turns = ap (λ (x : List ℕ). turns_at (words x)) (c.moves_of.ensures ∙ ap moves_part set_up) in

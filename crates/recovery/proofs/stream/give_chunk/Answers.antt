@@ -7,7 +7,7 @@ use Rattle.watched_streams.specs.Watch.{inner_of}
 use Rattle.watched_streams.specs.Output.{AppendsPart}
 use Rattle.recovery.specs.declared.refusal.RecoverError.{RecoverError}
 use Rattle.recovery.specs.Passing.{Passes}
-use Rattle.recovery.specs.Progress.{BreaksOff, GivesOn, HasBegun, IsPutIn}
+use Rattle.recovery.specs.Progress.{BreaksOff, PassesOn, HasBegun, IsPutIn}
 use Rattle.recovery.proofs.ChunkLemmas.{both_broken, chunk_broken, chunk_sent, event_passed, event_put, memory_broken, pair_broken, pair_unwritten, write_broken}
 use Rattle.recovery.proofs.GiveLemmas.{begun_on, gives_start}
 use Rattle.recovery.proofs.stream.give_chunk.Goals as goal
@@ -95,7 +95,7 @@ returns-in_default-passed-clause-ok g c =
     let passes : Passes c.events.decoder c.events.keeper (c.args.start + c.events.taken) (take (length chunk - c.events.taken) rest) c.pass.new.decoder c.pass.new.keeper [] [] =
     subst (λ (found : Option ℕ). IfNone found (Passes c.events.decoder c.events.keeper (c.args.start + c.events.taken) (take (length chunk - c.events.taken) rest) c.pass.new.decoder c.pass.new.keeper [] [])) c.in_default-passed.is c.in-Ok.ensures.none in
     on_ok (Appends (g.O.Write.contents (inner_of c.events.out)) (g.O.Write.contents (inner_of c.send-in_default-passed.new.out)) (take (length chunk - c.events.sent) (drop c.events.sent chunk)))
-    (GivesOn c.args.decoder.now c.args.keeper.now c.args.start chunk c.pass.new.decoder c.pass.new.keeper [] (g.O.Write.contents (inner_of c.args.out.now)) (g.O.Write.contents (inner_of c.send-in_default-passed.new.out))
+    (PassesOn c.args.decoder.now c.args.keeper.now c.args.start chunk c.pass.new.decoder c.pass.new.keeper [] (g.O.Write.contents (inner_of c.args.out.now)) (g.O.Write.contents (inner_of c.send-in_default-passed.new.out))
     (g.E.Write.contents (inner_of c.args.err.now)) (g.E.Write.contents (inner_of c.events.err))) c.send-in_default-passed.result c.send-in_default-passed.ensures.ok
     (λ sent. chunk_sent c.args.decoder.now c.events.decoder c.pass.new.decoder c.args.keeper.now c.events.keeper c.pass.new.keeper c.args.start c.events.taken c.events.sent chunk _ _ _ _ _
     c.events.invariant.behind c.events.invariant.inside (rw all at passes) (rw unsent at sent) c.events.invariant.given)
