@@ -4,8 +4,8 @@
     tools/edits.py             writes the tables anew
     tools/edits.py --check     says what is to be done where the page isn't what the edits say
 
-An edit begins with a line 'says: ' and what its wrong body does, and may have a line 'refused by: ' and the clause behind it.
-`rt` passes over both.
+An edit begins with a line '# says: ' and what its wrong body does, and may have a line '# refused by: ' and the clause behind
+it: comments, which `rt` passes over.
 """
 import dataclasses
 import pathlib
@@ -15,6 +15,8 @@ import typing
 
 TOP = pathlib.Path(__file__).resolve().parent.parent
 PAGE = TOP / "docs" / "EDITS.md"
+SAYS = "# says: "
+REFUSED_BY = "# refused by: "
 HEAD = ["| Edit | In | What the wrong body does | Refused by |", "|---|---|---|---|"]
 
 
@@ -83,15 +85,15 @@ def read_edit(crate: str, name: str, text: str) -> typing.Union[Edit, str]:
     """The edit of this text, or what is wrong with it."""
     lines = text.split("\n")
     path = f"crates/{crate}/must-fail/{name}.edit"
-    if not re.match(r"says: \S", lines[0]):
-        return f"{path}: its first line has to be 'says: ' and what the wrong body does"
-    refused_by = lines[1][len("refused by: ") :] if lines[1].startswith("refused by: ") else ""
+    if not re.match(SAYS + r"\S", lines[0]):
+        return f"{path}: its first line has to be '{SAYS}' and what the wrong body does"
+    refused_by = lines[1][len(REFUSED_BY) :] if lines[1].startswith(REFUSED_BY) else ""
     if "|" in lines[0] + refused_by:
         return f"{path}: its first lines have a '|', which ends a cell of the table"
     place = place_of(TOP / "crates" / crate, changes_of(lines))
     if place is None:
         return f"{path}: its lines 'file: ' and 'old: ' name no text of the crate"
-    return Edit(crate, name, *place, lines[0][len("says: ") :], refused_by)
+    return Edit(crate, name, *place, lines[0][len(SAYS) :], refused_by)
 
 
 def sections(page: str) -> typing.List[str]:

@@ -181,7 +181,7 @@ fn has_parts(position: &Position, wanted: &Parts) -> bool {
 /// Whether 1. e4 sets the target e3.
 fn opening_sets_the_target(initial: &Position) -> bool {
     let pieces = b"rnbqkbnrpppppppp....................P...........PPPP.PPPRNBQKBNR";
-    let mut wanted = parts_of(pieces, Side::Black);
+    let mut wanted = parts_of(pieces, initial.parts().side.other());
     wanted.rights = initial.parts().rights;
     wanted.target = Square::new(44);
     match stepped(initial, 52, 36) {
