@@ -1,16 +1,17 @@
 //! The subcommand `check`.
-ghost use Rattle.std.specs.Prelude.{◌≡◌, ◌≢◌, ◌≤◌, ◌⊎◌, ◌+◌, ◌++◌, false, true};
-ghost use Rattle.std.specs.Io.KnownBytes.{Keeps};
+ghost use Rattle.std.specs.Prelude.{◌≡◌, ◌≢◌, ◌≤◌, ◌⊎◌, ◌+◌, ◌++◌, length, codes, false, true};
+ghost use Rattle.std.specs.Io.KnownBytes.{Appends, Keeps};
 ghost use Rattle.arrayvec.specs.ArrayVec.{array_vec_len};
 ghost use Rattle.watched_streams.specs.Watch.{IsFlushed, inner_of, has_failed};
 ghost use Rattle.text_subcommands.specs.Checked.{ChecksGame, ChecksPart, RefusesPgn, summary_line};
 ghost use Rattle.watched_streams.specs.Input.{ReadsWithin};
-ghost use Rattle.text_subcommands.specs.Messages.{Tells};
+ghost use Rattle.text_subcommands.specs.Messages.{Says, Tells};
+ghost use Rattle.watched_streams.specs.Output.{AppendsPart};
 
 use crate::input::{TextError, read_text};
 use crate::messages::{refused, refused_run};
 use itoa::Buffer;
-use pgn_book::{PgnError, read_pgn, result_str};
+use pgn_book::{Game, PgnError, read_pgn, result_str};
 use settle_core::Outcome;
 use std::alloc::Global;
 use std::io::{Read, Write};
@@ -30,6 +31,25 @@ fn add_summary(lines: &mut Lines, moves: u64, outcome: Option<Outcome>)
     add(lines, b", result ");
     add(lines, result_str(outcome).as_bytes());
     add(lines, b"\n");
+}
+
+/// Writes the line about a game, and returns the status: 0, or 3 where the output has failed, which is then said.
+fn put_summary<O: Write, E: Write>(game: &Game, out: &mut Watch<O>, err: &mut Watch<E>) -> u8
+    requires { has_failed out.old ≡ false }
+    ensures done { result ≡ 0 → Appends (O.contents (inner_of out.old)) (O.contents (inner_of out.new)) (summary_line (length game.now.plies) game.now.result)
+        × (has_failed out.new ≡ false) × (err.new ≡ err.old) }
+    ensures fault { result ≡ 3 → AppendsPart (O.contents (inner_of out.old)) (O.contents (inner_of out.new)) (summary_line (length game.now.plies) game.now.result)
+        × (has_failed out.new ≡ true) × Says (E.contents (inner_of err.old)) (E.contents (inner_of err.new)) (has_failed err.new) (codes "write fault\n") }
+    ensures out_blamed { has_failed out.new ≡ true → result ≡ 3 }
+    ensures known { (result ≡ 0) ⊎ (result ≡ 3) }
+    ensures flushed { IsFlushed out.new }
+{
+    let mut lines = Lines::new();
+    add_summary(&mut lines, game.plies().len() as u64, game.result());
+    if put(out, lines.as_slice()).is_err() || out.flush().is_err() {
+        return refused(err, b"write fault\n", 3);
+    }
+    0
 }
 
 /// Says whether the input is a game in PGN export form, and returns the exit status: 0 where it is, 1 where it isn't or is
@@ -68,10 +88,5 @@ pub fn check<R: Read, O: Write, E: Write>(
         Err(PgnError::Memory) => return refused_run(out, err, b"memory\n", 4),
         Err(PgnError::NotExport) => return refused_run(out, err, b"pgn: not export\n", 1),
     };
-    let mut lines = Lines::new();
-    add_summary(&mut lines, game.plies().len() as u64, game.result());
-    if put(out, lines.as_slice()).is_err() || out.flush().is_err() {
-        return refused(err, b"write fault\n", 3);
-    }
-    0
+    put_summary(&game, out, err)
 }

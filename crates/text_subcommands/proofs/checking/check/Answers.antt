@@ -12,21 +12,6 @@ use Rattle.watched_streams.proofs.ResultLemmas.{at_err, at_ok}
 use Rattle.text_subcommands.proofs.checking.check.Goals as goal
 use Rattle.text_subcommands.proofs.checking.check.Goals.{then-is_err-via-then-is_err, then-is_err-via-else-is_err+then-is_err-2}
 
-pub returns-clause-passes : goal.returns-clause-passes
-returns-clause-passes g c done =
-    let input = g.R.Read.remaining (inner_of c.args.reader.now) in
-    let written = g.O.Write.contents (inner_of c.args.out.now) in
-    let after = g.O.Write.contents (inner_of c.flush.new.self) in
-    let game = c.in-Ok-read_pgn.game in
-    let lines = c.add_summary.new.lines.items in
-    let said : Appends written (g.O.Write.contents (inner_of c.put.new.out)) lines = rw c.as_slice-2.ensures.value at
-    (at_ok (Appends written (g.O.Write.contents (inner_of c.put.new.out)) c.as_slice-2.result.now) c.put.result (sym c.is_err.ensures.value ∙ c.if-is_err.false) c.put.ensures.ok) in
-    let same : c.new-lines.result.items ++ summary_line (length c.plies.result.now) c.result.result ≡ summary_line (length game.plies) game.result =
-    rw (c.new-lines.ensures, c.plies.ensures.plies, c.result.ensures) refl in
-    let lines_are : lines ≡ summary_line (length game.plies) game.result = c.add_summary.ensures ∙ same in
-    checked input written after c.in-Ok.text.items game c.in-Ok.ensures.whole (rw c.as_slice.ensures.value at c.in-Ok-read_pgn.ensures.found) c.in-Ok.ensures.within
-    (let P : List ℕ → Type 0 = λ bs. Appends written after bs in subst P lines_are (Appends-kept written (g.O.Write.contents (inner_of c.put.new.out)) after lines said c.flush.ensures.bytes))
-
 pub returns-in-Err-NotExport-clause-tells : goal.returns-in-Err-NotExport-clause-tells
 returns-in-Err-NotExport-clause-tells g c =
     let input = g.R.Read.remaining (inner_of c.args.reader.now) in
@@ -38,15 +23,6 @@ returns-in-Err-NotExport-clause-tells g c =
     absurd (cc)) in
     tells_or_fault c.refused_run-in-Err-NotExport.result 1 (RefusesPgn input) _ _ _ _ _ _ c.refused_run-in-Err-NotExport.ensures.ended
     (λ one says. tells_refused c.refused_run-in-Err-NotExport.result (RefusesPgn input) _ _ _ _ _ (codes "pgn: not export\n") one (inr (none, refl)) says)
-
-pub returns-then-is_err-clause-tells : goal.returns-then-is_err-clause-tells
-returns-then-is_err-clause-tells g c =
-    let failed : has_failed c.then-is_err.out ≡ true = elim c.then-is_err.branch [
-      | then-is_err-via-then-is_err w ↦ rw w.out-is (at_err _ c.put.result (sym c.is_err.ensures.value ∙ w.if-is_err.true) c.put.ensures.failed)
-      | then-is_err-via-else-is_err+then-is_err-2 w ↦ rw w.out-is (w.flush.ensures.failed ∙ true_or _ _ (sym w.is_err-else-is_err.ensures.value ∙ w.if-is_err-2.true))
-    ] in
-    tells_fault c.refused.result (RefusesPgn (g.R.Read.remaining (inner_of c.args.reader.now))) _ _ _ _ _ c.refused.ensures.status
-    (inr (failed, c.refused.ensures.says))
 
 pub returns-in-Err-Read-clause-tells : goal.returns-in-Err-Read-clause-tells
 returns-in-Err-Read-clause-tells g c =
@@ -72,26 +48,3 @@ returns-in-Err-NotExport-clause-passes g c zero = never_done c.refused_run-in-Er
 
 pub returns-in-Err-NotExport-clause-works : goal.returns-in-Err-NotExport-clause-works
 returns-in-Err-NotExport-clause-works g c zero = never_done c.refused_run-in-Err-NotExport.result 1 _ _ _ _ _ (omega arith) c.refused_run-in-Err-NotExport.ensures.ended zero
-
-pub returns-then-is_err-clause-fault : goal.returns-then-is_err-clause-fault
-returns-then-is_err-clause-fault g c three =
-    let input = g.R.Read.remaining (inner_of c.args.reader.now) in
-    let written = g.O.Write.contents (inner_of c.args.out.now) in
-    let put = g.O.Write.contents (inner_of c.put.new.out) in
-    let game = c.in-Ok-read_pgn.game in
-    let lines = c.add_summary.new.lines.items in
-    let line = summary_line (length game.plies) game.result in
-    let same : c.new-lines.result.items ++ summary_line (length c.plies.result.now) c.result.result ≡ line = rw (c.new-lines.ensures, c.plies.ensures.plies, c.result.ensures) refl in
-    let is : c.as_slice-2.result.now ≡ line = c.as_slice-2.ensures.value ∙ c.add_summary.ensures ∙ same in
-    let part : AppendsPart written (g.O.Write.contents (inner_of c.then-is_err.out)) c.as_slice-2.result.now = elim c.then-is_err.branch [
-      | then-is_err-via-then-is_err w ↦ rw w.out-is (part_put c.put.result written put c.as_slice-2.result.now c.put.ensures.ok c.put.ensures.fault)
-      | then-is_err-via-else-is_err+then-is_err-2 w ↦ rw w.out-is (
-        c.as_slice-2.result.now,
-        [],
-        sym (append-nil c.as_slice-2.result.now),
-        Appends-kept written put (g.O.Write.contents (inner_of w.flush.new.self)) c.as_slice-2.result.now
-            (at_ok (Appends written put c.as_slice-2.result.now) c.put.result (sym c.is_err.ensures.value ∙ w.if-is_err.false) c.put.ensures.ok) w.flush.ensures.bytes,
-      )
-    ] in
-    let P : List ℕ → Type 0 = λ bs. AppendsPart written (g.O.Write.contents (inner_of c.then-is_err.out)) bs in
-    checked_part input written (g.O.Write.contents (inner_of c.then-is_err.out)) c.in-Ok.text.items game c.in-Ok.ensures.whole (rw c.as_slice.ensures.value at c.in-Ok-read_pgn.ensures.found) c.in-Ok.ensures.within (subst P is part)
