@@ -14,7 +14,7 @@ from live.files import text_of
 from live.loop import Loop, Timer
 from live.options import Call
 from live.painter import Painter
-from live.pairings import Pairing, Pairings, Wrong, read_pairings
+from live.pairings import EXAMPLE, Pairing, Pairings, Wrong, device_twice, read_pairings
 from live.program import Program
 from live.refused import DONE, FAILED, REFUSED, Refused
 from live.row import Row, game_of_others
@@ -110,11 +110,12 @@ class Round:
         try:
             read = read_pairings(self._file.read_bytes())
         except OSError as error:
-            raise Refused(FAILED, f"{self._file} can't be read ({text_of(error)})") from None
+            why = f"{self._file} can't be read ({text_of(error)}): type the FILE of the table first, and then the FOLDER"
+            raise Refused(FAILED, why) from None
         except Refused as refused:
             raise Refused(REFUSED, f"{self._file}: {refused.lines[0]}") from None
         if not read.boards and not read.wrong:
-            raise Refused(REFUSED, f"{self._file} names no board: each line after the first is one")
+            raise Refused(REFUSED, f"{self._file} names no board: each line after the first is one, as {EXAMPLE}")
         self._refuse_another_round(read)
         self._take(read)
 
@@ -180,8 +181,7 @@ class Round:
             if other is pairing:
                 boards.append(pairing)
             else:
-                why = f"{pairing.device} is the device of board {other.board}, line {other.line}"
-                wrong.append(Wrong(pairing.line, pairing.board, why))
+                wrong.append(device_twice(pairing, other))
         return boards, sorted(wrong, key=lambda line: line.line)
 
     def _new_row(self, pairing: Pairing) -> Row:

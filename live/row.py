@@ -203,7 +203,7 @@ class Row:
                 self._screen.say("; ".join(anew))
             self._over = is_over(paths, capture)
             if not self._over:
-                call = Call(device=device, name=paths.name, linger=self._linger)
+                call = Call(device=device, name=paths.name, linger=self._linger, board=str(self.number))
                 self._device = pairing.device
                 self._player = Player(self._loop, self._program, self._screen, call, paths, capture, kept, self._stopped)
         finally:
