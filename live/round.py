@@ -33,6 +33,22 @@ SHARE = 10  # times as long as the last one took to be written: the disk is for 
 LONGEST = 1.0  # seconds
 
 
+def first_pairings(file: pathlib.Path) -> Pairings:
+    """The table with which a round begins. Refused where it names no board."""
+    try:
+        read = read_pairings(file.read_bytes())
+    except FileNotFoundError:
+        raise Refused(FAILED, f"there is no {file}: save the table there as CSV, and see dgt_round --help") from None
+    except OSError as error:
+        why = f"{file} can't be read ({text_of(error)}): type the FILE of the table first, and then the FOLDER"
+        raise Refused(FAILED, why) from None
+    except Refused as refused:
+        raise Refused(REFUSED, f"{file}: {refused.lines[0]}") from None
+    if not read.boards and not read.wrong:
+        raise Refused(REFUSED, f"{file} names no board: each line after the first is one, as {EXAMPLE}")
+    return read
+
+
 def same_device(device: str) -> str:
     """What a device is, by whatever name."""
     return os.path.realpath(device)
@@ -74,7 +90,14 @@ class Round:
     """All boards of a round in one loop. `stopped` when all have ended."""
 
     def __init__(
-        self, loop: Loop, program: Program, file: pathlib.Path, folder: pathlib.Path, call: Call, title: str
+        self,
+        loop: Loop,
+        program: Program,
+        file: pathlib.Path,
+        read: Pairings,
+        folder: pathlib.Path,
+        call: Call,
+        title: str,
     ) -> None:
         self._loop, self._program, self._file, self._folder, self._call = loop, program, file, folder, call
         self._title = title
@@ -100,24 +123,12 @@ class Round:
         self._left = 0
         self.on_change: Callable[[], None] = lambda: None
         self._was_terminal = os.isatty(0)
-        self._read_first()
+        self._refuse_another_round(read)
+        self._take(read)
         self._typed = Typed(loop, self.typed)
         self._tick = loop.after(TICK, self._each_second)
 
     # The file.
-
-    def _read_first(self) -> None:
-        try:
-            read = read_pairings(self._file.read_bytes())
-        except OSError as error:
-            why = f"{self._file} can't be read ({text_of(error)}): type the FILE of the table first, and then the FOLDER"
-            raise Refused(FAILED, why) from None
-        except Refused as refused:
-            raise Refused(REFUSED, f"{self._file}: {refused.lines[0]}") from None
-        if not read.boards and not read.wrong:
-            raise Refused(REFUSED, f"{self._file} names no board: each line after the first is one, as {EXAMPLE}")
-        self._refuse_another_round(read)
-        self._take(read)
 
     def _refuse_another_round(self, read: Pairings) -> None:
         """A table that has other players for what was played is another round's: nothing is changed then."""

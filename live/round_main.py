@@ -16,7 +16,7 @@ from live.main import turned
 from live.options import LINGER, QUOTES, RECOVER, STRICT, Call, Options
 from live.program import Program
 from live.refused import ARGUMENTS, DONE, FAILED, REFUSED, Refused
-from live.round import Round
+from live.round import Round, first_pairings
 from live.round_page import RoundPage
 from live.terminal import open_standard_streams
 
@@ -132,14 +132,13 @@ def play(asked: Asked, program: Program, signals: Signals) -> Tuple[int, List[st
     typed.refuse_breaks()
     given = turned(typed)
     file = pathlib.Path(asked.file)
-    if not file.exists():
-        raise Refused(FAILED, f"there is no {file}: save the table there as CSV, and {SEE_HELP}")
+    read = first_pairings(file)
     folder, _ = folder_of(asked)
     loop = Loop()
     title = ", ".join(filter(None, (given.value("--event"), given.value("--round") and f"round {given.value('--round')}")))
     call = Call(words=given.words, linger=asked.linger)
     page = RoundPage(loop, program, asked.page, given.value("--event") or file.stem) if asked.page else None
-    games = Round(loop, program, file, folder, call, title or file.stem)
+    games = Round(loop, program, file, read, folder, call, title or file.stem)
     if page:
         games.on_change = page.changed
         page.shows(lambda: [games.rows[number] for number in sorted(games.rows)])

@@ -55,6 +55,9 @@ class RowScreen(Screen):
     def _print(self, line: str) -> None:
         super()._print(f"{line[:10]}{self._number:>3}  {line[10:]}")
 
+    def old(self, text: str) -> None:
+        """What was played before isn't told again: the table has the last move, and the log all."""
+
     def told(self, told: Told, is_old: bool) -> None:
         if not is_old:
             super().say(told.text())

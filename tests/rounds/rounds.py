@@ -390,6 +390,7 @@ def refused(folder: pathlib.Path) -> None:
         refuses(hall.record(), 1, part)
     hall.file.unlink()
     refuses(hall.record(), 3, "save the table there as CSV")
+    same(hall.games.exists(), False)
     refuses(hall.record("--what"), 2, "there is no option")
     hall.write()
     refuses(Live(folder, hall.games, program=ROUND), 3, "type the FILE of the table first")
