@@ -13,8 +13,10 @@ import struct
 from typing import Callable, Dict, Optional, Tuple
 
 from live.loop import Loop
+from live.refused import DONE
 
 LONGEST = 4096  # bytes of what is asked, and of an answer
+WHO = "\0"  # asks who records the game: no argument has such a byte
 PATIENCE = 10.0  # seconds that an answer may take
 
 Answer = Tuple[int, str]  # a status, and what is said with it
@@ -27,10 +29,10 @@ def address(capture: int) -> bytes:
 
 
 class Control:
-    """Listens for what is to be added to a game that is being recorded."""
+    """Listens for what is to be added to a game that is being recorded, on this `board` of a round, or on none."""
 
-    def __init__(self, loop: Loop, capture: int, asked: Callable[[str], Answer]) -> None:
-        self._loop, self._asked = loop, asked
+    def __init__(self, loop: Loop, capture: int, asked: Callable[[str], Answer], board: str) -> None:
+        self._loop, self._asked, self._board = loop, asked, board
         self._calls: Dict[int, socket.socket] = {}
         self._socket: Optional[socket.socket] = socket.socket(socket.AF_UNIX, socket.SOCK_SEQPACKET)
         self._socket.setblocking(False)
@@ -65,7 +67,7 @@ class Control:
         try:
             words = call.recv(LONGEST).decode("utf-8", "replace")
             if words:
-                status, text = self._asked(words)
+                status, text = (DONE, self._board) if words == WHO else self._asked(words)
                 call.send(bytes([status]) + text.encode("utf-8", "replace")[:LONGEST])
         except BlockingIOError:
             return
@@ -99,3 +101,9 @@ def ask(capture: pathlib.Path, words: str) -> Optional[Answer]:
             if answer:
                 return answer[0], answer[1:].decode("utf-8", "replace")
     return None
+
+
+def board_of(capture: pathlib.Path) -> Optional[str]:
+    """The board of a round on which this game is recorded; nothing where a dgt_live records it, None where nobody says so."""
+    answer = ask(capture, WHO)
+    return answer[1] if answer and answer[0] == DONE else None

@@ -12,7 +12,7 @@ from dataclasses import dataclass
 from typing import Optional
 
 from live.options import Options
-from live.refused import ARGUMENTS, FAILED, REFUSED, Refused
+from live.refused import ANOTHER_CALL, ARGUMENTS, FAILED, REFUSED, Refused
 
 LARGEST = 64 * 1024 * 1024  # bytes of a capture: the program reads no more
 MEMORY = 1024 * 1024  # bytes that a full disk leaves in memory
@@ -124,9 +124,7 @@ class Capture:
             except OSError:
                 if time.monotonic() >= ends:
                     os.close(number)
-                    raise Recorded(
-                        REFUSED, f"{path} is being recorded by another dgt_live: end that one, or choose another NAME"
-                    ) from None
+                    raise Recorded(REFUSED, f"{path} {ANOTHER_CALL}, or choose another NAME") from None
             time.sleep(0.05)
 
     @staticmethod

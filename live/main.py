@@ -199,7 +199,7 @@ def existing_game(name: str) -> Paths:
     if not os.path.isfile(paths.capture):
         last = numbered(name, last_number(name))
         known = f" The last one is {last.name}" if os.path.isfile(last.capture) else ""
-        raise Refused(REFUSED, f"there is no {paths.capture}: which game is meant?{known}")
+        raise Refused(REFUSED, f"there is no {paths.capture}: type the NAME of a game, with its folder.{known}")
     return paths
 
 
@@ -212,7 +212,7 @@ def remake(call: Call, program: Program) -> int:
     try:
         capture = files.open_game(paths)
     except files.Recorded:
-        raise Refused(REFUSED, f"{paths.name} is being recorded: Ctrl-C there, and then this again") from None
+        raise Refused(REFUSED, *refusal.is_recorded(paths.name, control.board_of(paths.capture), given)) from None
     end = files.end_mark(paths)
     before = files.kept_options(paths) or Options()
     result = result_in(paths)
@@ -266,7 +266,7 @@ def list_devices() -> int:
     for device, name in found:
         print(f"{device}  {name}" if name else device)
     if not found:
-        print("dgt_live: no board is plugged in: there is no /dev/ttyUSB* and no /dev/ttyACM*")
+        print("dgt_live: no board is plugged in: there is no /dev/ttyUSB* and no /dev/ttyACM*. Plug it in, and try again")
     return DONE
 
 

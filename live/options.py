@@ -16,6 +16,7 @@ VALUED = BOARD + TAGS
 RECOVER, STRICT = "--recover", "--strict"
 PLAIN = ("--rotated", RECOVER, STRICT)
 SEE_HELP = "see dgt_live --help"
+QUOTES = "is one argument too many. A text with blanks stands in quotes, as 'Anna Kern'"
 LINGER = 10  # seconds that a result stands before it ends a game
 Pair = Tuple[str, Optional[str]]  # an option and its value
 
@@ -34,6 +35,7 @@ class Call:
     devices: bool = False
     added: Optional[str] = None
     page: Optional[str] = None
+    board: str = ""  # its number in a round
 
 
 def parse(arguments: Sequence[str]) -> Call:
@@ -78,9 +80,11 @@ def parse(arguments: Sequence[str]) -> Call:
     remakes = remakes and not Options(tuple(words)).fixed().words
     wanted = 1 if added is not None or remakes else 2
     if len(plain) > wanted:
-        raise Refused(ARGUMENTS, f"{plain[wanted]} is one argument too many: {SEE_HELP}")
+        raise Refused(ARGUMENTS, f"{plain[wanted]} {QUOTES}: {SEE_HELP}")
     if len(plain) < wanted or not plain[-1]:
-        what = "the NAME of a game is wanted after --add" if added is not None else "a DEVICE and a NAME are wanted"
+        what = "a DEVICE and a NAME are wanted, as dgt_live /dev/ttyUSB0 game"
+        if added is not None:
+            what = "the NAME of a game is wanted after --add"
         raise Refused(ARGUMENTS, f"{what}: {SEE_HELP}")
     if added is not None and (words or flags["--series"]):
         raise Refused(ARGUMENTS, f"--add takes no other option than its own: {SEE_HELP}")

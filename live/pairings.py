@@ -19,8 +19,10 @@ RESULTS = {"1-0": "1-0", "0-1": "0-1", "1/2-1/2": "1/2-1/2", "1/2": "1/2-1/2", "
 NOT_YET = ("", "*", "-")
 HIGHEST = 999
 LARGEST = 1 << 20  # bytes
+BINARY = (b"PK\x03\x04", b"\xd0\xcf\x11\xe0")  # what a spreadsheet's own files begin with
 NAME = re.compile(r"[\w][\w .+-]*")
 HEADER = "board,device,white,black"
+EXAMPLE = "1,/dev/ttyUSB0,Anna,Ben"
 
 
 @dataclass(frozen=True)
@@ -91,6 +93,8 @@ def read_pairings(content: bytes) -> Pairings:
     """Reads the table. Refused where it has no header line that is known."""
     if len(content) > LARGEST:
         raise Refused(REFUSED, "it is larger than a table of pairings: save the table as CSV")
+    if content.startswith(BINARY):
+        raise Refused(REFUSED, "it is no text: let the spreadsheet save the table as CSV")
     lines = list(enumerate(re.split("\r\n|\r|\n", text_of(content)), 1))
     lines = [(number, line) for number, line in lines if line.strip(" \t,;\"")]
     if lines and re.fullmatch("sep=.?", lines[0][1].strip().lower()):  # what a spreadsheet says to itself
@@ -111,7 +115,8 @@ def read_pairings(content: bytes) -> Pairings:
             wrong.append(read)
             continue
         boards[read.board] = devices[read.device] = names[read.file_name] = read
-    return Pairings(tuple(boards[board] for board in sorted(boards)), tuple(wrong), tuple(remarks))
+    in_order = tuple(boards[board] for board in sorted(boards))
+    return Pairings(in_order, tuple(wrong), (*remarks, *nameless(in_order)))
 
 
 def _header(line: str) -> Tuple[str, List[str]]:
@@ -120,7 +125,7 @@ def _header(line: str) -> Tuple[str, List[str]]:
         if all(name in fields for name in WANTED):
             twice = [name for name in KNOWN if fields.count(name) > 1]
             if twice:
-                raise Refused(REFUSED, f"its first line has the column {twice[0]} twice")
+                raise Refused(REFUSED, f"its first line has the column {twice[0]} twice: take one out")
             return separator, fields
     raise Refused(REFUSED, f"its first line names no board and device: it is to be {HEADER}")
 
@@ -187,15 +192,28 @@ def _trouble(values: Dict[str, str]) -> str:
     return ""
 
 
+def device_twice(read: Pairing, other: Pairing) -> Wrong:
+    """A line whose device another line has."""
+    why = f"{read.device} is the device of board {other.board}, line {other.line}: each has its own"
+    return Wrong(read.line, read.board, why)
+
+
+def nameless(boards: Sequence[Pairing]) -> List[str]:
+    """What is said of lines that name one player and not the other."""
+    lacks = [(one, "white" if one.black else "black") for one in boards if bool(one.white) != bool(one.black)]
+    write = "type the name, save the table, and type r"
+    return [f"line {one.line}: board {one.board} has no {side}: {write}" for one, side in lacks]
+
+
 def _twice(
     read: Pairing, boards: Dict[int, Pairing], devices: Dict[str, Pairing], names: Dict[str, Pairing]
 ) -> Union[Pairing, Wrong]:
     if read.board in boards:
-        return Wrong(read.line, read.board, f"board {read.board} stands in line {boards[read.board].line} already")
+        line = boards[read.board].line
+        return Wrong(read.line, read.board, f"board {read.board} stands in line {line} already: type another")
     if read.device in devices:
-        other = devices[read.device]
-        return Wrong(read.line, read.board, f"{read.device} is the device of board {other.board}, line {other.line}")
+        return device_twice(read, devices[read.device])
     if read.file_name in names:
         other = names[read.file_name]
-        return Wrong(read.line, read.board, f"{read.file_name} is the name of the game of board {other.board}")
+        return Wrong(read.line, read.board, f"{read.file_name} is the name of the game of board {other.board}: type another")
     return read

@@ -55,7 +55,7 @@ class Program:
         except OSError:
             status = NO_PROGRAM
         if status != 0:
-            raise Refused(NO_PROGRAM, f"{path} doesn't run")
+            raise Refused(NO_PROGRAM, f"{path} doesn't run: it needs Linux on an x86-64 processor, with glibc 2.34")
         return Program(str(path))
 
     def run(self, *words: str, given: bytes = b"") -> subprocess.CompletedProcess[bytes]:

@@ -62,8 +62,9 @@ def ending_with_sign(lines: Sequence[ending.Line], size: int) -> int:
 class Recording:
     """A game on a board, from its first byte to its text.
 
-    `over` is called once, where the game has ended; `anew` where it begins only now, and what was told was a set-up; `broken`
-    where a part of it fails again and again; `asks` where something was added by hand, which the board is then asked about.
+    It `goes_on` where the capture has what came before this call: that was told then. `over` is called once, where the game
+    has ended; `anew` where it begins only now, and what was told was a set-up; `broken` where a part of it fails again and
+    again; `asks` where something was added by hand, which the board is then asked about.
     """
 
     def __init__(
@@ -76,6 +77,7 @@ class Recording:
         options: Options,
         linger: int,
         series: bool,
+        goes_on: bool,
         over: Callable[[Reason], None],
         anew: Callable[[], None],
         broken: Callable[[str], None],
@@ -106,6 +108,11 @@ class Recording:
         self._ends: Optional[Timer] = None
         self._watchdog: Optional[Timer] = None
         self.standing = Standing(loop, screen, self._start, options.rotated)
+        self._frames: Optional[protocol.Frames] = None  # of what the board sends, until it has shown itself
+        self._looks: Optional[Timer] = None
+        if goes_on:
+            self._frames = protocol.Frames()
+            self.standing.board.goes_on()
         self._maker = Maker(loop, program, paths, capture, options, self._pgn_trouble, screen.made)
         self._disk = Disk(screen, self.standing, capture, lambda: self._maker.full)
         self._whole: Optional[Whole] = None
@@ -128,8 +135,19 @@ class Recording:
         """The board has sent this, or somebody has added it."""
         self._disk.append(sent)
         self._feed()
+        if self._frames and protocol.FrameKind.DUMP in map(self._frames.take, sent):
+            self._frames = None
+            self._looks = self._loop.after(SETTLES, self._shows_itself)
         if self._capture.at_limit:
             self._end(Reason.LIMIT)
+
+    def _shows_itself(self) -> None:
+        """The board has shown how it stands, and `follow` has told of that and of all before it."""
+        if self._pictures_seen < self._old_pictures:
+            self._looks = self._loop.after(SETTLES, self._shows_itself)
+            return
+        self.standing.board.shows_itself()
+        self.standing.show()
 
     def _children(self) -> List[Union[Reader, Maker]]:
         return [child for child in (self._whole, self._follow, self._pictures, self._maker) if child]
@@ -169,9 +187,13 @@ class Recording:
                 self._tell_pair(place.pair)
         if self.end is not None and told.offset >= self.end:
             return  # the game is over
+        is_old = told.offset < self._old
         if told.kind == "fault":
-            self._faults.append(f"{told.text()} at {told.offset}")
+            if not is_old:
+                self._faults.append(f"{told.text()} at {told.offset}")
             return
+        if not is_old:
+            self.standing.board.shows_itself()
         now = self._loop.now()
         self._lines.append(ending.Line(told.offset, self._time_of(told.offset, now), f"{told.kind} {told.words}".rstrip()))
         self.standing.board.told(now, line)
@@ -338,7 +360,7 @@ class Recording:
 
     def close(self) -> None:
         """Ends all that is under way. The capture stays open."""
-        for timer in (self._tick, self._ends, self._watchdog):
+        for timer in (self._tick, self._ends, self._watchdog, self._looks):
             if timer:
                 timer.cancel()
         self.standing.close()

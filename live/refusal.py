@@ -2,9 +2,9 @@
 
 from __future__ import annotations
 
-from typing import Dict
+from typing import Dict, Optional, Tuple
 
-from live.options import SEE_HELP
+from live.options import FIRST, SEE_HELP, Options
 
 # The conditions of a position, and of the text that has it, in docs/CHESS.md.
 OF_FEN: Dict[str, str] = {
@@ -26,3 +26,19 @@ def reason(error: str) -> str:
     if kind == "fen":
         return f"--fen is refused ({why}): {OF_FEN.get(why, SEE_HELP)}"
     return f"the options are refused: {why if kind == 'error' else first}. {SEE_HELP.capitalize()}"
+
+
+def is_recorded(name: str, board: Optional[str], given: Options) -> Tuple[str, ...]:
+    """What is told where a game is to be made anew while it is recorded: on this board of a round, on none, or who knows."""
+    if board == "":
+        return (f"{name} is being recorded: Ctrl-C there, and then this again",)
+    columns = [f"{given.value(FIRST)} in its column first"] if given.value(FIRST) else []
+    if given.recover or given.strict:
+        columns.append(f"{'yes' if given.recover else 'no'} in its column recover")
+    write = f"write {', and '.join(columns)}; save the table, and type r there"
+    if board:
+        return f"{name} is board {board} of a dgt_round, and Ctrl-C there would end all boards. In the table", write
+    return (
+        f"{name} is in use. If a dgt_live records it, Ctrl-C there, and then this again. If a dgt_round does, in its table",
+        write,
+    )

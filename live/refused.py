@@ -9,6 +9,12 @@ ARGUMENTS = 2
 FAILED = 3
 NO_PROGRAM = 70
 
+# Ctrl-C in a round would end all its boards.
+ANOTHER_CALL = (
+    "is being recorded by another dgt_live or dgt_round: end that"
+    " (Ctrl-C; in a dgt_round take its line out of the table, and type r)"
+)
+
 
 class Refused(Exception):
     """A complaint for standard error, in lines, and the status that goes with it."""

@@ -14,7 +14,7 @@ from live.files import text_of
 from live.loop import Loop, Timer
 from live.options import Call
 from live.painter import Painter
-from live.pairings import Pairing, Pairings, Wrong, read_pairings
+from live.pairings import EXAMPLE, Pairing, Pairings, Wrong, device_twice, read_pairings
 from live.program import Program
 from live.refused import DONE, FAILED, REFUSED, Refused
 from live.row import Row, game_of_others
@@ -31,6 +31,22 @@ AGAIN = 1.0  # seconds, where round.pgn couldn't be written
 GATHERED = 0.02  # seconds in which changes go into one round.pgn
 SHARE = 10  # times as long as the last one took to be written: the disk is for the games first
 LONGEST = 1.0  # seconds
+
+
+def first_pairings(file: pathlib.Path) -> Pairings:
+    """The table with which a round begins. Refused where it names no board."""
+    try:
+        read = read_pairings(file.read_bytes())
+    except FileNotFoundError:
+        raise Refused(FAILED, f"there is no {file}: save the table there as CSV, and see dgt_round --help") from None
+    except OSError as error:
+        why = f"{file} can't be read ({text_of(error)}): type the FILE of the table first, and then the FOLDER"
+        raise Refused(FAILED, why) from None
+    except Refused as refused:
+        raise Refused(REFUSED, f"{file}: {refused.lines[0]}") from None
+    if not read.boards and not read.wrong:
+        raise Refused(REFUSED, f"{file} names no board: each line after the first is one, as {EXAMPLE}")
+    return read
 
 
 def same_device(device: str) -> str:
@@ -74,7 +90,14 @@ class Round:
     """All boards of a round in one loop. `stopped` when all have ended."""
 
     def __init__(
-        self, loop: Loop, program: Program, file: pathlib.Path, folder: pathlib.Path, call: Call, title: str
+        self,
+        loop: Loop,
+        program: Program,
+        file: pathlib.Path,
+        read: Pairings,
+        folder: pathlib.Path,
+        call: Call,
+        title: str,
     ) -> None:
         self._loop, self._program, self._file, self._folder, self._call = loop, program, file, folder, call
         self._title = title
@@ -100,23 +123,12 @@ class Round:
         self._left = 0
         self.on_change: Callable[[], None] = lambda: None
         self._was_terminal = os.isatty(0)
-        self._read_first()
+        self._refuse_another_round(read)
+        self._take(read)
         self._typed = Typed(loop, self.typed)
         self._tick = loop.after(TICK, self._each_second)
 
     # The file.
-
-    def _read_first(self) -> None:
-        try:
-            read = read_pairings(self._file.read_bytes())
-        except OSError as error:
-            raise Refused(FAILED, f"{self._file} can't be read ({text_of(error)})") from None
-        except Refused as refused:
-            raise Refused(REFUSED, f"{self._file}: {refused.lines[0]}") from None
-        if not read.boards and not read.wrong:
-            raise Refused(REFUSED, f"{self._file} names no board: each line after the first is one")
-        self._refuse_another_round(read)
-        self._take(read)
 
     def _refuse_another_round(self, read: Pairings) -> None:
         """A table that has other players for what was played is another round's: nothing is changed then."""
@@ -180,8 +192,7 @@ class Round:
             if other is pairing:
                 boards.append(pairing)
             else:
-                why = f"{pairing.device} is the device of board {other.board}, line {other.line}"
-                wrong.append(Wrong(pairing.line, pairing.board, why))
+                wrong.append(device_twice(pairing, other))
         return boards, sorted(wrong, key=lambda line: line.line)
 
     def _new_row(self, pairing: Pairing) -> Row:

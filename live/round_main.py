@@ -13,10 +13,10 @@ from live.address import Address, read_address
 from live.files import LOCK_PATIENCE, text_of
 from live.loop import Loop, Signals
 from live.main import turned
-from live.options import LINGER, RECOVER, STRICT, Call, Options
+from live.options import LINGER, QUOTES, RECOVER, STRICT, Call, Options
 from live.program import Program
 from live.refused import ARGUMENTS, DONE, FAILED, REFUSED, Refused
-from live.round import Round
+from live.round import Round, first_pairings
 from live.round_page import RoundPage
 from live.terminal import open_standard_streams
 
@@ -25,25 +25,22 @@ TAGS = ("--event", "--site", "--date", "--round")
 HELP = """\
 usage: dgt_round FILE [FOLDER] [OPTION..]
 
-Records all boards of a round, shows them in a table, and keeps in FOLDER
-  01.dgt, 01.pgn ..  each board's game, as dgt_live keeps it
-  round.pgn          all games: whole PGN texts at any time, to be copied
-Without FOLDER they are kept where FILE is. Ctrl-C ends it. Started again
-with the same FILE and FOLDER it goes on with all games.
-
+Records all boards of a round, shows them in a table, and keeps in FOLDER (or
+where FILE is) each game, as 01.dgt and 01.pgn, and all games in round.pgn:
+whole PGN texts at any time, to be copied. Started again with the same FILE
+and FOLDER it goes on with all games.
 FILE is a table that a spreadsheet saves as CSV. Its first line names columns:
   board,device,white,black
   1,/dev/ttyUSB0,Anna,Ben
 and where wanted rotated (yes), first (white or black), fen, name (of the
-game's files), result (1-0, 0-1, 1/2-1/2) and recover (yes or no). A line
-that is wrong stops no other. dgt_live --devices lists the devices.
-
+game's files), result (1-0, 0-1, 1/2-1/2) and recover (yes or no). A line that
+is wrong stops no other. dgt_live --devices lists the devices.
 While it records, type
   3 1-0       the result of board 3: 1-0, 0-1 or 1/2-1/2
   3 Nf3 Nc6   moves that board 3 has missed
   3           how board 3 stands
   r           read FILE again (HUP does so too)
-  q           end
+  q           end, as Ctrl-C does
 
 OPTION for all games: --event, --site, --date, --round, each with TEXT
   --linger SECONDS          a result that has stood so long ends a game (10)
@@ -93,7 +90,7 @@ def parse(arguments: Sequence[str]) -> Asked:
     if not plain or not plain[0]:
         raise Refused(ARGUMENTS, f"a FILE with the pairings is wanted: {SEE_HELP}")
     if len(plain) > 2:
-        raise Refused(ARGUMENTS, f"{plain[2]} is one argument too many: {SEE_HELP}")
+        raise Refused(ARGUMENTS, f"{plain[2]} {QUOTES}: {SEE_HELP}")
     linger = values.pop("--linger", str(LINGER))
     if not (linger.isascii() and linger.isdigit()):
         raise Refused(ARGUMENTS, f"--linger wants a number of seconds, and not '{linger}'")
@@ -115,7 +112,8 @@ def folder_of(asked: Asked) -> Tuple[pathlib.Path, int]:
         folder.mkdir(exist_ok=True)
         lock = os.open(folder, os.O_RDONLY | os.O_DIRECTORY)
     except OSError as error:
-        raise Refused(FAILED, f"the folder {folder} can't be made or opened ({text_of(error)})") from None
+        why = f"the folder {folder} can't be made or opened ({text_of(error)}): choose another FOLDER"
+        raise Refused(FAILED, why) from None
     ends = time.monotonic() + LOCK_PATIENCE
     while True:
         try:
@@ -134,14 +132,13 @@ def play(asked: Asked, program: Program, signals: Signals) -> Tuple[int, List[st
     typed.refuse_breaks()
     given = turned(typed)
     file = pathlib.Path(asked.file)
-    if not file.exists():
-        raise Refused(FAILED, f"there is no {file}")
+    read = first_pairings(file)
     folder, _ = folder_of(asked)
     loop = Loop()
     title = ", ".join(filter(None, (given.value("--event"), given.value("--round") and f"round {given.value('--round')}")))
     call = Call(words=given.words, linger=asked.linger)
     page = RoundPage(loop, program, asked.page, given.value("--event") or file.stem) if asked.page else None
-    games = Round(loop, program, file, folder, call, title or file.stem)
+    games = Round(loop, program, file, read, folder, call, title or file.stem)
     if page:
         games.on_change = page.changed
         page.shows(lambda: [games.rows[number] for number in sorted(games.rows)])

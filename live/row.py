@@ -55,6 +55,9 @@ class RowScreen(Screen):
     def _print(self, line: str) -> None:
         super()._print(f"{line[:10]}{self._number:>3}  {line[10:]}")
 
+    def old(self, text: str) -> None:
+        """What was played before isn't told again: the table has the last move, and the log all."""
+
     def told(self, told: Told, is_old: bool) -> None:
         if not is_old:
             super().say(told.text())
@@ -203,7 +206,7 @@ class Row:
                 self._screen.say("; ".join(anew))
             self._over = is_over(paths, capture)
             if not self._over:
-                call = Call(device=device, name=paths.name, linger=self._linger)
+                call = Call(device=device, name=paths.name, linger=self._linger, board=str(self.number))
                 self._device = pairing.device
                 self._player = Player(self._loop, self._program, self._screen, call, paths, capture, kept, self._stopped)
         finally:

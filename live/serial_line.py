@@ -11,11 +11,10 @@ import termios
 import time
 from typing import List, Optional, Tuple
 
-from live.refused import FAILED, Refused
+from live.refused import ANOTHER_CALL, FAILED, Refused
 
 SEE_DEVICES = "see which devices there are with dgt_live --devices"
 PLUGGED = ("ttyUSB*", "ttyACM*")
-BUSY = "is being recorded by another dgt_live: end that one"
 BUSY_PATIENCE = 3.0  # seconds: a call that was just killed may still hold the lock
 
 
@@ -70,7 +69,7 @@ def check(device: str, may_wait: bool) -> None:
             return
         raise Refused(FAILED, f"there is no {device}: plug the board in, and {SEE_DEVICES}") from None
     except OSError as error:
-        raise Refused(FAILED, f"{device} can't be looked at: {error.strerror}") from None
+        raise Refused(FAILED, f"{device} can't be looked at ({error.strerror}): {SEE_DEVICES}") from None
     if not stat.S_ISCHR(mode):
         raise Refused(FAILED, f"{device} is no device: see dgt_live --devices")
     try:
@@ -98,7 +97,7 @@ def check_free(device: str) -> None:
     try:
         while _is_locked(line):
             if time.monotonic() >= ends:
-                raise Refused(FAILED, f"{device} {BUSY}")
+                raise Refused(FAILED, f"{device} {ANOTHER_CALL}")
             time.sleep(0.05)
     finally:
         os.close(line)

@@ -15,9 +15,8 @@ from live.making import make_now
 from live.options import Call, Options
 from live.program import Program
 from live.recording import Reason, Recording
-from live.refused import DONE, FAILED, REFUSED, Refused
+from live.refused import ANOTHER_CALL, DONE, FAILED, REFUSED, Refused
 from live.screen import Screen, Told
-from live.serial_line import BUSY
 from live.setting_up import SettingUp
 from live.standing import Standing
 
@@ -82,6 +81,7 @@ class Player:
         self._control: Optional[Control] = None
         self._unplugged = self._silent = self._was_plugged = False
         self._reason: Optional[Reason] = None  # why the game is over
+        self._goes_on = capture.size > 0  # and the board has begun no game in this call
         self._ending = self._closing = False
         self._board = Board(loop, call.device, self)
         self._open()
@@ -96,13 +96,14 @@ class Player:
         self._screen.keep(Log(self.paths.log))
         if self._control:
             self._control.close()
-        self._control = Control(self._loop, self._capture.number, self._asked)
+        self._control = Control(self._loop, self._capture.number, self._asked, self._call.board)
 
     # Its games.
 
     def _record(self) -> None:
         self._reason = None
-        self._screen.say(f"records {self._call.device} in {self.paths.capture} and {self.paths.pgn}; Ctrl-C ends it")
+        ends = "" if self._call.board else "; Ctrl-C ends it"  # there it would end all boards
+        self._screen.say(f"records {self._call.device} in {self.paths.capture} and {self.paths.pgn}{ends}")
         self._recording = Recording(
             self._loop,
             self._program,
@@ -112,6 +113,7 @@ class Player:
             self._options,
             self._call.linger,
             self._call.series,
+            self._goes_on,
             self._game_over,
             self._begins_now,
             self._broken,
@@ -221,7 +223,7 @@ class Player:
         self._setting_up.close()
         self._setting_up = None
         self._capture.close()
-        self._capture = capture
+        self._capture, self._goes_on = capture, False
         self._open()
         self._record()
 
@@ -308,7 +310,7 @@ class Player:
             game.standing.silence(silent)
 
     def busy(self) -> None:
-        self._fail(f"{self._call.device} {BUSY}")
+        self._fail(f"{self._call.device} {ANOTHER_CALL}")
 
     def _broken(self, what: str) -> None:
         self._fail(f"a part of the program failed again and again ({what}); what was played is in {self.paths.pgn}")

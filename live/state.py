@@ -4,6 +4,7 @@
 - `in hand g1 f3`: a few squares differ, none of them for 10 s. `WRONG since 40 s: e2 d5`: those that have differed so long.
 - `setting up`: more squares differ than hands change in a move, and pieces are still moved, or no move has been played. When a
   few are left they are `WRONG` once nothing has moved for 10 s.
+- `waits for the board`: it has shown nothing yet. Where a game goes on, what it showed before this call is not how it stands.
 - `SILENT`, `UNPLUGGED`: the board answers no more, or its line is gone; whatever was shown before. `DISK FULL` beside any.
 """
 
@@ -111,6 +112,7 @@ class BoardState:
     _picture: Optional[Picture] = None
     _replugged: bool = False
     _hint: str = ""
+    _goes_on: bool = False  # and the board has shown nothing since
 
     def told(self, now: float, line: str) -> None:
         """A line of `follow`."""
@@ -151,6 +153,14 @@ class BoardState:
             self._hint = self.turned_hint if turned else ""
         self._picture, self._replugged = picture, False
 
+    def goes_on(self) -> None:
+        """What is told next is from before this call, until the board shows itself."""
+        self._goes_on = True
+
+    def shows_itself(self) -> None:
+        """From here on what was told is how it stands."""
+        self._goes_on = False
+
     def unplugged(self, now: float) -> None:
         """The line has gone away."""
         if self._unplugged_since is None:
@@ -178,6 +188,8 @@ class BoardState:
             return State(Kind.UNPLUGGED, self._unplugged_since, disk_full=self._disk_full)
         if self._silent_since is not None:
             return State(Kind.SILENT, self._silent_since, disk_full=self._disk_full)
+        if self._goes_on:
+            return State(Kind.WAITS, self._since, disk_full=self._disk_full)
         kind, squares = self._shown(now)
         since = min((self._squares[square] for square in squares), default=self._since)
         return State(kind, since, squares, self._result, self._hint, self._disk_full)

@@ -8,8 +8,9 @@ import tempfile
 
 from live.disk import Disk
 from live.files import Log, check_name
+from live.options import Options
 from live.program import Program
-from live.refusal import reason
+from live.refusal import is_recorded, reason
 from live.refused import Refused
 from live.round import another_folder, ways
 from live.serial_line import login_name, may_not_open
@@ -161,4 +162,40 @@ def rounds() -> None:
         same(folder, another_folder(folder), other)
 
 
-TABLES = [reasons, no_names, not_had, disks, logs, rounds]
+# What is asked of a game that is recorded, on which board of a round, and what is told.
+RECORDED = [
+    ("--first black", "", ["g3 is being recorded: Ctrl-C there, and then this again"]),
+    (
+        "--first black",
+        "3",
+        [
+            "g3 is board 3 of a dgt_round, and Ctrl-C there would end all boards. In the table",
+            "write black in its column first; save the table, and type r there",
+        ],
+    ),
+    (
+        "--strict",
+        "12",
+        [
+            "g3 is board 12 of a dgt_round, and Ctrl-C there would end all boards. In the table",
+            "write no in its column recover; save the table, and type r there",
+        ],
+    ),
+    (
+        "--recover --first white",
+        None,
+        [
+            "g3 is in use. If a dgt_live records it, Ctrl-C there, and then this again. If a dgt_round does, in its table",
+            "write white in its column first, and yes in its column recover; save the table, and type r there",
+        ],
+    ),
+]
+
+
+def recorded() -> None:
+    """Ctrl-C is told only where it ends one game."""
+    for words, board, told in RECORDED:
+        same(f"{words} on board {board}", list(is_recorded("g3", board, Options(tuple(words.split())))), told)
+
+
+TABLES = [reasons, no_names, not_had, disks, logs, rounds, recorded]

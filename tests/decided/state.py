@@ -81,6 +81,22 @@ CASES = [
         [(10.5, "UNPLUGGED since 1 s"), (190, "UNPLUGGED since 3 min"), (201, "agrees")],
     ),
     (
+        "a game goes on: what it was told before doesn't count until the board shows itself",
+        [(0, "goes on"), (0.1, "66 agrees"), (0.2, "71 differs e2"), (3, "shows itself"), (6, "76 move 1. e4")],
+        [(0.3, "waits for the board"), (2, "waits for the board"), (4, "in hand e2"), (7, "agrees")],
+    ),
+    (
+        "a game goes on, and the board doesn't answer, or is gone",
+        [(0, "goes on"), (0.1, "66 agrees"), (5, "silent"), (9, "unplugged"), (12, "plugged"), (14, "shows itself")],
+        [
+            (1, "waits for the board"),
+            (6, "SILENT since 1 s"),
+            (11, "UNPLUGGED since 2 s"),
+            (13, "waits for the board"),
+            (15, "agrees"),
+        ],
+    ),
+    (
         "a full disk beside the rest",
         [(0, "66 agrees"), (3, "full"), (9, "unplugged"), (12, "plugged"), (20, "written")],
         [(5, "DISK FULL, agrees"), (10, "DISK FULL, UNPLUGGED since 1 s"), (13, "DISK FULL, agrees"), (21, "agrees")],
@@ -96,6 +112,10 @@ def happened(board, when, what):
         board.unplugged(when)
     elif what == "plugged":
         board.plugged()
+    elif what == "goes on":
+        board.goes_on()
+    elif what == "shows itself":
+        board.shows_itself()
     elif what in ("full", "written"):
         board.disk(what == "full")
     else:

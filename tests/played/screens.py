@@ -181,11 +181,18 @@ def long_lines_dropped(folder: pathlib.Path) -> None:
 
 
 def logged(folder: pathlib.Path) -> None:
-    """NAME.log has what was told, with the date and the time of day, from one recording to the next."""
+    """NAME.log has what was told, with the date and the time of day, from one recording to the next, and nothing twice."""
     board, live = begin_game(folder)
+    log = folder / "game.log"
+    board.send(b"\x0a")
+    until(lambda: "fault stray" in log.read_text(), "a fault in the log")
     same(stop(live), 0)
+    before = log.read_text()
     again = Live(board.device, live.name)
-    until(lambda: board.asked_for_updates, "a request for updates")
+    begun(again)
+    for line in ("records ", "waits for the board", "agrees"):
+        same((line, log.read_text()[len(before) :].count(line)), (line, 1))
+    same((len(log.read_text()[len(before) :].splitlines()), again.lines().count("in hand")), (3, 0))
     board.play("g1f3")
     until_game(live.name, "1. e4 e5 2. Nf3 *")
     same(stop(again), 0)

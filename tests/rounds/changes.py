@@ -157,6 +157,10 @@ def recovered(folder: pathlib.Path) -> None:
     assert gone in bytes_of(hall.name(3) + ".log").decode()
     hall.until_round()
     same(stop(live), 0)
+    again = hall.record("--recover")
+    until_line(again, "  2  agrees")
+    same(again.lines().count(PAIR), 0)  # it was told
+    same(stop(again), 0)
     for number in (1, 2, 3):
         capture = bytes_of(hall.name(number) + ".dgt")
         same(" ".join(run("record", given=capture).stdout.decode().split("\n\n")[1].split()), strict)

@@ -7,6 +7,7 @@ import re
 import shutil
 import signal
 import socket
+import subprocess
 import urllib.request
 from typing import Any, Dict, List
 
@@ -39,6 +40,7 @@ def eight_boards(folder: pathlib.Path) -> None:
     live = hall.record("--event", "Club", "--date", "31.05.2024", "--round", "3")
     reader = Reader(hall.games / "round.pgn")
     hall.begun(live)
+    same(live.lines().count("Ctrl-C"), 0)  # that would end all boards
     hall.play()
     for number in range(8):
         hall.until_text(number + 1, text(number))
@@ -76,8 +78,8 @@ def troubles(folder: pathlib.Path) -> None:
         f"  3  {folder}/nowhere isn't there: plug it in. Is it another device? Write it in its column device, save the table,",
         "  3  UNPLUGGED",
         f"  4  isn't recorded: {folder}/file is no device",
-        f"line 6 of round.csv is wrong: {folder}/board2 is the device of board 2, line 3",
-        "line 7 of round.csv is wrong: board 2 stands in line 3 already",
+        f"line 6 of round.csv is wrong: {folder}/board2 is the device of board 2, line 3: each has its own",
+        "line 7 of round.csv is wrong: board 2 stands in line 3 already: type another",
         "line 8 of round.csv is wrong: 'x' is no number of a board",
         "line 9 of round.csv is wrong: a quote isn't closed",
         "  7  isn't recorded: the white player's name has letters that PGN can't take",
@@ -142,6 +144,7 @@ def killed(folder: pathlib.Path) -> None:
         kill(live)
         live = hall.record()
         hall.begun(live)
+        same(live.lines().count("in hand"), 0)  # of the moves before
     hall.play(4, 6)
     hall.until_text(2, text(1))
     hall.until_round()
@@ -374,16 +377,43 @@ def free_port() -> int:
 
 
 def refused(folder: pathlib.Path) -> None:
-    """No file, an empty one, one without a header, and a second call for the same folder: a clear word and a status."""
+    """No file, an empty one, one without a header, and a second call for the same folder, device or game: what to do, and a
+    status."""
     hall = Hall(folder, 1)
-    for content, part in ((b"", "is empty"), (b"1,/dev/null,A,B\n", "names no board and device")):
+    header = b"board,device,white,black\n"
+    for content, part in (
+        (b"", "is empty"),
+        (b"1,/dev/null,A,B\n", "names no board and device"),
+        (header, "each line after the first is one, as 1,/dev/ttyUSB0,Anna,Ben"),
+    ):
         hall.file.write_bytes(content)
         refuses(hall.record(), 1, part)
     hall.file.unlink()
-    refuses(hall.record(), 3, "there is no")
+    refuses(hall.record(), 3, "save the table there as CSV")
+    same(hall.games.exists(), False)
     refuses(hall.record("--what"), 2, "there is no option")
     hall.write()
+    refuses(Live(folder, hall.games, program=ROUND), 3, "type the FILE of the table first")
+    refuses(Live(hall.file, folder / "no" / "folder", program=ROUND), 3, "choose another FOLDER")
+    refuses(Live(hall.file, hall.games, "--event", "Club", "cup", program=ROUND), 2, "stands in quotes")
     live = hall.record()
     hall.begun(live)
     refuses(hall.record(), 1, "another dgt_round")
+    answer = Live("", hall.name(1), "--first", "black")
+    refuses(answer, 1, "is board 1 of a dgt_round, and Ctrl-C there would end all boards")
+    assert "  write black in its column first; save the table, and type r there\n" in answer.complaint(), answer.complaint()
+    refuses(Live(hall.boards[0].device, folder / "game"), 3, "take its line out of the table, and type r")
     same(stop(live), 0)
+
+
+def help_on_a_screen(folder: pathlib.Path) -> None:
+    """--help says all on 80 by 24."""
+    answer = subprocess.run([ROUND, "--help"], stdout=subprocess.PIPE)
+    same(answer.returncode, 0)
+    shown = answer.stdout.decode()
+    lines = shown.splitlines()
+    assert len(lines) < 24 and all(len(line) < 80 for line in lines), (len(lines), max(map(len, lines)))
+    for word in ["FOLDER", "round.pgn", "board,device,white,black", "rotated", "fen", "name", "recover", "3 1-0", "--devices"]:
+        assert word in shown, word
+    for option in ["--event", "--site", "--date", "--round", "--linger", "--page", "--recover", "--strict"]:
+        assert option in shown, option

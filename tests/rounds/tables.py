@@ -31,6 +31,10 @@ def separators(_: pathlib.Path) -> None:
     same([Options(pairing.words(("--recover",))).recover for pairing in read], [True, False, True])
     same(read_pairings(b"sep=;\nboard;device\n1;d\n").boards, (Pairing(3, 1, "d"),))
     same(read_pairings(b"board,device,elo\n1,d,2000\n").remarks, ("the column 'elo' isn't known, and isn't used",))
+    one = read_pairings(b"board,device,white,black\n1,a,Anna,\n2,b,,Ben\n3,c,,\n4,d,A,B\n")
+    same((len(one.boards), one.wrong), (4, ()))
+    same(one.remarks, tuple(f"line {line}: board {board} has no {side}: type the name, save the table, and type r"
+                            for line, board, side in ((2, 1, "black"), (3, 2, "white"))))  # fmt: skip
     same([pairing.board for pairing in read_pairings(b"board,device\n9,a\n10,b\n2,c\n").boards], [2, 9, 10])
 
 
@@ -51,9 +55,9 @@ def wrong_lines(_: pathlib.Path) -> None:
         ("3,d,A,B,,,,,,more", 3, "it has 10 fields, and the first line has 9"),
         ('3,d,"A', 3, "a quote isn't closed"),
         ("3,d,A\x00,B", 3, "can't be seen"),
-        ("1,d", 1, "board 1 stands in line 2 already"),
-        ("3,/dev/a", 3, "/dev/a is the device of board 1, line 2"),
-        ("3,d,A,B,,,01", 3, "01 is the name of the game of board 1"),
+        ("1,d", 1, "board 1 stands in line 2 already: type another"),
+        ("3,/dev/a", 3, "/dev/a is the device of board 1, line 2: each has its own"),
+        ("3,d,A,B,,,01", 3, "01 is the name of the game of board 1: type another"),
     ):
         read = read_pairings(f"{header}\n1,/dev/a,A,B\n{line}\n4,/dev/b,C,D\n".encode())
         same([pairing.board for pairing in read.boards], [1, 4])
@@ -62,12 +66,15 @@ def wrong_lines(_: pathlib.Path) -> None:
 
 
 def no_table(_: pathlib.Path) -> None:
-    """What is no table at all is refused with a word."""
-    for content in (b"", b"\n\n", b"1,/dev/a,A,B\n", b"board,white\n", b"board,device,board\n", b"\xff" * 100, b"x" * 2000000):
+    """What is no table at all is refused with a word; the files that a spreadsheet keeps for itself, with what to do."""
+    saved = (b"PK\x03\x04\x14\x00", b"\xd0\xcf\x11\xe0\xa1\xb1")
+    others = (b"", b"\n\n", b"1,/dev/a,A,B\n", b"board,white\n", b"board,device,board\n", b"\xff" * 100, b"x" * 2000000)
+    for content in saved + others:
         try:
             read_pairings(content)
         except Refused as refused:
             assert refused.lines[0], content[:20]
+            same(content not in saved or refused.lines[0].endswith("save the table as CSV"), True)
         else:
             raise AssertionError(f"not refused: {content[:20]!r}")
 

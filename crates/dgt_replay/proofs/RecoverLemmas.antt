@@ -29,7 +29,7 @@ read_flushed setting input left written so_far after said told read kept = (read
 
 some_flushed : (setting : Setting) (input left written so_far after said told : Option (List ℕ)) → RecoversSome setting input left written so_far said told → Keeps so_far after → RecoversSome setting input left written after said told
 some_flushed setting input left written so_far after said told some kept =
-    (some.0, some.1, some.2, some.3, some.4, some.5, Appends-kept written so_far after some.2 some.6 kept, some.7)
+    (some.0, some.1, some.2, some.3, some.4, some.5, some.6, Appends-kept written so_far after some.2 some.7 kept, some.8)
 
 front_flushed : (setting : Setting) (input left written so_far after said told : Option (List ℕ)) (failed : Bool) → RecoversFront setting input left written so_far said told failed → Keeps so_far after
     → RecoversFront setting input left written after said told failed

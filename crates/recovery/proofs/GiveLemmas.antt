@@ -11,7 +11,7 @@ use Rattle.recovery.specs.declared.keeper.Keeper.{Keeper}
 use Rattle.recovery.specs.declared.refusal.RecoverError.{RecoverError}
 use Rattle.recovery.specs.declared.refusal.RecoverError.TheVariants.{Read, Write, Lines, TooLong, Memory}
 use Rattle.recovery.specs.Passing.{Adds, Passes, Stands}
-use Rattle.recovery.specs.Progress.{BreaksOff, Concludes, PassesOn, HasBegun, IsPutIn, PutsPart}
+use Rattle.recovery.specs.Progress.{BreaksOff, Concludes, PassesOn, HasBegun, IsPutIn, PutsPart, Refuses}
 use Rattle.recovery.specs.Streams.{IsLine}
 use Rattle.recovery.specs.Weaving.{Recovers}
 
@@ -112,9 +112,9 @@ part_longer written after bytes more part = (part.0, part.1 ++ more, ap (λ bs. 
 
 -- Memory ran out at the next event, and what waited was written.
 pub breaks_memory : (old now : Decoder) (keeper k : Keeper) (start : ℕ) (chunk whole after waiting : List ℕ) (written written' written'' said said' : Option (List ℕ))
-    → chunk ≡ whole ++ after → Concludes now k → Appends written' written'' waiting → PassesOn old keeper start whole now k waiting written written' said said'
+    → chunk ≡ whole ++ after → Concludes now k → Refuses now k after → Appends written' written'' waiting → PassesOn old keeper start whole now k waiting written written' said said'
     → BreaksOff Memory old keeper start chunk written written'' said said'
-breaks_memory old now keeper k start chunk whole after waiting written written' written'' said said' parts concludes sent part setting bytes woven text at stands =
+breaks_memory old now keeper k start chunk whole after waiting written written' written'' said said' parts concludes refuses sent part setting bytes woven text at stands =
     let before = part setting bytes woven text at stands in (
       whole,
       after,
@@ -124,6 +124,7 @@ breaks_memory old now keeper k start chunk whole after waiting written written' 
       recovers_as setting (bytes ++ whole) ((woven ++ before.0) ++ waiting) (woven ++ (before.0 ++ waiting)) (text ++ before.1) (text ++ before.1) (append_assoc woven before.0 waiting) refl
           (concludes setting (bytes ++ whole) ((woven ++ before.0) ++ waiting) (text ++ before.1) before.2),
       (Appends-trans written written' written'' before.0 waiting before.3 sent, before.4),
+      refuses setting (bytes ++ whole) ((woven ++ before.0) ++ waiting) (text ++ before.1) before.2,
     )
 
 -- Of what waited a part was written, and the output has failed.
@@ -140,6 +141,7 @@ breaks_write old now keeper k start chunk whole after waiting written written' w
       recovers_as setting (bytes ++ whole) ((woven ++ before.0) ++ waiting) (woven ++ (before.0 ++ waiting)) (text ++ before.1) (text ++ before.1) (append_assoc woven before.0 waiting) refl
           (concludes setting (bytes ++ whole) ((woven ++ before.0) ++ waiting) (text ++ before.1) before.2),
       (part_behind written written' written'' before.0 waiting before.3 sent, before.4),
+      tt,
     )
 
 line_of : (frames line : List ℕ) → 0 < length line → IsPutIn frames line → IsLine line
@@ -165,6 +167,7 @@ breaks_pair Lines old now new keeper k k' start offset chunk whole more after wa
         (before.0, waiting, refl, Appends-kept written written' written'' before.0 before.3 puts.0),
         (told.0, (line, told.1, line_of frames line some put, told.2), Appends-trans said said' said'' before.1 told.0 before.4 told.3),
       ),
+      tt,
     )
 breaks_pair Write old now new keeper k k' start offset chunk whole more after waiting frames line written written' written'' said said' said'' parts offset_is some put concluded concludes passes puts part setting bytes woven text at stands =
     let before = part setting bytes woven text at stands in
@@ -181,6 +184,7 @@ breaks_pair Write old now new keeper k k' start offset chunk whole more after wa
       recovers_as setting (bytes ++ (whole ++ more)) ((((woven ++ before.0) ++ waiting) ++ more) ++ frames) (woven ++ (before.0 ++ all)) ((text ++ before.1) ++ line) (text ++ (before.1 ++ line))
           woven_is (append_assoc text before.1 line) (concludes setting (bytes ++ (whole ++ more)) ((((woven ++ before.0) ++ waiting) ++ more) ++ frames) ((text ++ before.1) ++ line) there),
       (part_behind written written' written'' before.0 all before.3 puts.0, Appends-trans said said' said'' before.1 line before.4 puts.1),
+      tt,
     )
 breaks_pair Read old now new keeper k k' start offset chunk whole more after waiting frames line written written' written'' said said' said'' parts offset_is some put concluded concludes passes puts part setting bytes woven text at stands = absurd puts
 breaks_pair TooLong old now new keeper k k' start offset chunk whole more after waiting frames line written written' written'' said said' said'' parts offset_is some put concluded concludes passes puts part setting bytes woven text at stands = absurd puts

@@ -1,5 +1,5 @@
 -- What a keeper makes of an event.
-use Rattle.std.proofs.Common.{inl, inr, ◌≡◌, ◌<◌, ℕ, Bool, true, false, List, [], ◌∷◌, length, map, get_or, get_or-set_same, slice_index, slice_set, is_some, Option, Some, None, Result, Ok, Err, IfOk, refl, sym, ap, subst, arith, ◌∙◌}
+use Rattle.std.proofs.Common.{inl, inr, ◌≡◌, ◌<◌, ℕ, Bool, true, false, List, [], ◌∷◌, length, map, get_or, get_or-set_same, slice_index, slice_set, is_some, Option, Some, None, Result, Ok, Err, IfOk, OnErr, refl, sym, ap, subst, arith, ◌∙◌}
 use Rattle.std.specs.Str.{bytes_eq}
 use Rattle.std.proofs.lemmas.Bool.{cases_Bool}
 use Rattle.std.proofs.lemmas.List.{length-set}
@@ -23,7 +23,7 @@ use Rattle.board_events.specs.Settings.{Setting}
 use Rattle.board_events.specs.Session.{entries_in}
 use Rattle.board_events.specs.View.{Views}
 use Rattle.recovery.specs.declared.keeper.Keeper.{Keeper}
-use Rattle.recovery.specs.Keeping.{KeepsNext, RecoversAt}
+use Rattle.recovery.specs.Keeping.{KeepsNext, RecoversAt, ShowsAnother}
 use Rattle.recovery.specs.Seeing.{Sees}
 
 no_longer : {A : Type 0} (xs : List A) (x : A) → xs ≡ x ∷ xs → ⊥
@@ -85,6 +85,21 @@ entry_here rotated past event picture more = elim (cases_Bool (is_entry event pa
       ]
   | inr other ↦ absurd (no_longer (pictures rotated past) picture (sym (pictures_none rotated past event other) ∙ more))
 ]
+
+-- Where a picture was added, the event shows another one than the last.
+pub another_here : (setting : Setting) (past : List Event) (event : Event) (picture : List ℕ)
+    → pictures setting.rotated (event ∷ past) ≡ picture ∷ pictures setting.rotated past → ShowsAnother setting past event
+another_here setting past event picture more =
+    let seen = picture_of setting.rotated (event ∷ past) in
+    let entered : is_entry event past ≡ true = (entry_here setting.rotated past event picture more).0 in
+    elim (cases_Bool (repeats seen (entries White setting.rotated past))) [
+      | inl again ↦ absurd (no_longer (pictures setting.rotated past) picture (sym (pictures_same setting.rotated past event entered again) ∙ more))
+      | inr new ↦ (entered, repeats_alike seen setting.first setting.rotated past ∙ new)
+    ]
+
+pub on_any_err : {T E P : Type 0} (r : Result T E) → P → OnErr r P
+on_any_err (Ok v) p = tt
+on_any_err (Err error) p = p
 
 -- The entries with one more that repeats the last picture.
 again_settles : (desk : Desk) (start : _) (past written : List Entry) (entry : Entry) → last_picture written ≡ last_picture past

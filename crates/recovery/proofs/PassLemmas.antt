@@ -1,6 +1,6 @@
 -- What stands after more bytes.
-use Rattle.std.proofs.Common.{◌≡◌, ◌<◌, ◌≤◌, ◌+◌, ◌-◌, ℕ, true, List, [], ◌∷◌, ◌++◌, length, take, map, reverse, Option, Some, None, refl, sym, ap, subst, arith, ◌∙◌, append-nil, length-append}
-use Rattle.std.proofs.lemmas.List.{length-take-le, reverse-append}
+use Rattle.std.proofs.Common.{◌≡◌, ◌<◌, ◌≤◌, ◌+◌, ◌-◌, ℕ, true, List, [], ◌∷◌, ◌++◌, length, take, drop, map, reverse, Option, Some, None, refl, sym, ap, subst, arith, ◌∙◌, append-nil, length-append}
+use Rattle.std.proofs.lemmas.List.{length-take-le, reverse-append, take-append-drop}
 use Rattle.settle_core.proofs.Lines.{map-reverse}
 use Rattle.dgt_frame.specs.declared.decode.Decoder.{Decoder}
 use Rattle.dgt_frame.specs.declared.events.Event.{Event}
@@ -15,8 +15,9 @@ use Rattle.board_events.specs.Settings.{Setting}
 use Rattle.pair_frames.specs.Laws.{EndsWhole, FramesArePutIn}
 use Rattle.pair_frames.specs.PutIn.{put_in}
 use Rattle.recovery.specs.declared.keeper.Keeper.{Keeper}
-use Rattle.recovery.specs.Keeping.{Keeps, RecoversAt}
+use Rattle.recovery.specs.Keeping.{Keeps, RecoversAt, ShowsAnother}
 use Rattle.recovery.specs.Weaving.{Put, Puts, PutsAll, Recovers, TellsPuts, TellsRecovered, Weaves}
+use Rattle.recovery.specs.Streams.{RefusesNext}
 use Rattle.recovery.specs.Passing.{Adds, Carries, EndsAt, Follows, Hears, IsMessage, Stands, added}
 use Rattle.recovery.proofs.EventLemmas.{ends_whole, past_both, past_moved}
 use Rattle.recovery.proofs.FollowLemmas.{ends_at, follows_event, follows_none, follows_put, follows_start, whole_leaves_none}
@@ -153,6 +154,30 @@ stands_event between old new keeper keeper' setting start offset count rest even
     stands_heard between new keeper' setting (bytes ++ more) (woven ++ more) text frames line x s.events s.written s.puts rest h.found decoded
     (concludes (bytes ++ more) (s.events ++ x ∷ []) decoded) (omega (arith, long, offset_of, some))
     (follows_none bytes more s.events woven s.written s.follows) s.puts_are (weaves_more bytes s.puts woven more s.weaves) s.told h.finds h.carries h.adds
+
+-- Memory ran out for the event that came at the last of these bytes.
+pub refuses_event : (old new : Decoder) (keeper : Keeper) (setting : Setting) (count rest rest_then : ℕ) (event : Event) (bytes woven text chunk : List ℕ)
+    → 0 < count → count ≤ length chunk → TakesUpTo old chunk count event new
+    → ((bs : List ℕ) (es : List Timed) → Decoded old bs es → Shows bs es rest)
+    → ((bs : List ℕ) (es : List Timed) → Decoded new bs es → Shows bs es rest_then)
+    → ((past written : List Event) → Carries keeper setting past written → ShowsAnother setting past event)
+    → Stands old keeper setting bytes woven text → RefusesNext setting bytes chunk
+refuses_event old new keeper setting count rest rest_then event bytes woven text chunk some low takes before concludes another s =
+    let next = take count chunk in
+    let x : Timed = record { offset = length bytes + (count - 1); event = event } in
+    record {
+      events = s.events;
+      rest = rest;
+      next = next;
+      later = drop count chunk;
+      refused = x;
+      rest_then = rest_then;
+      shown = before bytes s.events s.decoded;
+      parts = sym (take-append-drop count chunk);
+      one_more = concludes (bytes ++ next) (s.events ++ x ∷ []) (takes bytes s.events s.decoded);
+      at_last = omega (arith, length-append bytes next, length-take-le count chunk low, some);
+      another = another (past_of s.events) (past_of s.written) s.carries;
+    }
 
 -- The line of a pair, where there was no other.
 pub told_alone : (offset : ℕ) (r : Recovery) (before lines : List ℕ) → before ≡ []

@@ -14,7 +14,7 @@ use Rattle.recovery.specs.declared.refusal.RecoverError.{RecoverError}
 use Rattle.recovery.specs.declared.refusal.RecoverError.TheVariants.{Read, Write, Lines, TooLong, Memory}
 use Rattle.recovery.specs.Passing.{Stands}
 use Rattle.recovery.specs.Progress.{BreaksOff, Concludes, PassesOn, HasBegun, HasGiven, Stops}
-use Rattle.recovery.specs.Streams.{RecoversAll, RecoversFirst, RecoversFront, RecoversRead, RecoversSome}
+use Rattle.recovery.specs.Streams.{RecoversAll, RecoversFirst, RecoversFront, RecoversRead, RecoversSome, RefusesNext}
 use Rattle.recovery.specs.Weaving.{Recovers}
 use Rattle.recovery.proofs.GiveLemmas.{part_behind}
 
@@ -115,38 +115,61 @@ first_given old new keeper k setting count room buffer chunk (Some all) (Some ah
       g.says,
     )
 
--- What was given on of what was read is a front.
-pub front_of_some : (setting : Setting) (input left written after said told : Option (List ℕ)) (lines_failed : Bool) → RecoversSome setting input left written after said told
+-- What was given on of what was read, with all its lines, is a front.
+front_of : (setting : Setting) (bytes behind woven text : List ℕ) (input left written after said told : Option (List ℕ)) (lines_failed : Bool)
+    → Consumes input left (bytes ++ behind) → Recovers setting bytes woven text → Appends written after woven → Appends said told text
     → RecoversFront setting input left written after said told lines_failed
-front_of_some setting input left written after said told lines_failed some = record {
-  bytes = some.0;
-  after = some.1;
-  woven = some.2;
-  text = some.3;
+front_of setting bytes behind woven text input left written after said told lines_failed consumes recovers writes says = record {
+  bytes = bytes;
+  after = behind;
+  woven = woven;
+  text = text;
   part = [];
-  consumes = some.4;
-  recovers = some.5;
-  writes = (some.2, [], sym (append-nil some.2), some.6);
-  says = subst (Appends said told) (sym (append-nil some.3)) some.7;
+  consumes = consumes;
+  recovers = recovers;
+  writes = (woven, [], sym (append-nil woven), writes);
+  says = subst (Appends said told) (sym (append-nil text)) says;
   unfinished = inl refl;
 }
 
-pub some_of_read : (setting : Setting) (input left written after said told : Option (List ℕ)) → RecoversRead setting input left written after said told → RecoversSome setting input left written after said told
-some_of_read setting input left written after said told read =
-    (read.0, [], read.1, read.2, subst (Consumes input left) (sym (append-nil read.0)) read.3, read.4, read.5, read.6)
+front_of_some : (setting : Setting) (input left written after said told : Option (List ℕ)) (lines_failed : Bool) → RecoversSome setting input left written after said told
+    → RecoversFront setting input left written after said told lines_failed
+front_of_some setting input left written after said told lines_failed some =
+    front_of setting some.0 some.1 some.2 some.3 input left written after said told lines_failed some.4 some.6 some.7 some.8
+
+pub front_of_read : (setting : Setting) (input left written after said told : Option (List ℕ)) (lines_failed : Bool) → RecoversRead setting input left written after said told
+    → RecoversFront setting input left written after said told lines_failed
+front_of_read setting input left written after said told lines_failed read =
+    front_of setting read.0 [] read.1 read.2 input left written after said told lines_failed (subst (Consumes input left) (sym (append-nil read.0)) read.3) read.4 read.5 read.6
 
 -- A chunk was given on, and more was read.
-pub some_past : (old new : Decoder) (keeper k : Keeper) (setting : Setting) (count room : ℕ) (buffer : List ℕ) (chunk : ReadChunk) (input now left written so_far after said told told' : Option (List ℕ))
+pub front_past : (old new : Decoder) (keeper k : Keeper) (setting : Setting) (count room : ℕ) (buffer : List ℕ) (chunk : ReadChunk) (input now left written so_far after said told told' : Option (List ℕ)) (lines_failed : Bool)
     → HasGiven old keeper setting count input now written so_far said told → GivesChunk room buffer chunk now left
-    → PassesOn old keeper count (take chunk.within buffer) new k [] so_far after told told' → Concludes new k → RecoversSome setting input left written after said told'
-some_past old new keeper k setting count room buffer chunk input now left written so_far after said told told' done gives on concludes =
+    → PassesOn old keeper count (take chunk.within buffer) new k [] so_far after told told' → Concludes new k → RecoversFront setting input left written after said told' lines_failed
+front_past old new keeper k setting count room buffer chunk input now left written so_far after said told told' lines_failed done gives on concludes =
     let heard = take chunk.within buffer in
     let g = with_chunk old new keeper k setting count heard input now written so_far after said told told' done on in
     let consumed : Consumes input left (done.0 ++ (heard ++ gives.beyond)) = Consumes-trans input now left done.0 (heard ++ gives.beyond) done.4 gives.consumes in
-    (done.0 ++ heard, gives.beyond, g.woven, g.text, subst (Consumes input left) (sym (append_assoc done.0 heard gives.beyond)) consumed, concludes setting (done.0 ++ heard) g.woven g.text g.stands, g.writes, g.says)
+    front_of setting (done.0 ++ heard) gives.beyond g.woven g.text input left written after said told' lines_failed (subst (Consumes input left) (sym (append_assoc done.0 heard gives.beyond)) consumed)
+    (concludes setting (done.0 ++ heard) g.woven g.text g.stands) g.writes g.says
 
 cut_bytes : (bytes chunk taken unread dropped : List ℕ) → chunk ≡ taken ++ unread → bytes ++ (chunk ++ dropped) ≡ (bytes ++ taken) ++ (unread ++ dropped)
 cut_bytes bytes chunk taken unread dropped is = ap (λ bs. bytes ++ (bs ++ dropped)) is ∙ ap (λ bs. bytes ++ bs) (append_assoc taken unread dropped) ∙ sym (append_assoc bytes taken (unread ++ dropped))
+
+refuses_within : (setting : Setting) (bytes unread dropped : List ℕ) → RefusesNext setting bytes unread → RefusesNext setting bytes (unread ++ dropped)
+refuses_within setting bytes unread dropped r = record {
+  events = r.events;
+  rest = r.rest;
+  next = r.next;
+  later = r.later ++ dropped;
+  refused = r.refused;
+  rest_then = r.rest_then;
+  shown = r.shown;
+  parts = ap (λ bs. bs ++ dropped) r.parts ∙ append_assoc r.next r.later dropped;
+  one_more = r.one_more;
+  at_last = r.at_last;
+  another = r.another;
+}
 
 -- Memory ran out amid a chunk.
 pub some_broken : (old : Decoder) (keeper : Keeper) (setting : Setting) (count room : ℕ) (buffer : List ℕ) (chunk : ReadChunk) (input now left written so_far after said told told' : Option (List ℕ))
@@ -161,6 +184,7 @@ some_broken old keeper setting count room buffer chunk input now left written so
       done.1 ++ cut.2,
       done.2 ++ cut.3,
       subst (Consumes input left) (cut_bytes done.0 heard cut.0 cut.1 gives.beyond cut.4) consumed,
+      refuses_within setting (done.0 ++ cut.0) cut.1 gives.beyond cut.7,
       cut.5,
       Appends-trans written so_far after done.1 cut.2 done.6 cut.6.0,
       Appends-trans said told told' done.2 cut.3 done.7 cut.6.1,

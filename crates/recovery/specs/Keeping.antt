@@ -1,8 +1,8 @@
 -- What is recovered of a list of events. Events and entries are listed with the latest first.
-use Rattle.std.specs.Prelude.{◌≡◌, true, List, ◌∷◌, Option, Some, None, if◌then◌else◌}
+use Rattle.std.specs.Prelude.{◌≡◌, true, false, List, ◌∷◌, Option, Some, None, if◌then◌else◌}
 use Rattle.dgt_frame.specs.declared.events.Event.{Event}
 use Rattle.settle_core.specs.declared.plies.Seen.{Seen}
-use Rattle.settle_core.specs.Entries.{Entry}
+use Rattle.settle_core.specs.Entries.{Entry, repeats}
 use Rattle.unseen_pairs.specs.declared.pair.Recovery.{Recovery}
 use Rattle.unseen_pairs.specs.declared.pair.Told.TheVariants.{Shown, Recovered}
 use Rattle.unseen_pairs.specs.Recoverer.{ReturnsTold, StandsForRecovered, written_after}
@@ -20,6 +20,11 @@ RecoversAt setting past event (Some r) = (is_entry event past ≡ true)
     × ReturnsTold setting.start (entries_in setting past) (picture_of setting.rotated (event ∷ past)) (Recovered r)
 RecoversAt setting past event None = is_entry event past ≡ true
     → (seen : Seen) × ReturnsTold setting.start (entries_in setting past) (picture_of setting.rotated (event ∷ past)) (Shown seen)
+
+-- After these events the next one shows another picture than the last one, or the first: at no other event is memory taken.
+abbrev pub ShowsAnother : Setting → List Event → Event → Type 0
+ShowsAnother setting past event = (is_entry event past ≡ true)
+    × (repeats (picture_of setting.rotated (event ∷ past)) (entries_in setting past) ≡ false)
 
 -- The entries with what was put in, after one more event.
 abbrev pub entries_with : Setting → List Event → Event → Option Recovery → List Entry → List Entry

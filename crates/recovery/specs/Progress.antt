@@ -1,5 +1,5 @@
 -- What stands while a stream is given on: private definitions.
-use Rattle.std.specs.Prelude.{◌≡◌, ◌<◌, ◌⊎◌, ℕ, List, [], ◌++◌, length, Option}
+use Rattle.std.specs.Prelude.{◌≡◌, ◌<◌, ◌⊎◌, ℕ, List, [], ◌++◌, length, Option, ⊤}
 use Rattle.std.specs.Io.KnownBytes.{Appends, Consumes, Keeps}
 use Rattle.dgt_frame.specs.declared.decode.Decoder.{Decoder}
 use Rattle.watched_streams.specs.Output.{AppendsPart}
@@ -8,7 +8,7 @@ use Rattle.recovery.specs.declared.keeper.Keeper.{Keeper}
 use Rattle.recovery.specs.declared.refusal.RecoverError.{RecoverError}
 use Rattle.recovery.specs.declared.refusal.RecoverError.TheVariants.{Read, Write, Lines, TooLong, Memory}
 use Rattle.recovery.specs.Passing.{Stands}
-use Rattle.recovery.specs.Streams.{BeginsLine, IsLine}
+use Rattle.recovery.specs.Streams.{BeginsLine, IsLine, RefusesNext}
 use Rattle.recovery.specs.Weaving.{Recovers}
 
 -- What stands for the bytes that were given so far is what they show.
@@ -18,6 +18,10 @@ Concludes decoder keeper = (setting : Setting) (bytes woven text : List ℕ) →
 -- So many bytes were given.
 abbrev pub HasBegun : Decoder → Keeper → ℕ → Type 0
 HasBegun decoder keeper count = (setting : Setting) × (bytes woven text : List ℕ) × (length bytes ≡ count) × Stands decoder keeper setting bytes woven text
+
+-- Where that stood, memory ran out at the next event, which is among these bytes.
+abbrev pub Refuses : Decoder → Keeper → List ℕ → Type 0
+Refuses decoder keeper more = (setting : Setting) (bytes woven text : List ℕ) → Stands decoder keeper setting bytes woven text → RefusesNext setting bytes more
 
 -- What was put in at an event: nothing, or frames with their line.
 abbrev pub IsPutIn : List ℕ → List ℕ → Type 0
@@ -39,12 +43,18 @@ Stops Lines more lines written written' said said' = AppendsPart written written
 Stops Read more lines written written' said said' = ⊥
 Stops TooLong more lines written written' said said' = ⊥
 
+-- Where memory ran out, it did so at the next event behind these bytes.
+abbrev pub StopsBefore : RecoverError → Setting → List ℕ → List ℕ → Type 0
+StopsBefore Memory setting bytes behind = RefusesNext setting bytes behind
+StopsBefore error setting bytes behind = ⊤
+
 -- Where that stood, a part of these bytes was given too, and this refusal came.
 abbrev pub BreaksOff : RecoverError → Decoder → Keeper → ℕ → List ℕ → Option (List ℕ) → Option (List ℕ) → Option (List ℕ) → Option (List ℕ) → Type 0
 BreaksOff error old keeper start chunk written written' said said' = (setting : Setting) (bytes woven text : List ℕ) → length bytes ≡ start
     → Stands old keeper setting bytes woven text
     → (taken after more lines : List ℕ) × (chunk ≡ taken ++ after)
     × Recovers setting (bytes ++ taken) (woven ++ more) (text ++ lines) × Stops error more lines written written' said said'
+    × StopsBefore error setting (bytes ++ taken) after
 
 -- What a pair leaves that could not be put in: a part of its line, or the line and a part of the bytes.
 abbrev pub PutsPart : RecoverError → List ℕ → List ℕ → Option (List ℕ) → Option (List ℕ) → Option (List ℕ) → Option (List ℕ) → Type 0

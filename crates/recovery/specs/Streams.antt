@@ -1,11 +1,14 @@
 -- What is left of a stream that is given on, with what is put in. Its streams are `input`, of which bytes are left, `written`, what
 -- the output holds, and `said`, what the stream of the lines holds; a prime marks what they are afterwards.
-use Rattle.std.specs.Prelude.{◌≡◌, ◌<◌, ◌≤◌, ◌⊎◌, ℕ, List, [], ◌++◌, length, Option, IfSome, Bool, true}
+use Rattle.std.specs.Prelude.{◌≡◌, ◌+◌, ◌<◌, ◌≤◌, ◌⊎◌, ℕ, List, [], ◌∷◌, ◌++◌, length, Option, IfSome, Bool, true}
 use Rattle.std.specs.Io.KnownBytes.{Appends, Consumes}
+use Rattle.dgt_frame.specs.Streams.{Shows, Timed}
 use Rattle.unseen_pairs.specs.declared.pair.Recovery.{Recovery}
+use Rattle.board_events.specs.Commands.{past_of}
 use Rattle.board_events.specs.Limits.{limit}
 use Rattle.watched_streams.specs.Output.{AppendsPart}
 use Rattle.board_events.specs.Settings.{Setting}
+use Rattle.recovery.specs.Keeping.{ShowsAnother}
 use Rattle.recovery.specs.Weaving.{Recovers, TellsRecovered}
 
 -- All of the input was read, which is within the limit: its bytes were written, with what was put in, and the lines said.
@@ -24,10 +27,26 @@ abbrev pub RecoversRead : Setting → Option (List ℕ) → Option (List ℕ) �
 RecoversRead setting input input' written written' said said' = (bytes woven text : List ℕ)
     × Consumes input input' bytes × Recovers setting bytes woven text × Appends written written' woven × Appends said said' text
 
--- That was done of the first of the bytes that were read.
+-- Memory ran out at the next event behind these bytes. They show all events before it; the next of those behind them complete it,
+-- and no other. It comes at the last of these, and shows another picture than the one before it, or the first.
+pub record RefusesNext (setting : Setting) (bytes behind : List ℕ) : Type 0 where
+  pub events : List Timed
+  pub rest : ℕ
+  pub next : List ℕ
+  pub later : List ℕ
+  pub refused : Timed
+  pub rest_then : ℕ
+  pub shown : Shows bytes events rest
+  pub parts : behind ≡ next ++ later
+  pub one_more : Shows (bytes ++ next) (events ++ refused ∷ []) rest_then
+  pub at_last : refused.offset + 1 ≡ length (bytes ++ next)
+  pub another : ShowsAnother setting (past_of events) refused.event
+
+-- That was done of first bytes that show all events before the one at which memory ran out, and not that one.
 abbrev pub RecoversSome : Setting → Option (List ℕ) → Option (List ℕ) → Option (List ℕ) → Option (List ℕ) → Option (List ℕ) → Option (List ℕ) → Type 0
-RecoversSome setting input input' written written' said said' = (bytes after woven text : List ℕ)
-    × Consumes input input' (bytes ++ after) × Recovers setting bytes woven text × Appends written written' woven × Appends said said' text
+RecoversSome setting input input' written written' said said' = (bytes behind woven text : List ℕ)
+    × Consumes input input' (bytes ++ behind) × RefusesNext setting bytes behind
+    × Recovers setting bytes woven text × Appends written written' woven × Appends said said' text
 
 -- a line that tells of a pair, or the first bytes of one
 abbrev pub IsLine : List ℕ → Type 0

@@ -1,5 +1,5 @@
 //! Events to the pairs that are recovered at them.
-ghost use Rattle.std.specs.Prelude.{◌≡◌, ◌<◌, ◌∷◌, [], List, IfOk, All, None, Some, true, length, if◌then◌else◌, slice_index, slice_set};
+ghost use Rattle.std.specs.Prelude.{◌≡◌, ◌<◌, ◌∷◌, [], List, IfOk, OnErr, All, None, Some, true, length, if◌then◌else◌, slice_index, slice_set};
 ghost use Rattle.dgt_frame.specs.declared.events.Event.{Event as EventOf};
 ghost use Rattle.dgt_frame.specs.declared.time.First.{First as FirstOf};
 ghost use Rattle.chess_rules.specs.declared.parts.Parts.{Parts as PartsOf};
@@ -86,7 +86,7 @@ impl Keeper {
     ghost use Rattle.board_events.specs.Entries.{entry_at};
     ghost use Rattle.pair_frames.specs.Laws.{IsReadBehind};
     ghost use Rattle.pair_frames.specs.PutIn.{ShowsWhole, put_in as frames_for};
-    ghost use Rattle.recovery.specs.Keeping.{Keeps, KeepsNext, RecoversAt};
+    ghost use Rattle.recovery.specs.Keeping.{Keeps, KeepsNext, RecoversAt, ShowsAnother};
 
     /// A keeper that was given no event. Takes no memory.
     ///
@@ -109,13 +109,16 @@ impl Keeper {
     ///
     /// # Errors
     ///
-    /// Where there was no memory; then it must not be used any more.
+    /// Where there was no memory, which is taken only at an event that shows another picture; then it must not be used any
+    /// more.
     #[inline(always)]
     pub fn take(&mut self, alloc: Global, event: &Event) -> Result<bool, AllocError>
         requires range { IsInRange event.now }
         requires begun { (setting : Setting) × (past : List EventOf) × (written : List Entry) × Keeps self.old setting past written }
-        ensures { (setting : Setting) (past : List EventOf) (written : List Entry) → Keeps self.old setting past written
+        ensures next { (setting : Setting) (past : List EventOf) (written : List Entry) → Keeps self.old setting past written
             → IfOk result (λ is. KeepsNext self.new setting past event.now (if is then self.new.found else None) written) }
+        ensures refused { (setting : Setting) (past : List EventOf) (written : List Entry) → Keeps self.old setting past written
+            → OnErr result (ShowsAnother setting past event.now) }
     {
         self.hear(event);
         match self.view.see(event) {

@@ -1,14 +1,14 @@
 //! Bytes of a stream to what is put in among them.
-ghost use Rattle.std.specs.Prelude.{◌≡◌, ◌<◌, ◌≤◌, ◌+◌, ◌^◌, [], ℕ, List, OnOk, IfOk, IfSome, IfNone, length, take};
+ghost use Rattle.std.specs.Prelude.{◌≡◌, ◌<◌, ◌≤◌, ◌+◌, ◌^◌, [], ℕ, List, OnOk, OnErr, IfOk, IfSome, IfNone, length, take};
 ghost use Rattle.dgt_frame.specs.declared.events.Event.{Event as EventOf};
 ghost use Rattle.dgt_frame.specs.Decoder.{Decoded};
 ghost use Rattle.settle_core.specs.Entries.{Entry};
 ghost use Rattle.board_events.specs.Settings.{Setting};
 ghost use Rattle.board_events.specs.Session.{entries_in};
 ghost use Rattle.board_events.specs.History.{IsInRange};
-ghost use Rattle.recovery.specs.Keeping.{Keeps, KeepsNext};
+ghost use Rattle.recovery.specs.Keeping.{Keeps, KeepsNext, ShowsAnother};
 ghost use Rattle.recovery.specs.Passing.{Alike, Carries, Hears, Passes, Stands};
-ghost use Rattle.recovery.specs.Progress.{Concludes, HasBegun, IsPutIn};
+ghost use Rattle.recovery.specs.Progress.{Concludes, HasBegun, IsPutIn, Refuses};
 
 use crate::keeper::Keeper;
 use crate::lines::add_recovered;
@@ -53,8 +53,10 @@ pub fn hear(
 ) -> Result<(), AllocError>
     requires range { IsInRange event.now }
     requires begun { (setting : Setting) × (past : List EventOf) × (written : List Entry) × Keeps keeper.old setting past written }
-    ensures { (setting : Setting) (past written : List EventOf) → Carries keeper.old setting past written
+    ensures heard { (setting : Setting) (past written : List EventOf) → Carries keeper.old setting past written
         → OnOk result (Hears keeper.new setting past written offset event.now frames.new.items line.new.items) }
+    ensures refused { (setting : Setting) (past written : List EventOf) → Carries keeper.old setting past written
+        → OnErr result (ShowsAnother setting past event.now) }
 {
     frames.clear();
     line.clear();
@@ -89,6 +91,7 @@ pub fn pass(
     requires room { start + length bytes.now < 2 ^ 32 }
     requires begun { HasBegun decoder.old keeper.old start }
     ensures before { Concludes decoder.old keeper.old }
+    ensures refused { OnErr result (Refuses decoder.old keeper.old bytes.now) }
     ensures none { IfOk result (λ taken. IfNone taken (Passes decoder.old keeper.old start bytes.now decoder.new keeper.new [] [])) }
     ensures some { IfOk result (λ taken. IfSome taken (λ count.
         Passes decoder.old keeper.old start (take count bytes.now) decoder.new keeper.new frames.new.items line.new.items)) }
@@ -99,6 +102,8 @@ pub fn pass(
     frames_are_put_in();
     // For its clause: what the bytes given so far show.
     conclude(decoder, keeper);
+    // For its clause: they show the events before the next.
+    decoder.pending();
     let Some(taken) = decoder.push_into(bytes, event) else {
         return Ok(None);
     };

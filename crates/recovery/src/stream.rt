@@ -138,7 +138,8 @@ fn give_chunk<O: Write, E: Write>(
 ///
 /// - `Read`: a read failed. All bytes before it were given on.
 /// - `TooLong`: there are more than 67,108,864 bytes. The first 67,108,864 were given on.
-/// - `Memory`: memory ran out. Some first bytes of those that were read were given on, with what is put in among them.
+/// - `Memory`: memory ran out at an event that shows another picture. First bytes that show all events before it, and not
+///   it, were given on, with what is put in among them.
 /// - `Write`: a write of the bytes failed or took no byte, or their flush failed. A first part was written of what some first
 ///   bytes give, and the lines of all pairs in it were told.
 /// - `Lines`: a write of a line failed or took no byte, or its flush failed. The bytes are as under `Write`; of the line that

@@ -13,15 +13,15 @@ tell-requires-clause-told c =
       c.args.event.now,
       begun.2,
       at_some (λ is. KeepsNext c.take.new.self begun.0 begun.1 c.args.event.now (if is then c.take.new.self.found else None) begun.2) c.take.result true (c.in-Ok-true.is ∙ ap Ok c.in-Ok-true.field-0-test)
-          (c.take.ensures begun.0 begun.1 begun.2 begun.3),
+          (c.take.ensures.next begun.0 begun.1 begun.2 begun.3),
     )
 
-pub returns-in-Ok-false : goal.returns-in-Ok-false
-returns-in-Ok-false c = λ setting past written carries.
+pub returns-in-Ok-false-clause-heard : goal.returns-in-Ok-false-clause-heard
+returns-in-Ok-false-clause-heard c = λ setting past written carries.
     let event = c.args.event.now in
     let next : KeepsNext c.take.new.self setting past event None (entries_in setting written) =
     at_some (λ is. KeepsNext c.take.new.self setting past event (if is then c.take.new.self.found else None) (entries_in setting written)) c.take.result false (c.in-Ok-false.is ∙ ap Ok c.in-Ok-false.field-0-test)
-    (c.take.ensures setting past (entries_in setting written) carries.keeps) in
+    (c.take.ensures.next setting past (entries_in setting written) carries.keeps) in
     record {
       found = None;
       finds = next.finds;
@@ -29,10 +29,14 @@ returns-in-Ok-false c = λ setting past written carries.
       adds = (c.clear.ensures, c.clear-2.ensures);
     }
 
-pub returns-in-Ok-true : goal.returns-in-Ok-true
-returns-in-Ok-true c = λ setting past written carries.
+pub returns-in-Ok-true-clause-heard : goal.returns-in-Ok-true-clause-heard
+returns-in-Ok-true-clause-heard c = λ setting past written carries.
     let event = c.args.event.now in
     let next : KeepsNext c.take.new.self setting past event c.take.new.self.found (entries_in setting written) =
     at_some (λ is. KeepsNext c.take.new.self setting past event (if is then c.take.new.self.found else None) (entries_in setting written)) c.take.result true (c.in-Ok-true.is ∙ ap Ok c.in-Ok-true.field-0-test)
-    (c.take.ensures setting past (entries_in setting written) carries.keeps) in
+    (c.take.ensures.next setting past (entries_in setting written) carries.keeps) in
     c.tell.ensures setting past written event c.requires.range carries.alike next
+
+pub returns-in-Err-clause-refused : goal.returns-in-Err-clause-refused
+returns-in-Err-clause-refused c = λ setting past written carries.
+    c.in-Err.ensures.refused setting past (entries_in setting written) carries.keeps

@@ -6,7 +6,7 @@ use Rattle.board_events.specs.Settings.{Setting}
 use Rattle.recovery.specs.declared.refusal.RecoverError.{RecoverError}
 use Rattle.recovery.specs.declared.refusal.RecoverError.TheVariants.{Read, TooLong, Memory}
 use Rattle.recovery.specs.Progress.{BreaksOff}
-use Rattle.recovery.proofs.StreamLemmas.{all_given, ended_given, first_given, front_broken, front_of_some, given_more, given_none, line_fails, no_other, read_given, reads_no_more, reads_none, reads_within, some_broken, some_of_read, some_past, write_fails}
+use Rattle.recovery.proofs.StreamLemmas.{all_given, ended_given, first_given, front_broken, front_of_read, front_past, given_more, given_none, line_fails, no_other, read_given, reads_no_more, reads_none, reads_within, some_broken, write_fails}
 use Rattle.recovery.proofs.stream.recover_stream.Goals as goal
 
 pub chunks-init : goal.chunks-init
@@ -31,9 +31,9 @@ returns-in_default-clause-read g c same =
 pub returns-in_default-clause-front : goal.returns-in_default-clause-front
 returns-in_default-clause-front g c =
     let setting : Setting = record { start = c.args.start; first = c.args.first; rotated = c.args.rotated } in
-    front_of_some setting (g.R.Read.remaining (inner_of c.args.reader.now)) (g.R.Read.remaining (inner_of c.read_chunk.new.reader)) (g.O.Write.contents (inner_of c.args.out.now)) (g.O.Write.contents (inner_of c.chunks.out)) (g.E.Write.contents (inner_of c.args.err.now)) (g.E.Write.contents (inner_of c.chunks.err)) _ (some_of_read setting (g.R.Read.remaining (inner_of c.args.reader.now)) (g.R.Read.remaining (inner_of c.read_chunk.new.reader)) (g.O.Write.contents (inner_of c.args.out.now)) (g.O.Write.contents (inner_of c.chunks.out)) (g.E.Write.contents (inner_of c.args.err.now)) (g.E.Write.contents (inner_of c.chunks.err))
+    front_of_read setting (g.R.Read.remaining (inner_of c.args.reader.now)) (g.R.Read.remaining (inner_of c.read_chunk.new.reader)) (g.O.Write.contents (inner_of c.args.out.now)) (g.O.Write.contents (inner_of c.chunks.out)) (g.E.Write.contents (inner_of c.args.err.now)) (g.E.Write.contents (inner_of c.chunks.err)) _
     (read_given c.chunks.decoder c.chunks.keeper setting c.chunks.total (g.R.Read.remaining (inner_of c.args.reader.now)) (g.R.Read.remaining (inner_of c.chunks.reader)) (g.R.Read.remaining (inner_of c.read_chunk.new.reader)) (g.O.Write.contents (inner_of c.args.out.now)) (g.O.Write.contents (inner_of c.chunks.out)) (g.E.Write.contents (inner_of c.args.err.now)) (g.E.Write.contents (inner_of c.chunks.err))
-    c.chunks.invariant.given c.in_default.ensures.bytes c.conclude.ensures))
+    c.chunks.invariant.given c.in_default.ensures.bytes c.conclude.ensures)
 
 pub returns-in_default-clause-bounded : goal.returns-in_default-clause-bounded
 returns-in_default-clause-bounded g c =
@@ -52,9 +52,9 @@ pub returns-in_default-read-clause-front : goal.returns-in_default-read-clause-f
 returns-in_default-read-clause-front g c =
     let setting : Setting = record { start = c.args.start; first = c.args.first; rotated = c.args.rotated } in
     let ended : Consumes (g.R.Read.remaining (inner_of c.chunks.reader)) (g.R.Read.remaining (inner_of c.read_chunk.new.reader)) [] × IsAtEnd (g.R.Read.remaining (inner_of c.read_chunk.new.reader)) = rw c.in_default-read.is at c.in-Ok.ensures.bytes in
-    front_of_some setting (g.R.Read.remaining (inner_of c.args.reader.now)) (g.R.Read.remaining (inner_of c.read_chunk.new.reader)) (g.O.Write.contents (inner_of c.args.out.now)) (g.O.Write.contents (inner_of c.chunks.out)) (g.E.Write.contents (inner_of c.args.err.now)) (g.E.Write.contents (inner_of c.chunks.err)) _ (some_of_read setting (g.R.Read.remaining (inner_of c.args.reader.now)) (g.R.Read.remaining (inner_of c.read_chunk.new.reader)) (g.O.Write.contents (inner_of c.args.out.now)) (g.O.Write.contents (inner_of c.chunks.out)) (g.E.Write.contents (inner_of c.args.err.now)) (g.E.Write.contents (inner_of c.chunks.err))
+    front_of_read setting (g.R.Read.remaining (inner_of c.args.reader.now)) (g.R.Read.remaining (inner_of c.read_chunk.new.reader)) (g.O.Write.contents (inner_of c.args.out.now)) (g.O.Write.contents (inner_of c.chunks.out)) (g.E.Write.contents (inner_of c.args.err.now)) (g.E.Write.contents (inner_of c.chunks.err)) _
     (ended_given c.chunks.decoder c.chunks.keeper setting c.chunks.total (g.R.Read.remaining (inner_of c.args.reader.now)) (g.R.Read.remaining (inner_of c.chunks.reader)) (g.R.Read.remaining (inner_of c.read_chunk.new.reader)) (g.O.Write.contents (inner_of c.args.out.now)) (g.O.Write.contents (inner_of c.chunks.out)) (g.E.Write.contents (inner_of c.args.err.now)) (g.E.Write.contents (inner_of c.chunks.err))
-    c.chunks.invariant.given ended.0 c.conclude-in_default-read.ensures))
+    c.chunks.invariant.given ended.0 c.conclude-in_default-read.ensures)
 
 pub returns-in_default-read-clause-bounded : goal.returns-in_default-read-clause-bounded
 returns-in_default-read-clause-bounded g c =
@@ -143,8 +143,8 @@ pub returns-then-chunk-clause-front : goal.returns-then-chunk-clause-front
 returns-then-chunk-clause-front g c =
     let setting : Setting = record { start = c.args.start; first = c.args.first; rotated = c.args.rotated } in
     let gives : GivesChunk _ c.read_chunk.new.buffer c.in-Some.chunk (g.R.Read.remaining (inner_of c.chunks.reader)) (g.R.Read.remaining (inner_of c.read_chunk.new.reader)) = rw c.in-Some.is at c.in-Ok.ensures.bytes in
-    front_of_some setting (g.R.Read.remaining (inner_of c.args.reader.now)) (g.R.Read.remaining (inner_of c.read_chunk.new.reader)) (g.O.Write.contents (inner_of c.args.out.now)) (g.O.Write.contents (inner_of c.give_chunk.new.out)) (g.E.Write.contents (inner_of c.args.err.now)) (g.E.Write.contents (inner_of c.give_chunk.new.err)) _ (some_past c.chunks.decoder c.give_chunk.new.decoder c.chunks.keeper c.give_chunk.new.keeper setting c.chunks.total _ c.read_chunk.new.buffer c.in-Some.chunk (g.R.Read.remaining (inner_of c.args.reader.now)) (g.R.Read.remaining (inner_of c.chunks.reader)) (g.R.Read.remaining (inner_of c.read_chunk.new.reader)) (g.O.Write.contents (inner_of c.args.out.now)) (g.O.Write.contents (inner_of c.chunks.out)) (g.O.Write.contents (inner_of c.give_chunk.new.out)) (g.E.Write.contents (inner_of c.args.err.now)) (g.E.Write.contents (inner_of c.chunks.err)) (g.E.Write.contents (inner_of c.give_chunk.new.err))
-    c.chunks.invariant.given gives c.in_default-give_chunk.ensures.ok c.conclude-then-chunk.ensures)
+    front_past c.chunks.decoder c.give_chunk.new.decoder c.chunks.keeper c.give_chunk.new.keeper setting c.chunks.total _ c.read_chunk.new.buffer c.in-Some.chunk (g.R.Read.remaining (inner_of c.args.reader.now)) (g.R.Read.remaining (inner_of c.chunks.reader)) (g.R.Read.remaining (inner_of c.read_chunk.new.reader)) (g.O.Write.contents (inner_of c.args.out.now)) (g.O.Write.contents (inner_of c.chunks.out)) (g.O.Write.contents (inner_of c.give_chunk.new.out)) (g.E.Write.contents (inner_of c.args.err.now)) (g.E.Write.contents (inner_of c.chunks.err)) (g.E.Write.contents (inner_of c.give_chunk.new.err)) _
+    c.chunks.invariant.given gives c.in_default-give_chunk.ensures.ok c.conclude-then-chunk.ensures
 
 pub returns-then-chunk-clause-bounded : goal.returns-then-chunk-clause-bounded
 returns-then-chunk-clause-bounded g c =

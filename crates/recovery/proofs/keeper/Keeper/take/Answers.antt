@@ -11,11 +11,11 @@ use Rattle.board_events.specs.View.{Views}
 use Rattle.recovery.specs.declared.keeper.Keeper.{Keeper}
 use Rattle.recovery.specs.Keeping.{KeepsNext}
 use Rattle.recovery.specs.Seeing.{Sees}
-use Rattle.recovery.proofs.KeepLemmas.{entry_before, kept_same, kept_seen, map_ok, seen_before, shown_there}
+use Rattle.recovery.proofs.KeepLemmas.{another_here, entry_before, kept_same, kept_seen, map_ok, on_any_err, seen_before, shown_there}
 use Rattle.recovery.proofs.keeper.Keeper.take.Goals as goal
 
-pub returns-in-Nothing : goal.returns-in-Nothing
-returns-in-Nothing c = λ setting past written k.
+pub returns-in-Nothing-clause-next : goal.returns-in-Nothing-clause-next
+returns-in-Nothing-clause-next c = λ setting past written k.
     let event = c.args.event.now in
     let before : Views c.hear.new.self.view setting.rotated past = subst (λ (v : View). Views v setting.rotated past) (sym c.hear.ensures.view) k.view in
     let read : c.hear.new.self.reading ≡ reading_at setting.first (event ∷ past) =
@@ -41,8 +41,8 @@ see_square-requires-clause-seen c =
     let e = entry_before setting past changes.0 changes.1 changes.2 in
     seen_before c.hear.new.self.recoverer setting.start e.0 e.1 written (subst (λ (es : List Entry). StandsForRecovered c.hear.new.self.recoverer setting.start es written) e.2 stands)
 
-pub returns-in-Square : goal.returns-in-Square
-returns-in-Square c = λ setting past written k.
+pub returns-in-Square-clause-next : goal.returns-in-Square-clause-next
+returns-in-Square-clause-next c = λ setting past written k.
     let event = c.args.event.now in
     let picture = c.picture.result.now in
     let before : Views c.hear.new.self.view setting.rotated past = subst (λ (v : View). Views v setting.rotated past) (sym c.hear.ensures.view) k.view in
@@ -72,8 +72,8 @@ returns-in-Square c = λ setting past written k.
     (subst (λ r. Sees new.recoverer setting.start (e.0 ∷ e.1) written (entry_of picture r) (if is then new.found else None)) read sees)))
     sees
 
-pub returns-in-Picture : goal.returns-in-Picture
-returns-in-Picture c = λ setting past written k.
+pub returns-in-Picture-clause-next : goal.returns-in-Picture-clause-next
+returns-in-Picture-clause-next c = λ setting past written k.
     let event = c.args.event.now in
     let picture = c.picture-in-Picture.result.now in
     let before : Views c.hear.new.self.view setting.rotated past = subst (λ (v : View). Views v setting.rotated past) (sym c.hear.ensures.view) k.view in
@@ -95,3 +95,19 @@ returns-in-Picture c = λ setting past written k.
     views read (c.hear.ensures.first ∙ k.first) (c.hear.ensures.rotated ∙ k.rotated) more
     (subst (λ r. Sees new.recoverer setting.start (entries_in setting past) written (entry_of picture r) (if is then new.found else None)) read sees))
     sees
+
+pub returns-in-Square-clause-refused : goal.returns-in-Square-clause-refused
+returns-in-Square-clause-refused c = λ setting past written k.
+    let event = c.args.event.now in
+    let before : Views c.hear.new.self.view setting.rotated past = subst (λ (v : View). Views v setting.rotated past) (sym c.hear.ensures.view) k.view in
+    let C : Change → Type 0 = λ change. ChangesPictures change (pictures setting.rotated past) (pictures setting.rotated (event ∷ past)) in
+    let changes = subst C c.in-Square.is (c.see.ensures.shown setting.rotated past before) in
+    on_any_err c.see_square.result (another_here setting past event _ changes.3)
+
+pub returns-in-Picture-clause-refused : goal.returns-in-Picture-clause-refused
+returns-in-Picture-clause-refused c = λ setting past written k.
+    let event = c.args.event.now in
+    let before : Views c.hear.new.self.view setting.rotated past = subst (λ (v : View). Views v setting.rotated past) (sym c.hear.ensures.view) k.view in
+    let C : Change → Type 0 = λ change. ChangesPictures change (pictures setting.rotated past) (pictures setting.rotated (event ∷ past)) in
+    let changes = subst C c.in-Picture.is (c.see.ensures.shown setting.rotated past before) in
+    on_any_err c.see_whole.result (another_here setting past event _ changes.1)
