@@ -1,16 +1,10 @@
-use Rattle.std.proofs.Common.{◌≡◌, List, [], append-nil, ℕ, arith, length, codes, inl, inr, refl, rules, subst, sym, true, ◌∙◌, ◌++◌}
-use Rattle.std.proofs.KnownBytes.{Appends-kept}
-use Rattle.std.specs.Io.KnownBytes.{Appends}
+use Rattle.std.proofs.Common.{◌≡◌, List, ℕ, arith, codes, inl, inr, refl, rules, subst, sym, true}
 use Rattle.watched_streams.specs.Watch.{inner_of, has_failed}
-use Rattle.watched_streams.specs.Output.{AppendsPart}
-use Rattle.text_subcommands.specs.Checked.{RefusesPgn, summary_line}
+use Rattle.text_subcommands.specs.Checked.{RefusesPgn}
 use Rattle.text_subcommands.proofs.CheckLemmas.{checked, checked_part, no_game}
 use Rattle.pgn_book.specs.Pgn.{Pgn}
-use Rattle.text_subcommands.proofs.TestLemmas.{true_or}
-use Rattle.text_subcommands.proofs.MessageLemmas.{never_done, part_put, tells_fault, tells_memory, tells_or_fault, tells_refused}
-use Rattle.watched_streams.proofs.ResultLemmas.{at_err, at_ok}
+use Rattle.text_subcommands.proofs.MessageLemmas.{never_done, tells_fault, tells_memory, tells_or_fault, tells_refused}
 use Rattle.text_subcommands.proofs.checking.check.Goals as goal
-use Rattle.text_subcommands.proofs.checking.check.Goals.{then-is_err-via-then-is_err, then-is_err-via-else-is_err+then-is_err-2}
 
 pub returns-in-Err-NotExport-clause-tells : goal.returns-in-Err-NotExport-clause-tells
 returns-in-Err-NotExport-clause-tells g c =
@@ -48,3 +42,19 @@ returns-in-Err-NotExport-clause-passes g c zero = never_done c.refused_run-in-Er
 
 pub returns-in-Err-NotExport-clause-works : goal.returns-in-Err-NotExport-clause-works
 returns-in-Err-NotExport-clause-works g c zero = never_done c.refused_run-in-Err-NotExport.result 1 _ _ _ _ _ (omega arith) c.refused_run-in-Err-NotExport.ensures.ended zero
+
+pub returns-clause-passes : goal.returns-clause-passes
+returns-clause-passes g c done =
+    let input = g.R.Read.remaining (inner_of c.args.reader.now) in
+    let written = g.O.Write.contents (inner_of c.args.out.now) in
+    let after = g.O.Write.contents (inner_of c.put_summary.new.out) in
+    checked input written after c.in-Ok.text.items c.in-Ok-read_pgn.game c.in-Ok.ensures.whole (rw c.as_slice.ensures.value at c.in-Ok-read_pgn.ensures.found) c.in-Ok.ensures.within
+    (c.put_summary.ensures.done done).0
+
+pub returns-clause-fault : goal.returns-clause-fault
+returns-clause-fault g c three =
+    let input = g.R.Read.remaining (inner_of c.args.reader.now) in
+    let written = g.O.Write.contents (inner_of c.args.out.now) in
+    let after = g.O.Write.contents (inner_of c.put_summary.new.out) in
+    checked_part input written after c.in-Ok.text.items c.in-Ok-read_pgn.game c.in-Ok.ensures.whole (rw c.as_slice.ensures.value at c.in-Ok-read_pgn.ensures.found) c.in-Ok.ensures.within
+    (c.put_summary.ensures.fault three).0
