@@ -11,7 +11,7 @@ ghost use Rattle.watched_streams.specs.Watch.{IsFlushed, inner_of, has_failed};
 ghost use Rattle.text_subcommands.specs.Printed.{PrintsMoves, PrintsPart, TellsMoves};
 ghost use Rattle.chess_text.specs.Start.{HasNoStart, StartsAt, given};
 ghost use Rattle.text_subcommands.specs.Refusals.{RefusesStart};
-ghost use Rattle.text_subcommands.specs.Messages.{Tells};
+ghost use Rattle.text_subcommands.specs.Messages.{Says, Tells};
 
 use crate::messages::{refused, refused_fen, refused_run};
 use chess_rules::{Move, Position};
@@ -55,6 +55,30 @@ fn put_moves<O: Write>(
     put(out, lines.as_slice())
 }
 
+/// Writes one SAN move a line, and returns the status: 0, or 3 where the output has failed, which is then said.
+fn print_moves<O: Write, E: Write>(
+    position: &Position,
+    moves: &[Move],
+    out: &mut Watch<O>,
+    err: &mut Watch<E>,
+) -> u8
+    requires working { has_failed out.old ≡ false }
+    requires legal { All (λ m. Legal position.now m) moves.now }
+    ensures done { result ≡ 0 → ((text : List ℕ) × TellsMoves position.now moves.now text × Appends (O.contents (inner_of out.old)) (O.contents (inner_of out.new)) text)
+        × (has_failed out.new ≡ false) × (err.new ≡ err.old) }
+    ensures fault { result ≡ 3 → ((first more : List MoveOf) × (text : List ℕ) × (moves.now ≡ first ++ more) × TellsMoves position.now first text
+        × AppendsPart (O.contents (inner_of out.old)) (O.contents (inner_of out.new)) text)
+        × (has_failed out.new ≡ true) × Says (E.contents (inner_of err.old)) (E.contents (inner_of err.new)) (has_failed err.new) (codes "write fault\n") }
+    ensures out_blamed { has_failed out.new ≡ true → result ≡ 3 }
+    ensures known { (result ≡ 0) ⊎ (result ≡ 3) }
+    ensures flushed { IsFlushed out.new }
+{
+    if put_moves(position, moves, out).is_err() || out.flush().is_err() {
+        return refused(err, b"write fault\n", 3);
+    }
+    0
+}
+
 /// Writes the legal moves of the position that has the FEN, or of the initial one, in SAN, one a line and in the order of
 /// `legal_moves`, and returns the exit status: 0 where all were written, 1 where no position has the FEN, 3 where `out` has
 /// failed, 4 where memory ran out; one line on `err` says why it isn't 0. `out` may not have failed before.
@@ -84,8 +108,5 @@ pub fn moves<O: Write, E: Write>(
     let Ok(moves) = position.legal_moves(alloc) else {
         return refused_run(out, err, b"memory\n", 4);
     };
-    if put_moves(&position, moves.as_slice(), out).is_err() || out.flush().is_err() {
-        return refused(err, b"write fault\n", 3);
-    }
-    0
+    print_moves(&position, moves.as_slice(), out, err)
 }
