@@ -1,6 +1,5 @@
 //! Games of random legal moves, to compare: their texts, one after another, or their moves by their squares, a game a line.
 
-
 use crate::rules::MIDDLE_GAME;
 use chess_clock::Hms;
 use chess_rules::{Kind, Move, Position, Square};
