@@ -5,6 +5,7 @@
 //! contract says.
 #![tactic(auto)]
 
+mod flushing;
 pub mod laws;
 mod program;
 mod record;

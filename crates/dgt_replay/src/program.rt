@@ -26,6 +26,7 @@ ghost use Rattle.dgt_replay.specs.Messages.{GivesText, RefusesArguments};
 ghost use Rattle.text_subcommands.specs.Messages.{Says};
 ghost use Rattle.text_subcommands.specs.Streams.{streams};
 
+use crate::flushing::flush_output;
 use crate::record::record_game;
 use crate::recover::recover;
 use board_listing::{Listing, list_stream};
@@ -96,7 +97,7 @@ fn list<R: Read, O: Write, E: Write>(
     ensures flushed { IsFlushed out.new }
 {
     let done = list_stream(alloc, listing, reader, out);
-    if out.failed() || out.flush().is_err() {
+    if !flush_output(out) {
         return refused(err, b"write fault\n", 3);
     }
     match done {

@@ -8,6 +8,7 @@ ghost use Rattle.text_subcommands.specs.Streams.{streams};
 ghost use Rattle.replay_arguments.specs.Setups.{MeetsBoard};
 ghost use Rattle.chess_text.specs.Start.{HasNoStart, given};
 
+use crate::flushing::flush_output;
 use chess_rules::Position;
 use chess_text::start_of;
 use recovery::recover_stream;
@@ -48,7 +49,7 @@ fn recover_from<R: Read, O: Write, E: Write>(
         out,
         err,
     );
-    if out.failed() || out.flush().is_err() {
+    if !flush_output(out) {
         return refused(err, b"write fault\n", 3);
     }
     match done {

@@ -1,25 +1,19 @@
 -- What `check` has said of a text.
-use Rattle.std.proofs.Common.{◌≡◌, ℕ, ◌+◌, ◌<◌, ◌≤◌, List, ◌++◌, length, length-append, Option, Some, None, IfSome, true, take, ap, inr, subst, arith}
+use Rattle.std.proofs.Common.{◌≡◌, ℕ, ◌+◌, ◌<◌, ◌≤◌, List, ◌++◌, length, length-append, Option, Some, None, IfSome, true, take, ap, subst, arith}
 use Rattle.std.proofs.lemmas.List.{length-take-le}
 use Rattle.std.proofs.KnownBytes.{Consumes-trans}
-use Rattle.std.specs.Io.KnownBytes.{Appends, Consumes}
+use Rattle.std.specs.Io.KnownBytes.{Consumes}
 use Rattle.watched_streams.specs.declared.chunks.ReadChunk.{ReadChunk}
 use Rattle.watched_streams.specs.Input.{GivesChunk, ReadsWithin}
 use Rattle.chess_game.specs.Games.{Content}
 use Rattle.pgn_book.specs.Pgn.{Pgn}
-use Rattle.text_subcommands.specs.Checked.{ChecksGame, ChecksPart, summary_line, text_limit}
-use Rattle.watched_streams.specs.Output.{AppendsPart}
+use Rattle.text_subcommands.specs.Checked.{text_limit}
 
-pub checked : (input written written' : Option (List ℕ)) (text : List ℕ) (game : Content) → IfSome input (λ bytes. text ≡ bytes) → Pgn game text → length text ≤ text_limit
-    → Appends written written' (summary_line (length game.plies) game.result) → ChecksGame input written written'
-checked None written written' text game text_is pgn within said = tt
-checked (Some bytes) written written' text game text_is pgn within said = (game, (let P : List ℕ → Type 0 = λ bs. Pgn game bs in subst P text_is pgn), omega (arith, within, ap length text_is), said)
-
-pub checked_part : (input written written' : Option (List ℕ)) (text : List ℕ) (game : Content) → IfSome input (λ bytes. text ≡ bytes) → Pgn game text → length text ≤ text_limit
-    → AppendsPart written written' (summary_line (length game.plies) game.result) → ChecksPart input written written'
-checked_part None written written' text game text_is pgn within part = inr tt
-checked_part (Some bytes) written written' text game text_is pgn within part =
-    inr (game, (let P : List ℕ → Type 0 = λ bs. Pgn game bs in subst P text_is pgn), omega (arith, within, ap length text_is), part)
+pub is_game : (input : Option (List ℕ)) (text : List ℕ) (game : Content) → IfSome input (λ bytes. text ≡ bytes) → Pgn game text → length text ≤ text_limit
+    → IfSome input (λ bytes. Pgn game bytes × (length bytes ≤ text_limit))
+is_game None text game text_is pgn within = tt
+is_game (Some bytes) text game text_is pgn within =
+    let P : List ℕ → Type 0 = λ bs. Pgn game bs × (length bs ≤ text_limit) in subst P text_is (pgn, within)
 
 pub no_game : (input : Option (List ℕ)) (text : List ℕ) → IfSome input (λ bytes. text ≡ bytes) → length text ≤ text_limit → ((game : Content) → Pgn game text → ⊥)
     → IfSome input (λ bytes. (length bytes ≤ text_limit) × ((game : Content) → Pgn game bytes → ⊥))

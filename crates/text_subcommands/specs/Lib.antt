@@ -4,4 +4,5 @@ pub mod Played
 pub mod Printed
 pub mod Refusals
 pub mod Streams
+pub mod Unread
 pub mod Words

@@ -1,10 +1,12 @@
 //! The subcommand `check`.
-ghost use Rattle.std.specs.Prelude.{◌≡◌, ◌≢◌, ◌≤◌, ◌⊎◌, ◌+◌, ◌++◌, length, codes, false, true};
+ghost use Rattle.std.specs.Prelude.{◌≡◌, ◌≢◌, ◌≤◌, ◌⊎◌, ◌+◌, ◌++◌, length, codes, Err, IfErr, IfOk, IfSome, OnOk, false, true};
 ghost use Rattle.std.specs.Io.KnownBytes.{Appends, Keeps};
 ghost use Rattle.arrayvec.specs.ArrayVec.{array_vec_len};
 ghost use Rattle.watched_streams.specs.Watch.{IsFlushed, inner_of, has_failed};
 ghost use Rattle.text_subcommands.specs.Checked.{ChecksGame, ChecksPart, RefusesPgn, summary_line};
 ghost use Rattle.watched_streams.specs.Input.{ReadsWithin};
+ghost use Rattle.pgn_book.specs.Pgn.{Pgn};
+ghost use Rattle.text_subcommands.specs.Unread.{message_of, status_of};
 ghost use Rattle.text_subcommands.specs.Messages.{Says, Tells};
 ghost use Rattle.watched_streams.specs.Output.{AppendsPart};
 
@@ -19,6 +21,63 @@ use watched_streams::{GATHERED, LONGEST, Lines, Watch, add, put};
 
 /// The most bytes of the input of `check`, a PGN text.
 pub const TEXT_LIMIT: usize = 268_435_456;
+
+/// Why no game was read.
+#[derive(Clone, Copy)]
+enum GameError {
+    Memory,
+    Read,
+    TooLong,
+    NotExport,
+}
+
+impl GameError {
+    /// What the program says of it.
+    fn line(self) -> &'static [u8]
+        ensures { result.now ≡ message_of self }
+    {
+        match self {
+            GameError::Memory => b"memory\n",
+            GameError::Read => b"read fault\n",
+            GameError::TooLong => b"input: too long\n",
+            GameError::NotExport => b"pgn: not export\n",
+        }
+    }
+
+    /// The exit status that tells of it.
+    fn status(self) -> u8
+        ensures { result ≡ status_of self }
+    {
+        match self {
+            GameError::Memory => 4,
+            GameError::Read => 3,
+            GameError::TooLong | GameError::NotExport => 1,
+        }
+    }
+}
+
+/// Reads the game whose export text the input is.
+fn read_game<R: Read>(alloc: Global, reader: &mut Watch<R>) -> Result<Game, GameError>
+    requires { has_failed reader.old ≡ false }
+    ensures game { IfOk result (λ game. IfSome (R.remaining (inner_of reader.old)) (λ bytes. Pgn game bytes × (length bytes ≤ TEXT_LIMIT))) }
+    ensures refused { IfErr result (λ error. status_of error ≡ 1 → RefusesPgn (R.remaining (inner_of reader.old)) (message_of error)) }
+    ensures bounded { ReadsWithin TEXT_LIMIT (R.remaining (inner_of reader.old)) (R.remaining (inner_of reader.new)) }
+    ensures read { result ≡ Err GameError.Read → has_failed reader.new ≡ true }
+    ensures works { OnOk result (has_failed reader.new ≡ false) }
+    ensures blamed { has_failed reader.new ≡ true → result ≡ Err GameError.Read }
+{
+    let text = match read_text(alloc, reader, TEXT_LIMIT) {
+        Ok(text) => text,
+        Err(TextError::Memory) => return Err(GameError::Memory),
+        Err(TextError::Read) => return Err(GameError::Read),
+        Err(TextError::TooLong) => return Err(GameError::TooLong),
+    };
+    match read_pgn(alloc, text.as_slice()) {
+        Ok(game) => Ok(game),
+        Err(PgnError::Memory) => Err(GameError::Memory),
+        Err(PgnError::NotExport) => Err(GameError::NotExport),
+    }
+}
 
 /// Adds how many moves a game has, and its result.
 fn add_summary(lines: &mut Lines, moves: u64, outcome: Option<Outcome>)
@@ -77,16 +136,8 @@ pub fn check<R: Read, O: Write, E: Write>(
     ensures status { result ≢ 2 }
     ensures flushed { IsFlushed out.new }
 {
-    let text = match read_text(alloc, reader, TEXT_LIMIT) {
-        Ok(text) => text,
-        Err(TextError::Memory) => return refused_run(out, err, b"memory\n", 4),
-        Err(TextError::Read) => return refused_run(out, err, b"read fault\n", 3),
-        Err(TextError::TooLong) => return refused_run(out, err, b"input: too long\n", 1),
-    };
-    let game = match read_pgn(alloc, text.as_slice()) {
-        Ok(game) => game,
-        Err(PgnError::Memory) => return refused_run(out, err, b"memory\n", 4),
-        Err(PgnError::NotExport) => return refused_run(out, err, b"pgn: not export\n", 1),
-    };
-    put_summary(&game, out, err)
+    match read_game(alloc, reader) {
+        Ok(game) => put_summary(&game, out, err),
+        Err(error) => refused_run(out, err, error.line(), error.status()),
+    }
 }
