@@ -18,7 +18,7 @@ use dgt_frame::{BLANK, Decoder, Event, First, LIMIT};
 use pgn_book::{Game, Tags, write_pgn};
 use std::alloc::Global;
 use std::io::{Read, Write};
-use watched_streams::{CHUNK, Watch, put, read_chunk};
+use watched_streams::{CHUNK, Watch, put_and_flush, read_chunk};
 
 /// The command that asks the board for a dump.
 const SEND_DUMP: u8 = 0x42;
@@ -45,7 +45,7 @@ fn send<B: Write>(board: &mut Watch<B>, bytes: &[u8]) -> Result<(), RecordError>
     ensures cause { IfErr result (λ error. error ≡ RecordError.Board) }
     ensures flushed { IsFlushed board.new }
 {
-    if put(board, bytes).is_err() || board.flush().is_err() {
+    if !put_and_flush(board, bytes) {
         return Err(RecordError::Board);
     }
     Ok(())
@@ -62,7 +62,10 @@ fn write_game<W: Write>(game: &Game, out: &mut Watch<W>) -> Result<(), RecordErr
     ensures cause { IfErr result (λ error. error ≡ RecordError.Write) }
     ensures flushed { IsFlushed out.new }
 {
-    if write_pgn(game, out).is_err() || out.flush().is_err() {
+    if write_pgn(game, out).is_err() {
+        return Err(RecordError::Write);
+    }
+    if out.flush().is_err() {
         return Err(RecordError::Write);
     }
     Ok(())

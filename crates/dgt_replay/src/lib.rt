@@ -5,7 +5,6 @@
 //! contract says.
 #![tactic(auto)]
 
-mod flushing;
 pub mod laws;
 mod program;
 mod record;

@@ -26,7 +26,6 @@ ghost use Rattle.dgt_replay.specs.Messages.{GivesText, RefusesArguments};
 ghost use Rattle.text_subcommands.specs.Messages.{Says};
 ghost use Rattle.text_subcommands.specs.Streams.{streams};
 
-use crate::flushing::flush_output;
 use crate::record::record_game;
 use crate::recover::recover;
 use board_listing::{Listing, list_stream};
@@ -38,7 +37,7 @@ use replay_arguments::{BoardArguments, Subcommand, read_arguments};
 use std::alloc::Global;
 use std::io::{Read, Write};
 use text_subcommands::{check, moves, positions, refused, refused_fen};
-use watched_streams::{Watch, put};
+use watched_streams::{Watch, flush_unless_failed, put_and_flush};
 
 /// Writes the text of `clap`, and returns its status.
 fn refused_arguments<O: Write, E: Write>(
@@ -72,7 +71,7 @@ fn refused_arguments<O: Write, E: Write>(
     if error.use_stderr() {
         return refused(err, text.as_str().as_bytes(), 2);
     }
-    if put(out, text.as_str().as_bytes()).is_err() || out.flush().is_err() {
+    if !put_and_flush(out, text.as_str().as_bytes()) {
         return refused(err, b"write fault\n", 3);
     }
     0
@@ -97,7 +96,7 @@ fn list<R: Read, O: Write, E: Write>(
     ensures flushed { IsFlushed out.new }
 {
     let done = list_stream(alloc, listing, reader, out);
-    if !flush_output(out) {
+    if !flush_unless_failed(out) {
         return refused(err, b"write fault\n", 3);
     }
     match done {

@@ -8,7 +8,6 @@ ghost use Rattle.text_subcommands.specs.Streams.{streams};
 ghost use Rattle.replay_arguments.specs.Setups.{MeetsBoard};
 ghost use Rattle.chess_text.specs.Start.{HasNoStart, given};
 
-use crate::flushing::flush_output;
 use chess_rules::Position;
 use chess_text::start_of;
 use recovery::recover_stream;
@@ -16,7 +15,7 @@ use replay_arguments::BoardArguments;
 use std::alloc::Global;
 use std::io::{Read, Write};
 use text_subcommands::{refused, refused_fen};
-use watched_streams::Watch;
+use watched_streams::{Watch, flush_unless_failed};
 
 /// Gives on a stream that begins in this position, and returns the status.
 fn recover_from<R: Read, O: Write, E: Write>(
@@ -49,7 +48,7 @@ fn recover_from<R: Read, O: Write, E: Write>(
         out,
         err,
     );
-    if !flush_output(out) {
+    if !flush_unless_failed(out) {
         return refused(err, b"write fault\n", 3);
     }
     match done {

@@ -15,7 +15,7 @@ use chess_rules::Position;
 use dgt_frame::{BLANK, Decoder, First, LIMIT};
 use std::alloc::Global;
 use std::io::{Read, Write};
-use watched_streams::{CHUNK, Lines, Watch, put, read_chunk};
+use watched_streams::{CHUNK, Lines, Watch, put, put_and_flush, read_chunk};
 
 /// Writes bytes at once.
 fn send<O: Write>(out: &mut Watch<O>, bytes: &[u8]) -> Result<(), RecoverError>
@@ -27,7 +27,7 @@ fn send<O: Write>(out: &mut Watch<O>, bytes: &[u8]) -> Result<(), RecoverError>
     ensures cause { IfErr result (λ error. error ≡ RecoverError.Write) }
     ensures flushed { IsFlushed out.new }
 {
-    if put(out, bytes).is_err() || out.flush().is_err() {
+    if !put_and_flush(out, bytes) {
         return Err(RecoverError::Write);
     }
     Ok(())
@@ -52,10 +52,13 @@ fn put_pair<O: Write, E: Write>(
     ensures lines { result ≡ Err RecoverError.Lines → (has_failed err.new ≡ true) × (has_failed out.new ≡ false) }
     ensures told { IsFlushed err.new }
 {
-    if put(err, line.as_slice()).is_err() || err.flush().is_err() {
+    if !put_and_flush(err, line.as_slice()) {
         return Err(RecoverError::Lines);
     }
-    if put(out, waiting).is_err() || put(out, frames.as_slice()).is_err() {
+    if put(out, waiting).is_err() {
+        return Err(RecoverError::Write);
+    }
+    if put(out, frames.as_slice()).is_err() {
         return Err(RecoverError::Write);
     }
     Ok(())

@@ -3,7 +3,9 @@ ghost use Rattle.std.specs.Prelude.{◌≤◌, IfOk};
 
 use std::io::{self, ErrorKind, Read, Write};
 use std::process::Abort;
-use watched_streams::{CHUNK, ReadChunk, Watch, WriteFault, put, read_chunk};
+use watched_streams::{
+    CHUNK, ReadChunk, Watch, WriteFault, flush_unless_failed, put, put_and_flush, read_chunk,
+};
 
 /// Fails with the number of the first row that isn't as it says, if there is one.
 fn expect_none(rt: &impl Abort, first: Option<usize>) {
@@ -210,6 +212,29 @@ fn texts_are_put_whole(rt: HostRuntime) {
     assert!(rt; puts_ten(&TAKEN, 4, Ok(())));
     assert!(rt; puts_ten(&CUT_OFF, 2, Err(WriteFault { written: 3 })));
     assert!(rt; puts_ten(&[], 1, Err(WriteFault { written: 0 })));
+}
+
+static UNFLUSHED: [Result<usize, ErrorKind>; 2] = [Ok(10), Err(ErrorKind::BrokenPipe)];
+
+/// Ten bytes are put on this stream and flushed, by so many calls, or not.
+fn flushes_ten(answers: &[Result<usize, ErrorKind>], calls: usize, succeeds: bool) -> bool {
+    let mut out = Watch::new(Scripted { answers, calls: 0 });
+    put_and_flush(&mut out, b"0123456789") == succeeds && is_after(&out, calls, !succeeds)
+}
+
+#[test]
+fn texts_are_put_and_flushed(rt: HostRuntime) {
+    assert!(rt; flushes_ten(&TAKEN, 5, true));
+    assert!(rt; flushes_ten(&CUT_OFF, 2, false));
+    assert!(rt; flushes_ten(&UNFLUSHED, 2, false));
+}
+
+#[test]
+fn a_stream_that_failed_is_left_alone(rt: HostRuntime) {
+    let mut works = watched(&FLUSHES);
+    assert!(rt; flush_unless_failed(&mut works) && is_after(&works, 1, false));
+    assert!(rt; !flush_unless_failed(&mut works) && is_after(&works, 2, true));
+    assert!(rt; !flush_unless_failed(&mut works) && is_after(&works, 2, true));
 }
 
 static OFFERED: [Result<usize, ErrorKind>; 6] = [

@@ -17,7 +17,7 @@ use pgn_book::{Game, PgnError, read_pgn, result_str};
 use settle_core::Outcome;
 use std::alloc::Global;
 use std::io::{Read, Write};
-use watched_streams::{GATHERED, LONGEST, Lines, Watch, add, put};
+use watched_streams::{GATHERED, LONGEST, Lines, Watch, add, put_and_flush};
 
 /// The most bytes of the input of `check`, a PGN text.
 pub const TEXT_LIMIT: usize = 268_435_456;
@@ -105,7 +105,7 @@ fn put_summary<O: Write, E: Write>(game: &Game, out: &mut Watch<O>, err: &mut Wa
 {
     let mut lines = Lines::new();
     add_summary(&mut lines, game.plies().len() as u64, game.result());
-    if put(out, lines.as_slice()).is_err() || out.flush().is_err() {
+    if !put_and_flush(out, lines.as_slice()) {
         return refused(err, b"write fault\n", 3);
     }
     0

@@ -23,7 +23,7 @@ use chess_text::{read_san, start_of, write_fen};
 use itoa::Buffer;
 use std::alloc::{AllocError, Global};
 use std::io::{Read, Write};
-use watched_streams::{Lines, Watch, add, put};
+use watched_streams::{Lines, Watch, add, put_and_flush};
 
 /// The most bytes of the input of `positions`.
 pub const LINE_LIMIT: usize = 1_048_576;
@@ -127,7 +127,7 @@ fn put_positions<O: Write, E: Write>(
     ensures status { result ≢ 2 }
     ensures flushed { IsFlushed out.new }
 {
-    if put(out, lines).is_err() || out.flush().is_err() {
+    if !put_and_flush(out, lines) {
         return refused(err, b"write fault\n", 3);
     }
     match stopped {

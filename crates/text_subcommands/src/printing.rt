@@ -73,7 +73,10 @@ fn print_moves<O: Write, E: Write>(
     ensures known { (result ≡ 0) ⊎ (result ≡ 3) }
     ensures flushed { IsFlushed out.new }
 {
-    if put_moves(position, moves, out).is_err() || out.flush().is_err() {
+    if put_moves(position, moves, out).is_err() {
+        return refused(err, b"write fault\n", 3);
+    }
+    if out.flush().is_err() {
         return refused(err, b"write fault\n", 3);
     }
     0

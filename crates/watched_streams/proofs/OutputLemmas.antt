@@ -1,10 +1,10 @@
--- What stands on a stream after a write, whether it failed or not, and after a flush that failed.
-use Rattle.std.proofs.Common.{◌≡◌, ◌∙◌, ℕ, ◌<◌, ◌++◌, true, false, List, [], length, take, drop, Option, Result, Ok, Err, IfErr, OnOk, sym}
+-- What stands on a stream after a write, whether it failed or not.
+use Rattle.std.proofs.Common.{◌≡◌, ◌∙◌, ℕ, ◌<◌, ◌++◌, true, List, [], length, take, drop, Option, Result, Ok, Err, IfErr, sym}
 use Rattle.std.specs.Prelude.{⊤}
 use Rattle.std.specs.Result.{is_err}
-use Rattle.std.proofs.KnownBytes.{Appends-kept, Appends-trans}
+use Rattle.std.proofs.KnownBytes.{Appends-trans}
 use Rattle.std.proofs.lemmas.List.{append-nil, take-append-drop}
-use Rattle.std.specs.Io.KnownBytes.{Appends, Keeps}
+use Rattle.std.specs.Io.KnownBytes.{Appends}
 use Rattle.watched_streams.specs.declared.putting.WriteFault.{WriteFault}
 use Rattle.watched_streams.specs.Output.{AppendsPart, Gathers}
 
@@ -12,11 +12,6 @@ pub part_put : (old new : Option (List ℕ)) (bytes : List ℕ) (r : Result ⊤ 
     → IfErr r (λ fault. (fault.written < length bytes) × Appends old new (take fault.written bytes)) → AppendsPart old new bytes
 part_put old new bytes (Ok done) e h = absurd (let never : ⊥ = cc in never)
 part_put old new bytes (Err fault) e h = (take fault.written bytes, drop fault.written bytes, sym (take-append-drop fault.written bytes), h.1)
-
-pub part_flushed : (old mid new : Option (List ℕ)) (bytes : List ℕ) (r : Result ⊤ WriteFault) → is_err r ≡ false → OnOk r (Appends old mid bytes) → Keeps mid new
-    → AppendsPart old new bytes
-part_flushed old mid new bytes (Ok done) e h k = (bytes, [], sym (append-nil bytes), Appends-kept old mid new bytes h k)
-part_flushed old mid new bytes (Err fault) e h k = absurd (let never : ⊥ = cc in never)
 
 -- What waits was written.
 pub gathers_sent : (begin written written' : Option (List ℕ)) (waiting text : List ℕ) → Gathers begin written waiting text → Appends written written' waiting

@@ -11,5 +11,5 @@ mod watched;
 
 pub use chunks::{CHUNK, ReadChunk, read_chunk};
 pub use lines::{GATHERED, LONGEST, Lines, add, add_number};
-pub use putting::{WriteFault, put};
+pub use putting::{WriteFault, flush_unless_failed, put, put_and_flush};
 pub use watched::Watch;

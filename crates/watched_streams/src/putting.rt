@@ -1,7 +1,8 @@
-//! Whole texts to a watched stream.
-ghost use Rattle.std.specs.Prelude.{◌≡◌, ◌<◌, length, take, OnOk, OnErr, IfErr, true, false};
-ghost use Rattle.std.specs.Io.KnownBytes.{Appends};
-ghost use Rattle.watched_streams.specs.Watch.{inner_of, has_failed};
+//! Whole texts to a watched stream, and its flush.
+ghost use Rattle.std.specs.Prelude.{◌≡◌, ◌<◌, length, take, OnOk, OnErr, IfErr, IsTrue, true, false};
+ghost use Rattle.std.specs.Io.KnownBytes.{Appends, Keeps};
+ghost use Rattle.watched_streams.specs.Output.{AppendsPart};
+ghost use Rattle.watched_streams.specs.Watch.{inner_of, has_failed, IsFlushed};
 
 use crate::watched::Watch;
 use std::io::Write;
@@ -36,4 +37,32 @@ pub fn put<W: Write>(out: &mut Watch<W>, bytes: &[u8]) -> Result<(), WriteFault>
         }
     }
     Ok(())
+}
+
+/// Flushes, unless a call on the stream has failed, and tells whether none has.
+pub fn flush_unless_failed<W: Write>(out: &mut Watch<W>) -> bool
+    ensures kept { Keeps (W.contents (inner_of out.old)) (W.contents (inner_of out.new)) }
+    ensures works { IsTrue result → (has_failed out.old ≡ false) × (has_failed out.new ≡ false) }
+    ensures failed { result ≡ false → has_failed out.new ≡ true }
+    ensures flushed { IsFlushed out.new }
+{
+    if out.failed() {
+        return false;
+    }
+    out.flush().is_ok()
+}
+
+/// Writes all the bytes and flushes, and tells whether both succeeded. Where one didn't, some first bytes were written,
+/// perhaps all. The stream must not have failed before.
+pub fn put_and_flush<W: Write>(out: &mut Watch<W>, bytes: &[u8]) -> bool
+    requires { has_failed out.old ≡ false }
+    ensures done { IsTrue result → Appends (W.contents (inner_of out.old)) (W.contents (inner_of out.new)) bytes.now × (has_failed out.new ≡ false) }
+    ensures part { AppendsPart (W.contents (inner_of out.old)) (W.contents (inner_of out.new)) bytes.now }
+    ensures failed { result ≡ false → has_failed out.new ≡ true }
+    ensures flushed { IsFlushed out.new }
+{
+    if put(out, bytes).is_err() {
+        return false;
+    }
+    flush_unless_failed(out)
 }
