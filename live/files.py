@@ -115,7 +115,7 @@ class Capture:
         try:
             number = os.open(path, os.O_RDWR | os.O_APPEND | os.O_CREAT, 0o666)
         except OSError as error:
-            raise Refused(FAILED, f"{path} can't be written ({text_of(error)}): choose another NAME") from None
+            raise Refused(FAILED, f"{path} can't be written ({text_of(error)}): choose another name") from None
         ends = time.monotonic() + patience
         while True:
             try:
@@ -124,7 +124,7 @@ class Capture:
             except OSError:
                 if time.monotonic() >= ends:
                     os.close(number)
-                    raise Recorded(REFUSED, f"{path} {ANOTHER_CALL}, or choose another NAME") from None
+                    raise Recorded(REFUSED, f"{path} {ANOTHER_CALL}, or choose another name") from None
             time.sleep(0.05)
 
     @staticmethod
@@ -243,12 +243,12 @@ def mark_end(paths: Paths, size: int) -> None:
 def open_game(paths: Paths, patience: float = LOCK_PATIENCE) -> Capture:
     """The capture of a game, new or old."""
     if not paths.folder.is_dir():
-        raise Refused(FAILED, f"there is no folder {paths.folder}: make it, or choose another NAME")
+        raise Refused(FAILED, f"there is no folder {paths.folder}: make it, or choose another name")
     try:
         if paths.pgn.exists() and not paths.capture.exists():
-            raise Refused(REFUSED, f"{paths.pgn} is there without {paths.capture}: choose another NAME, or move it away")
+            raise Refused(REFUSED, f"{paths.pgn} is there without {paths.capture}: choose another name, or move it away")
     except OSError as error:
-        raise Refused(FAILED, f"{paths.capture} can't be written ({text_of(error)}): choose another NAME") from None
+        raise Refused(FAILED, f"{paths.capture} can't be written ({text_of(error)}): choose another name") from None
     return Capture.open(paths.capture, patience)
 
 

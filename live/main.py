@@ -113,7 +113,7 @@ def options_of(program: Program, paths: Paths, capture: Capture, given: Options)
         if others is None:
             raise Refused(
                 REFUSED,
-                f"{paths.name} was begun with other options: give none to go on, or choose another NAME. They were",
+                f"{paths.name} was begun with other options: give none to go on, or choose another name. They were",
                 " ".join(kept.words) or "none",
             )
         wanted = others
@@ -129,7 +129,7 @@ def open_to_record(call: Call, paths: Paths) -> Capture:
     if not call.series:
         if files.end_mark(paths) is not None:
             what = [
-                f"{paths.name} is over: choose another NAME. To add to it: dgt_live --add 1-0 {paths.name}.",
+                f"{paths.name} is over: choose another name. To add to it: dgt_live --add 1-0 {paths.name}.",
                 f"To go on with it all the same, remove {paths.end}",
             ]
             reading = " ".join(Options(call.words).reading().words)
@@ -137,7 +137,7 @@ def open_to_record(call: Call, paths: Paths) -> Capture:
                 what.append(f"For --first, --recover and --strict leave the device out: dgt_live {reading} {paths.name}")
             raise Refused(REFUSED, *what)
         if capture.at_limit:
-            raise Refused(REFUSED, f"{paths.capture} has 64 MiB, and none may have more: choose another NAME")
+            raise Refused(REFUSED, f"{paths.capture} has 64 MiB, and none may have more: choose another name")
     return capture
 
 
@@ -262,11 +262,7 @@ def add(call: Call, program: Program) -> int:
 
 def list_devices() -> int:
     """Prints each device, and the name that its cable keeps."""
-    found = serial_line.devices()
-    for device, name in found:
-        print(f"{device}  {name}" if name else device)
-    if not found:
-        print("dgt_live: no board is plugged in: there is no /dev/ttyUSB* and no /dev/ttyACM*. Plug it in, and try again")
+    print("\n".join(serial_line.listing(serial_line.devices())))
     return DONE
 
 

@@ -65,7 +65,7 @@ def clocks_of(plies: Sequence[Told]) -> Tuple[str, str]:
 
 
 class Positions:
-    """The FENs of a game that grows: only what is new is asked for, and nobody waits for it. `changed` is called when it came."""
+    """The FENs of a game that grows: only what is new is asked for, and nobody waits for it. `changed` tells that it came."""
 
     def __init__(self, program: Program, worker: Worker, changed: Callable[[], None]) -> None:
         self._program, self._worker, self._changed = program, worker, changed

@@ -9,7 +9,7 @@ import pwd
 import stat
 import termios
 import time
-from typing import List, Optional, Tuple
+from typing import List, Optional, Sequence, Tuple
 
 from live.refused import ANOTHER_CALL, FAILED, Refused
 
@@ -45,6 +45,13 @@ def devices() -> List[Tuple[str, str]]:
             found.extend(os.path.realpath(path) for path in folder.iterdir() if os.path.exists(path))
     named = {device: cable_name(device) for device in found}
     return sorted((device, "" if name == device else name) for device, name in named.items())
+
+
+def listing(found: Sequence[Tuple[str, str]]) -> List[str]:
+    """What is printed of the devices: each with the name that its cable keeps, or what to do where there is none."""
+    if not found:
+        return ["dgt_live: no board is plugged in: there is no /dev/ttyUSB* and no /dev/ttyACM*. Plug it in, and try again"]
+    return [f"{device}  {name}" if name else device for device, name in found]
 
 
 def login_name() -> str:

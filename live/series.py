@@ -127,7 +127,7 @@ class Player:
         self._reason = reason
         if reason is Reason.LIMIT and not self._call.series:
             self.refused = Refused(
-                FAILED, f"{self.paths.capture} has 64 MiB, and none may have more: go on under another NAME, with --fen"
+                FAILED, f"{self.paths.capture} has 64 MiB, and none may have more: go on under another name, with --fen"
             )
         self._loop.after(0, self._close_game)
 
@@ -181,7 +181,7 @@ class Player:
         paths = self._next()
         try:
             if paths.pgn.exists():
-                self._fail(f"{paths.pgn} is there without {paths.capture}: choose another NAME, or move it away")
+                self._fail(f"{paths.pgn} is there without {paths.capture}: choose another name, or move it away")
                 return False
             files.keep_options(paths, self._options)
             capture = Capture.begin(paths.capture, content)

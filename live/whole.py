@@ -30,7 +30,7 @@ class Pair:
 
 @dataclass(frozen=True)
 class Place:
-    """Where a byte comes from: the offset of a byte of the capture, and the pair with which it was put in behind that, if any."""
+    """Where a byte comes from: the offset of a byte of the capture, and the pair with which it was put in behind it, if any."""
 
     offset: int
     pair: Optional[Pair] = None

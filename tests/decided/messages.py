@@ -13,7 +13,7 @@ from live.program import Program
 from live.refusal import is_recorded, reason
 from live.refused import Refused
 from live.round import another_folder, ways
-from live.serial_line import login_name, may_not_open
+from live.serial_line import listing, login_name, may_not_open
 from live.table import boards_are
 
 from decided.table import refused, same
@@ -103,6 +103,21 @@ def not_had() -> None:
         finder.chmod(0o755)
         told = refused("a program", Refused, Program.find, pathlib.Path(folder))
         same("a program", told.endswith(f"Type {finder}: it says what to do"), True)
+    for content in ("#!/bin/sh\nexit 1\n", "\x7fELF of another processor"):
+        with tempfile.TemporaryDirectory() as folder:
+            program = pathlib.Path(folder) / "dgt_replay"
+            program.write_text(content)
+            program.chmod(0o755)
+            told = refused("a program that doesn't run", Refused, Program.find, pathlib.Path(folder))
+            same("what it needs", told, f"{program} doesn't run: it needs Linux on an x86-64 processor, with glibc 2.34")
+
+
+def devices_listed() -> None:
+    """Each with the name of its cable, where it has one; and what to do where no board is plugged in."""
+    same("two", listing([("/dev/ttyACM0", ""), ("/dev/ttyUSB0", "/dev/serial/by-id/board")]),
+         ["/dev/ttyACM0", "/dev/ttyUSB0  /dev/serial/by-id/board"])  # fmt: skip
+    none = "dgt_live: no board is plugged in: there is no /dev/ttyUSB* and no /dev/ttyACM*. Plug it in, and try again"
+    same("none", listing([]), [none])
 
 
 class Full:
@@ -198,4 +213,4 @@ def recorded() -> None:
         same(f"{words} on board {board}", list(is_recorded("g3", board, Options(tuple(words.split())))), told)
 
 
-TABLES = [reasons, no_names, not_had, disks, logs, rounds, recorded]
+TABLES = [reasons, no_names, not_had, devices_listed, disks, logs, rounds, recorded]

@@ -77,6 +77,10 @@ def no_table(_: pathlib.Path) -> None:
             same(content not in saved or refused.lines[0].endswith("save the table as CSV"), True)
         else:
             raise AssertionError(f"not refused: {content[:20]!r}")
+    try:
+        read_pairings(b"board,device,board\n")
+    except Refused as refused:
+        same(refused.lines, ("its first line has the column board twice: take one out",))
 
 
 def rows(_: pathlib.Path) -> None:
