@@ -12,6 +12,7 @@ import sys
 import time
 
 TICK = os.sysconf("SC_CLK_TCK")
+FROM_NOTHING = "(from nothing)"
 
 
 def processes():
@@ -69,14 +70,15 @@ def watch(command, folder, log):
 
 
 def named(rows, clone):
-    """The edits of each crate by name: a crate's are tried in the order of their names, and the crate as it is last."""
+    """The edits of each crate by name: a crate is checked from nothing, where it has several edits; then these are tried in the
+    order of their names, and the crate as it is last."""
     left = {}
     for _, crate, kind, seconds in rows:
         name = ""
         if kind == "edit":
             if crate not in left:
-                left[crate] = [it.stem for it in sorted(pathlib.Path(f"{clone}/crates/{crate}/must-fail").glob("*.edit"))]
-                left[crate] += ["(none)"]
+                edits = [it.stem for it in sorted(pathlib.Path(f"{clone}/crates/{crate}/must-fail").glob("*.edit"))]
+                left[crate] = [*([FROM_NOTHING] if len(edits) > 1 else []), *edits, "(none)"]
             name = left[crate].pop(0) if left[crate] else "(again)"
         yield crate, kind, name, seconds
 
@@ -102,9 +104,10 @@ def main(clone, folder):
         for kind in sums:
             sums[kind] += spent[kind]
         edits = of["edit"]
-        first = f"{edits[0][0]:.0f}" if edits else ""
-        number = len({name for _, name in edits} - {"(none)", "(again)"}) or ""
-        slowest = ", ".join(f"`{name}` {seconds:.0f}" for seconds, name in sorted(edits[1:], reverse=True)[:5])
+        first = "".join(f"{seconds:.0f}" for seconds, name in edits if name == FROM_NOTHING)
+        number = len({name for _, name in edits} - {FROM_NOTHING, "(none)", "(again)"}) or ""
+        others = sorted((it for it in edits if it[1] != FROM_NOTHING), reverse=True)
+        slowest = ", ".join(f"`{name}` {seconds:.0f}" for seconds, name in others[:5])
         shown = [f"{spent[kind]:.0f}" if of[kind] else "" for kind in sums]
         print("|", " | ".join([f"`{crate}`", *shown, first, str(number), slowest]), "|")
     rest = whole - sum(sums.values())
