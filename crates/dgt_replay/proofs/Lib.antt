@@ -2,6 +2,7 @@ pub mod AgreementLemmas
 pub mod DoesLemmas
 pub mod EndLemmas
 pub mod FaultLemmas
+pub mod RecordedLemmas
 pub mod RecoverLemmas
 pub mod RefusalLemmas
 pub mod SetupLemmas

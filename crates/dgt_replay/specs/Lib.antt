@@ -4,3 +4,4 @@ pub mod Laws
 pub mod Messages
 pub mod Recorded
 pub mod Refusals
+pub mod Status

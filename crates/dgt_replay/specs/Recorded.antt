@@ -1,5 +1,5 @@
 -- What `record` does.
-use Rattle.std.specs.Prelude.{◌≡◌, ◌⊎◌, ℕ, List, ◌++◌, codes, decimal, Option, Err, true, []}
+use Rattle.std.specs.Prelude.{◌≡◌, ◌⊎◌, ℕ, List, ◌++◌, codes, decimal, Option, Err, true}
 use Rattle.std.specs.Io.KnownBytes.{Appends}
 use Rattle.board_session.specs.declared.refusal.RecordError.{RecordError}
 use Rattle.board_session.specs.declared.refusal.RecordError.TheVariants.{Read, Board, Write}
@@ -9,15 +9,7 @@ use Rattle.board_session.specs.Recording.{Leaves, RecordsAll}
 use Rattle.watched_streams.specs.Output.{AppendsPart}
 use Rattle.text_subcommands.specs.Messages.{Says}
 use Rattle.text_subcommands.specs.Streams.{Streams}
-use Rattle.board_session.specs.declared.refusal.RecordError.TheVariants as record_error
-
--- why a recording has ended, on a line after the bytes for the board; nothing where their stream has failed
-abbrev pub end_words : RecordError → List ℕ
-end_words record_error.Memory = codes "\nmemory\n"
-end_words record_error.Read = codes "\nread fault\n"
-end_words record_error.Board = []
-end_words record_error.Write = codes "\nwrite fault\n"
-end_words record_error.TooLong = codes "\ninput: too long\n"
+use Rattle.dgt_replay.specs.Status.{message_of}
 
 -- the line about a recording, which begins a new line after the bytes for the board
 abbrev pub report_line : Report → List ℕ
@@ -33,7 +25,7 @@ RecordsAndTells setup s = (report : Report) × (asked : Option (List ℕ))
 -- text.
 abbrev pub EndsFor : RecordError → Setup → Streams → Type 0
 EndsFor reason setup s = (asked : Option (List ℕ))
-    × Leaves setup (Err reason) s.input s.input' s.said asked s.written s.written' × Says asked s.said' s.err_failed (end_words reason)
+    × Leaves setup (Err reason) s.input s.input' s.said asked s.written s.written' × Says asked s.said' s.err_failed (message_of reason)
 
 -- The whole was recorded, and the line about it could not be written to its end.
 abbrev pub RecordsUntold : Setup → Streams → Type 0

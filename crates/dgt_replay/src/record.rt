@@ -1,12 +1,15 @@
 //! The subcommand `record`.
-ghost use Rattle.std.specs.Prelude.{◌≡◌, ◌≢◌, ◌≤◌, ◌+◌, ◌++◌, false, true};
+ghost use Rattle.std.specs.Prelude.{◌≡◌, ◌≢◌, ◌≤◌, ◌+◌, ◌++◌, ◌⊎◌, false, true};
+ghost use Rattle.std.specs.Io.KnownBytes.{Appends};
 ghost use Rattle.arrayvec.specs.ArrayVec.{array_vec_len};
 ghost use Rattle.board_events.specs.declared.setup.Setup.{Setup as SetupOf};
 ghost use Rattle.watched_streams.specs.Watch.{IsFlushed, inner_of, has_failed};
 ghost use Rattle.dgt_replay.specs.Does.{Records};
 ghost use Rattle.text_subcommands.specs.Refusals.{Refuses};
 ghost use Rattle.text_subcommands.specs.Messages.{Says};
+ghost use Rattle.watched_streams.specs.Output.{AppendsPart};
 ghost use Rattle.dgt_replay.specs.Recorded.{EndsFor, Fails, RecordsAndTells, report_line};
+ghost use Rattle.dgt_replay.specs.Status.{message_of, status_of};
 ghost use Rattle.replay_arguments.specs.Setups.{ForMemory, Meets, MeetsNothing, tag_text};
 ghost use Rattle.chess_text.specs.Start.{given};
 ghost use Rattle.dgt_replay.specs.Refusals.{RefusesSetup, refusal_message};
@@ -48,6 +51,46 @@ fn add_report(lines: &mut Lines, report: &Report)
     add(lines, b"\n");
 }
 
+/// Writes the line about a recording, and returns the status: 3 where the line could not be written to its end.
+fn tell<E: Write>(err: &mut Watch<E>, report: &Report) -> u8
+    requires { has_failed err.old ≡ false }
+    ensures done { result ≡ 0 → Appends (E.contents (inner_of err.old)) (E.contents (inner_of err.new)) (report_line report.now) × (has_failed err.new ≡ false) }
+    ensures fault { result ≡ 3 → AppendsPart (E.contents (inner_of err.old)) (E.contents (inner_of err.new)) (report_line report.now) × (has_failed err.new ≡ true) }
+    ensures known { (result ≡ 0) ⊎ (result ≡ 3) }
+{
+    let mut lines = Lines::new();
+    add_report(&mut lines, report);
+    match put(err, lines.as_slice()) {
+        Ok(()) => 0,
+        Err(_) => 3,
+    }
+}
+
+/// What the program says of a recording that was given up, on a line after the bytes for the board: nothing where their stream
+/// has failed.
+fn line_of(error: RecordError) -> &'static [u8]
+    ensures { result.now ≡ message_of error }
+{
+    match error {
+        RecordError::Memory => b"\nmemory\n",
+        RecordError::Read => b"\nread fault\n",
+        RecordError::Board => b"",
+        RecordError::Write => b"\nwrite fault\n",
+        RecordError::TooLong => b"\ninput: too long\n",
+    }
+}
+
+/// The exit status that tells of it.
+fn status_of(error: RecordError) -> u8
+    ensures { result ≡ status_of error }
+{
+    match error {
+        RecordError::Read | RecordError::Board | RecordError::Write => 3,
+        RecordError::TooLong => 1,
+        RecordError::Memory => 4,
+    }
+}
+
 /// Records the game that is set up so, and returns the status.
 fn record_as<R: Read, O: Write, E: Write>(
     alloc: Global,
@@ -71,19 +114,8 @@ fn record_as<R: Read, O: Write, E: Write>(
     ensures flushed { IsFlushed out.new }
 {
     match record(alloc, setup, reader, err, out) {
-        Ok(report) => {
-            let mut lines = Lines::new();
-            add_report(&mut lines, &report);
-            match put(err, lines.as_slice()) {
-                Ok(()) => 0,
-                Err(_) => 3,
-            }
-        }
-        Err(RecordError::Memory) => refused(err, b"\nmemory\n", 4),
-        Err(RecordError::Read) => refused(err, b"\nread fault\n", 3),
-        Err(RecordError::Board) => 3,
-        Err(RecordError::Write) => refused(err, b"\nwrite fault\n", 3),
-        Err(RecordError::TooLong) => refused(err, b"\ninput: too long\n", 1),
+        Ok(report) => tell(err, &report),
+        Err(error) => refused(err, line_of(error), status_of(error)),
     }
 }
 

@@ -1,47 +1,58 @@
-use Rattle.std.proofs.Common.{◌≡◌, ◌++◌, ◌∙◌, List, ℕ, ap, arith, false, inl, inr, rules, subst, sym, true}
-use Rattle.watched_streams.specs.Watch.{inner_of}
-use Rattle.watched_streams.specs.Output.{AppendsPart}
-use Rattle.dgt_replay.specs.Recorded.{report_line}
-use Rattle.text_subcommands.proofs.MessageLemmas.{part_put}
+use Rattle.std.proofs.Common.{◌∙◌, ap, Err, inr, rules, subst, sym}
+use Rattle.watched_streams.specs.Watch.{has_failed, inner_of}
+use Rattle.text_subcommands.specs.Messages.{Says}
+use Rattle.text_subcommands.specs.Streams.{Streams, streams}
+use Rattle.dgt_replay.specs.Recorded.{EndsFor}
+use Rattle.dgt_replay.proofs.RecordedLemmas.{given_up_long, given_up_for_fault, given_up_for_memory, out_failed_three, status_known}
 use Rattle.dgt_replay.proofs.record.record_as.Goals as goal
+
+pub returns-in-Ok-clause-fails : goal.returns-in-Ok-clause-fails
+returns-in-Ok-clause-fails g c three =
+    let fault = c.tell.ensures.fault three in
+    inr (inr (fault.1, inr (c.in-Ok.report, g.E.Write.contents (inner_of c.record.new.board), search rules, fault.0)))
+
+pub returns-in-Err-clause-all : goal.returns-in-Err-clause-all
+returns-in-Err-clause-all g c zero = absurd ((status_known c.in-Err.error c.refused.result (c.refused.ensures.status ∙ c.status_of.ensures)).0 zero)
+
+pub returns-in-Err-clause-works : goal.returns-in-Err-clause-works
+returns-in-Err-clause-works g c zero = absurd ((status_known c.in-Err.error c.refused.result (c.refused.ensures.status ∙ c.status_of.ensures)).0 zero)
+
+pub returns-in-Err-clause-status : goal.returns-in-Err-clause-status
+returns-in-Err-clause-status g c = (status_known c.in-Err.error c.refused.result (c.refused.ensures.status ∙ c.status_of.ensures)).1
+
+pub returns-in-Err-clause-known : goal.returns-in-Err-clause-known
+returns-in-Err-clause-known g c = (status_known c.in-Err.error c.refused.result (c.refused.ensures.status ∙ c.status_of.ensures)).2
+
+pub returns-in-Err-clause-long : goal.returns-in-Err-clause-long
+returns-in-Err-clause-long g c one =
+    let is = c.refused.ensures.status ∙ c.status_of.ensures in
+    let s : Streams = streams g.R.Read.remaining g.O.Write.contents g.E.Write.contents c.args.reader.now c.record.new.reader c.args.out.now c.record.new.out c.args.err.now c.refused.new.err in
+    let asked = g.E.Write.contents (inner_of c.record.new.board) in
+    let says = subst (Says asked s.said' s.err_failed) c.line_of.ensures c.refused.ensures.says in
+    let ends : EndsFor c.in-Err.error c.args.setup s = (asked, c.in-Err.ensures.leaves, says) in
+    given_up_long c.in-Err.error c.refused.result c.args.setup s is ends one
+
+pub returns-in-Err-clause-memory : goal.returns-in-Err-clause-memory
+returns-in-Err-clause-memory g c four =
+    let is = c.refused.ensures.status ∙ c.status_of.ensures in
+    let s : Streams = streams g.R.Read.remaining g.O.Write.contents g.E.Write.contents c.args.reader.now c.record.new.reader c.args.out.now c.record.new.out c.args.err.now c.refused.new.err in
+    let asked = g.E.Write.contents (inner_of c.record.new.board) in
+    let says = subst (Says asked s.said' s.err_failed) c.line_of.ensures c.refused.ensures.says in
+    let ends : EndsFor c.in-Err.error c.args.setup s = (asked, c.in-Err.ensures.leaves, says) in
+    given_up_for_memory c.in-Err.error c.refused.result c.args.setup s is ends four
 
 pub returns-in-Err-clause-fails : goal.returns-in-Err-clause-fails
 returns-in-Err-clause-fails g c three =
+    let is = c.refused.ensures.status ∙ c.status_of.ensures in
+    let s : Streams = streams g.R.Read.remaining g.O.Write.contents g.E.Write.contents c.args.reader.now c.record.new.reader c.args.out.now c.record.new.out c.args.err.now c.refused.new.err in
     let asked = g.E.Write.contents (inner_of c.record.new.board) in
-    let after = g.E.Write.contents (inner_of c.put.new.out) in
-    let told : AppendsPart asked after c.as_slice.result.now = part_put c.put.result asked after c.as_slice.result.now c.put.ensures.ok c.put.ensures.fault in
-    let line : c.as_slice.result.now ≡ report_line c.in-Ok.report = c.as_slice.ensures.value ∙ c.add_report.ensures ∙ ap (λ bs. bs ++ report_line c.in-Ok.report) c.new-lines.ensures in
-    let P : List ℕ → Type 0 = λ bs. AppendsPart asked after bs in
-    inr (inr (c.in-Err.ensures.failed, inr (c.in-Ok.report, asked, search rules, subst P line told)))
+    let says = subst (Says asked s.said' s.err_failed) c.line_of.ensures c.refused.ensures.says in
+    let ends : EndsFor c.in-Err.error c.args.setup s = (asked, c.in-Err.ensures.leaves, says) in
+    given_up_for_fault c.in-Err.error c.refused.result c.args.setup s is ends (λ e. c.record.ensures.read (c.in-Err.is ∙ ap Err e))
+    (λ e. (let failed = c.record.ensures.board (c.in-Err.is ∙ ap Err e) in ap has_failed (c.refused.ensures.silent failed) ∙ failed))
+    (λ e. c.record.ensures.write (c.in-Err.is ∙ ap Err e)) three
 
-pub returns-in-Err-Read-clause-fails : goal.returns-in-Err-Read-clause-fails
-returns-in-Err-Read-clause-fails g c three = inl (search rules, search rules)
-
-pub returns-in-Err-Board-clause-fails : goal.returns-in-Err-Board-clause-fails
-returns-in-Err-Board-clause-fails g c three = inr (inr (search rules, inl (search rules)))
-
-pub returns-in-Err-Write-clause-fails : goal.returns-in-Err-Write-clause-fails
-returns-in-Err-Write-clause-fails g c three = inr (inl (search rules, search rules))
-
-pub returns-in-Err-Memory-clause-fails : goal.returns-in-Err-Memory-clause-fails
-returns-in-Err-Memory-clause-fails g c three = let four = c.refused.ensures.status in absurd (omega arith)
-
-pub returns-in-Err-Read-clause-all : goal.returns-in-Err-Read-clause-all
-returns-in-Err-Read-clause-all g c zero = let three = c.refused-in-Err-Read.ensures.status in absurd (omega arith)
-
-pub returns-in-Err-Read-clause-works : goal.returns-in-Err-Read-clause-works
-returns-in-Err-Read-clause-works g c zero = let three = c.refused-in-Err-Read.ensures.status in absurd (omega arith)
-
-pub returns-in-Err-Read-clause-long : goal.returns-in-Err-Read-clause-long
-returns-in-Err-Read-clause-long g c one = let three = c.refused-in-Err-Read.ensures.status in absurd (omega arith)
-
-pub returns-in-Err-TooLong-clause-long : goal.returns-in-Err-TooLong-clause-long
-returns-in-Err-TooLong-clause-long g c one = (g.E.Write.contents (inner_of c.record.new.board), search rules, c.refused-in-Err-TooLong.ensures.says)
-
-pub returns-in-Err-TooLong-clause-out_blamed : goal.returns-in-Err-TooLong-clause-out_blamed
-returns-in-Err-TooLong-clause-out_blamed g c failed =
-    let is = c.in-Err-TooLong.is in
-    let long = c.in-Err-TooLong.field-0-is in
-    let works = c.record.ensures.written (λ write. (cc)) in
-    let bad : true ≡ false = sym failed ∙ works in
-    cc
+pub returns-in-Err-clause-out_blamed : goal.returns-in-Err-clause-out_blamed
+returns-in-Err-clause-out_blamed g c failed =
+    out_failed_three c.in-Err.error c.refused.result (has_failed c.record.new.out) (c.refused.ensures.status ∙ c.status_of.ensures)
+    (λ other. c.record.ensures.written (λ write. (other (let same = sym c.in-Err.is ∙ write in cc)))) failed
