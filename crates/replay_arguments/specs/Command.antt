@@ -61,10 +61,18 @@ recover_app = with_board (new_app (codes "recover"))
 abbrev pub with_version : App → App
 with_version app = record app { top = record app.top { has_version = true; subcommand_required = true } }
 
+-- with the subcommands that read what a board sends, in this order
+abbrev pub with_board_subcommands : App → App
+with_board_subcommands app = with_subcommand (with_subcommand (with_subcommand (with_subcommand (with_subcommand app
+    show_app.top) pictures_app.top) record_app.top) follow_app.top) recover_app.top
+
+-- with those that read texts, or nothing
+abbrev pub with_text_subcommands : App → App
+with_text_subcommands app = with_subcommand (with_subcommand (with_subcommand app check_app.top) moves_app.top) positions_app.top
+
 -- the command with its subcommands
 abbrev pub replay : App
-replay = with_subcommand (with_subcommand (with_subcommand (with_subcommand (with_subcommand (with_subcommand (with_subcommand (with_subcommand (with_version (new_app (codes "dgt_replay")))
-    show_app.top) pictures_app.top) record_app.top) follow_app.top) recover_app.top) check_app.top) moves_app.top) positions_app.top
+replay = with_text_subcommands (with_board_subcommands (with_version (new_app (codes "dgt_replay"))))
 
 -- The command is read so by a parse.
 pub record IsApp (command : Command) (app : App) : Type 0 where

@@ -4,7 +4,7 @@ ghost use Rattle.clap.specs.Faults.{fault_of};
 ghost use Rattle.clap.specs.Kinds.{IsAmong};
 ghost use Rattle.clap.specs.Values.{kind_of};
 ghost use Rattle.clap.specs.Matches.{first_value, found_of};
-ghost use Rattle.clap.specs.Simple.{subcommand_rows_of};
+ghost use Rattle.clap.specs.Simple.{app_of, subcommand_rows_of};
 ghost use Rattle.clap.specs.Walk.{first_of, rows_of};
 ghost use Rattle.replay_arguments.specs.Command.{replay};
 ghost use Rattle.replay_arguments.specs.Subcommands.{AsksFor, Chooses, IsRefused};
@@ -183,6 +183,25 @@ fn unknown_side<'a>(command: &mut Command<'a>) -> Error
     }
 }
 
+/// Reads the arguments by the command of the program: apart from `read_arguments`, which lets the command go.
+fn read_by<'a>(command: &mut Command<'a>, arguments: &'a [String]) -> Result<Subcommand<'a>, Error>
+    requires { app_of command.old ≡ replay }
+    ensures chooses { IfOk result (λ subcommand. AsksFor (map string_bytes arguments.entry.now) subcommand) }
+    ensures refused { IfErr result (λ error. (kind_of error ≡ ErrorKind.OutOfMemory) ⊎ IsRefused (map string_bytes arguments.entry.now)) }
+    ensures faultless { OnOk result (fault_of replay (map string_bytes arguments.entry.now) ≡ []) }
+    ensures fault { IfErr result (λ error. (kind_of error ≡ ErrorKind.OutOfMemory) ⊎ (IsAmong (kind_of error) (fault_of replay (map string_bytes arguments.entry.now))
+        ⊎ ((fault_of replay (map string_bytes arguments.entry.now) ≡ []) × (kind_of error ≡ ErrorKind.InvalidValue)))) }
+{
+    let matches = match command.try_get_matches_from_mut(arguments) {
+        Ok(matches) => matches,
+        Err(error) => return Err(error),
+    };
+    match subcommand_in(&matches) {
+        Some(subcommand) => Ok(subcommand),
+        None => Err(unknown_side(command)),
+    }
+}
+
 /// Reads the arguments, of which the first is the program's name. An `Err` has the text of `clap`: help that was asked
 /// for, or why the arguments are refused, or that memory ran out.
 pub fn read_arguments<'a>(alloc: Global, arguments: &'a [String]) -> Result<Subcommand<'a>, Error>
@@ -193,12 +212,5 @@ pub fn read_arguments<'a>(alloc: Global, arguments: &'a [String]) -> Result<Subc
         ⊎ ((fault_of replay (map string_bytes arguments.entry.now) ≡ []) × (kind_of error ≡ ErrorKind.InvalidValue)))) }
 {
     let mut command = command(alloc)?;
-    let matches = match command.try_get_matches_from_mut(arguments) {
-        Ok(matches) => matches,
-        Err(error) => return Err(error),
-    };
-    match subcommand_in(&matches) {
-        Some(subcommand) => Ok(subcommand),
-        None => Err(unknown_side(&mut command)),
-    }
+    read_by(&mut command, arguments)
 }

@@ -1,7 +1,7 @@
 //! The command line of the program, as `clap` parses it.
 ghost use Rattle.std.specs.Prelude.{◌≡◌, IfOk};
 ghost use Rattle.clap.specs.Simple.{App, app_of, new_app};
-ghost use Rattle.replay_arguments.specs.Command.{AddsRule, AddsApp, IsApp, Makes, check_app, follow_app, moves_app, pictures_app, positions_app, record_app, recover_app, replay, rotated_rule, show_app, text_rule, with_board, with_tags};
+ghost use Rattle.replay_arguments.specs.Command.{AddsRule, AddsApp, IsApp, Makes, check_app, follow_app, moves_app, pictures_app, positions_app, record_app, recover_app, replay, rotated_rule, show_app, text_rule, with_board, with_board_subcommands, with_tags, with_text_subcommands};
 
 use crate::tag_options::{option_help, option_name};
 use chess_game::Tag;
@@ -182,6 +182,32 @@ fn positions<'a>(alloc: Global) -> Result<Command<'a>, AllocError>
     )
 }
 
+/// The command with the subcommands that read what a board sends.
+fn with_board_subcommands<'a>(
+    alloc: Global,
+    command: Result<Command<'a>, AllocError>,
+) -> Result<Command<'a>, AllocError>
+    ensures { (app : App) → Makes command.entry app → Makes result (with_board_subcommands app) }
+{
+    let command = with_subcommand(command, Ok(show(alloc)));
+    let command = with_subcommand(command, pictures(alloc));
+    let command = with_subcommand(command, record(alloc));
+    let command = with_subcommand(command, follow(alloc));
+    with_subcommand(command, recover(alloc))
+}
+
+/// The command with the subcommands that read texts, or nothing.
+fn with_text_subcommands<'a>(
+    alloc: Global,
+    command: Result<Command<'a>, AllocError>,
+) -> Result<Command<'a>, AllocError>
+    ensures { (app : App) → Makes command.entry app → Makes result (with_text_subcommands app) }
+{
+    let command = with_subcommand(command, Ok(check(alloc)));
+    let command = with_subcommand(command, moves(alloc));
+    with_subcommand(command, positions(alloc))
+}
+
 /// The command of the program, with its subcommands.
 pub fn command<'a>(alloc: Global) -> Result<Command<'a>, AllocError>
     ensures { IfOk result (λ command. app_of command ≡ replay) }
@@ -193,12 +219,5 @@ pub fn command<'a>(alloc: Global) -> Result<Command<'a>, AllocError>
     )
     .version(VERSION)
     .subcommand_required(true);
-    let command = with_subcommand(Ok(command), Ok(show(alloc)));
-    let command = with_subcommand(command, pictures(alloc));
-    let command = with_subcommand(command, record(alloc));
-    let command = with_subcommand(command, follow(alloc));
-    let command = with_subcommand(command, recover(alloc));
-    let command = with_subcommand(command, Ok(check(alloc)));
-    let command = with_subcommand(command, moves(alloc));
-    with_subcommand(command, positions(alloc))
+    with_text_subcommands(alloc, with_board_subcommands(alloc, Ok(command)))
 }

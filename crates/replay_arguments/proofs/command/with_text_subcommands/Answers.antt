@@ -1,0 +1,11 @@
+use Rattle.clap.specs.Simple.{with_subcommand}
+use Rattle.replay_arguments.specs.Command.{check_app, moves_app, positions_app}
+use Rattle.replay_arguments.proofs.command.with_text_subcommands.Goals as goal
+
+pub returns : goal.returns
+returns c = λ app is.
+    let one = with_subcommand app check_app.top in
+    let two = with_subcommand one moves_app.top in
+    let s1 = c.with_subcommand-command.ensures app check_app is c.check.ensures in
+    let s2 = c.with_subcommand-command-2.ensures one moves_app s1 c.moves.ensures in
+    c.with_subcommand.ensures two positions_app s2 c.positions.ensures
