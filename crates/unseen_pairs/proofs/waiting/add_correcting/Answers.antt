@@ -1,4 +1,5 @@
-use Rattle.std.proofs.Common.{true, sym, ◌∙◌}
+use Prim.{search}
+use Rattle.std.proofs.Common.{true, sym, ◌∙◌, rules}
 use Rattle.std.proofs.lemmas.Bool.{both_ways}
 use Rattle.unseen_pairs.proofs.Aging.{none_between}
 use Rattle.unseen_pairs.proofs.waiting.add_correcting.Goals as goal
@@ -10,3 +11,6 @@ returns-then-not-may_hide_two_before-clause-last c = λ ply earlier last e v.
 
 pub returns-in_default-clause-last : goal.returns-in_default-clause-last
 returns-in_default-clause-last c = λ ply earlier last e v. absurd (let same = sym c.in_default.is ∙ c.last_ply.ensures.last ply earlier e in let n : ⊥ = cc (same) in n)
+
+pub returns-clause-last : goal.returns-clause-last
+returns-clause-last c = search rules

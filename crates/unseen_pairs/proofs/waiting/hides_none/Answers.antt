@@ -1,4 +1,5 @@
-use Rattle.std.proofs.Common.{◌≡◌, Bool, IsTrue, true, false, not, refl, subst}
+use Prim.{search}
+use Rattle.std.proofs.Common.{◌≡◌, Bool, IsTrue, true, false, not, refl, subst, rules}
 use Rattle.std.proofs.lemmas.Bool.{both_ways}
 use Rattle.chess_rules.specs.Valid.{Valid}
 use Rattle.unseen_pairs.proofs.Aging.{none_hidden, none_left}
@@ -23,3 +24,6 @@ returns c = λ t seen reading old last played waits.
     (λ ply earlier e m.
     let b = c.may_hide_two_before.ensures.last seen ply earlier last e in
     both_ways _ (is_false c.may_hide_two_before.result t) (b.1 m))
+
+pub returns-then-may_hide_two : goal.returns-then-may_hide_two
+returns-then-may_hide_two c = search rules

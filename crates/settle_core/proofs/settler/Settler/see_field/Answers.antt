@@ -81,3 +81,13 @@ returns-in-Err-clause-memory c start before past st =
     let gives : (m : Move) × Settles (position_of c.change.new.self) shown m = c.in-Err.ensures.memory shown (ap (λ (s : Sheet). s.last) changed) in
     let S : Sheet → Type 0 = λ s. Settles (position_of s) shown gives.0 in
     refused_gives now start (before ∷ past) shown gives.0 st new (subst S changed gives.1)
+
+pub returns-in-Ok-clause-same : goal.returns-in-Ok-clause-same
+returns-in-Ok-clause-same c picture last same =
+    let kept : c.self.inside.picture ≡ picture = last_is c.self.inside.seen c.self.inside.picture picture (ap (λ (s : Sheet). s.last) c.self.view_is ∙ last) in
+    absurd (field_differs c.self.inside.picture picture c.number-at.result c.args.square c.args.code kept c.number-at.ensures.number c.self.told c.number-at.ensures.in_range c.if-last-code.false same)
+
+pub returns-in-Err-clause-same : goal.returns-in-Err-clause-same
+returns-in-Err-clause-same c picture last same =
+    let kept : c.self.inside.picture ≡ picture = last_is c.self.inside.seen c.self.inside.picture picture (ap (λ (s : Sheet). s.last) c.self.view_is ∙ last) in
+    absurd (field_differs c.self.inside.picture picture c.number-at.result c.args.square c.args.code kept c.number-at.ensures.number c.self.told c.number-at.ensures.in_range c.if-last-code.false same)
