@@ -36,8 +36,8 @@ use replay_arguments::laws::without_options;
 use replay_arguments::{BoardArguments, Subcommand, read_arguments};
 use std::alloc::Global;
 use std::io::{Read, Write};
-use text_subcommands::{check, moves, positions, refused, refused_fen};
-use watched_streams::{Watch, flush_unless_failed, put_and_flush};
+use text_subcommands::{check, moves, positions, put_answer, refused, refused_fen};
+use watched_streams::{Watch, flush_unless_failed};
 
 /// Writes the text of `clap`, and returns its status.
 fn refused_arguments<O: Write, E: Write>(
@@ -71,10 +71,7 @@ fn refused_arguments<O: Write, E: Write>(
     if error.use_stderr() {
         return refused(err, text.as_str().as_bytes(), 2);
     }
-    if !put_and_flush(out, text.as_str().as_bytes()) {
-        return refused(err, b"write fault\n", 3);
-    }
-    0
+    put_answer(out, err, text.as_str().as_bytes())
 }
 
 fn list<R: Read, O: Write, E: Write>(

@@ -11,13 +11,13 @@ ghost use Rattle.text_subcommands.specs.Messages.{Says, Tells};
 ghost use Rattle.watched_streams.specs.Output.{AppendsPart};
 
 use crate::input::{TextError, read_text};
-use crate::messages::{refused, refused_run};
+use crate::messages::{put_answer, refused_run};
 use itoa::Buffer;
 use pgn_book::{Game, PgnError, read_pgn, result_str};
 use settle_core::Outcome;
 use std::alloc::Global;
 use std::io::{Read, Write};
-use watched_streams::{GATHERED, LONGEST, Lines, Watch, add, put_and_flush};
+use watched_streams::{GATHERED, LONGEST, Lines, Watch, add};
 
 /// The most bytes of the input of `check`, a PGN text.
 pub const TEXT_LIMIT: usize = 268_435_456;
@@ -105,10 +105,7 @@ fn put_summary<O: Write, E: Write>(game: &Game, out: &mut Watch<O>, err: &mut Wa
 {
     let mut lines = Lines::new();
     add_summary(&mut lines, game.plies().len() as u64, game.result());
-    if !put_and_flush(out, lines.as_slice()) {
-        return refused(err, b"write fault\n", 3);
-    }
-    0
+    put_answer(out, err, lines.as_slice())
 }
 
 /// Says whether the input is a game in PGN export form, and returns the exit status: 0 where it is, 1 where it isn't or is

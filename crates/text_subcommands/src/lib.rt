@@ -1,7 +1,7 @@
 //! The subcommands that read no board: `check`, `moves` and `positions`, over any streams, and what is said of refusals.
 //!
 //! Begin with `printing.rt`, which has `moves`; `checking.rt` has `check`, and `playing.rt` `positions`. `input.rt` reads a
-//! whole input, and `messages.rt` has what is said where something is refused, also by the subcommands that read a board.
+//! whole input, and `messages.rt` writes answers, and says why something is refused, also for the subcommands that read a board.
 #![tactic(auto)]
 
 mod checking;
@@ -11,6 +11,6 @@ mod playing;
 mod printing;
 
 pub use checking::{TEXT_LIMIT, check};
-pub use messages::{refused, refused_fen, refused_tag};
+pub use messages::{put_answer, refused, refused_fen, refused_tag};
 pub use playing::{LINE_LIMIT, positions};
 pub use printing::moves;

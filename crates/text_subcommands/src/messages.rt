@@ -1,14 +1,15 @@
 //! What the program says on standard error when it refuses.
 ghost use Rattle.std.specs.Prelude.{◌≡◌, ◌≢◌, ◌≤◌, ◌++◌, ◌⊎◌, codes, length, false, true};
-ghost use Rattle.std.specs.Io.KnownBytes.{Keeps};
+ghost use Rattle.std.specs.Io.KnownBytes.{Appends, Keeps};
 ghost use Rattle.watched_streams.specs.Watch.{IsFlushed, inner_of, has_failed};
+ghost use Rattle.watched_streams.specs.Output.{AppendsPart};
 ghost use Rattle.chess_game.specs.TagNames.{tag_name};
 ghost use Rattle.text_subcommands.specs.Messages.{Says, fen_message, tag_message};
 
 use chess_text::FenError;
 use pgn_book::{Tag, TagError};
 use std::io::Write;
-use watched_streams::{Lines, Watch, add, put};
+use watched_streams::{Lines, Watch, add, put, put_and_flush};
 
 /// Writes the message about a refusal to standard error, unless that has failed before, and returns the status that was given.
 /// The message is a whole line, with its end. Where the write fails, a first part of it stands.
@@ -21,6 +22,24 @@ pub fn refused<E: Write>(err: &mut Watch<E>, message: &[u8], status: u8) -> u8
         let _ = put(err, message);
     }
     status
+}
+
+/// Writes the answer to what was asked for, flushes it, and returns the status: 0, or 3 where the output has failed, which is
+/// then said.
+pub fn put_answer<O: Write, E: Write>(out: &mut Watch<O>, err: &mut Watch<E>, answer: &[u8]) -> u8
+    requires { has_failed out.old ≡ false }
+    ensures done { result ≡ 0 → Appends (O.contents (inner_of out.old)) (O.contents (inner_of out.new)) answer.now × (has_failed out.new ≡ false)
+        × (err.new ≡ err.old) }
+    ensures fault { result ≡ 3 → AppendsPart (O.contents (inner_of out.old)) (O.contents (inner_of out.new)) answer.now × (has_failed out.new ≡ true)
+        × Says (E.contents (inner_of err.old)) (E.contents (inner_of err.new)) (has_failed err.new) (codes "write fault\n") }
+    ensures out_blamed { has_failed out.new ≡ true → result ≡ 3 }
+    ensures known { (result ≡ 0) ⊎ (result ≡ 3) }
+    ensures flushed { IsFlushed out.new }
+{
+    if put_and_flush(out, answer) {
+        return 0;
+    }
+    refused(err, b"write fault\n", 3)
 }
 
 /// Flushes the output, and writes this message about a refusal, or that the output has failed; returns the status.

@@ -17,13 +17,13 @@ ghost use Rattle.text_subcommands.specs.Streams.{streams};
 ghost use Rattle.text_subcommands.specs.Words.{is_blank as is_blank_lem, len_behind, parts, parts_behind, words};
 
 use crate::input::{TextError, read_text};
-use crate::messages::{refused, refused_fen, refused_run};
+use crate::messages::{put_answer, refused, refused_fen, refused_run};
 use chess_rules::Position;
 use chess_text::{read_san, start_of, write_fen};
 use itoa::Buffer;
 use std::alloc::{AllocError, Global};
 use std::io::{Read, Write};
-use watched_streams::{Lines, Watch, add, put_and_flush};
+use watched_streams::{Lines, Watch, add};
 
 /// The most bytes of the input of `positions`.
 pub const LINE_LIMIT: usize = 1_048_576;
@@ -127,8 +127,9 @@ fn put_positions<O: Write, E: Write>(
     ensures status { result ≢ 2 }
     ensures flushed { IsFlushed out.new }
 {
-    if !put_and_flush(out, lines) {
-        return refused(err, b"write fault\n", 3);
+    let status = put_answer(out, err, lines);
+    if status != 0 {
+        return status;
     }
     match stopped {
         None => 0,

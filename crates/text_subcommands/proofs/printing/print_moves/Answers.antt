@@ -1,4 +1,5 @@
-use Rattle.std.proofs.Common.{[], append-nil, sym, ◌∙◌}
+use Prim.{search}
+use Rattle.std.proofs.Common.{[], append-nil, sym, ◌∙◌, rules}
 use Rattle.std.proofs.KnownBytes.{Appends-kept}
 use Rattle.watched_streams.proofs.ResultLemmas.{at_err, at_ok}
 use Rattle.text_subcommands.proofs.TestLemmas.{true_or}
@@ -17,3 +18,6 @@ returns-then-is_err-2-clause-fault g c three =
       c.flush.ensures.failed ∙ true_or _ _ (sym c.is_err-2.ensures.value ∙ c.if-is_err-2.true),
       c.refused-then-is_err-2.ensures.says,
     )
+
+pub returns-clause-flushed : goal.returns-clause-flushed
+returns-clause-flushed g c = search rules
