@@ -1,10 +1,25 @@
-//! Tests of the public calls of `board_events` and `board_session`.
+//! Tests of the public calls of `board_events` and `board_session`, and of the crates up to those together: what is recorded
+//! of the captures of `dgt_vectors`.
 #![tactic(auto)]
 
 #[cfg(test)]
+mod broken_input;
+#[cfg(test)]
+mod decoding;
+#[cfg(test)]
 mod hands;
 #[cfg(test)]
+mod orders;
+#[cfg(test)]
+mod recordings;
+#[cfg(test)]
+mod refusals;
+#[cfg(test)]
 mod sessions;
+#[cfg(test)]
+mod settling;
+#[cfg(test)]
+mod slow;
 #[cfg(test)]
 mod stops;
 #[cfg(test)]

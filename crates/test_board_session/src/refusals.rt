@@ -1,10 +1,10 @@
 //! Streams that fail at each call in turn: what was taken before stands, and the result says which stream it was.
 
-use crate::recording::{Recording, recorded_over};
 use crate::recordings::{is_told, text_without_move};
-use crate::row::{CUT, OPENING, Row, commands};
 use board_session::{RecordError, Report};
 use chess_text::FenError;
+use dgt_vectors::recording::{Recording, recorded_over};
+use dgt_vectors::row::{CUT, OPENING, Row, commands};
 use std::alloc::Global;
 use test_streams::streams::{ALWAYS, Sink, Source};
 

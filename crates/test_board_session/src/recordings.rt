@@ -1,8 +1,8 @@
 //! What is recorded of whole captures.
 
-use crate::recording::{Recording, recorded, report_of};
-use crate::row::Row;
-use crate::rows::rows_by_subject;
+use dgt_vectors::recording::{Recording, recorded, report_of};
+use dgt_vectors::row::Row;
+use dgt_vectors::rows::rows_by_subject;
 use std::alloc::Global;
 use test_streams::bytes::Bytes;
 use test_streams::texts::NO_MOVE;

@@ -1,9 +1,9 @@
 //! Captures that are cut or damaged: nothing is refused, and only what the damage hits is lost.
 
-use crate::recording::{Recording, recorded, report_of};
 use crate::recordings::text_without_move;
-use crate::row::{OPENING, Row, commands};
-use crate::rows::rows_by_subject;
+use dgt_vectors::recording::{Recording, recorded, report_of};
+use dgt_vectors::row::{OPENING, Row, commands};
+use dgt_vectors::rows::rows_by_subject;
 use pgn_book::{Game, read_pgn, write_pgn};
 use std::alloc::Global;
 use test_streams::bytes::Bytes;

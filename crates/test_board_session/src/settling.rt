@@ -2,15 +2,15 @@
 ghost use Rattle.board_events.specs.History.{IsInRange};
 ghost use Rattle.std.specs.Prelude.{IfSome};
 
-use crate::recording::{recorded, start_of};
-use crate::row::Row;
-use crate::rows::rows_by_subject;
 use crate::slow::last_event;
 use board_session::{Session, Taken};
 use chess_clock::{Hms, Reading};
 use chess_rules::{Move, Position, Side, Status};
 use chess_text::FenError;
 use dgt_frame::{Event, First, Message, read_time};
+use dgt_vectors::recording::{recorded, start_of};
+use dgt_vectors::row::Row;
+use dgt_vectors::rows::rows_by_subject;
 use pgn_book::read_pgn;
 use settle_core::{Outcome, Ply, Seen};
 use std::alloc::{AllocError, Global};

@@ -1,9 +1,9 @@
 //! The updates of one move, in every order in which hands can make them.
 
-use crate::captures::Signal::{self, Dump, Lift, Put};
 use crate::recordings::row_holds;
-use crate::row::{OPENING, Row};
 use crate::settling::settling_failing;
+use dgt_vectors::captures::Signal::{self, Dump, Lift, Put};
+use dgt_vectors::row::{OPENING, Row};
 use std::alloc::Global;
 
 fn castling<'a>(capture: &'a [Signal<'a>]) -> Row<'a> {

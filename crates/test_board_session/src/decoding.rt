@@ -1,9 +1,9 @@
 //! The decoder against a slow reading of the protocol.
 
-use crate::row::Row;
-use crate::rows::rows_by_subject;
 use crate::slow::last_event;
 use dgt_frame::Decoder;
+use dgt_vectors::row::Row;
+use dgt_vectors::rows::rows_by_subject;
 
 /// The bytes of the short lists: those that bound something in the protocol.
 const EDGES: [u8; 10] = [0x00, 0x03, 0x05, 0x43, 0x7F, 0x80, 0x86, 0x8D, 0x8E, 0xFF];
