@@ -1,6 +1,6 @@
 //! Readings of time messages, worked by hand from the rules.
 
-use crate::frames::expect_none;
+use crate::coded_frames::expect_none;
 use chess_clock::{Hms, Reading};
 use dgt_frame::{First, read_time};
 

@@ -1,16 +1,11 @@
 //! Streams that fail as a script says: what a `Watch` tells of them, what is read of them and what is written.
 ghost use Rattle.std.specs.Prelude.{◌≤◌, IfOk};
 
+use crate::coded_frames::expect_none;
 use std::io::{self, ErrorKind, Read, Write};
-use std::process::Abort;
 use watched_streams::{
     CHUNK, ReadChunk, Watch, WriteFault, flush_unless_failed, put, put_and_flush, read_chunk,
 };
-
-/// Fails with the number of the first row that isn't as it says, if there is one.
-fn expect_none(rt: &impl Abort, first: Option<usize>) {
-    assert_eq!(rt; first, None);
-}
 
 /// A stream whose calls do in turn what the script says, and which counts the calls.
 #[derive(Drop)]
