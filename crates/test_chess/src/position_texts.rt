@@ -1,13 +1,9 @@
 //! Worked positions. The positions and texts are those of the PGN standard, of known games, or worked out by hand.
-use chess_rules::{Kind, Move, Position, Square};
+
+use crate::known_positions::{expect_none, step};
+use chess_rules::{Kind, Move, Position};
 use chess_text::{FenError, SanError, read_fen, read_san, write_fen, write_san};
 use std::alloc::{AllocError, Global};
-use std::process::Abort;
-
-/// Fails with the number of the first row that isn't as it says, if there is one.
-pub fn expect_none(rt: &impl Abort, first: Option<usize>) {
-    assert_eq!(rt; first, None);
-}
 
 /// Whether the position is written so.
 fn is_fen(p: &Position, fen: &str) -> bool {
@@ -19,19 +15,10 @@ fn is_san(p: &Position, m: &Move, san: &str) -> bool {
     p.is_legal(*m) && write_san(p, *m).as_str() == san && read_san(p, san.as_bytes()).is_ok()
 }
 
-/// A move that is no promotion, by its squares' numbers.
-fn from_to(from: u8, to: u8) -> Option<Move> {
-    Some(Move {
-        from: Square::new(from)?,
-        to: Square::new(to)?,
-        promotion: None,
-    })
-}
-
 /// The number of the first move, by its squares' numbers, that is illegal or has another SAN.
 fn first_unlike_san(p: &Position, rows: &[(u8, u8, &str)]) -> Option<usize> {
     for (i, (from, to, san)) in rows.iter().enumerate() {
-        match from_to(*from, *to) {
+        match step(*from, *to) {
             Some(m) => {
                 if !is_san(p, &m, san) {
                     return Some(i);

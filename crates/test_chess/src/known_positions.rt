@@ -5,7 +5,7 @@ use std::alloc::{AllocError, Global};
 use std::process::Abort;
 
 /// Fails with the number of the first row that isn't as it says, if there is one.
-fn expect_none(rt: &impl Abort, first: Option<usize>) {
+pub fn expect_none(rt: &impl Abort, first: Option<usize>) {
     assert_eq!(rt; first, None);
 }
 
@@ -17,7 +17,7 @@ const NO_RIGHTS: Rights = Rights {
 };
 
 /// A move that is no promotion, by its squares' numbers.
-fn step(from: u8, to: u8) -> Option<Move> {
+pub fn step(from: u8, to: u8) -> Option<Move> {
     Some(Move {
         from: Square::new(from)?,
         to: Square::new(to)?,

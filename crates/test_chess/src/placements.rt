@@ -1,7 +1,7 @@
 //! Placements of pictures, and how they follow a picture that changes.
 ghost use Rattle.std.specs.Prelude.{All, ◌≤◌};
 
-use crate::tests::expect_none;
+use crate::known_positions::expect_none;
 use arrayvec::ArrayVec;
 use chess_rules::Position;
 use chess_text::{PlacementText, write_placement};
