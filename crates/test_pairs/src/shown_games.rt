@@ -20,6 +20,22 @@ pub fn changed(picture: &[u8; 64], at: Square, code: u8) -> [u8; 64]
     picture
 }
 
+/// The picture after 1. e4 e5, with these codes on g1 and f3.
+pub fn after_two(g1: u8, f3: u8) -> [u8; 64]
+    requires g1 { g1 < 16 }
+    requires f3 { f3 < 16 }
+    ensures { All (λ code. code < 16) result }
+{
+    let mut picture = Position::initial().picture();
+    picture[52] = 0;
+    picture[36] = 1;
+    picture[12] = 0;
+    picture[28] = 7;
+    picture[62] = g1;
+    picture[45] = f3;
+    picture
+}
+
 /// Updates of one square each, and what comes of them.
 #[derive(Clone, Copy)]
 pub struct Game<'a> {

@@ -6,6 +6,7 @@ ghost use Rattle.std.specs.Prelude.{All, ◌<◌};
 
 use crate::dumps::{AFTER_E4, AFTER_E5, AFTER_NF3, TURNED_E4, TURNED_E5, TURNED_NF3};
 use crate::readings::{Clocks, reading_of};
+use crate::shown_games::after_two;
 use arrayvec::ArrayVec;
 use chess_rules::Position;
 use dgt_frame::First;
@@ -24,22 +25,6 @@ struct Board {
     explained: Clocks,
     /// At the picture that confirms it.
     present: Clocks,
-}
-
-/// The picture after 1. e4 e5, with these codes on g1 and f3.
-fn after_two(g1: u8, f3: u8) -> [u8; 64]
-    requires g1 { g1 < 16 }
-    requires f3 { f3 < 16 }
-    ensures { All (λ code. code < 16) result }
-{
-    let mut picture = Position::initial().picture();
-    picture[52] = 0;
-    picture[36] = 1;
-    picture[12] = 0;
-    picture[28] = 7;
-    picture[62] = g1;
-    picture[45] = f3;
-    picture
 }
 
 /// Whether these are the bytes of the frames, one after the other.

@@ -1,8 +1,8 @@
 //! Pairs of plies that no picture shows ply by ply.
 
 use crate::answers::{Answer, Shown, WAITS};
-use crate::games::{Game, play_all};
-use crate::starts::{before_capture, before_castling, before_promotion};
+use crate::pair_starts::{before_capture, before_castling, before_promotion};
+use crate::shown_games::{Game, play_all};
 use chess_rules::Position;
 use settle_core::Outcome;
 

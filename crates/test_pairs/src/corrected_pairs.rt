@@ -1,7 +1,7 @@
 //! Pairs of which the first ply takes the place of the last one.
 
 use crate::answers::{Answer, Shown, WAITS};
-use crate::games::{Game, play_all};
+use crate::shown_games::{Game, play_all};
 use chess_rules::Position;
 
 static GAMES: [Game<'static>; 2] = [

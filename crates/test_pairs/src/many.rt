@@ -1,26 +1,10 @@
 //! How long a pair waits for what confirms it.
 ghost use Rattle.std.specs.Prelude.{All, ◌<◌};
 
-use crate::games::{has_moves, show};
+use crate::shown_games::{after_two, has_moves, show};
 use chess_rules::Position;
 use std::alloc::{AllocError, Global};
 use unseen_pairs::Recoverer;
-
-/// The picture after 1. e4 e5, with these codes on g1 and f3.
-fn after_two(g1: u8, f3: u8) -> [u8; 64]
-    requires g1 { g1 < 16 }
-    requires f3 { f3 < 16 }
-    ensures { All (λ code. code < 16) result }
-{
-    let mut picture = Position::initial().picture();
-    picture[52] = 0;
-    picture[36] = 1;
-    picture[12] = 0;
-    picture[28] = 7;
-    picture[62] = g1;
-    picture[45] = f3;
-    picture
-}
 
 /// The initial position's picture with the knight of g1 in hand, and this code on b1.
 fn in_hand(b1: u8) -> [u8; 64]
