@@ -8,7 +8,7 @@ use Rattle.recovery.specs.declared.keeper.Keeper.{Keeper}
 use Rattle.recovery.specs.declared.refusal.RecoverError.{RecoverError}
 use Rattle.recovery.specs.declared.refusal.RecoverError.TheVariants.{Read, Write, Lines, TooLong, Memory}
 use Rattle.recovery.specs.Passing.{Passes}
-use Rattle.recovery.specs.Progress.{BreaksOff, Concludes, PassesOn, IsPutIn, PutsPart, Refuses}
+use Rattle.recovery.specs.Progress.{BreaksOff, Concludes, PassesOn, IsPutIn, PutsPart, RefusesAmong}
 use Rattle.recovery.proofs.GiveLemmas.{breaks_memory, breaks_pair, breaks_write, gives_more, gives_pair, gives_sent}
 
 -- the bytes of the chunk that were taken and not sent
@@ -94,7 +94,7 @@ chunk_broken old now new keeper k k' start taken sent chunk written written' aft
 
 -- Memory ran out at the next event.
 pub memory_broken : (old now : Decoder) (keeper k : Keeper) (start taken sent : ℕ) (chunk : List ℕ) (written written' after said said' : Option (List ℕ))
-    → Concludes now k → Refuses now k (drop taken chunk) → Appends written' after (waiting sent taken chunk) → PassesOn old keeper start (take taken chunk) now k (waiting sent taken chunk) written written' said said'
+    → Concludes now k → RefusesAmong now k (drop taken chunk) → Appends written' after (waiting sent taken chunk) → PassesOn old keeper start (take taken chunk) now k (waiting sent taken chunk) written written' said said'
     → BreaksOff Memory old keeper start chunk written after said said'
 memory_broken old now keeper k start taken sent chunk written written' after said said' concludes refuses sends part =
     breaks_memory old now keeper k start chunk (take taken chunk) (drop taken chunk) (waiting sent taken chunk) written written' after said said' (sym (take-append-drop taken chunk)) concludes refuses sends part

@@ -11,7 +11,7 @@ use Rattle.recovery.specs.declared.keeper.Keeper.{Keeper}
 use Rattle.recovery.specs.declared.refusal.RecoverError.{RecoverError}
 use Rattle.recovery.specs.declared.refusal.RecoverError.TheVariants.{Read, Write, Lines, TooLong, Memory}
 use Rattle.recovery.specs.Passing.{Adds, Passes, Stands}
-use Rattle.recovery.specs.Progress.{BreaksOff, Concludes, PassesOn, HasBegun, IsPutIn, PutsPart, Refuses}
+use Rattle.recovery.specs.Progress.{BreaksOff, Concludes, PassesOn, HasBegun, IsPutIn, PutsPart, RefusesAmong}
 use Rattle.recovery.specs.Streams.{IsLine}
 use Rattle.recovery.specs.Weaving.{Recovers}
 
@@ -112,7 +112,7 @@ part_longer written after bytes more part = (part.0, part.1 ++ more, ap (λ bs. 
 
 -- Memory ran out at the next event, and what waited was written.
 pub breaks_memory : (old now : Decoder) (keeper k : Keeper) (start : ℕ) (chunk whole after waiting : List ℕ) (written written' written'' said said' : Option (List ℕ))
-    → chunk ≡ whole ++ after → Concludes now k → Refuses now k after → Appends written' written'' waiting → PassesOn old keeper start whole now k waiting written written' said said'
+    → chunk ≡ whole ++ after → Concludes now k → RefusesAmong now k after → Appends written' written'' waiting → PassesOn old keeper start whole now k waiting written written' said said'
     → BreaksOff Memory old keeper start chunk written written'' said said'
 breaks_memory old now keeper k start chunk whole after waiting written written' written'' said said' parts concludes refuses sent part setting bytes woven text at stands =
     let before = part setting bytes woven text at stands in (

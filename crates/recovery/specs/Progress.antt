@@ -20,8 +20,8 @@ abbrev pub HasBegun : Decoder → Keeper → ℕ → Type 0
 HasBegun decoder keeper count = (setting : Setting) × (bytes woven text : List ℕ) × (length bytes ≡ count) × Stands decoder keeper setting bytes woven text
 
 -- Where that stood, memory ran out at the next event, which is among these bytes.
-abbrev pub Refuses : Decoder → Keeper → List ℕ → Type 0
-Refuses decoder keeper more = (setting : Setting) (bytes woven text : List ℕ) → Stands decoder keeper setting bytes woven text → RefusesNext setting bytes more
+abbrev pub RefusesAmong : Decoder → Keeper → List ℕ → Type 0
+RefusesAmong decoder keeper more = (setting : Setting) (bytes woven text : List ℕ) → Stands decoder keeper setting bytes woven text → RefusesNext setting bytes more
 
 -- What was put in at an event: nothing, or frames with their line.
 abbrev pub IsPutIn : List ℕ → List ℕ → Type 0

@@ -8,7 +8,7 @@ ghost use Rattle.board_events.specs.Session.{entries_in};
 ghost use Rattle.board_events.specs.History.{IsInRange};
 ghost use Rattle.recovery.specs.Keeping.{Keeps, KeepsNext, ShowsAnother};
 ghost use Rattle.recovery.specs.Passing.{Alike, Carries, Hears, Passes, Stands};
-ghost use Rattle.recovery.specs.Progress.{Concludes, HasBegun, IsPutIn, Refuses};
+ghost use Rattle.recovery.specs.Progress.{Concludes, HasBegun, IsPutIn, RefusesAmong};
 
 use crate::keeper::Keeper;
 use crate::lines::add_recovered;
@@ -91,7 +91,7 @@ pub fn pass(
     requires room { start + length bytes.now < 2 ^ 32 }
     requires begun { HasBegun decoder.old keeper.old start }
     ensures before { Concludes decoder.old keeper.old }
-    ensures refused { OnErr result (Refuses decoder.old keeper.old bytes.now) }
+    ensures refused { OnErr result (RefusesAmong decoder.old keeper.old bytes.now) }
     ensures none { IfOk result (λ taken. IfNone taken (Passes decoder.old keeper.old start bytes.now decoder.new keeper.new [] [])) }
     ensures some { IfOk result (λ taken. IfSome taken (λ count.
         Passes decoder.old keeper.old start (take count bytes.now) decoder.new keeper.new frames.new.items line.new.items)) }

@@ -7,7 +7,7 @@ use Rattle.watched_streams.specs.Watch.{inner_of}
 use Rattle.watched_streams.specs.Output.{AppendsPart}
 use Rattle.recovery.specs.declared.refusal.RecoverError.{RecoverError}
 use Rattle.recovery.specs.Passing.{Passes}
-use Rattle.recovery.specs.Progress.{BreaksOff, PassesOn, HasBegun, IsPutIn, Refuses}
+use Rattle.recovery.specs.Progress.{BreaksOff, PassesOn, HasBegun, IsPutIn, RefusesAmong}
 use Rattle.recovery.proofs.ChunkLemmas.{both_broken, chunk_broken, chunk_sent, event_passed, event_put, memory_broken, pair_broken, pair_unwritten, write_broken}
 use Rattle.recovery.proofs.GiveLemmas.{begun_on, gives_start}
 use Rattle.recovery.proofs.stream.give_chunk.Goals as goal
@@ -78,7 +78,7 @@ returns-in-Ok-send-clause-broken g c =
     let chunk = c.args.chunk.now in
     let rest = drop c.events.taken chunk in
     let all : take (length chunk - c.events.taken) rest ≡ rest = take_all (length chunk - c.events.taken) rest (omega (arith, length-drop c.events.taken chunk)) in
-    let refuses : Refuses c.events.decoder c.events.keeper rest = subst (Refuses c.events.decoder c.events.keeper) all c.in_default.ensures.refused in
+    let refuses : RefusesAmong c.events.decoder c.events.keeper rest = subst (RefusesAmong c.events.decoder c.events.keeper) all c.in_default.ensures.refused in
     memory_broken c.args.decoder.now c.events.decoder c.args.keeper.now c.events.keeper c.args.start c.events.taken c.events.sent chunk _ _ _ _ _
     c.in_default.ensures.before refuses c.in-Ok-send.ensures.ok c.events.invariant.given
 
