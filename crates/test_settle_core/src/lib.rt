@@ -1,4 +1,4 @@
-//! Tests of the public calls of `settle_core`, and how `dgt_vectors` too settles a picture slowly.
+//! Tests of the public calls of `settle_core`, and how `test_board_session` too settles a picture slowly.
 #![tactic(auto)]
 
 #[cfg(test)]
