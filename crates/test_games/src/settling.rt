@@ -14,7 +14,7 @@ use dgt_vectors::rows::rows_by_subject;
 use pgn_book::read_pgn;
 use settle_core::{Outcome, Ply, Seen};
 use std::alloc::{AllocError, Global};
-use test_settle_core::trying::{after, only_move, sign};
+use test_settling::trying::{after, only_move, sign};
 
 /// What the messages tell of the board.
 #[derive(Drop)]

@@ -1,0 +1,49 @@
+//! Tests of the public calls of `settle_core`, `unseen_pairs` and `pair_frames`, and how `test_games` too settles a picture
+//! slowly.
+#![tactic(auto)]
+
+#[cfg(test)]
+mod answers;
+#[cfg(test)]
+mod candidates;
+#[cfg(test)]
+mod clocks;
+#[cfg(test)]
+mod corrected_pairs;
+#[cfg(test)]
+mod corrections;
+#[cfg(test)]
+mod dumps;
+#[cfg(test)]
+mod endings;
+#[cfg(test)]
+mod games;
+#[cfg(test)]
+mod hidden;
+#[cfg(test)]
+mod last;
+#[cfg(test)]
+mod many;
+#[cfg(test)]
+mod moves;
+#[cfg(test)]
+mod pair_clocks;
+#[cfg(test)]
+mod pair_starts;
+#[cfg(test)]
+mod plain;
+#[cfg(test)]
+mod put_in_frames;
+#[cfg(test)]
+mod readings;
+#[cfg(test)]
+mod shown_games;
+#[cfg(test)]
+mod starts;
+#[cfg(test)]
+mod told;
+pub mod trying;
+#[cfg(test)]
+mod waits;
+#[cfg(test)]
+mod ways;
