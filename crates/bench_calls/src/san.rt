@@ -42,6 +42,22 @@ fn read(ply: &Ply) -> usize {
     }
 }
 
+/// How many bytes are written, or texts read, in so many rounds.
+fn counted(plies: &[Ply], what: &str, rounds: u32) -> usize {
+    let mut count = 0usize;
+    for _ in 0..rounds {
+        for ply in plies {
+            let more = if what == "write" {
+                written(ply)
+            } else {
+                read(ply)
+            };
+            count = count.saturating_add(more);
+        }
+    }
+    count
+}
+
 /// Prints how many bytes were written, or texts read. False where a text is no legal move.
 pub fn run(rt: &HostRuntime, what: &str, rounds: u32) -> io::Result<bool> {
     let game = io::read_to_string(rt.alloc(), rt.stdin())?;
@@ -57,17 +73,7 @@ pub fn run(rt: &HostRuntime, what: &str, rounds: u32) -> io::Result<bool> {
         }
         position = position.play(mv);
     }
-    let mut count = 0usize;
-    for _ in 0..rounds {
-        for ply in &plies {
-            let more = if what == "write" {
-                written(ply)
-            } else {
-                read(ply)
-            };
-            count = count.saturating_add(more);
-        }
-    }
+    let count = counted(&plies, what, rounds);
     println!(rt; "{} plies, {rounds} rounds, {what} {count}", plies.len())?;
     Ok(true)
 }

@@ -33,17 +33,13 @@ fn is_waiting(seen: &Seen) -> bool {
 /// Shows by turns the pictures after two moves and after two other moves; how many waited.
 fn waiting_pictures(alloc: Global, count: u32) -> Result<u32, AllocError> {
     let start = Position::initial();
-    let one = after(&after(&start, 52, 36), 12, 28).picture();
-    let other = after(&after(&start, 51, 35), 11, 27).picture();
+    let one = after(&after(&start, 52, 36), 12, 28);
+    let other = after(&after(&start, 51, 35), 11, 27);
     let mut settler = Settler::new(alloc, start);
     let mut waiting = 0u32;
     for turn in 0..count {
-        let seen = if turn % 2 == 0 {
-            settler.see(&one, None)?
-        } else {
-            settler.see(&other, None)?
-        };
-        if is_waiting(&seen) {
+        let position = if turn % 2 == 0 { &one } else { &other };
+        if is_waiting(&settler.see(&position.picture(), None)?) {
             waiting = waiting.saturating_add(1);
         }
     }
@@ -78,13 +74,13 @@ fn plies(alloc: Global, count: u32) -> Result<u32, AllocError> {
     let mut settler = Settler::new(alloc, start);
     let mut settled = 0u32;
     for turn in 0..count {
-        let seen = match turn % 4 {
-            0 => settler.see(&white_out.picture(), None)?,
-            1 => settler.see(&both_out.picture(), None)?,
-            2 => settler.see(&white_back.picture(), None)?,
-            _ => settler.see(&start.picture(), None)?,
+        let position = match turn % 4 {
+            0 => &white_out,
+            1 => &both_out,
+            2 => &white_back,
+            _ => &start,
         };
-        if matches!(seen, Seen::Moved(_)) {
+        if matches!(settler.see(&position.picture(), None)?, Seen::Moved(_)) {
             settled = settled.saturating_add(1);
         }
     }
@@ -103,14 +99,21 @@ fn copied(alloc: Global, count: u32) -> Result<u32, AllocError> {
     }
 }
 
-/// Prints how many were done of so many.
+/// How many were done of so many, where there is such a task.
+fn done(alloc: Global, task: &str, count: u32) -> Result<Option<u32>, AllocError> {
+    match task {
+        "pictures" => Ok(Some(waiting_pictures(alloc, count)?)),
+        "updates" => Ok(Some(waiting_updates(alloc, count)?)),
+        "plies" => Ok(Some(plies(alloc, count)?)),
+        "copy" => Ok(Some(copied(alloc, count)?)),
+        _ => Ok(None),
+    }
+}
+
+/// Prints how many were done of so many. False where there is no such task.
 pub fn run(rt: &HostRuntime, task: &str, count: u32) -> io::Result<bool> {
-    let done = match task {
-        "pictures" => waiting_pictures(rt.alloc(), count)?,
-        "updates" => waiting_updates(rt.alloc(), count)?,
-        "plies" => plies(rt.alloc(), count)?,
-        "copy" => copied(rt.alloc(), count)?,
-        _ => return Ok(false),
+    let Some(done) = done(rt.alloc(), task, count)? else {
+        return Ok(false);
     };
     println!(rt; "{task} {done}")?;
     Ok(true)

@@ -1,7 +1,7 @@
 //! Captures: what a board sends, built from placements and the names of squares.
 
-use test_streams::boards::{code_of, codes_of};
-use test_streams::bytes::Bytes;
+use crate::boards::{code_of, codes_of};
+use crate::bytes::Bytes;
 
 /// The initial position.
 pub const INITIAL: &str = "rnbqkbnr/pppppppp/8/8/8/8/PPPPPPPP/RNBQKBNR";

@@ -1,13 +1,13 @@
 //! Recordings over streams in memory.
 
+use crate::bytes::Bytes;
 use crate::row::Row;
+use crate::streams::{Sink, Source};
 use board_session::{RecordError, Report, Setup, record};
 use chess_rules::Position;
 use chess_text::{FenError, read_fen};
 use pgn_book::Tags;
 use std::alloc::Global;
-use test_streams::bytes::Bytes;
-use test_streams::streams::{Sink, Source};
 use watched_streams::Watch;
 
 pub fn start_of(row: &Row<'_>) -> Result<Position, FenError> {

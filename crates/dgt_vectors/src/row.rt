@@ -1,10 +1,10 @@
 //! A capture with what is recorded of it.
 
+use crate::bytes::Bytes;
 use crate::captures::Signal::{self, Dump, Lift, Put, Raw, Time};
 use crate::captures::{INITIAL, bytes_of};
+use crate::texts::text_of;
 use dgt_frame::First;
-use test_streams::bytes::Bytes;
-use test_streams::texts::text_of;
 
 /// A capture, how it is recorded, and what is expected.
 #[derive(Clone, Copy)]

@@ -3,9 +3,9 @@
 use crate::Outcome;
 use crate::settling::is_opening;
 use chess_rules::{Move, Position};
+use dgt_vectors::texts::{GameText, NO_MOVE};
 use pgn_book::{Game, PgnError, Tag, TagError, Tags, read_pgn};
 use std::alloc::{AllocError, Global};
-use test_streams::texts::{GameText, NO_MOVE};
 
 /// The origin and the target of each move of the initial position: two for each pawn, from a2 to h2, two for each knight.
 const FIRST_MOVES: [(u8, u8); 20] = [

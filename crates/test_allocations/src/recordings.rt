@@ -7,8 +7,8 @@ use dgt_vectors::captures::Signal::{Dump, Lift, Put};
 use dgt_vectors::recording::{Recording, recorded, report_of};
 use dgt_vectors::row::{KINGS_PAWN_OPENING, PLAIN, Row, commands};
 use dgt_vectors::rows::rows_by_subject;
+use dgt_vectors::texts::text_of;
 use std::alloc::Global;
-use test_streams::texts::text_of;
 
 /// The rook's move is a ply; castling takes its place, and no memory.
 const ROOK_FIRST: Row<'static> = Row {

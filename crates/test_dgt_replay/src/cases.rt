@@ -2,10 +2,10 @@
 //! hand from the formats.
 
 use crate::running::{Left, run_over};
+use dgt_vectors::bytes::Bytes;
+use dgt_vectors::streams::{Sink, Source};
+use dgt_vectors::texts::{GameText, with_game};
 use std::alloc::Global;
-use test_streams::bytes::Bytes;
-use test_streams::streams::{Sink, Source};
-use test_streams::texts::{GameText, with_game};
 
 /// What the program is given, and what it leaves.
 #[derive(Clone, Copy)]

@@ -2,9 +2,9 @@
 
 use crate::cases::{Case, PLAIN, first_unlike, run_between, says};
 use crate::inputs::CASTLED;
+use dgt_vectors::streams::Sink;
+use dgt_vectors::texts::{GameText, NO_MOVE, ONE_MOVE, with_returns};
 use std::alloc::Global;
-use test_streams::streams::Sink;
-use test_streams::texts::{GameText, NO_MOVE, ONE_MOVE, with_returns};
 
 const CHECK: Case<'static> = Case {
     arguments: &["check"],

@@ -5,10 +5,10 @@ use crate::inputs::{
     E2_EMPTY, E4_PAWN, INITIAL, INITIAL_LINE, INITIAL_PLACEMENT, KINGS_PAWN_PLACEMENT,
     LIFTED_PLACEMENT,
 };
+use dgt_vectors::bytes::Bytes;
+use dgt_vectors::streams::Sink;
+use dgt_vectors::texts::{NO_MOVE, ONE_MOVE};
 use std::alloc::Global;
-use test_streams::bytes::Bytes;
-use test_streams::streams::Sink;
-use test_streams::texts::{NO_MOVE, ONE_MOVE};
 
 /// The input fails after 1. e4.
 pub const FAILED_READ: Case<'static> = Case {

@@ -1,6 +1,6 @@
 //! Messages of boards, a game, and what is said of them.
 
-use test_streams::texts::{GameText, NO_MOVE};
+use dgt_vectors::texts::{GameText, NO_MOVE};
 
 /// The dump of the initial position.
 pub const INITIAL: &[u8] =

@@ -3,7 +3,7 @@
 use crate::cases::{Case, FOLLOW, PLAIN, first_unlike};
 use crate::inputs::{E2_EMPTY, E4_PAWN, INITIAL};
 use crate::show_lines::SHOW;
-use test_streams::texts::NO_MOVE;
+use dgt_vectors::texts::NO_MOVE;
 
 /// A frame has at most 16,383 bytes; until its last one they are the rest.
 static LONG_FRAMES: [Case<'static>; 2] = [

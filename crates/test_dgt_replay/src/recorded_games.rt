@@ -5,7 +5,7 @@ use crate::inputs::{
     BROKEN, CASTLED, CASTLING, CASTLING_FEN, CUT, E2_EMPTY, E4_PAWN, INITIAL, KINGS_PAWN, TIME,
     TURNED,
 };
-use test_streams::texts::{GameText, NO_MOVE, ONE_MOVE};
+use dgt_vectors::texts::{GameText, NO_MOVE, ONE_MOVE};
 
 const RECORD: Case<'static> = Case {
     arguments: &["record"],

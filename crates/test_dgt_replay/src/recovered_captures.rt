@@ -2,8 +2,8 @@
 
 use crate::cases::{Case, PLAIN, first_unlike, output_of, run_into, says};
 use crate::inputs::{BROKEN, CUT, E2_EMPTY, E2_PAWN, E4_PAWN, INITIAL, OTHER, TIME};
+use dgt_vectors::streams::Sink;
 use std::alloc::Global;
-use test_streams::streams::Sink;
 
 /// 1. e4 e5, and then two hands at once: both knights are lifted, and f3 is set down before c6.
 const HIDDEN: &[u8] =

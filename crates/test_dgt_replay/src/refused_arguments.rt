@@ -3,9 +3,9 @@
 use crate::cases::{Case, PLAIN, first_unlike};
 use crate::inputs::{E2_EMPTY, E4_PAWN, INITIAL};
 use crate::running::{Left, run_over, run_with};
+use dgt_vectors::bytes::Bytes;
+use dgt_vectors::streams::{Sink, Source};
 use std::alloc::Global;
-use test_streams::bytes::Bytes;
-use test_streams::streams::{Sink, Source};
 
 static REFUSED_ARGUMENTS: [&[&str]; 17] = [
     &[],

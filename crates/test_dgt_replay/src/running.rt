@@ -1,9 +1,9 @@
 //! Runs of the program over streams in memory.
 
 use dgt_replay::run;
+use dgt_vectors::bytes::Bytes;
+use dgt_vectors::streams::{Sink, Source};
 use std::alloc::{AllocError, Global};
-use test_streams::bytes::Bytes;
-use test_streams::streams::{Sink, Source};
 use watched_streams::Watch;
 
 /// What a run has left.

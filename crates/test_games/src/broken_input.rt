@@ -1,13 +1,13 @@
 //! Captures that are cut or damaged: nothing is refused, and only what the damage hits is lost.
 
 use crate::recordings::text_without_move;
+use dgt_vectors::bytes::Bytes;
 use dgt_vectors::recording::{Recording, recorded, report_of};
 use dgt_vectors::row::{OPENING, Row, commands};
 use dgt_vectors::rows::rows_by_subject;
+use dgt_vectors::streams::Sink;
 use pgn_book::{Game, read_pgn, write_pgn};
 use std::alloc::Global;
-use test_streams::bytes::Bytes;
-use test_streams::streams::Sink;
 use watched_streams::Watch;
 
 /// Damage to the 77 bytes of a dump, e2 lifted and e4 put down.

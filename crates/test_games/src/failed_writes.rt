@@ -1,9 +1,9 @@
 //! Writers that fail.
 
 use crate::games::{EMPTY, game};
+use dgt_vectors::streams::Sink;
 use pgn_book::{Game, WriteFault, write_pgn};
 use std::alloc::Global;
-use test_streams::streams::Sink;
 use watched_streams::Watch;
 
 /// A stream that takes ten bytes, a few at a time, and then fails.

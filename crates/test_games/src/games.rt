@@ -3,12 +3,12 @@
 use chess_clock::Hms;
 use chess_rules::{Move, Position};
 use chess_text::{read_fen, read_san};
+use dgt_vectors::bytes::Bytes;
+use dgt_vectors::texts::text_of;
 use pgn_book::{Game, Tags, write_pgn};
 use settle_core::{Outcome, Ply};
 use std::alloc::Global;
 use std::process::Abort;
-use test_streams::bytes::Bytes;
-use test_streams::texts::text_of;
 use watched_streams::Watch;
 
 /// Fails with the number of the first row that isn't as it says, if there is one.

@@ -1,11 +1,11 @@
 //! What is recorded of whole captures.
 
+use dgt_vectors::bytes::Bytes;
 use dgt_vectors::recording::{Recording, recorded, report_of};
 use dgt_vectors::row::Row;
 use dgt_vectors::rows::rows_by_subject;
+use dgt_vectors::texts::NO_MOVE;
 use std::alloc::Global;
-use test_streams::bytes::Bytes;
-use test_streams::texts::NO_MOVE;
 
 /// The text of a game from the initial position without a move.
 pub fn text_without_move() -> Bytes {

@@ -5,8 +5,8 @@ use board_session::{RecordError, Report};
 use chess_text::FenError;
 use dgt_vectors::recording::{Recording, recorded_over};
 use dgt_vectors::row::{CUT, OPENING, Row, commands};
+use dgt_vectors::streams::{ALWAYS, Sink, Source};
 use std::alloc::Global;
-use test_streams::streams::{ALWAYS, Sink, Source};
 
 const ROOM: usize = 512;
 

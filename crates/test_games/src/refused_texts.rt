@@ -1,10 +1,10 @@
 //! Texts that are no export texts.
 
 use crate::games::{CASTLING, expect_none};
+use dgt_vectors::bytes::Bytes;
+use dgt_vectors::texts::{ONE_MOVE, text_of, with_returns};
 use pgn_book::{PgnError, read_pgn};
 use std::alloc::Global;
-use test_streams::bytes::Bytes;
-use test_streams::texts::{ONE_MOVE, text_of, with_returns};
 
 fn refuses(alloc: Global, text: &[u8]) -> bool {
     matches!(read_pgn(alloc, text), Err(PgnError::NotExport))

@@ -5,9 +5,9 @@ use board_events::{Change, Session, Taken, View};
 use board_session::laws::read_recorded;
 use chess_rules::Position;
 use dgt_frame::{Event, FaultKind, First, Message};
+use dgt_vectors::texts::{GameText, NO_MOVE, ONE_MOVE};
 use settle_core::Seen;
 use std::alloc::Global;
-use test_streams::texts::{GameText, NO_MOVE, ONE_MOVE};
 
 /// The dump of the initial position.
 fn dump() -> Event

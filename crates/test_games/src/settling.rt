@@ -11,10 +11,10 @@ use dgt_frame::{Event, First, Message, read_time};
 use dgt_vectors::recording::{recorded, start_of};
 use dgt_vectors::row::Row;
 use dgt_vectors::rows::rows_by_subject;
+use dgt_vectors::trying::{after, only_move, sign};
 use pgn_book::read_pgn;
 use settle_core::{Outcome, Ply, Seen};
 use std::alloc::{AllocError, Global};
-use test_settling::trying::{after, only_move, sign};
 
 /// What the messages tell of the board.
 #[derive(Drop)]

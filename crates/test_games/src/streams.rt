@@ -3,10 +3,10 @@
 use board_session::{Setup, record};
 use chess_rules::Position;
 use dgt_frame::First;
+use dgt_vectors::bytes::Bytes;
+use dgt_vectors::streams::{Sink, Source};
 use pgn_book::Tags;
 use std::alloc::Global;
-use test_streams::bytes::Bytes;
-use test_streams::streams::{Sink, Source};
 use watched_streams::Watch;
 
 /// These bytes are recorded from the start, White's time first, as this text. Nothing is asked of the board but at the start.

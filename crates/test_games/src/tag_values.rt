@@ -2,9 +2,9 @@
 
 use crate::games::{expect_none, is_written_as};
 use chess_rules::Position;
+use dgt_vectors::texts::{GameText, NO_MOVE};
 use pgn_book::{Game, Tag, TagError, Tags, read_pgn};
 use std::alloc::{AllocError, Global};
-use test_streams::texts::{GameText, NO_MOVE};
 
 /// So many of this part.
 fn repeated(alloc: Global, part: &str, count: usize) -> Result<String, AllocError> {

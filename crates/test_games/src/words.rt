@@ -14,11 +14,11 @@
 use crate::streams::leaves;
 use chess_rules::Position;
 use chess_text::read_fen;
+use dgt_vectors::boards::{code_of, codes_of};
+use dgt_vectors::bytes::Bytes;
+use dgt_vectors::texts::text_of;
 use std::alloc::Global;
 use std::process::Abort;
-use test_streams::boards::{code_of, codes_of};
-use test_streams::bytes::Bytes;
-use test_streams::texts::text_of;
 
 /// Adds the bytes of two times: each two digits are one byte.
 fn add_times(bytes: &mut Bytes, times: &[u8]) {

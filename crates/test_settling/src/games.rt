@@ -10,7 +10,7 @@ use std::alloc::{AllocError, Global};
 use std::process::Abort;
 
 /// The picture with this code on one square.
-fn changed(picture: &[u8; 64], at: Square, code: u8) -> [u8; 64]
+pub fn changed(picture: &[u8; 64], at: Square, code: u8) -> [u8; 64]
     requires codes { All (λ code. code < 16) picture.now }
     requires code { code < 16 }
     ensures { All (λ code. code < 16) result }

@@ -1,5 +1,4 @@
-//! Tests of the public calls of `settle_core`, `unseen_pairs` and `pair_frames`, and how `test_games` too settles a picture
-//! slowly.
+//! Tests of the public calls of `settle_core`, `unseen_pairs` and `pair_frames`.
 #![tactic(auto)]
 
 #[cfg(test)]
@@ -42,7 +41,6 @@ mod shown_games;
 mod starts;
 #[cfg(test)]
 mod told;
-pub mod trying;
 #[cfg(test)]
 mod waits;
 #[cfg(test)]

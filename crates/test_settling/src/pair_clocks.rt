@@ -1,7 +1,8 @@
 //! The clocks that the plies of a pair keep.
 ghost use Rattle.std.specs.Prelude.{All, ◌<◌};
 
-use crate::shown_games::{changed, has_moves, show};
+use crate::games::changed;
+use crate::shown_games::{has_moves, show};
 use chess_clock::Hms;
 use chess_rules::{Position, Square};
 use dgt_frame::{First, read_time};

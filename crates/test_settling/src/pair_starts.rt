@@ -1,41 +1,7 @@
 //! Positions to start from.
 
-use chess_rules::{Kind, Parts, Piece, Position, Rights, Side, Square};
-
-const NO_RIGHTS: Rights = Rights {
-    white_king: false,
-    white_queen: false,
-    black_king: false,
-    black_queen: false,
-};
-
-const WHITE_KING_SIDE: Rights = Rights {
-    white_king: true,
-    white_queen: false,
-    black_king: false,
-    black_queen: false,
-};
-
-/// With these pieces and this side to move, where that is a valid position.
-fn position(pieces: &[(u8, Side, Kind)], side: Side, rights: Rights) -> Option<Position> {
-    let mut board = [None; 64];
-    for (number, side, kind) in pieces {
-        let square = Square::new(*number)?;
-        board[square.number() as usize] = Some(Piece {
-            side: *side,
-            kind: *kind,
-        });
-    }
-    Position::new(Parts {
-        board,
-        side,
-        rights,
-        target: None,
-        halfmove: 0,
-        fullmove: 1,
-    })
-    .ok()
-}
+use crate::starts::{NO_RIGHTS, WHITE_KING_SIDE, position};
+use chess_rules::{Kind, Position, Side};
 
 /// White can castle on the king's side.
 pub fn before_castling() -> Option<Position> {
@@ -45,7 +11,7 @@ pub fn before_castling() -> Option<Position> {
         (60, Side::White, Kind::King),
         (63, Side::White, Kind::Rook),
     ];
-    position(&pieces, Side::White, WHITE_KING_SIDE)
+    position(&pieces, Side::White, WHITE_KING_SIDE, None)
 }
 
 /// A black knight on f6 attacks white pawns on e4 and d5, of which the one on e4 guards the other.
@@ -57,7 +23,7 @@ pub fn before_capture() -> Option<Position> {
         (36, Side::White, Kind::Pawn),
         (60, Side::White, Kind::King),
     ];
-    position(&pieces, Side::Black, NO_RIGHTS)
+    position(&pieces, Side::Black, NO_RIGHTS, None)
 }
 
 /// A white pawn stands before e8, which a black rook guards.
@@ -68,5 +34,5 @@ pub fn before_promotion() -> Option<Position> {
         (15, Side::Black, Kind::King),
         (62, Side::White, Kind::King),
     ];
-    position(&pieces, Side::White, NO_RIGHTS)
+    position(&pieces, Side::White, NO_RIGHTS, None)
 }

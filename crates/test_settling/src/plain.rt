@@ -1,8 +1,8 @@
 //! A settler that tries every origin, target and promotion.
 
 use crate::told::{Told, way_of};
-use crate::trying::{after, only_move, sign};
 use chess_rules::{Move, Position};
+use dgt_vectors::trying::{after, only_move, sign};
 use settle_core::Outcome;
 
 /// The settler that tries every origin, target and promotion.

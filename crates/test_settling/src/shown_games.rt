@@ -2,23 +2,13 @@
 ghost use Rattle.std.specs.Prelude.{All, ◌<◌};
 
 use crate::answers::{Answer, WAITS, Way, recovered_of, shown_of, way_of};
+use crate::games::changed;
 use chess_clock::Reading;
 use chess_rules::{Position, Square};
 use settle_core::{Outcome, Settler};
 use std::alloc::{AllocError, Global};
 use std::process::Abort;
 use unseen_pairs::{Recoverer, Told};
-
-/// The picture with this code on one square.
-pub fn changed(picture: &[u8; 64], at: Square, code: u8) -> [u8; 64]
-    requires codes { All (λ code. code < 16) picture.now }
-    requires code { code < 16 }
-    ensures { All (λ code. code < 16) result }
-{
-    let mut picture = *picture;
-    picture[at.number() as usize] = code;
-    picture
-}
 
 /// The picture after 1. e4 e5, with these codes on g1 and f3.
 pub fn after_two(g1: u8, f3: u8) -> [u8; 64]

@@ -2,16 +2,24 @@
 
 use chess_rules::{Kind, Parts, Piece, Position, Rights, Side, Square};
 
-const NO_RIGHTS: Rights = Rights {
+pub const NO_RIGHTS: Rights = Rights {
     white_king: false,
     white_queen: false,
     black_king: false,
     black_queen: false,
 };
 
-/// White to move, with these pieces, where that is a valid position.
-fn position(
+pub const WHITE_KING_SIDE: Rights = Rights {
+    white_king: true,
+    white_queen: false,
+    black_king: false,
+    black_queen: false,
+};
+
+/// With these pieces and this side to move, where that is a valid position.
+pub fn position(
     pieces: &[(u8, Side, Kind)],
+    side: Side,
     rights: Rights,
     target: Option<Square>,
 ) -> Option<Position> {
@@ -25,7 +33,7 @@ fn position(
     }
     Position::new(Parts {
         board,
-        side: Side::White,
+        side,
         rights,
         target,
         halfmove: 0,
@@ -34,13 +42,6 @@ fn position(
     .ok()
 }
 
-const WHITE_KING_SIDE: Rights = Rights {
-    white_king: true,
-    white_queen: false,
-    black_king: false,
-    black_queen: false,
-};
-
 /// White can castle on the king's side.
 pub fn before_castling() -> Option<Position> {
     let pieces = [
@@ -48,7 +49,7 @@ pub fn before_castling() -> Option<Position> {
         (60, Side::White, Kind::King),
         (63, Side::White, Kind::Rook),
     ];
-    position(&pieces, WHITE_KING_SIDE, None)
+    position(&pieces, Side::White, WHITE_KING_SIDE, None)
 }
 
 /// A black pawn went to d5 beside a white one.
@@ -59,7 +60,7 @@ pub fn before_en_passant() -> Option<Position> {
         (28, Side::White, Kind::Pawn),
         (60, Side::White, Kind::King),
     ];
-    position(&pieces, NO_RIGHTS, Square::new(19))
+    position(&pieces, Side::White, NO_RIGHTS, Square::new(19))
 }
 
 /// A white pawn stands before its last square.
@@ -69,7 +70,7 @@ pub fn before_promotion() -> Option<Position> {
         (15, Side::Black, Kind::King),
         (60, Side::White, Kind::King),
     ];
-    position(&pieces, NO_RIGHTS, None)
+    position(&pieces, Side::White, NO_RIGHTS, None)
 }
 
 /// A white pawn can capture a black one.
@@ -80,7 +81,7 @@ pub fn before_capture() -> Option<Position> {
         (36, Side::White, Kind::Pawn),
         (60, Side::White, Kind::King),
     ];
-    position(&pieces, NO_RIGHTS, None)
+    position(&pieces, Side::White, NO_RIGHTS, None)
 }
 
 /// A white rook and a black one stand on one file.
@@ -91,7 +92,7 @@ pub fn with_rooks() -> Option<Position> {
         (56, Side::White, Kind::Rook),
         (60, Side::White, Kind::King),
     ];
-    position(&pieces, NO_RIGHTS, None)
+    position(&pieces, Side::White, NO_RIGHTS, None)
 }
 
 pub const KING_FIRST: [(u8, u8); 4] = [(60, 0), (62, 5), (63, 0), (61, 2)];

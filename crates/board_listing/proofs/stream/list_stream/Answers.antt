@@ -159,3 +159,11 @@ returns-in_default-read-clause-bounded g c =
     reads_none c.chunks.decoder c.chunks.printer c.args.listing c.chunks.total (g.R.Read.remaining (inner_of c.args.reader.now)) (g.R.Read.remaining (inner_of c.chunks.reader))
     (g.R.Read.remaining (inner_of c.read_chunk.new.reader)) (g.O.Write.contents (inner_of c.args.out.now)) (g.O.Write.contents (inner_of c.chunks.out))
     c.chunks.invariant.within c.chunks.invariant.done ended.0
+
+pub chunks-init : goal.chunks-init
+chunks-init g c = record {
+  within = omega arith;
+  reading = c.requires.reading;
+  working = c.requires.working;
+  done = search rules;
+}

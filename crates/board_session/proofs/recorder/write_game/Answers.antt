@@ -15,3 +15,6 @@ returns-clause-text g c = search rules
 
 pub returns-clause-working : goal.returns-clause-working
 returns-clause-working g c = search rules
+
+pub returns-clause-flushed : goal.returns-clause-flushed
+returns-clause-flushed g c = search rules

@@ -1,4 +1,5 @@
-use Rattle.std.proofs.Common.{◌≡◌, ◌++◌, ◌∙◌, ℕ, List, ap, codes, refl, subst}
+use Prim.{search}
+use Rattle.std.proofs.Common.{◌≡◌, ◌++◌, ◌∙◌, ℕ, List, ap, codes, refl, subst, rules}
 use Rattle.std.specs.Prelude.{decimal}
 use Rattle.watched_streams.specs.Watch.{inner_of, has_failed}
 use Rattle.text_subcommands.specs.Messages.{Says}
@@ -13,3 +14,6 @@ returns-clause-says g c =
     c.as_slice.ensures.value ∙ c.add-3.ensures.items ∙ ap (λ (x : List ℕ). x ++ codes ": not a legal move\n") front in
     let P : List ℕ → Type 0 = λ bs. Says (g.E.Write.contents (inner_of c.args.err.now)) (g.E.Write.contents (inner_of c.refused.new.err)) (has_failed c.refused.new.err) bs in
     subst P is c.refused.ensures.says
+
+pub returns-clause-status : goal.returns-clause-status
+returns-clause-status g c = search rules

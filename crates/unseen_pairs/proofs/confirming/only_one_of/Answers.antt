@@ -1,4 +1,5 @@
-use Rattle.std.proofs.Common.{◌+◌, Option, IfSome, sym, subst}
+use Prim.{search}
+use Rattle.std.proofs.Common.{◌+◌, Option, IfSome, sym, subst, rules}
 use Rattle.settle_core.specs.declared.plies.Seen.{Seen}
 use Rattle.unseen_pairs.specs.declared.confirming.Confirmed.{Confirmed}
 use Rattle.unseen_pairs.specs.Pairs.{GoesOn}
@@ -25,3 +26,6 @@ loop-candidate-preserved c =
           subst F (sym w.found-is)
           (found_again cs seen i _ _ _ c.loop-candidate-test.true c.candidate-item.is goes (s.0 w.if-not-is_same.false) w.older.ensures (subst B w.in-Some-found.is c.loop-candidate.invariant))
     ]
+
+pub returns-then-not-is_same-clause-some : goal.returns-then-not-is_same-clause-some
+returns-then-not-is_same-clause-some c = search rules

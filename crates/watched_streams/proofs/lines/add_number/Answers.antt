@@ -1,4 +1,5 @@
-use Rattle.std.proofs.Common.{◌++◌, ◌∷◌, [], ◌+◌, ◌/◌, ◌%◌, sym, ◌∙◌, ap, arith, append_assoc}
+use Prim.{search}
+use Rattle.std.proofs.Common.{◌++◌, ◌∷◌, [], ◌+◌, ◌/◌, ◌%◌, sym, ◌∙◌, ap, arith, append_assoc, rules}
 use Rattle.std.proofs.lemmas.Fmt.{decimal_digit, decimal_step}
 use Rattle.watched_streams.proofs.lines.add_number.Goals as goal
 
@@ -12,3 +13,6 @@ returns-then-n-lt100-clause-items c =
     c.push-then-n-lt100-2.ensures.items ∙ ap (λ text. text ++ (48 + n % 10) ∷ []) c.push-then-n-lt100.ensures.items
     ∙ append_assoc c.args.lines.now.items ((48 + n / 10) ∷ []) ((48 + n % 10) ∷ [])
     ∙ ap (λ text. c.args.lines.now.items ++ text) (sym two)
+
+pub returns-else-n-lt100-clause-items : goal.returns-else-n-lt100-clause-items
+returns-else-n-lt100-clause-items c = search rules

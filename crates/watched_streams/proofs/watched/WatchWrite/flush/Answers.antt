@@ -4,3 +4,6 @@ use Rattle.watched_streams.proofs.watched.WatchWrite.flush.Goals as goal
 
 pub returns-clause-failed : goal.returns-clause-failed
 returns-clause-failed g c = search rules
+
+pub returns-clause-unflushed : goal.returns-clause-unflushed
+returns-clause-unflushed g c = search rules

@@ -7,3 +7,6 @@ returns-clause-bytes g c = search rules
 
 pub returns-clause-failed : goal.returns-clause-failed
 returns-clause-failed g c = search rules
+
+pub returns-clause-unflushed : goal.returns-clause-unflushed
+returns-clause-unflushed g c = search rules

@@ -1,0 +1,9 @@
+use Prim.{search}
+use Rattle.std.proofs.Common.{rules}
+use Rattle.board_session.proofs.recorder.send.Goals as goal
+
+pub returns-then-not-put_and_flush-clause-flushed : goal.returns-then-not-put_and_flush-clause-flushed
+returns-then-not-put_and_flush-clause-flushed g c = search rules
+
+pub returns-clause-flushed : goal.returns-clause-flushed
+returns-clause-flushed g c = search rules

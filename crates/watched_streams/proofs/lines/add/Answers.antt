@@ -1,0 +1,9 @@
+use Prim.{search}
+use Rattle.std.proofs.Common.{rules}
+use Rattle.watched_streams.proofs.lines.add.Goals as goal
+
+pub returns-clause-items : goal.returns-clause-items
+returns-clause-items c = search rules
+
+pub returns-clause-len : goal.returns-clause-len
+returns-clause-len c = search rules
