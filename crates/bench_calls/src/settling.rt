@@ -33,13 +33,17 @@ fn is_waiting(seen: &Seen) -> bool {
 /// Shows by turns the pictures after two moves and after two other moves; how many waited.
 fn waiting_pictures(alloc: Global, count: u32) -> Result<u32, AllocError> {
     let start = Position::initial();
-    let one = after(&after(&start, 52, 36), 12, 28);
-    let other = after(&after(&start, 51, 35), 11, 27);
+    let one = after(&after(&start, 52, 36), 12, 28).picture();
+    let other = after(&after(&start, 51, 35), 11, 27).picture();
     let mut settler = Settler::new(alloc, start);
     let mut waiting = 0u32;
     for turn in 0..count {
-        let position = if turn % 2 == 0 { &one } else { &other };
-        if is_waiting(&settler.see(&position.picture(), None)?) {
+        let seen = if turn % 2 == 0 {
+            settler.see(&one, None)?
+        } else {
+            settler.see(&other, None)?
+        };
+        if is_waiting(&seen) {
             waiting = waiting.saturating_add(1);
         }
     }

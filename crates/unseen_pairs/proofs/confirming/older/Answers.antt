@@ -4,6 +4,3 @@ use Rattle.unseen_pairs.proofs.confirming.older.Goals as goal
 
 pub returns-then-a-b : goal.returns-then-a-b
 returns-then-a-b c = search rules
-
-pub returns-else-a-b : goal.returns-else-a-b
-returns-else-a-b c = search rules
