@@ -78,13 +78,13 @@ fn plies(alloc: Global, count: u32) -> Result<u32, AllocError> {
     let mut settler = Settler::new(alloc, start);
     let mut settled = 0u32;
     for turn in 0..count {
-        let position = match turn % 4 {
-            0 => &white_out,
-            1 => &both_out,
-            2 => &white_back,
-            _ => &start,
+        let seen = match turn % 4 {
+            0 => settler.see(&white_out.picture(), None)?,
+            1 => settler.see(&both_out.picture(), None)?,
+            2 => settler.see(&white_back.picture(), None)?,
+            _ => settler.see(&start.picture(), None)?,
         };
-        if matches!(settler.see(&position.picture(), None)?, Seen::Moved(_)) {
+        if matches!(seen, Seen::Moved(_)) {
             settled = settled.saturating_add(1);
         }
     }
