@@ -1,10 +1,12 @@
-//! Games of random legal moves, to compare: their texts, one after another, or their moves by their squares, a game a line.
+//! Games of random legal moves, to compare: their texts, one after another, or their moves by their squares, a game a
+//! line.
 
 use crate::rules::MIDDLE_GAME;
 use chess_clock::Hms;
+use chess_game::{Game, Tag, Tags};
 use chess_rules::{Kind, Move, Position, Square};
 use chess_text::read_fen;
-use pgn_book::{Game, Tag, Tags, write_pgn};
+use pgn_book::write_pgn;
 use settle_core::{Outcome, Ply};
 use std::alloc::{AllocError, Global};
 use std::io;

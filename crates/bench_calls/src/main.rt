@@ -1,6 +1,6 @@
-//! Calls of the libraries, many times over, for the scripts in bench/: `bench_calls rules`; `bench_calls san write 100` or
-//! `read`, of the game on standard input; `bench_calls settling pictures 1000`, `updates` or `plies`, and as a yardstick
-//! `copy`; `bench_calls games texts 100` or `squares`. Without arguments what has a known answer.
+//! Calls of the libraries, many times over, for the scripts in bench/: `bench_calls rules`; `bench_calls san write 100`
+//! or `read`, of the game on standard input; `bench_calls settling pictures 1000`, `updates` or `plies`, and as a
+//! yardstick `copy`; `bench_calls games texts 100` or `squares`. Without arguments what has a known answer.
 #![tactic(auto)]
 
 mod games;

@@ -1,5 +1,5 @@
-//! The SAN of a game's moves, written or read so many rounds. The game stands on standard input, its moves in SAN, divided by
-//! spaces.
+//! The SAN of a game's moves, written or read so many rounds. The game stands on standard input, its moves in SAN,
+//! divided by spaces.
 
 use arrayvec::ArrayString;
 use chess_rules::{Move, Position};

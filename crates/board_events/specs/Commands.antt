@@ -1,5 +1,5 @@
--- What is sent to a board over a list of events, and how many of them count as messages and how many as faults. Lists of timed
--- events stand in their order, lists of events alone have the latest first.
+-- What is sent to a board over a list of events, and how many of them count as messages and how many as faults. Lists
+-- of timed events stand in their order, lists of events alone have the latest first.
 use Rattle.std.specs.Prelude.{ℕ, not, if◌then◌else◌, List, [], ◌∷◌, ◌++◌, map, reverse, count_by}
 use Rattle.dgt_frame.specs.declared.events.Event.{Event}
 use Rattle.dgt_frame.specs.Streams.{Timed}

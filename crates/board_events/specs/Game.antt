@@ -1,4 +1,5 @@
--- The game of a list of events. Events, entries and plies are listed with the latest first, the plies of a game in their order.
+-- The game of a list of events. Events, entries and plies are listed with the latest first, the plies of a game in
+-- their order.
 use Rattle.std.specs.Prelude.{◌≡◌, ◌+◌, ◌≤◌, List, [], ◌∷◌, Option, length, ⊤}
 use Rattle.chess_rules.specs.declared.parts.Parts.{Parts}
 use Rattle.dgt_frame.specs.declared.events.Event.{Event}

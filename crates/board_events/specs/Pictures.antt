@@ -1,4 +1,5 @@
--- The pictures of events, each that differs from the one just before it. Events and pictures are listed with the latest first.
+-- The pictures of events, each that differs from the one just before it. Events and pictures are listed with the latest
+-- first.
 use Rattle.std.specs.Prelude.{◌≡◌, ◌<◌, ℕ, Bool, List, [], ◌∷◌, map, slice_set, ⊤}
 use Rattle.dgt_frame.specs.declared.events.Event.{Event}
 use Rattle.dgt_frame.specs.declared.time.First.TheVariants.{White}
@@ -14,7 +15,8 @@ pictures rotated past = map (λ entry. entry.picture) (deduplicated (entries Whi
 -- These pictures are those; or those, and the last one with another code on a square; or those, and one more.
 abbrev pub ChangesPictures : Change → List (List ℕ) → List (List ℕ) → Type 0
 ChangesPictures Nothing old new = new ≡ old
-ChangesPictures (Square square code) old new = (picture : List ℕ) × (earlier : List (List ℕ)) × (old ≡ picture ∷ earlier) × (new ≡ slice_set picture square code ∷ old)
+ChangesPictures (Square square code) old new = (picture : List ℕ) × (earlier : List (List ℕ)) × (old ≡ picture ∷ earlier)
+    × (new ≡ slice_set picture square code ∷ old)
 ChangesPictures Picture old new = (picture : List ℕ) × (new ≡ picture ∷ old)
 
 -- The square that changes is on the board.

@@ -22,8 +22,8 @@ pub record StandsFor (session : State) (setting : Setting) (past : List Event) :
   pub rotated : session.rotated ≡ setting.rotated
   pub settler : Settled session.settler setting.start (entries_in setting past)
 
--- What is told of an event after these: a fault, and nothing else, asks for a dump, and an entry, and nothing else, has an
--- result of the settler.
+-- What is told of an event after these: a fault, and nothing else, asks for a dump, and an entry, and nothing else, has
+-- an result of the settler.
 pub record TellsTaken (setting : Setting) (past : List Event) (event : Event) (taken : Taken) : Type 0 where
   pub asks : taken.asks_dump ≡ is_fault event
   pub entry : is_some taken.seen ≡ is_entry event past

@@ -76,8 +76,8 @@ impl Session {
         }
     }
 
-    /// Takes the next event, for callers who have it by value. Codes are at most 15 and fields at most 63, as the decoder
-    /// gives them.
+    /// Takes the next event, for callers who have it by value. Codes are at most 15 and fields at most 63, as the
+    /// decoder gives them.
     ///
     /// # Errors
     ///

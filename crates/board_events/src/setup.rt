@@ -10,8 +10,8 @@ pub struct Setup {
     pub start: Position,
     /// Whose time the first group of a time message is.
     pub first: First,
-    /// Whether field n means square 63 - n, in dumps and updates: so it is where Black has the connector on the left. Else it
-    /// means square n.
+    /// Whether field n means square 63 - n, in dumps and updates: so it is where Black has the connector on the left.
+    /// Else it means square n.
     pub rotated: bool,
     /// The tags that the game's text gets.
     pub tags: Tags,

@@ -19,8 +19,8 @@ pub enum Change {
     Picture,
 }
 
-/// Follows the pictures of a board: from a dump on until a fault, each dump and each update shows one. With `rotated`, field n
-/// means square 63 - n. Takes no memory.
+/// Follows the pictures of a board: from a dump on until a fault, each dump and each update shows one. With `rotated`,
+/// field n means square 63 - n. Takes no memory.
 #[derive(Clone, Copy, Debug)]
 pub struct View {
     rotated: bool,
@@ -46,8 +46,8 @@ impl View {
         }
     }
 
-    /// Takes the next event, and says what it does to the picture; `picture` has what it shows. Codes are at most 15 and
-    /// fields at most 63, as the decoder gives them.
+    /// Takes the next event, and says what it does to the picture; `picture` has what it shows. Codes are at most 15
+    /// and fields at most 63, as the decoder gives them.
     pub fn see(&mut self, event: &Event) -> Change
         requires { IsInRange event.now }
         ensures views { (rotated : Bool) (past : List Event) → Views self.old rotated past → Views self.new rotated (event.now ∷ past) }
@@ -66,8 +66,8 @@ impl View {
         }
     }
 
-    /// The picture that was shown last: 64 codes of at most 15, by square number. Where none was shown yet, it is an empty
-    /// board; the contract then says of it no more than the range of its codes.
+    /// The picture that was shown last: 64 codes of at most 15, by square number. Where none was shown yet, it is an
+    /// empty board; the contract then says of it no more than the range of its codes.
     pub fn picture(&self) -> &[u8; 64]
         ensures last { (rotated : Bool) (past : List Event) → Views self.now rotated past → IsLast result.now (pictures rotated past) }
         ensures codes { All (λ code. code < 16) result.now }

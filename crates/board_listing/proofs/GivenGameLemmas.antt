@@ -49,7 +49,7 @@ no_line : (offset : ℕ) (start : Parts) (lines : List GameLine) (text : List �
 no_line offset start lines text plies result none gives = record { all = lines; text_is = ap (λ t. text_of lines ++ t) none ∙ append-nil (text_of lines); gives = gives; inside = λ low all. all }
 
 -- the ply of a move
-abbrev made : Parts → List Ply → Option Reading → Move → Ply
+abbrev pub made : Parts → List Ply → Option Reading → Move → Ply
 made start earlier reading m = record { mv = m; clock = time_of (reached start (moves_of earlier)).side reading }
 
 replaced_more : (offset : ℕ) (start : Parts) (plies : List Ply) (reading : Option Reading) (m : Move) (shown text : List ℕ) (lines : List GameLine) (old : Option Outcome)

@@ -9,3 +9,9 @@ pub mod PrinterLemmas
 pub mod SquareLemmas
 pub mod StreamLemmas
 pub mod TextLemmas
+pub mod WatcherLemmas
+pub mod DrawingLemmas
+pub mod PlacedLemmas
+pub mod WatchedLemmas
+pub mod WatchLawLemmas
+pub mod WatchPositionLemmas

@@ -1,5 +1,5 @@
 -- The lines of events, one event at a time.
-use Rattle.std.proofs.Common.{◌≡◌, ℕ, Bool, List, [], ◌∷◌, ◌++◌, map, Option, Some, None, reverse, append-nil, refl, sym, subst, ◌∙◌, ap}
+use Rattle.std.proofs.Common.{◌≡◌, ℕ, Bool, List, [], ◌∷◌, ◌++◌, Option, Some, None, reverse, append_assoc, append-nil, refl, sym, subst, ◌∙◌, ap}
 use Rattle.std.specs.List.{flat_map}
 use Rattle.std.proofs.lemmas.Grind.{flat_map-append}
 use Rattle.std.proofs.lemmas.List.{reverse-append}
@@ -10,6 +10,9 @@ use Rattle.board_events.specs.Pictures.{pictures}
 use Rattle.board_events.proofs.ViewLemmas.{Adds}
 use Rattle.board_events.specs.Settings.{Setting}
 use Rattle.board_listing.specs.GameText.{TellsEvent, TellsEvents}
+use Rattle.watched_streams.specs.Lines.{line}
+use Rattle.board_listing.specs.GivenGame.{GameLine, text_of}
+use Rattle.board_listing.specs.WatchText.{Watches, WatchesEvent}
 use Rattle.settle_core.proofs.Lines.{map-reverse}
 use Rattle.board_events.proofs.CommandLemmas.{past_more}
 use Rattle.board_listing.specs.declared.listing.Listing.TheVariants.{Events, Pictures}
@@ -50,3 +53,15 @@ game_more setting events x text more is adds =
     let P : List Timed → Type 0 = λ es. TellsEvents setting es (text ++ more) in
     let Q : List Event → Type 0 = λ past. TellsEvent setting past x more in
     subst P (sym (reverse-append events (x ∷ []))) (text, more, is, subst Q (sym (map-reverse (λ (t : Timed). t.event) events)) adds, refl)
+
+pub watch_more : (setting : Setting) (events : List Timed) (x : Timed) (lines more : List GameLine) → Watches setting (reverse events) lines
+    → WatchesEvent setting (past_of events) x more → Watches setting (reverse (events ++ x ∷ [])) (more ++ lines)
+watch_more setting events x lines more is adds =
+    let P : List Timed → Type 0 = λ es. Watches setting es (more ++ lines) in
+    let Q : List Event → Type 0 = λ past. WatchesEvent setting past x more in
+    subst P (sym (reverse-append events (x ∷ []))) (lines, more, is, subst Q (sym (map-reverse (λ (t : Timed). t.event) events)) adds, refl)
+
+-- Lines in the order of their text.
+pub text_append : (new old : List GameLine) → text_of (new ++ old) ≡ text_of old ++ text_of new
+text_append [] old = sym (append-nil (text_of old))
+text_append (told ∷ new) old = ap (λ t. t ++ line told.offset told.words) (text_append new old) ∙ append_assoc (text_of old) (text_of new) (line told.offset told.words)

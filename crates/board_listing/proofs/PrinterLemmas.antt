@@ -17,11 +17,14 @@ use Rattle.board_listing.specs.EventLines.{line_of}
 use Rattle.board_listing.specs.PictureLines.{placement_line}
 use Rattle.board_listing.specs.declared.follower.Follower.{Follower}
 use Rattle.board_listing.specs.declared.printer.Printer.{Printer}
-use Rattle.board_listing.specs.declared.printer.Printer.TheVariants.{Events as EachEvent, Pictures as EachPicture, Game as EachMove}
-use Rattle.board_listing.specs.declared.listing.Listing.TheVariants.{Events, Pictures, Game}
+use Rattle.board_listing.specs.declared.printer.Printer.TheVariants.{Events as EachEvent, Pictures as EachPicture, Game as EachMove, Watched as EachThing}
+use Rattle.board_listing.specs.declared.listing.Listing.TheVariants.{Events, Pictures, Game, Watched}
 use Rattle.board_listing.specs.Followers.{AddsEvent, HasFollowed}
 use Rattle.board_listing.specs.Printers.{AddsLines}
-use Rattle.board_listing.proofs.LineLemmas.{each_more, game_more, pictures_added, placed}
+use Rattle.board_listing.specs.declared.watcher.Watcher.{Watcher}
+use Rattle.board_listing.specs.GivenGame.{text_of}
+use Rattle.board_listing.specs.Watchers.{AddsWatched, HasWatched}
+use Rattle.board_listing.proofs.LineLemmas.{each_more, game_more, pictures_added, placed, text_append, watch_more}
 
 -- What a view knows and a kept placement has, whatever events there were.
 abbrev pub Draws : View → PlacementText → Bool → List Event → Type 0
@@ -36,6 +39,7 @@ pictures_by : (view new : View) (kept kept' : PlacementText) (x : Timed) (lines 
     → AddsLines (EachPicture view kept) lines x (EachPicture new kept') (lines ++ placed answer)
 pictures_by view new kept kept' x lines answer draws Events events follows = absurd follows
 pictures_by view new kept kept' x lines answer draws (Game start first rotated) events follows = absurd follows
+pictures_by view new kept kept' x lines answer draws (Watched start first rotated) events follows = absurd follows
 pictures_by view new kept kept' x lines answer draws (Pictures rotated) events follows =
     let P : List Event → Type 0 = λ past. Draws new kept' rotated past in
     let drawn = draws rotated (past_of events) follows in (
@@ -57,10 +61,10 @@ none_adds old view new kept x lines is views shown =
     ) in
     subst P (sym is) (subst Q (append-nil lines) (pictures_by view new kept kept x lines None same))
 
-last_is : (picture last : List ℕ) (earlier pictures : List (List ℕ)) → pictures ≡ last ∷ earlier → IsLast picture pictures → picture ≡ last
+pub last_is : (picture last : List ℕ) (earlier pictures : List (List ℕ)) → pictures ≡ last ∷ earlier → IsLast picture pictures → picture ≡ last
 last_is picture last earlier pictures is here = subst (IsLast picture) is here
 
-is_last : (picture last : List ℕ) (earlier pictures : List (List ℕ)) → pictures ≡ last ∷ earlier → picture ≡ last → IsLast picture pictures
+pub is_last : (picture last : List ℕ) (earlier pictures : List (List ℕ)) → pictures ≡ last ∷ earlier → picture ≡ last → IsLast picture pictures
 is_last picture last earlier pictures is same = subst (IsLast picture) (sym is) same
 
 -- A square of the last picture changed.
@@ -102,10 +106,12 @@ event_by : (x : Timed) (lines lines' : List ℕ) → lines' ≡ lines ++ line_of
 event_by x lines lines' added Events events follows = (tt, (line_of x, added, λ text has. each_more events x text has))
 event_by x lines lines' added (Pictures rotated) events follows = absurd follows
 event_by x lines lines' added (Game start first rotated) events follows = absurd follows
+event_by x lines lines' added (Watched start first rotated) events follows = absurd follows
 
 game_by : (follower new : Follower) (x : Timed) (lines lines' : List ℕ) → AddsEvent follower lines x new lines' → AddsLines (EachMove follower) lines x (EachMove new) lines'
 game_by follower new x lines lines' adds Events events follows = absurd follows
 game_by follower new x lines lines' adds (Pictures rotated) events follows = absurd follows
+game_by follower new x lines lines' adds (Watched start first rotated) events follows = absurd follows
 game_by follower new x lines lines' adds (Game start first rotated) events follows =
     let setting : Setting = record { start = start; first = first; rotated = rotated } in
     let added = adds setting (past_of events) follows in
@@ -127,3 +133,28 @@ game_adds (Err e) old follower new x lines lines' is adds = tt
 game_adds (Ok v) old follower new x lines lines' is adds =
     let P : Printer → Type 0 = λ l. AddsLines l lines x (EachMove new) lines' in
     subst P (sym is) (game_by follower new x lines lines' adds)
+
+watch_by : (watcher new : Watcher) (x : Timed) (lines lines' : List ℕ) → AddsWatched watcher lines x new lines' → AddsLines (EachThing watcher) lines x (EachThing new) lines'
+watch_by watcher new x lines lines' adds Events events follows = absurd follows
+watch_by watcher new x lines lines' adds (Pictures rotated) events follows = absurd follows
+watch_by watcher new x lines lines' adds (Game start first rotated) events follows = absurd follows
+watch_by watcher new x lines lines' adds (Watched start first rotated) events follows =
+    let setting : Setting = record { start = start; first = first; rotated = rotated } in
+    let added = adds setting (past_of events) follows in
+    let more = added.1.0 in
+    let P : List Event → Type 0 = λ past. HasWatched new setting past in (
+      subst P (sym (past_more events x.offset x.event)) added.0,
+      (
+        text_of more,
+        added.1.1,
+        λ text has. (more ++ has.0, watch_more setting events x has.0 more has.1 added.1.2, ap (λ t. t ++ text_of more) has.2 ∙ sym (text_append more has.0)),
+      ),
+    )
+
+-- The watcher has watched the event.
+pub watch_adds : {E : Type 0} (r : Result ⊤ E) (old : Printer) (watcher new : Watcher) (x : Timed) (lines lines' : List ℕ) → old ≡ EachThing watcher
+    → OnOk r (AddsWatched watcher lines x new lines') → OnOk r (AddsLines old lines x (EachThing new) lines')
+watch_adds (Err e) old watcher new x lines lines' is adds = tt
+watch_adds (Ok v) old watcher new x lines lines' is adds =
+    let P : Printer → Type 0 = λ l. AddsLines l lines x (EachThing new) lines' in
+    subst P (sym is) (watch_by watcher new x lines lines' adds)

@@ -11,10 +11,13 @@ use Rattle.dgt_frame.specs.Streams.{Shows, Timed}
 use Rattle.board_events.specs.Limits.{limit}
 use Rattle.board_listing.specs.declared.printer.Printer.{Printer}
 use Rattle.board_listing.specs.declared.listing.Listing.{Listing}
-use Rattle.board_listing.specs.Printers.{HasBegun}
+use Rattle.board_listing.specs.declared.listing.Listing.TheVariants.{Events, Pictures, Game, Watched}
+use Rattle.board_listing.specs.Printers.{Follows, HasBegun}
 use Rattle.watched_streams.specs.Input.{ReadsWithin}
-use Rattle.board_listing.specs.Listings.{Leaves, ListsAll, ListsFirst, ListsFront, ListsRead, ListsRefused, WritesFront, last_line}
+use Rattle.board_listing.specs.Listings.{HasLines, Leaves, ListsAll, ListsFirst, ListsFront, ListsRead, ListsRefused, WritesFront, first_line, last_line}
 use Rattle.watched_streams.specs.Output.{Gathers}
+use Rattle.board_listing.specs.WatchLines.{position_words}
+use Rattle.board_listing.specs.WatchText.{line_with}
 use Rattle.board_listing.specs.Progress.{BreaksOff, FinishBreaksOff, Finishes, HasListed, HasTaken, ListsChunk, Stops}
 use Rattle.board_listing.specs.declared.stream.ListError.{ListError}
 use Rattle.board_listing.specs.declared.stream.ListError.TheVariants.{Memory, Read, TooLong, Write}
@@ -284,3 +287,33 @@ no_other error old new printer listing count chunk input now written so_far afte
     let cut = breaks listing done.0 done.1 written done.2 done.4 in
     let broken = cut.5 in
     never error broken.extra written after broken.text broken.stops is
+
+-- Before any event the first line is all that is told.
+first_lines : (listing : Listing) → HasLines listing [] (first_line listing)
+first_lines Events = refl
+first_lines (Pictures rotated) = refl
+first_lines (Game start first rotated) = refl
+first_lines (Watched start first rotated) = (line_with 0 (position_words start) ∷ [], refl, refl)
+
+-- The first line was written, and nothing was read.
+pub listed_none : (decoder : Decoder) (printer : Printer) (listing : Listing) (input written so_far : Option (List ℕ)) → Decoded decoder [] [] → Follows printer listing []
+    → Consumes input input [] → Appends written so_far (first_line listing) → HasListed decoder printer listing 0 input input written so_far
+listed_none decoder printer listing input written so_far decoded follows none sent = (
+  [],
+  [],
+  refl,
+  none,
+  record {
+    decoded = decoded;
+    follows = follows;
+    text = first_line listing;
+    lines = first_lines listing;
+    gathers = (first_line listing, sym (append-nil (first_line listing)), sent);
+  },
+)
+
+-- A front of the first line was written, and nothing was read.
+pub front_at_begin : (listing : Listing) (input written after : Option (List ℕ)) → Consumes input input [] → WritesFront written after (first_line listing)
+    → ListsFront listing input input written after
+front_at_begin listing input written after none front =
+    ([], [], [], [], 0, first_line listing, none, (inl refl, refl), tt, first_lines listing, front_longer written after (first_line listing) (last_line listing 0) front)

@@ -35,16 +35,16 @@ use Rattle.board_listing.proofs.SquareLemmas.{all_squares, differing_more, told}
 -- ---- the bytes of a line
 
 -- no control character, and so no LF
-abbrev IsPrinted : ℕ → Type 0
+abbrev pub IsPrinted : ℕ → Type 0
 IsPrinted byte = 31 < byte
 
-abbrev Printed : List ℕ → Type 0
+abbrev pub Printed : List ℕ → Type 0
 Printed text = AllByRecursion IsPrinted text
 
 both : (xs ys : List ℕ) → Printed xs → Printed ys → Printed (xs ++ ys)
 both xs ys h k = all_append IsPrinted xs ys h k
 
-abbrev are_printed : List ℕ → Bool
+abbrev pub are_printed : List ℕ → Bool
 are_printed [] = true
 are_printed (byte ∷ bytes) = if nat_lt 31 byte then are_printed bytes else false
 
@@ -52,7 +52,7 @@ if_both : (b c : Bool) → (if b then c else false) ≡ true → (b ≡ true) ×
 if_both true c e = (refl, e)
 if_both false c e = absurd (cc)
 
-fixed : (text : List ℕ) → are_printed text ≡ true → Printed text
+pub fixed : (text : List ℕ) → are_printed text ≡ true → Printed text
 fixed [] e = tt
 fixed (byte ∷ bytes) e =
     let parts = if_both (nat_lt 31 byte) (are_printed bytes) e in
@@ -114,13 +114,13 @@ clock_printed : (clock : Option Hms) → Printed (clock_words clock)
 clock_printed None = tt
 clock_printed (Some time) = (omega arith, (omega arith, (omega arith, (omega arith, (omega arith, (omega arith, (omega arith, (omega arith, tt))))))))
 
-result_printed : (result : Option Outcome) → Printed (result_words result)
+pub result_printed : (result : Option Outcome) → Printed (result_words result)
 result_printed None = fixed (codes "result *") refl
 result_printed (Some WhiteWins) = fixed (codes "result 1-0") refl
 result_printed (Some BlackWins) = fixed (codes "result 0-1") refl
 result_printed (Some Drawn) = fixed (codes "result 1/2-1/2") refl
 
-fault_printed : (kind : FaultKind) → Printed (codes "fault " ++ kind_text kind)
+pub fault_printed : (kind : FaultKind) → Printed (codes "fault " ++ kind_text kind)
 fault_printed Cut = fixed (codes "fault cut") refl
 fault_printed Stray = fixed (codes "fault stray") refl
 fault_printed Size = fixed (codes "fault size") refl
@@ -140,10 +140,10 @@ differing_printed (suc n) stands seen low =
     (square_printed (slice_index stands n == slice_index seen n) n (omega (arith, low))) in
     subst (λ k. Printed (differing k stands seen)) on (subst Printed (sym next) whole)
 
-squares_printed : (stands seen : List ℕ) → Printed (squares_text stands seen)
+pub squares_printed : (stands seen : List ℕ) → Printed (squares_text stands seen)
 squares_printed stands seen = subst Printed (all_squares stands seen) (differing_printed 64 stands seen (omega arith))
 
-waiting_printed : (squares : List ℕ) → Printed squares → Printed (waiting_words squares)
+pub waiting_printed : (squares : List ℕ) → Printed squares → Printed (waiting_words squares)
 waiting_printed [] h = fixed (codes "agrees") refl
 waiting_printed (byte ∷ bytes) h = both (codes "differs") (byte ∷ bytes) (fixed (codes "differs") refl) h
 
@@ -152,7 +152,7 @@ other_printed p words (inl (shown, is)) =
     subst Printed (sym is) (waiting_printed (squares_text (picture p) shown) (squares_printed (picture p) shown))
 other_printed p words (inr (kind, is)) = subst Printed (sym is) (fault_printed kind)
 
-ply_printed : TextsArePlain → (start : Parts) (before : List Ply) (word words : List ℕ) (ply : Ply) → Printed word → Valid (reached start (moves_of before))
+pub ply_printed : TextsArePlain → (start : Parts) (before : List Ply) (word words : List ℕ) (ply : Ply) → Printed word → Valid (reached start (moves_of before))
     → TellsLegal start before word ply words → Printed words
 ply_printed plain start before word words ply h valid t =
     let p = reached start (moves_of before) in
@@ -170,7 +170,7 @@ corrected_printed plain start [] words after valid played h = absurd h
 corrected_printed plain start (last ∷ earlier) words after valid played (ply, is, t) =
     ply_printed plain start earlier (codes "correction") words ply (fixed (codes "correction") refl) (valid_reached start (moves_of earlier) valid played.1) t
 
-words_printed : TextsArePlain → (start : Parts) (before : List Ply) (old : Option Outcome) (words : List ℕ) (after : List Ply) (new : Option Outcome)
+pub words_printed : TextsArePlain → (start : Parts) (before : List Ply) (old : Option Outcome) (words : List ℕ) (after : List Ply) (new : Option Outcome)
     → Valid start → Played start (moves_of before) → ChangesGame start words before old after new → Printed words
 words_printed plain start before old words after new valid played (inl ((ply, is, t), same)) =
     ply_printed plain start before (codes "move") words ply (fixed (codes "move") refl) (valid_reached start (moves_of before) valid played) t
@@ -182,7 +182,7 @@ words_printed plain start before old words after new valid played (inr (inr (inr
 abbrev pub IsLine : GameLine → Type 0
 IsLine told = (told.offset < limit) × Printed told.words
 
-are_lines : TextsArePlain → (start : Parts) (lines : List GameLine) (plies : List Ply) (result : Option Outcome) → Valid start
+pub are_lines : TextsArePlain → (start : Parts) (lines : List GameLine) (plies : List Ply) (result : Option Outcome) → Valid start
     → Gives start lines plies result → AreInStream lines → AllByRecursion IsLine lines
 are_lines plain start [] plies result valid h short = tt
 are_lines plain start (told ∷ earlier) plies result valid (before, old, gives, changes) short = (
@@ -262,7 +262,7 @@ never_empty front x e =
     let long = ap length e in
     omega (arith, long, length-append front (x ++ codes "\n"), length-append x (codes "\n"))
 
-lines_once : (lines others : List GameLine) → AllByRecursion IsLine lines → AllByRecursion IsLine others → text_of lines ≡ text_of others → lines ≡ others
+pub lines_once : (lines others : List GameLine) → AllByRecursion IsLine lines → AllByRecursion IsLine others → text_of lines ≡ text_of others → lines ≡ others
 lines_once [] [] h k e = refl
 lines_once [] (other ∷ others) h k e = absurd (never_empty (text_of others) (body other) e)
 lines_once (told ∷ lines) [] h k e = absurd (never_empty (text_of lines) (body told) (sym e))

@@ -24,7 +24,8 @@ kind_text Stray = codes "stray"
 kind_text Size = codes "size"
 kind_text Data = codes "data"
 
--- a dump as its 64 digits, an update as field and code, a time as its seven bytes, an `Other` message as identifier and size
+-- a dump as its 64 digits, an update as field and code, a time as its seven bytes, an `Other` message as identifier and
+-- size
 abbrev pub message_text : Message → List ℕ
 message_text (Dump pieces) = codes "dump " ++ map hex_digit pieces
 message_text (Update field code) = codes "update " ++ decimal field ++ codes " " ++ decimal code

@@ -31,8 +31,8 @@ TellsPly offset word start [] text = ⊥
 TellsPly offset word start (ply ∷ earlier) text = (san : List ℕ) × San (reached start (moves_of earlier)) ply.mv san
     × (text ≡ line offset (move_words word (reached start (moves_of earlier)) san ply.clock))
 
--- The text is what is said of what a picture shows, where this score now stands: a move or a correction; nothing of a sign;
--- of a picture that waits, the squares on which it differs from the position.
+-- The text is what is said of what a picture shows, where this score now stands: a move or a correction; nothing of a
+-- sign; of a picture that waits, the squares on which it differs from the position.
 abbrev pub TellsSeen : ℕ → Parts → Score → List ℕ → Seen → List ℕ → Type 0
 TellsSeen offset start score shown (Moved m) text = TellsPly offset (codes "move") start score.plies text
 TellsSeen offset start score shown (Replaced m) text = TellsPly offset (codes "correction") start score.plies text
@@ -48,8 +48,8 @@ HasResult start score result = IsResult (reached_by start score) score.sign resu
 abbrev pub TellsResult : ℕ → Option Outcome → Option Outcome → List ℕ → Type 0
 TellsResult offset old new text = ((new ≡ old) × (text ≡ [])) ⊎ ((new ≢ old) × (text ≡ line offset (result_words new)))
 
--- The text is the lines of an entry after these, whose picture differs from that of the one before: first what the picture
--- shows, then the result. The scores are those to which the entries fold, before it and with it.
+-- The text is the lines of an entry after these, whose picture differs from that of the one before: first what the
+-- picture shows, then the result. The scores are those to which the entries fold, before it and with it.
 pub record TellsEntry (offset : ℕ) (start : Parts) (past : List Entry) (entry : Entry) (text : List ℕ) : Type 0 where
   pub before : Score
   pub seen : Seen

@@ -48,15 +48,16 @@ CorrectsPly start (last ∷ earlier) words after = (ply : Ply) × (after ≡ ply
 abbrev pub IsOther : Parts → List ℕ → Type 0
 IsOther p words = ((shown : List ℕ) × (words ≡ waiting_words (squares_text (picture p) shown))) ⊎ ((kind : FaultKind) × (words ≡ codes "fault " ++ kind_text kind))
 
--- These words make the second plies and result of the first ones. Of a picture that waits, and of a fault, nothing changes.
+-- These words make the second plies and result of the first ones. Of a picture that waits, and of a fault, nothing
+-- changes.
 abbrev pub ChangesGame : Parts → List ℕ → List Ply → Option Outcome → List Ply → Option Outcome → Type 0
 ChangesGame start words before old after new = (AddsPly start before words after × (new ≡ old))
     ⊎ ((CorrectsPly start before words after × (new ≡ old))
     ⊎ (((after ≡ before) × (words ≡ result_words new))
     ⊎ ((after ≡ before) × (new ≡ old) × IsOther (reached start (moves_of before)) words)))
 
--- The lines, taken in order, give these plies and this result. Before the first one there is no ply, and the result is that of
--- the start: `*`, but where that is checkmate or stalemate.
+-- The lines, taken in order, give these plies and this result. Before the first one there is no ply, and the result is
+-- that of the start: `*`, but where that is checkmate or stalemate.
 abbrev pub Gives : Parts → List GameLine → List Ply → Option Outcome → Type 0
 Gives start [] plies result = (plies ≡ []) × IsResult start None result
 Gives start (told ∷ earlier) plies result = (before : List Ply) × (old : Option Outcome) × Gives start earlier before old

@@ -10,3 +10,10 @@ pub mod PictureLines
 pub mod Printers
 pub mod Progress
 pub mod Status
+pub mod Watchers
+pub mod WatchLines
+pub mod WatchText
+pub mod Plies
+pub mod Drawing
+pub mod Positions
+pub mod WatchLaws

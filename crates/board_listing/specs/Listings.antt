@@ -1,5 +1,5 @@
--- What `show`, `pictures` and `follow` list of a stream.
-use Rattle.std.specs.Prelude.{◌≡◌, ◌<◌, ◌≤◌, ◌+◌, ◌⊎◌, ℕ, List, [], ◌∷◌, ◌++◌, length, reverse, Option, IfSome, Bool, true, false, Contains, ⊤}
+-- What `show`, `pictures`, `follow` and `watch` list of a stream.
+use Rattle.std.specs.Prelude.{◌≡◌, ◌<◌, ◌≤◌, ◌⊎◌, ℕ, List, [], ◌∷◌, ◌++◌, length, reverse, Option, IfSome, Bool, true, false, Contains, ⊤}
 use Rattle.std.specs.List.{flat_map}
 use Rattle.std.specs.Io.KnownBytes.{Appends, Consumes, Keeps}
 use Rattle.watched_streams.specs.Output.{Gathers}
@@ -10,29 +10,45 @@ use Rattle.board_events.specs.Limits.{limit}
 use Rattle.board_events.specs.Session.{WantsMemory}
 use Rattle.board_events.specs.Pictures.{pictures}
 use Rattle.board_listing.specs.declared.listing.Listing.{Listing}
-use Rattle.board_listing.specs.declared.listing.Listing.TheVariants.{Events, Pictures, Game}
+use Rattle.board_listing.specs.declared.listing.Listing.TheVariants.{Events, Pictures, Game, Watched}
 use Rattle.board_listing.specs.GameText.{TellsEvents}
 use Rattle.board_listing.specs.EventLines.{line_of, rest_line}
+use Rattle.board_listing.specs.GivenGame.{GameLine, text_of}
 use Rattle.board_listing.specs.PictureLines.{placement_line}
+use Rattle.board_listing.specs.WatchLines.{position_words}
+use Rattle.board_listing.specs.WatchText.{Watches}
+use Rattle.watched_streams.specs.Lines.{line}
 
--- The text is the lines of these events, in their order: `show` has one for each, `pictures` one for each picture that differs
--- from the one before, and `follow` those of what each makes of the game.
+-- The text is the lines of these events, in their order: `show` has one for each, `pictures` one for each picture that
+-- differs from the one before, `follow` those of what each makes of the game, and `watch` these with what the board and
+-- the clocks show.
 abbrev pub HasLines : Listing → List Timed → List ℕ → Type 0
 HasLines Events events text = text ≡ flat_map line_of events
 HasLines (Pictures rotated) events text = text ≡ flat_map placement_line (reverse (pictures rotated (past_of events)))
 HasLines (Game start first rotated) events text = TellsEvents (record { start = start; first = first; rotated = rotated }) (reverse events) text
+HasLines (Watched start first rotated) events text = (lines : List GameLine)
+    × Watches (record { start = start; first = first; rotated = rotated }) (reverse events) lines × (text ≡ text_of lines)
 
--- the last line: `show` and `follow` tell how many bytes of an unfinished frame are left
+-- the first line: `watch` tells the position at the start
+abbrev pub first_line : Listing → List ℕ
+first_line Events = []
+first_line (Pictures rotated) = []
+first_line (Game start first rotated) = []
+first_line (Watched start first rotated) = line 0 (position_words start)
+
+-- the last line: `show`, `follow` and `watch` tell how many bytes of an unfinished frame are left
 abbrev pub last_line : Listing → ℕ → List ℕ
 last_line Events rest = rest_line rest
 last_line (Pictures rotated) rest = []
 last_line (Game start first rotated) rest = rest_line rest
+last_line (Watched start first rotated) rest = rest_line rest
 
--- After these events the memory for the next one may be refused: under `follow`, where it gives a move.
+-- After these events the memory for the next one may be refused: under `follow` and `watch`, where it gives a move.
 abbrev pub LacksMemory : Listing → List Timed → Timed → Type 0
 LacksMemory Events events x = ⊥
 LacksMemory (Pictures rotated) events x = ⊥
 LacksMemory (Game start first rotated) events x = WantsMemory (record { start = start; first = first; rotated = rotated }) (past_of events) x.event
+LacksMemory (Watched start first rotated) events x = WantsMemory (record { start = start; first = first; rotated = rotated }) (past_of events) x.event
 
 -- After these events no other was left out, or one for which memory ran out.
 abbrev pub Leaves : Listing → List Timed → List Timed → Type 0
@@ -60,26 +76,28 @@ ListsRead listing input input' written written' = (bytes : List ℕ) × (events 
 abbrev pub WritesFront : Option (List ℕ) → Option (List ℕ) → List ℕ → Type 0
 WritesFront written written' text = (left : List ℕ) × Gathers written written' left text
 
--- Of the bytes that were read, these show a text of which a front was written. The lines are those of all their events, or of
--- those before one for which memory ran out.
+-- Of the bytes that were read, these show a text of which a front was written. The lines are those of all their events,
+-- or of those before one for which memory ran out.
 abbrev pub ListsFront : Listing → Option (List ℕ) → Option (List ℕ) → Option (List ℕ) → Option (List ℕ) → Type 0
 ListsFront listing input input' written written' = (bytes after : List ℕ) × (events extra : List Timed) × (rest : ℕ) × (text : List ℕ)
     × Consumes input input' (bytes ++ after) × Shows bytes (events ++ extra) rest × Leaves listing events extra × HasLines listing events text
     × WritesFront written written' (text ++ last_line listing rest)
 
--- Of the bytes that were read, the last event that these show gives a move, the memory for it was refused, and the lines of the
--- events before it were written.
+-- Of the bytes that were read, the last event that these show gives a move, the memory for it was refused, and the
+-- lines of the events before it were written.
 abbrev pub ListsRefused : Listing → Option (List ℕ) → Option (List ℕ) → Option (List ℕ) → Option (List ℕ) → Type 0
 ListsRefused listing input input' written written' = (bytes after : List ℕ) × (events : List Timed) × (refused : Timed) × (rest : ℕ) × (text : List ℕ)
     × Consumes input input' (bytes ++ after) × Shows bytes (events ++ refused ∷ []) rest × LacksMemory listing events refused × HasLines listing events text
     × Appends written written' text
 
--- Out of memory, nothing was read or written; or, under `follow`, a move was refused.
+-- Out of memory, nothing was read or written; or, under `follow` and `watch`, a move was refused.
 abbrev pub EndsForMemory : Listing → Option (List ℕ) → Option (List ℕ) → Option (List ℕ) → Option (List ℕ) → Type 0
 EndsForMemory Events input input' written written' = Keeps input input' × Keeps written written'
 EndsForMemory (Pictures rotated) input input' written written' = Keeps input input' × Keeps written written'
 EndsForMemory (Game start first rotated) input input' written written' = (Keeps input input' × Keeps written written')
     ⊎ ListsRefused (Game start first rotated) input input' written written'
+EndsForMemory (Watched start first rotated) input input' written written' = (Keeps input input' × Keeps written written')
+    ⊎ ListsRefused (Watched start first rotated) input input' written written'
 
 -- How a listing ends, by its status.
 pub record ListingEnds (listing : Listing) (status : ℕ) (input input' written written' : Option (List ℕ)) (reader_failed out_failed : Bool) : Type 0 where

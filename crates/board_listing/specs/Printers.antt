@@ -6,23 +6,31 @@ use Rattle.board_events.specs.Pictures.{IsLast, pictures}
 use Rattle.board_events.specs.View.{Views}
 use Rattle.chess_text.specs.KeptRanks.{picture_in}
 use Rattle.board_listing.specs.declared.printer.Printer.{Printer}
-use Rattle.board_listing.specs.declared.printer.Printer.TheVariants.{Events as EachEvent, Pictures as EachPicture, Game as EachMove}
+use Rattle.board_listing.specs.declared.printer.Printer.TheVariants.{Events as EachEvent, Pictures as EachPicture, Game as EachMove, Watched as EachThing}
 use Rattle.board_listing.specs.declared.listing.Listing.{Listing}
-use Rattle.board_listing.specs.declared.listing.Listing.TheVariants.{Events, Pictures, Game}
+use Rattle.board_listing.specs.declared.listing.Listing.TheVariants.{Events, Pictures, Game, Watched}
 use Rattle.board_listing.specs.Followers.{HasFollowed}
 use Rattle.board_listing.specs.Listings.{HasLines}
+use Rattle.board_listing.specs.Watchers.{HasWatched}
 
 -- The printer, which prints this, has followed these events.
 abbrev pub Follows : Printer → Listing → List Timed → Type 0
 Follows EachEvent Events events = ⊤
 Follows EachEvent (Pictures rotated) events = ⊥
 Follows EachEvent (Game start first rotated) events = ⊥
+Follows EachEvent (Watched start first rotated) events = ⊥
 Follows (EachPicture view placement) Events events = ⊥
 Follows (EachPicture view placement) (Pictures rotated) events = Views view rotated (past_of events) × IsLast (picture_in placement) (pictures rotated (past_of events))
 Follows (EachPicture view placement) (Game start first rotated) events = ⊥
+Follows (EachPicture view placement) (Watched start first rotated) events = ⊥
 Follows (EachMove follower) Events events = ⊥
 Follows (EachMove follower) (Pictures rotated) events = ⊥
 Follows (EachMove follower) (Game start first rotated) events = HasFollowed follower (record { start = start; first = first; rotated = rotated }) (past_of events)
+Follows (EachMove follower) (Watched start first rotated) events = ⊥
+Follows (EachThing watcher) Events events = ⊥
+Follows (EachThing watcher) (Pictures rotated) events = ⊥
+Follows (EachThing watcher) (Game start first rotated) events = ⊥
+Follows (EachThing watcher) (Watched start first rotated) events = HasWatched watcher (record { start = start; first = first; rotated = rotated }) (past_of events)
 
 -- It has followed some events.
 abbrev pub HasBegun : Printer → Type 0

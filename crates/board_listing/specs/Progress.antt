@@ -25,7 +25,8 @@ Stops Write extra begin written' text = WritesFront begin written' text
 Stops Read extra begin written' text = ⊥
 Stops TooLong extra begin written' text = ⊥
 
--- Of these events the lines of all, or of all but one for which memory ran out, were written, as far as this refusal says.
+-- Of these events the lines of all, or of all but one for which memory ran out, were written, as far as this refusal
+-- says.
 pub record Broken (error : ListError) (listing : Listing) (events : List Timed) (begin written' : Option (List ℕ)) : Type 0 where
   pub taken : List Timed
   pub extra : List Timed
@@ -40,8 +41,8 @@ abbrev pub BreaksLines : Printer → Option (List ℕ) → List ℕ → Timed �
 BreaksLines old written waiting x error written' = (listing : Listing) (events : List Timed) (text : List ℕ) (begin : Option (List ℕ))
     → Follows old listing events → HasLines listing events text → Gathers begin written waiting text → Broken error listing (events ++ x ∷ []) begin written'
 
--- A decoder was given these bytes and a printer has followed their events, of which the lines were written but for those that
--- wait.
+-- A decoder was given these bytes and a printer has followed their events, of which the lines were written but for
+-- those that wait.
 pub record Stands (decoder : Decoder) (printer : Printer) (listing : Listing) (bytes : List ℕ) (events : List Timed)
     (begin written : Option (List ℕ)) (waiting : List ℕ) : Type 0 where
   pub decoded : Decoded decoder bytes events

@@ -107,7 +107,8 @@ fn add_event(lines: &mut Lines, event: &Event)
 pub fn add_line(lines: &mut Lines, offset: u32, event: &Event)
     requires room { array_vec_len lines.old + LONGEST ≤ GATHERED }
     requires frame { HasFrame event.now }
-    ensures { lines.new.items ≡ lines.old.items ++ line_of (record { offset = offset; event = event.now }) }
+    ensures items { lines.new.items ≡ lines.old.items ++ line_of (record { offset = offset; event = event.now }) }
+    ensures len { array_vec_len lines.new ≤ array_vec_len lines.old + LONGEST }
 {
     add_number(lines, offset);
     lines.push(b' ');

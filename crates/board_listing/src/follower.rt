@@ -32,7 +32,7 @@ fn add_last(lines: &mut Lines, offset: u32, word: &[u8], settler: &Settler)
 }
 
 /// Adds the line of what the last picture showed, where there is one.
-fn add_seen(lines: &mut Lines, offset: u32, seen: &Seen, settler: &Settler)
+pub fn add_seen(lines: &mut Lines, offset: u32, seen: &Seen, settler: &Settler)
     requires room { array_vec_len lines.old + 224 ≤ GATHERED }
     requires may { MayTell settler.now.start settler.now.score seen.now }
     ensures told { (shown : List ℕ) → settler.now.last ≡ Some shown → (text : List ℕ)
@@ -49,7 +49,7 @@ fn add_seen(lines: &mut Lines, offset: u32, seen: &Seen, settler: &Settler)
 }
 
 /// The result of the game so far. A picture that waits leaves what was told.
-fn result_now(settler: &Settler, seen: &Seen, told: Option<Outcome>) -> Option<Outcome>
+pub fn result_now(settler: &Settler, seen: &Seen, told: Option<Outcome>) -> Option<Outcome>
     ensures { (seen.now ≡ SeenOf.Waits → HasResult settler.now.start settler.now.score told)
         → HasResult settler.now.start settler.now.score result }
 {
@@ -59,7 +59,7 @@ fn result_now(settler: &Settler, seen: &Seen, told: Option<Outcome>) -> Option<O
     }
 }
 
-fn is_same(a: Option<Outcome>, b: Option<Outcome>) -> bool
+pub fn is_same(a: Option<Outcome>, b: Option<Outcome>) -> bool
     ensures { IsTrue result ↔ (a ≡ b) }
 {
     a == b
@@ -75,7 +75,7 @@ fn add_new_result(lines: &mut Lines, offset: u32, old: Option<Outcome>, new: Opt
     }
 }
 
-fn is_news(seen: &Seen) -> bool
+pub fn is_news(seen: &Seen) -> bool
     ensures { IsTrue result ↔ (seen.now ≢ SeenOf.Same) }
 {
     !matches!(seen, Seen::Same)
@@ -84,9 +84,9 @@ fn is_news(seen: &Seen) -> bool
 /// Follows the game of the events of a board, and makes the lines of what each event makes of it.
 #[derive(Drop)]
 pub struct Follower {
-    session: Session,
+    pub session: Session,
     /// The result that was told last: that of the game so far.
-    told: Option<Outcome>,
+    pub told: Option<Outcome>,
 }
 
 impl Follower {

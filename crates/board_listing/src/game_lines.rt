@@ -17,7 +17,7 @@ use settle_core::{Outcome, Ply};
 use watched_streams::{GATHERED, Lines, add, add_number};
 
 /// Adds the offset of an event, behind which it is told.
-fn add_offset(lines: &mut Lines, offset: u32)
+pub fn add_offset(lines: &mut Lines, offset: u32)
     requires { array_vec_len lines.old + 11 ≤ GATHERED }
     ensures items { lines.new.items ≡ lines.old.items ++ decimal offset ++ codes " " }
     ensures len { array_vec_len lines.new ≤ array_vec_len lines.old + 11 }
@@ -26,7 +26,8 @@ fn add_offset(lines: &mut Lines, offset: u32)
     add(lines, b" ");
 }
 
-fn add_time(lines: &mut Lines, time: Hms)
+/// Adds a clock's time.
+pub fn add_time(lines: &mut Lines, time: Hms)
     requires { array_vec_len lines.old + 7 ≤ GATHERED }
     ensures items { lines.new.items ≡ lines.old.items ++ time_text time }
     ensures len { array_vec_len lines.new ≡ array_vec_len lines.old + 7 }
@@ -131,6 +132,22 @@ fn add_squares(lines: &mut Lines, mask: u64)
     }
 }
 
+/// Adds what is said of a picture that waits, and differs from the position on these squares; with it the line ends.
+pub fn add_waiting_words(lines: &mut Lines, differs: u64)
+    requires { array_vec_len lines.old + 213 ≤ GATHERED }
+    ensures told { (stands seen : List ℕ) → IsDiff differs stands seen
+        → lines.new.items ≡ lines.old.items ++ waiting_words (squares_text stands seen) ++ codes "\n" }
+    ensures len { array_vec_len lines.new ≤ array_vec_len lines.old + 213 }
+{
+    if differs == 0 {
+        add(lines, b"agrees\n");
+    } else {
+        add(lines, b"differs");
+        add_squares(lines, differs);
+        add(lines, b"\n");
+    }
+}
+
 /// Adds the line of a picture that waits, and differs from the position on these squares.
 pub fn add_waiting(lines: &mut Lines, offset: u32, differs: u64)
     requires { array_vec_len lines.old + 224 ≤ GATHERED }
@@ -139,11 +156,5 @@ pub fn add_waiting(lines: &mut Lines, offset: u32, differs: u64)
     ensures len { array_vec_len lines.new ≤ array_vec_len lines.old + 224 }
 {
     add_offset(lines, offset);
-    if differs == 0 {
-        add(lines, b"agrees\n");
-    } else {
-        add(lines, b"differs");
-        add_squares(lines, differs);
-        add(lines, b"\n");
-    }
+    add_waiting_words(lines, differs);
 }

@@ -1,10 +1,11 @@
-//! What the lines of `follow` give, each law as the contract of a function that does nothing.
+//! What the lines of `follow` and `watch` give, each law as the contract of a function that does nothing.
 ghost use Rattle.board_listing.specs.GivenGame.{LinesGiveOneGame, LinesGiveTheGame, TextTellsTheGame, TextTellsTheLines};
+ghost use Rattle.board_listing.specs.WatchLaws.{WatchNamesThePositions, WatchShowsThePictures, WatchTellsWhatFollowTells};
 
 use chess_text::laws::{texts_are_plain, texts_tell_moves};
 
-/// The lines that `follow` tells of events give their game: taken in order, where a move adds a ply and a correction takes the
-/// place of the last one, they give its plies, with their clocks, and its result.
+/// The lines that `follow` tells of events give their game: taken in order, where a move adds a ply and a correction
+/// takes the place of the last one, they give its plies, with their clocks, and its result.
 pub fn lines_give_the_game()
     ensures { LinesGiveTheGame }
 {}
@@ -18,8 +19,8 @@ pub fn lines_give_one_game()
     texts_tell_moves();
 }
 
-/// A text of lines of `follow` tells the lines: no other lines that give a game have it. The line of the rest may stand behind
-/// them.
+/// A text of lines of `follow` tells the lines: no other lines that give a game have it. The line of the rest may stand
+/// behind them.
 pub fn text_tells_the_lines()
     ensures { TextTellsTheLines }
 {
@@ -34,4 +35,22 @@ pub fn text_tells_the_game()
     // For its clause: the laws that this one rests on.
     text_tells_the_lines();
     lines_give_one_game();
+}
+
+/// Without the lines that tell a picture, a position or what the clocks show, the text of `watch` is that of `follow`.
+pub fn watch_tells_what_follow_tells()
+    ensures { WatchTellsWhatFollowTells }
+{}
+
+/// The lines of `watch` that tell a picture are, without offset and word, those of `pictures`.
+pub fn watch_shows_the_pictures()
+    ensures { WatchShowsThePictures }
+{}
+
+/// Each line of `watch` that tells a position has that which the lines of `follow` before it give.
+pub fn watch_names_the_positions()
+    ensures { WatchNamesThePositions }
+{
+    // For its clause: the law that this one rests on.
+    texts_are_plain();
 }

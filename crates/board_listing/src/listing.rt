@@ -17,4 +17,10 @@ pub enum Listing {
         first: First,
         rotated: bool,
     },
+    /// The same, and between the lines each picture, each position of the game and each reading of the clocks.
+    Watched {
+        start: Position,
+        first: First,
+        rotated: bool,
+    },
 }

@@ -3,18 +3,30 @@ ghost use Rattle.std.specs.Prelude.{◌≡◌, ◌≤◌, ◌+◌, ◌∷◌, []
 ghost use Rattle.arrayvec.specs.ArrayVec.{array_vec_len};
 ghost use Rattle.dgt_frame.specs.Streams.{HasFrame, Timed};
 ghost use Rattle.board_listing.specs.declared.listing.Listing.{Listing};
-ghost use Rattle.board_listing.specs.Listings.{LacksMemory, last_line};
+ghost use Rattle.board_listing.specs.Listings.{LacksMemory, first_line, last_line};
 ghost use Rattle.board_listing.specs.Printers.{AddsLines, Follows, HasBegun};
 
 use crate::events::{add_line, add_rest};
 use crate::follower::Follower;
 use crate::listing::Listing;
 use crate::pictures::add_placement;
+use crate::watch_lines::{ROOM, add_position};
+use crate::watcher::Watcher;
 use board_events::{Change, View};
 use chess_text::PlacementText;
 use dgt_frame::Event;
 use std::alloc::{AllocError, Global};
-use watched_streams::{GATHERED, LONGEST, Lines};
+use watched_streams::{GATHERED, Lines};
+
+/// Adds the first line, if there is one: it stands before those of all events.
+pub fn add_first(lines: &mut Lines, listing: &Listing)
+    requires { array_vec_len lines.old + ROOM ≤ GATHERED }
+    ensures { lines.new.items ≡ lines.old.items ++ first_line listing.now }
+{
+    if let Listing::Watched { start, .. } = listing {
+        add_position(lines, 0, start);
+    }
+}
 
 /// Follows the events of a stream, and makes the lines that are listed of them.
 #[derive(Drop)]
@@ -22,6 +34,7 @@ pub enum Printer {
     Events,
     Pictures(View, PlacementText),
     Game(Follower),
+    Watched(Watcher),
 }
 
 impl Printer {
@@ -39,16 +52,22 @@ impl Printer {
                 first,
                 rotated,
             } => { Printer::Game(Follower::new(alloc, start, first, rotated)) }
+            Listing::Watched {
+                start,
+                first,
+                rotated,
+            } => { Printer::Watched(Watcher::new(alloc, start, first, rotated)) }
         }
     }
 
-    /// Adds the lines of an event at this offset: two, one or none.
+    /// Adds the lines of an event at this offset: five at most, or none.
     ///
     /// # Errors
     ///
-    /// Memory is taken only under `Game`, where the event gives a move. Where that is refused, no line is added.
+    /// Memory is taken only under `Game` and `Watched`, where the event gives a move. Where that is refused, no line is
+    /// added.
     pub fn add(&mut self, lines: &mut Lines, offset: u32, event: &Event) -> Result<(), AllocError>
-        requires room { array_vec_len lines.old + LONGEST ≤ GATHERED }
+        requires room { array_vec_len lines.old + ROOM ≤ GATHERED }
         requires frame { HasFrame event.now }
         requires begun { HasBegun self.old }
         ensures ok { OnOk result (AddsLines self.old lines.old.items (record { offset = offset; event = event.now }) self.new lines.new.items) }
@@ -76,17 +95,18 @@ impl Printer {
                 Ok(())
             }
             Printer::Game(follower) => follower.add(lines, offset, event),
+            Printer::Watched(watcher) => watcher.add(lines, offset, event),
         }
     }
 
     /// Adds the last line, if there is one.
     pub fn end(&self, lines: &mut Lines, rest: u16)
-        requires { array_vec_len lines.old + LONGEST ≤ GATHERED }
+        requires { array_vec_len lines.old + ROOM ≤ GATHERED }
         ensures { (listing : Listing) (events : List Timed) → Follows self.now listing events
             → lines.new.items ≡ lines.old.items ++ last_line listing rest }
     {
         match self {
-            Printer::Events | Printer::Game(_) => add_rest(lines, rest),
+            Printer::Events | Printer::Game(_) | Printer::Watched(_) => add_rest(lines, rest),
             Printer::Pictures(..) => {}
         }
     }

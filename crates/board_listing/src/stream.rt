@@ -1,20 +1,22 @@
-//! Streams to lines: the subcommands `show`, `pictures` and `follow`.
+//! Streams to lines: the subcommands `show`, `pictures`, `follow` and `watch`.
 ghost use Rattle.std.specs.Prelude.{◌≡◌, ◌<◌, ◌≤◌, ◌+◌, ◌^◌, [], length, IfErr, OnOk, OnErr, Err, true, false};
+ghost use Rattle.std.specs.Io.KnownBytes.{Appends};
 ghost use Rattle.dgt_frame.specs.Streams.{HasFrame};
 ghost use Rattle.watched_streams.specs.Watch.{inner_of, has_failed};
 ghost use Rattle.watched_streams.specs.Input.{ReadsWithin};
-ghost use Rattle.board_listing.specs.Listings.{ListsAll, ListsFirst, ListsFront, ListsRead, ListsRefused};
+ghost use Rattle.board_listing.specs.Listings.{ListsAll, ListsFirst, ListsFront, ListsRead, ListsRefused, WritesFront, first_line};
 ghost use Rattle.arrayvec.specs.ArrayVec.{array_vec_len};
 ghost use Rattle.board_listing.specs.Printers.{HasBegun};
 ghost use Rattle.board_listing.specs.Progress.{BreaksLines, BreaksOff, FinishBreaksOff, Finishes, GathersEvent, HasTaken, ListsChunk};
 ghost use Rattle.board_listing.specs.Status.{status_of, message_of};
 
 use crate::listing::Listing;
-use crate::printer::Printer;
+use crate::printer::{Printer, add_first};
+use crate::watch_lines::ROOM;
 use dgt_frame::{BLANK, Decoder, Event, LIMIT};
 use std::alloc::Global;
 use std::io::{Read, Write};
-use watched_streams::{CHUNK, GATHERED, LONGEST, Lines, Watch, WriteFault, put, read_chunk};
+use watched_streams::{CHUNK, GATHERED, Lines, Watch, WriteFault, put, read_chunk};
 
 /// Why a listing gave up.
 #[derive(Clone, Copy, Debug, PartialEq, Eq)]
@@ -54,8 +56,8 @@ impl ListError {
     }
 }
 
-/// Adds the lines of an event, and writes those that wait where there is no room for another's. Where memory runs out, those
-/// of the events before it are written.
+/// Adds the lines of an event, and writes those that wait where there is no room for another's. Where memory runs out,
+/// those of the events before it are written.
 fn gather<O: Write>(
     printer: &mut Printer,
     lines: &mut Lines,
@@ -66,10 +68,10 @@ fn gather<O: Write>(
     requires working { has_failed out.old ≡ false }
     requires frame { HasFrame event.now }
     requires begun { HasBegun printer.old }
-    requires room { array_vec_len lines.old + LONGEST ≤ GATHERED }
+    requires room { array_vec_len lines.old + ROOM ≤ GATHERED }
     ensures ok { OnOk result (GathersEvent printer.old (O.contents (inner_of out.old)) lines.old.items (record { offset = offset; event = event.now })
         printer.new (O.contents (inner_of out.new)) lines.new.items) }
-    ensures room { OnOk result (array_vec_len lines.new + LONGEST ≤ GATHERED) }
+    ensures room { OnOk result (array_vec_len lines.new + ROOM ≤ GATHERED) }
     ensures begun { OnOk result (HasBegun printer.new) }
     ensures working { OnOk result (has_failed out.new ≡ false) }
     ensures broken { IfErr result (λ error. BreaksLines printer.old (O.contents (inner_of out.old)) lines.old.items
@@ -82,7 +84,7 @@ fn gather<O: Write>(
             Err(_) => Err(ListError::Write),
         };
     }
-    if lines.len() + LONGEST > GATHERED {
+    if lines.len() + ROOM > GATHERED {
         if put(out, lines.as_slice()).is_err() {
             return Err(ListError::Write);
         }
@@ -126,6 +128,19 @@ fn list_chunk<O: Write>(
     }
 }
 
+/// Writes the first line, if there is one.
+fn begin<O: Write>(listing: &Listing, out: &mut Watch<O>) -> Result<(), WriteFault>
+    requires working { has_failed out.old ≡ false }
+    ensures ok { OnOk result (Appends (O.contents (inner_of out.old)) (O.contents (inner_of out.new)) (first_line listing.now)) }
+    ensures working { OnOk result (has_failed out.new ≡ false) }
+    ensures front { OnErr result (WritesFront (O.contents (inner_of out.old)) (O.contents (inner_of out.new)) (first_line listing.now)) }
+    ensures failed { OnErr result (has_failed out.new ≡ true) }
+{
+    let mut lines = Lines::new();
+    add_first(&mut lines, listing);
+    put(out, lines.as_slice())
+}
+
 fn finish<O: Write>(
     decoder: &Decoder,
     printer: &Printer,
@@ -142,9 +157,10 @@ fn finish<O: Write>(
     put(out, lines.as_slice())
 }
 
-/// Writes the lines of a stream of board bytes. Those of a chunk are written before the next read, so that those of a slow
-/// board stand as they come. It doesn't flush. At most 67,108,865 bytes are read, the last one only to see that there are more
-/// than a stream may have. No stream may have failed before. Memory is taken under `Listing::Game` alone, for plies.
+/// Writes the lines of a stream of board bytes. Those of a chunk are written before the next read, so that those of a
+/// slow board stand as they come. It doesn't flush. At most 67,108,865 bytes are read, the last one only to see that
+/// there are more than a stream may have. No stream may have failed before. Memory is taken under `Listing::Game` and
+/// `Listing::Watched` alone, for plies.
 ///
 /// # Errors
 ///
@@ -153,8 +169,10 @@ fn finish<O: Write>(
 /// - `TooLong`: there are more than 67,108,864 bytes. The lines of the first 67,108,864 were written.
 /// - `Memory`: there was none for the move that an event gives. The lines of the events before this one were written.
 ///
-/// Under `Listing::Events` and `Listing::Game` a last line tells how many bytes of an unfinished frame are left. It comes only
-/// at the end of the stream.
+/// Under `Listing::Watched` a first line, written before anything is read, tells the position at the start.
+///
+/// Under each listing but `Listing::Pictures` a last line tells how many bytes of an unfinished frame are left. It
+/// comes only at the end of the stream.
 pub fn list_stream<R: Read, O: Write>(
     alloc: Global,
     listing: Listing,
@@ -168,8 +186,9 @@ pub fn list_stream<R: Read, O: Write>(
     ensures reading { result ≡ Err ListError.Read → has_failed reader.new ≡ true }
     ensures working { result ≡ Err ListError.Write → has_failed out.new ≡ true }
 
-    // Before a read nobody knows whether it will fail, and after one that failed nothing may be written, since a write might
-    // fail. So each read begins with the lines of all bytes before it written, as `read` says of those that stand then.
+    // Before a read nobody knows whether it will fail, and after one that failed nothing may be written, since a write
+    // might fail. So each read begins with the lines of all bytes before it written, as `read` says of those that stand
+    // then.
     ensures reader_blamed { has_failed reader.new ≡ true → (result ≡ Err ListError.Read) × (has_failed out.new ≡ false) }
     ensures whole { OnOk result ((has_failed reader.new ≡ false) × (has_failed out.new ≡ false)) }
     ensures bounded { ReadsWithin LIMIT (R.remaining (inner_of reader.old)) (R.remaining (inner_of reader.new)) }
@@ -186,6 +205,9 @@ pub fn list_stream<R: Read, O: Write>(
         (R.remaining (inner_of reader.old)) (R.remaining (inner_of reader.new))
         (O.contents (inner_of out.old)) (O.contents (inner_of out.new)) }
 {
+    if begin(&listing, out).is_err() {
+        return Err(ListError::Write);
+    }
     let mut decoder = Decoder::new();
     let mut printer = Printer::new(alloc, listing);
     let mut buffer = [0u8; CHUNK];

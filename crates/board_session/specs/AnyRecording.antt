@@ -1,4 +1,5 @@
--- What holds of what `record` leaves, whatever it returned: of the game whose text it wrote, wholly or as far as it went.
+-- What holds of what `record` leaves, whatever it returned: of the game whose text it wrote, wholly or as far as it
+-- went.
 use Rattle.std.specs.Prelude.{◌≡◌, ◌⊎◌, ℕ, List, [], ◌++◌, ◌∷◌, Option, None, Some, Result as ResultOf, reverse}
 use Rattle.chess_rules.specs.declared.chess_move.Move.{Move}
 use Rattle.chess_rules.specs.Valid.{Valid}
@@ -46,18 +47,20 @@ abbrev pub NothingWrittenIsInvented : Type 0
 NothingWrittenIsInvented = (setup : Setup) (left : Left setup)
     → WereShown (setting_of setup) (reverse left.leaves.game.plies) (past_of left.leaves.taken)
 
--- Only the last ply may change: the game of a stream has all plies but the last of the game of its first bytes. `extra` are the
--- events for which memory ran out.
+-- Only the last ply may change: the game of a stream has all plies but the last of the game of its first bytes. `extra`
+-- are the events for which memory ran out.
 abbrev pub OnlyTheLastPlyIsRewritten : Type 0
 OnlyTheLastPlyIsRewritten = (setup : Setup) (left : Left setup) (bytes more : List ℕ) (events : List Timed) (rest : ℕ) (before : Content)
     → left.leaves.front ≡ bytes ++ more → left.leaves.extra ≡ []
     → Shows bytes events rest → IsGameOf before (setting_of setup) setup.tags (past_of events)
     → KeepsAllButLast before.plies left.leaves.game.plies
 
--- Honest play resumes: where the board agreed with the game of the first events taken, the moves that the later ones show honestly
--- are added to its plies, and nothing else is; so it is where that play stops, and where the kings end it.
+-- Honest play resumes: where the board agreed with the game of the first events taken, the moves that the later ones
+-- show honestly are added to its plies, and nothing else is; so it is where that play stops, and where the kings end
+-- it.
 abbrev pub ResumedPlayIsWritten : Type 0
-ResumedPlayIsWritten = (setup : Setup) (left : Left setup) (first later : List Timed) (before : Content) (moves : List Move) (lists : List (List Entry))
+ResumedPlayIsWritten = (setup : Setup) (left : Left setup) (first later : List Timed) (before : Content) (moves : List Move)
+    (lists : List (List Entry))
     → left.leaves.taken ≡ first ++ later
     → Agrees before (setting_of setup) setup.tags (past_of first)
     → ShowsOn (end_of before) moves lists
@@ -66,7 +69,8 @@ ResumedPlayIsWritten = (setup : Setup) (left : Left setup) (first later : List T
     × Result setup.start left.leaves.game.plies None left.leaves.game.result
 
 abbrev pub ResumedStopIsWritten : Type 0
-ResumedStopIsWritten = (setup : Setup) (left : Left setup) (first later : List Timed) (before : Content) (moves : List Move) (lists : List (List Entry))
+ResumedStopIsWritten = (setup : Setup) (left : Left setup) (first later : List Timed) (before : Content) (moves : List Move)
+    (lists : List (List Entry))
     (part : List Entry)
     → left.leaves.taken ≡ first ++ later
     → Agrees before (setting_of setup) setup.tags (past_of first)
@@ -77,7 +81,8 @@ ResumedStopIsWritten = (setup : Setup) (left : Left setup) (first later : List T
     × Result setup.start left.leaves.game.plies None left.leaves.game.result
 
 abbrev pub ResumedEndIsWritten : Type 0
-ResumedEndIsWritten = (setup : Setup) (left : Left setup) (first later : List Timed) (before : Content) (moves : List Move) (lists : List (List Entry))
+ResumedEndIsWritten = (setup : Setup) (left : Left setup) (first later : List Timed) (before : Content) (moves : List Move)
+    (lists : List (List Entry))
     (clearing rest : List Entry) (kings : Entry) (outcome : Outcome)
     → left.leaves.taken ≡ first ++ later
     → Agrees before (setting_of setup) setup.tags (past_of first)
@@ -89,8 +94,8 @@ ResumedEndIsWritten = (setup : Setup) (left : Left setup) (first later : List Ti
     → (left.leaves.game.plies ≡ before.plies ++ shown_plies (end_of before) moves lists)
     × Result setup.start left.leaves.game.plies (Some outcome) left.leaves.game.result
 
--- While both kings stand in the centre no move is made: where all entries of later events show them there, the plies are those of
--- the first events.
+-- While both kings stand in the centre no move is made: where all entries of later events show them there, the plies
+-- are those of the first events.
 abbrev pub KingsInCentreWriteNoMove : Type 0
 KingsInCentreWriteNoMove = (setup : Setup) (left : Left setup) (first later : List Timed) (before : Content) (shown : List Entry)
     → left.leaves.taken ≡ first ++ later
@@ -99,11 +104,12 @@ KingsInCentreWriteNoMove = (setup : Setup) (left : Left setup) (first later : Li
     → AllShowBothKings shown
     → left.leaves.game.plies ≡ before.plies
 
--- Honest play and its end are recorded: where the entries of the events are, repeated pictures aside, those of lists that show a
--- line of moves, and then pieces taken off and perhaps the kings in the centre, the game has the plies of the line, and the result
--- of its last position, else the sign's.
+-- Honest play and its end are recorded: where the entries of the events are, repeated pictures aside, those of lists
+-- that show a line of moves, and then pieces taken off and perhaps the kings in the centre, the game has the plies of
+-- the line, and the result of its last position, else the sign's.
 abbrev pub HonestEndIsRecorded : Type 0
-HonestEndIsRecorded = (setting : Setting) (tags : TagValues) (past : List Event) (game : Content) (moves : List Move) (lists : List (List Entry))
+HonestEndIsRecorded = (setting : Setting) (tags : TagValues) (past : List Event) (game : Content) (moves : List Move)
+    (lists : List (List Entry))
     (end : List Entry) (sign : Option Outcome)
     → Valid setting.start → Line setting.start moves → ShownEach setting.start moves lists
     → IsEnd (position_after setting.start moves) sign end
@@ -124,7 +130,8 @@ HasLine setting moves lists sign game = (game.plies ≡ shown_plies setting.star
 
 -- And where this is broken off anywhere, in a move, between two, or after the last one.
 abbrev pub HonestStopAnywhereIsRecorded : Type 0
-HonestStopAnywhereIsRecorded = (setting : Setting) (tags : TagValues) (past : List Event) (game : Content) (moves : List Move) (lists : List (List Entry))
+HonestStopAnywhereIsRecorded = (setting : Setting) (tags : TagValues) (past : List Event) (game : Content) (moves : List Move)
+    (lists : List (List Entry))
     (end : List Entry) (sign : Option Outcome) (first rest : List Entry)
     → Valid setting.start → Line setting.start moves → ShownEach setting.start moves lists
     → IsEnd (position_after setting.start moves) sign end
@@ -133,23 +140,27 @@ HonestStopAnywhereIsRecorded = (setting : Setting) (tags : TagValues) (past : Li
     → IsGameOf game setting tags past
     → HasFrontOf setting moves lists first game ⊎ HasLine setting moves lists sign game
 
--- The bytes show these pictures, in their order, each perhaps several times in a row, and then perhaps a frame that is not at its
--- end.
+-- The bytes show these pictures, in their order, each perhaps several times in a row, and then perhaps a frame that is
+-- not at its end.
 pub record ShowsPictures (setting : Setting) (bytes : List ℕ) (shown : List Entry) : Type 0 where
   pub events : List Timed
   pub rest : ℕ
   pub shows : Shows bytes events rest
   pub are : deduplicated (entries_in setting (past_of events)) ≡ deduplicated (reverse shown)
 
--- Of `record`, whatever it returned, where memory didn't run out: where the bytes that it decoded show honest play and its end, the
--- game has exactly the plies of the line, with their clocks, and the result of its last position, else the sign's.
+-- Of `record`, whatever it returned, where memory didn't run out: where the bytes that it decoded show honest play and
+-- its end, the game has exactly the plies of the line, with their clocks, and the result of its last position, else the
+-- sign's.
 abbrev pub HonestEndIsWritten : Type 0
-HonestEndIsWritten = (setup : Setup) (left : Left setup) (moves : List Move) (lists : List (List Entry)) (end : List Entry) (sign : Option Outcome)
+HonestEndIsWritten = (setup : Setup) (left : Left setup) (moves : List Move) (lists : List (List Entry)) (end : List Entry)
+    (sign : Option Outcome)
     → Line setup.start moves → ShownEach setup.start moves lists → IsEnd (position_after setup.start moves) sign end
     → ShowsPictures (setting_of setup) left.leaves.front (joined lists ++ end) → left.leaves.extra ≡ []
-    → (left.leaves.game.plies ≡ shown_plies setup.start moves lists) × Result setup.start left.leaves.game.plies sign left.leaves.game.result
+    → (left.leaves.game.plies ≡ shown_plies setup.start moves lists)
+    × Result setup.start left.leaves.game.plies sign left.leaves.game.result
 
--- The entries taken are the first of these, repeated pictures aside, and the game is that of a front of honest play, or of the line.
+-- The entries taken are the first of these, repeated pictures aside, and the game is that of a front of honest play, or
+-- of the line.
 pub record HasStop (setting : Setting) (moves : List Move) (lists : List (List Entry)) (end : List Entry) (sign : Option Outcome)
     (taken : List Entry) (game : Content) : Type 0 where
   pub first : List Entry
@@ -158,8 +169,8 @@ pub record HasStop (setting : Setting) (moves : List Move) (lists : List (List E
   pub taken_are : deduplicated taken ≡ deduplicated (reverse first)
   pub game_is : HasFrontOf setting moves lists first game ⊎ HasLine setting moves lists sign game
 
--- Of `record`, whatever ended it and wherever: where the bytes that it decoded, with whatever more was to come, show honest play and
--- its end.
+-- Of `record`, whatever ended it and wherever: where the bytes that it decoded, with whatever more was to come, show
+-- honest play and its end.
 abbrev pub HonestStopAnywhereIsWritten : Type 0
 HonestStopAnywhereIsWritten = (setup : Setup) (left : Left setup) (more : List ℕ) (moves : List Move) (lists : List (List Entry))
     (end : List Entry) (sign : Option Outcome)
@@ -167,10 +178,11 @@ HonestStopAnywhereIsWritten = (setup : Setup) (left : Left setup) (more : List �
     → ShowsPictures (setting_of setup) (left.leaves.front ++ more) (joined lists ++ end)
     → HasStop (setting_of setup) moves lists end sign (entries_in (setting_of setup) (past_of left.leaves.taken)) left.leaves.game
 
--- Where a move that takes no piece was made whole, taken back and made again, the moves are those of the line all the same, and
--- where such play stops between two moves, these or one more.
+-- Where a move that takes no piece was made whole, taken back and made again, the moves are those of the line all the
+-- same, and where such play stops between two moves, these or one more.
 abbrev pub MadeAgainIsRecorded : Type 0
-MadeAgainIsRecorded = (setting : Setting) (tags : TagValues) (past : List Event) (game : Content) (moves : List Move) (lists : List (List Entry))
+MadeAgainIsRecorded = (setting : Setting) (tags : TagValues) (past : List Event) (game : Content) (moves : List Move)
+    (lists : List (List Entry))
     (part : List Entry)
     → Valid setting.start → Line setting.start moves → ShownEachInTheEnd setting.start moves lists
     → AllPass (position_after setting.start moves) part
@@ -194,8 +206,8 @@ MadeAgainIsWritten = (setup : Setup) (left : Left setup) (moves : List Move) (li
 abbrev pub BeginsWithDump : List ℕ → Type 0
 BeginsWithDump bytes = (codes frame more : List ℕ) × Frame (Dump codes) frame × (bytes ≡ frame ++ more)
 
--- A stream that was broken off anywhere and begun again with a dump has the same pictures, game and text as the events of its two
--- parts.
+-- A stream that was broken off anywhere and begun again with a dump has the same pictures, game and text as the events
+-- of its two parts.
 abbrev pub RestartsAreRecorded : Type 0
 RestartsAreRecorded = (setting : Setting) (first again : List ℕ) (events others all : List Timed) (rest last end : ℕ)
     → BeginsWithDump again

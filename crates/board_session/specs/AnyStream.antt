@@ -1,5 +1,5 @@
--- What holds of the game of all events, whatever a board sent, and how honest play goes on after them. Events have the latest
--- first, the plies of a game stand in their order.
+-- What holds of the game of all events, whatever a board sent, and how honest play goes on after them. Events have the
+-- latest first, the plies of a game stand in their order.
 use Rattle.std.specs.Prelude.{◌≡◌, true, List, [], ◌∷◌, ◌++◌, Some, None, reverse}
 use Rattle.chess_rules.specs.declared.chess_move.Move.{Move}
 use Rattle.chess_rules.specs.declared.parts.Parts.{Parts}
@@ -24,9 +24,9 @@ use Rattle.board_events.specs.History.{picture_of, reading_at}
 use Rattle.board_events.specs.Settings.{Setting}
 use Rattle.board_events.specs.Session.{entries_in}
 
--- Each of the plies, of which the latest comes first, was shown whole: at some event that gives an entry the picture was that
--- after it, and in the reading then its mover had the time that is the ply's clock; and the plies before it were shown in the
--- events before that one.
+-- Each of the plies, of which the latest comes first, was shown whole: at some event that gives an entry the picture
+-- was that after it, and in the reading then its mover had the time that is the ply's clock; and the plies before it
+-- were shown in the events before that one.
 abbrev pub WereShown : Setting → List Ply → List Event → Type 0
 WereShown setting [] past = Unit {0}
 WereShown setting (ply ∷ earlier) past = (later : List Event) × (event : Event) × (before : List Event)
@@ -56,7 +56,8 @@ OnlyTheLastPlyMayChange = (setting : Setting) (tags : TagValues) (later past : L
 abbrev pub end_of : Content → Parts
 end_of game = position_after game.start (moves_of game.plies)
 
--- This is the game of these events; it has no result, and the board agrees with it: the last picture is that of its last position.
+-- This is the game of these events; it has no result, and the board agrees with it: the last picture is that of its
+-- last position.
 pub record Agrees (game : Content) (setting : Setting) (tags : TagValues) (past : List Event) : Type 0 where
   pub game_is : IsGameOf game setting tags past
   pub running : game.result ≡ None
@@ -72,10 +73,11 @@ abbrev pub GivesOn : Setting → List Event → List Event → List Entry → Ty
 GivesOn setting later past shown =
     deduplicated (entries_in setting (later ++ past)) ≡ deduplicated (reverse shown ++ entries_in setting past)
 
--- Honest play resumes: whatever was sent before, where the board agrees with the game, the moves that later events show honestly
--- are added to its plies, each with its clock, and nothing else is.
+-- Honest play resumes: whatever was sent before, where the board agrees with the game, the moves that later events show
+-- honestly are added to its plies, each with its clock, and nothing else is.
 abbrev pub HonestPlayResumes : Type 0
-HonestPlayResumes = (setting : Setting) (tags : TagValues) (later past : List Event) (before game : Content) (moves : List Move) (lists : List (List Entry))
+HonestPlayResumes = (setting : Setting) (tags : TagValues) (later past : List Event) (before game : Content) (moves : List Move)
+    (lists : List (List Entry))
     → Valid setting.start → Agrees before setting tags past
     → ShowsOn (end_of before) moves lists
     → GivesOn setting later past (joined lists)
@@ -84,7 +86,8 @@ HonestPlayResumes = (setting : Setting) (tags : TagValues) (later past : List Ev
 
 -- Where it then stops between two moves, the plies that were added are those of the whole moves, or these and one more.
 abbrev pub ResumedPlayStops : Type 0
-ResumedPlayStops = (setting : Setting) (tags : TagValues) (later past : List Event) (before game : Content) (moves : List Move) (lists : List (List Entry))
+ResumedPlayStops = (setting : Setting) (tags : TagValues) (later past : List Event) (before game : Content) (moves : List Move)
+    (lists : List (List Entry))
     (part : List Entry)
     → Valid setting.start → Agrees before setting tags past
     → ShowsOn (end_of before) moves lists
@@ -96,7 +99,8 @@ ResumedPlayStops = (setting : Setting) (tags : TagValues) (later past : List Eve
 
 -- And where the kings end it, the game has these plies, and the result of its last position, else the sign's.
 abbrev pub KingsEndResumedPlay : Type 0
-KingsEndResumedPlay = (setting : Setting) (tags : TagValues) (later past : List Event) (before game : Content) (moves : List Move) (lists : List (List Entry))
+KingsEndResumedPlay = (setting : Setting) (tags : TagValues) (later past : List Event) (before game : Content) (moves : List Move)
+    (lists : List (List Entry))
     (clearing rest : List Entry) (kings : Entry) (outcome : Outcome)
     → Valid setting.start → Agrees before setting tags past
     → ShowsOn (end_of before) moves lists
@@ -107,8 +111,8 @@ KingsEndResumedPlay = (setting : Setting) (tags : TagValues) (later past : List 
     → IsGameOf game setting tags (later ++ past)
     → (game.plies ≡ before.plies ++ shown_plies (end_of before) moves lists) × Result setting.start game.plies (Some outcome) game.result
 
--- While both kings stand in the centre no move is made: later events of which all entries show them there leave the plies as they
--- were, whatever else they show; the result alone can change.
+-- While both kings stand in the centre no move is made: later events of which all entries show them there leave the
+-- plies as they were, whatever else they show; the result alone can change.
 abbrev pub KingsInCentreKeepThePlies : Type 0
 KingsInCentreKeepThePlies = (setting : Setting) (tags : TagValues) (later past : List Event) (before game : Content) (shown : List Entry)
     → Valid setting.start → IsGameOf before setting tags past

@@ -8,11 +8,12 @@ use Rattle.settle_core.specs.Entries.{Entry}
 use Rattle.board_events.specs.Entries.{entries}
 use Rattle.board_events.specs.History.{fields_of, turned}
 
--- The board, which shows one picture now, goes on to show these, and sends for each of them one update of the one square that
--- changes. Times and other messages may stand anywhere between.
+-- The board, which shows one picture now, goes on to show these, and sends for each of them one update of the one
+-- square that changes. Times and other messages may stand anywhere between.
 abbrev pub SendsOn : Bool → List ℕ → List (List ℕ) → List Event → Type 0
 SendsOn rotated now pictures [] = pictures ≡ []
-SendsOn rotated now pictures (MessageEvent (Update field code) ∷ events) = (next : List ℕ) × (more : List (List ℕ)) × (pictures ≡ next ∷ more)
+SendsOn rotated now pictures (MessageEvent (Update field code) ∷ events) = (next : List ℕ) × (more : List (List ℕ))
+    × (pictures ≡ next ∷ more)
     × (field < 64) × (next ≡ slice_set now (turned rotated field) code) × SendsOn rotated next more events
 SendsOn rotated now pictures (MessageEvent (Dump codes) ∷ events) = ⊥
 SendsOn rotated now pictures (MessageEvent (Time times) ∷ events) = SendsOn rotated now pictures events

@@ -52,7 +52,8 @@ Thins first rotated (event ∷ past) short = (Idle first rotated past event × T
 
 -- Idle events can be taken out.
 abbrev pub IdleEventsCanGo : Type 0
-IdleEventsCanGo = (setting : Setting) (past short : List Event) → Thins setting.first setting.rotated past short → TellTheSame setting past short
+IdleEventsCanGo = (setting : Setting) (past short : List Event) → Thins setting.first setting.rotated past short
+    → TellTheSame setting past short
 
 -- a time or an `Other` message
 abbrev pub IsQuiet : Event → Type 0
@@ -66,7 +67,8 @@ IsQuiet (Fault kind) = ⊥
 abbrev pub FaultsBeforeDumpsCanGo : Type 0
 FaultsBeforeDumpsCanGo = (setting : Setting) (later between before : List Event) (codes : List ℕ) (kind : FaultKind)
     → AllByRecursion IsQuiet between
-    → TellTheSame setting (later ++ MessageEvent (Dump codes) ∷ (between ++ Fault kind ∷ before)) (later ++ MessageEvent (Dump codes) ∷ (between ++ before))
+    → TellTheSame setting (later ++ MessageEvent (Dump codes) ∷ (between ++ Fault kind ∷ before))
+    (later ++ MessageEvent (Dump codes) ∷ (between ++ before))
 
 -- A fault costs one request for a dump.
 abbrev pub FaultsAskOnce : Type 0
@@ -83,11 +85,12 @@ NoEventGivesTwo = (setting : Setting) (tags : TagValues) (past : List Event) (ev
     → Valid setting.start → IsGameOf before setting tags past → IsGameOf game setting tags (event ∷ past)
     → length game.plies ≤ length before.plies + 1
 
--- Honest play is recorded: where the entries of the events are, repeated pictures aside, the lists that show a line of moves
--- from a valid start, one list after the other, the game of the events has exactly these moves, each once and in order, and
--- its result is that of its last position, or none.
+-- Honest play is recorded: where the entries of the events are, repeated pictures aside, the lists that show a line of
+-- moves from a valid start, one list after the other, the game of the events has exactly these moves, each once and in
+-- order, and its result is that of its last position, or none.
 abbrev pub HonestPlayIsRecorded : Type 0
-HonestPlayIsRecorded = (setting : Setting) (tags : TagValues) (past : List Event) (game : Content) (moves : List Move) (lists : List (List Entry))
+HonestPlayIsRecorded = (setting : Setting) (tags : TagValues) (past : List Event) (game : Content) (moves : List Move)
+    (lists : List (List Entry))
     → Valid setting.start → Line setting.start moves → ShownEach setting.start moves lists
     → deduplicated (entries_in setting past) ≡ deduplicated (reverse (joined lists))
     → IsGameOf game setting tags past
@@ -95,26 +98,31 @@ HonestPlayIsRecorded = (setting : Setting) (tags : TagValues) (past : List Event
 
 -- The ply of each move has its mover's time in the reading of the first entry that shows the whole move.
 abbrev pub HonestClocksAreRecorded : Type 0
-HonestClocksAreRecorded = (setting : Setting) (tags : TagValues) (past : List Event) (game : Content) (moves : List Move) (lists : List (List Entry))
+HonestClocksAreRecorded = (setting : Setting) (tags : TagValues) (past : List Event) (game : Content) (moves : List Move)
+    (lists : List (List Entry))
     → Valid setting.start → Line setting.start moves → ShownEach setting.start moves lists
     → deduplicated (entries_in setting past) ≡ deduplicated (reverse (joined lists))
     → IsGameOf game setting tags past
     → game.plies ≡ shown_plies setting.start moves lists
 
--- Where the events end between two moves, with pieces in hand or a king off the board: the game has the plies of the whole moves,
--- or these and one more, of a legal move that takes no piece and that was shown; and its result is that of its last position.
+-- Where the events end between two moves, with pieces in hand or a king off the board: the game has the plies of the
+-- whole moves, or these and one more, of a legal move that takes no piece and that was shown; and its result is that of
+-- its last position.
 abbrev pub HonestStopIsRecorded : Type 0
-HonestStopIsRecorded = (setting : Setting) (tags : TagValues) (past : List Event) (game : Content) (moves : List Move) (lists : List (List Entry)) (part : List Entry)
+HonestStopIsRecorded = (setting : Setting) (tags : TagValues) (past : List Event) (game : Content) (moves : List Move)
+    (lists : List (List Entry)) (part : List Entry)
     → Valid setting.start → Line setting.start moves → ShownEach setting.start moves lists
     → AllPass (position_after setting.start moves) part
     → deduplicated (entries_in setting past) ≡ deduplicated (reverse (joined lists ++ part))
     → IsGameOf game setting tags past
     → HasWhole setting.start moves lists part game.plies × Result setting.start game.plies None game.result
 
--- The end by the kings: after honest play the pieces are taken off, the kings are put into the centre, and the pieces may be
--- set up again. The game has the plies of the line, and its result is that of its last position, else the sign's.
+-- The end by the kings: after honest play the pieces are taken off, the kings are put into the centre, and the pieces
+-- may be set up again. The game has the plies of the line, and its result is that of its last position, else the
+-- sign's.
 abbrev pub KingsEndIsRecorded : Type 0
-KingsEndIsRecorded = (setting : Setting) (tags : TagValues) (past : List Event) (game : Content) (moves : List Move) (lists : List (List Entry))
+KingsEndIsRecorded = (setting : Setting) (tags : TagValues) (past : List Event) (game : Content) (moves : List Move)
+    (lists : List (List Entry))
     (clearing later : List Entry) (kings : Entry) (outcome : Outcome)
     → Valid setting.start → Line setting.start moves → ShownEach setting.start moves lists
     → AllRest (position_after setting.start moves) clearing
@@ -124,10 +132,11 @@ KingsEndIsRecorded = (setting : Setting) (tags : TagValues) (past : List Event) 
     → IsGameOf game setting tags past
     → (game.plies ≡ shown_plies setting.start moves lists) × Result setting.start game.plies (Some outcome) game.result
 
--- Nothing is guessed where two plies were not seen: an event whose picture is that after a legal move and a legal reply, of which
--- nothing was seen, leaves the game as it was.
+-- Nothing is guessed where two plies were not seen: an event whose picture is that after a legal move and a legal
+-- reply, of which nothing was seen, leaves the game as it was.
 abbrev pub TwoUnseenAreNotRecorded : Type 0
-TwoUnseenAreNotRecorded = (setting : Setting) (tags : TagValues) (past : List Event) (event : Event) (before game : Content) (m reply : Move)
+TwoUnseenAreNotRecorded = (setting : Setting) (tags : TagValues) (past : List Event) (event : Event) (before game : Content)
+    (m reply : Move)
     → Valid setting.start → IsGameOf before setting tags past
     → Legal (position_after setting.start (moves_of before.plies)) m
     → Legal (after (position_after setting.start (moves_of before.plies)) m) reply
@@ -143,14 +152,17 @@ pub record HasAnotherLast (before plies : List Ply) : Type 0 where
   pub was : before ≡ earlier ++ old ∷ []
   pub is : plies ≡ earlier ++ new ∷ []
 
--- Where three plies were not seen, the event after them adds no move: the game is as it was, or its last move is corrected.
+-- Where three plies were not seen, the event after them adds no move: the game is as it was, or its last move is
+-- corrected.
 abbrev pub ThreeUnseenAddNothing : Type 0
-ThreeUnseenAddNothing = (setting : Setting) (tags : TagValues) (past : List Event) (event : Event) (before game : Content) (m reply next : Move)
+ThreeUnseenAddNothing = (setting : Setting) (tags : TagValues) (past : List Event) (event : Event) (before game : Content)
+    (m reply next : Move)
     → Valid setting.start → IsGameOf before setting tags past
     → Legal (position_after setting.start (moves_of before.plies)) m
     → Legal (after (position_after setting.start (moves_of before.plies)) m) reply
     → Legal (after (after (position_after setting.start (moves_of before.plies)) m) reply) next
-    → picture_of setting.rotated (event ∷ past) ≡ picture (after (after (after (position_after setting.start (moves_of before.plies)) m) reply) next)
+    → picture_of setting.rotated (event ∷ past) ≡ picture (after
+    (after (after (position_after setting.start (moves_of before.plies)) m) reply) next)
     → IsGameOf game setting tags (event ∷ past)
     → (game ≡ before) ⊎ HasAnotherLast before.plies game.plies
 
@@ -161,8 +173,8 @@ pub record ShowsEntries (setting : Setting) (bytes : List ℕ) (shown : List Ent
   pub shows : Shows bytes events rest
   pub are : entries_in setting (past_of events) ≡ reverse shown
 
--- Of `record`: where a whole stream shows a line of moves honestly, the game that was written has exactly their plies, with their
--- clocks, and the result of its last position, or none.
+-- Of `record`: where a whole stream shows a line of moves honestly, the game that was written has exactly their plies,
+-- with their clocks, and the result of its last position, or none.
 abbrev pub HonestPlayIsWritten : Type 0
 HonestPlayIsWritten = (setup : Setup) (report : Report) (bytes : List ℕ) (sent sent' written written' : Option (List ℕ))
     (recording : RecordsGame setup report bytes sent sent' written written') (moves : List Move) (lists : List (List Entry))
@@ -171,8 +183,8 @@ HonestPlayIsWritten = (setup : Setup) (report : Report) (bytes : List ℕ) (sent
     → (recording.game.plies ≡ shown_plies setup.start moves lists) × Result setup.start recording.game.plies None recording.game.result
     × (report.moves ≡ length moves)
 
--- What a recording has of honest play where it ended: the entries taken are a front of it, and the game has the plies of the
--- whole moves in this front, or these and one more, of a legal move that takes no piece and that was shown.
+-- What a recording has of honest play where it ended: the entries taken are a front of it, and the game has the plies
+-- of the whole moves in this front, or these and one more, of a legal move that takes no piece and that was shown.
 pub record HasFront (setup : Setup) (moves : List Move) (lists : List (List Entry)) (taken : List Entry) (game : Content) : Type 0 where
   pub rest : List Entry
   pub parts : joined lists ≡ reverse taken ++ rest
@@ -180,18 +192,19 @@ pub record HasFront (setup : Setup) (moves : List Move) (lists : List (List Entr
   pub plies : HasWhole setup.start front.done front.whole front.part game.plies
   pub result : Result setup.start game.plies None game.result
 
--- Of `record`, whatever ended it: where the bytes that it decoded, with whatever more was to come, show a line of moves honestly,
--- the game whose text it wrote has all moves that were shown whole, and at most one try.
+-- Of `record`, whatever ended it: where the bytes that it decoded, with whatever more was to come, show a line of moves
+-- honestly, the game whose text it wrote has all moves that were shown whole, and at most one try.
 abbrev pub HonestFrontIsWritten : Type 0
 HonestFrontIsWritten = (setup : Setup) (answer : ResultOf Report RecordError) (input input' sent sent' written written' : Option (List ℕ))
-    (recording : Leaves setup answer input input' sent sent' written written') (more : List ℕ) (moves : List Move) (lists : List (List Entry))
+    (recording : Leaves setup answer input input' sent sent' written written') (more : List ℕ) (moves : List Move)
+    (lists : List (List Entry))
     → Line setup.start moves → ShownEach setup.start moves lists
     → ShowsEntries (setting_of setup) (recording.front ++ more) (joined lists)
     → HasFront setup moves lists (entries_in (setting_of setup) (past_of recording.taken)) recording.game
 
--- Of `record`: where a whole stream shows a line of moves honestly, then pieces taken off, the kings put into the centre, and
--- pieces set up again, the game that was written has exactly the plies of the line, and the result of its last position, else
--- the sign's.
+-- Of `record`: where a whole stream shows a line of moves honestly, then pieces taken off, the kings put into the
+-- centre, and pieces set up again, the game that was written has exactly the plies of the line, and the result of its
+-- last position, else the sign's.
 abbrev pub KingsEndIsWritten : Type 0
 KingsEndIsWritten = (setup : Setup) (report : Report) (bytes : List ℕ) (sent sent' written written' : Option (List ℕ))
     (recording : RecordsGame setup report bytes sent sent' written written') (moves : List Move) (lists : List (List Entry))
@@ -201,4 +214,5 @@ KingsEndIsWritten = (setup : Setup) (report : Report) (bytes : List ℕ) (sent s
     → IsSign (position_after setup.start moves) kings.picture outcome
     → AllRest (position_after setup.start moves) later
     → ShowsEntries (setting_of setup) bytes (joined lists ++ (clearing ++ kings ∷ later))
-    → (recording.game.plies ≡ shown_plies setup.start moves lists) × Result setup.start recording.game.plies (Some outcome) recording.game.result
+    → (recording.game.plies ≡ shown_plies setup.start moves lists)
+    × Result setup.start recording.game.plies (Some outcome) recording.game.result

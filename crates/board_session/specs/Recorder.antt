@@ -28,7 +28,8 @@ pub record Kept (recorder : Recorder) (setting : Setting) (taken : List Timed) :
   pub faults : recorder.faults ≡ faults_in taken
 
 -- The recorder was given these bytes, and has taken all their events and sent what they ask for.
-pub record Live (recorder : Recorder) (setting : Setting) (sent sent' : Option (List ℕ)) (bytes : List ℕ) (taken : List Timed) : Type 0 where
+pub record Live (recorder : Recorder) (setting : Setting) (sent sent' : Option (List ℕ)) (bytes : List ℕ)
+    (taken : List Timed) : Type 0 where
   pub decoded : Decoded recorder.decoder bytes taken
   pub kept : Kept recorder setting taken
   pub sends : Appends sent sent' (commands taken)
@@ -47,7 +48,8 @@ Stops setting Write taken extra = ⊥
 Stops setting TooLong taken extra = ⊥
 
 -- The recorder has stopped within these bytes.
-pub record Stopped (error : RecordError) (recorder : Recorder) (setting : Setting) (sent sent' : Option (List ℕ)) (bytes : List ℕ) : Type 0 where
+pub record Stopped (error : RecordError) (recorder : Recorder) (setting : Setting) (sent sent' : Option (List ℕ))
+    (bytes : List ℕ) : Type 0 where
   pub front : List ℕ
   pub back : List ℕ
   pub taken : List Timed
@@ -80,7 +82,8 @@ TakesEvent recorder setting taken offset event (Ok done) sent sent' =
 TakesEvent recorder setting taken offset event (Err Memory) sent sent' =
     Kept recorder setting taken × Keeps sent sent' × WantsMemory setting (past_of taken) event
 TakesEvent recorder setting taken offset event (Err Board) sent sent' =
-    Kept recorder setting (taken ++ record { offset = offset; event = event } ∷ []) × AppendsPart sent sent' (asked event) × (is_fault event ≡ true)
+    Kept recorder setting (taken ++ record { offset = offset; event = event } ∷ []) × AppendsPart sent sent' (asked event)
+    × (is_fault event ≡ true)
 TakesEvent recorder setting taken offset event (Err Read) sent sent' = ⊥
 TakesEvent recorder setting taken offset event (Err Write) sent sent' = ⊥
 TakesEvent recorder setting taken offset event (Err TooLong) sent sent' = ⊥
@@ -95,10 +98,12 @@ Hears old new chunk result sent sent' = (setting : Setting) (before : Option (Li
 -- So many bytes were read, and all their events are taken.
 abbrev pub Reads : Recorder → Recorder → ℕ → Option (List ℕ) → Option (List ℕ) → Option (List ℕ) → Option (List ℕ) → Type 0
 Reads old new count input input' sent sent' = (setting : Setting) (before : Option (List ℕ)) → Live old setting before sent [] []
-    → (bytes : List ℕ) × (taken : List Timed) × (length bytes ≡ count) × Consumes input input' bytes × Live new setting before sent' bytes taken
+    → (bytes : List ℕ) × (taken : List Timed) × (length bytes ≡ count) × Consumes input input' bytes
+    × Live new setting before sent' bytes taken
 
 -- Reading has ended so, after these bytes were read.
-pub record Listened (ending : Result ⊤ RecordError) (recorder : Recorder) (setting : Setting) (input input' sent sent' : Option (List ℕ)) : Type 0 where
+pub record Listened (ending : Result ⊤ RecordError) (recorder : Recorder) (setting : Setting)
+    (input input' sent sent' : Option (List ℕ)) : Type 0 where
   pub read : List ℕ
   pub front : List ℕ
   pub back : List ℕ

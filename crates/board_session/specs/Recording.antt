@@ -1,5 +1,5 @@
--- What a recording leaves behind. Its streams are `input`, of which bytes are left, `sent`, what the board's stream holds, and
--- `written`, what the output holds; a prime marks what they are afterwards.
+-- What a recording leaves behind. Its streams are `input`, of which bytes are left, `sent`, what the board's stream
+-- holds, and `written`, what the output holds; a prime marks what they are afterwards.
 use Rattle.std.specs.Prelude.{◌≡◌, ℕ, ◌+◌, ◌≤◌, List, [], ◌∷◌, ◌++◌, length, true, Option, IfSome, Result, Ok, Err, ⊤}
 use Rattle.std.specs.Io.KnownBytes.{Appends, Consumes, IsAtEnd}
 use Rattle.dgt_frame.specs.declared.events.Event.{Event}
@@ -26,8 +26,8 @@ pub record Reports (report : Report) (events : List Timed) (game : Content) (res
   pub moves : report.moves ≡ length game.plies
   pub rest_is : report.rest ≡ rest
 
--- The whole of a stream is recorded: what was written is the PGN text of the game of its events, and of no other game; no
--- picture of them gave more than one move; the board was sent what they ask for, and the report has their numbers.
+-- The whole of a stream is recorded: what was written is the PGN text of the game of its events, and of no other game;
+-- no picture of them gave more than one move; the board was sent what they ask for, and the report has their numbers.
 pub record RecordsGame (setup : Setup) (report : Report) (bytes : List ℕ) (sent sent' written written' : Option (List ℕ)) : Type 0 where
   pub events : List Timed
   pub rest : ℕ
@@ -53,8 +53,8 @@ abbrev pub FailsAsking : List ℕ → List Event → Type 0
 FailsAsking read [] = read ≡ []
 FailsAsking read (event ∷ past) = is_fault event ≡ true
 
--- Why reading ended. Of the bytes read the front was decoded, and the back was not; `taken` are the events taken, and `extra`
--- those that were not.
+-- Why reading ended. Of the bytes read the front was decoded, and the back was not; `taken` are the events taken, and
+-- `extra` those that were not.
 abbrev pub Ends : Setting → Result ⊤ RecordError → Option (List ℕ) → List ℕ → List ℕ → List Timed → List Timed → Type 0
 -- at the end of the input, which is within the limit
 Ends setting (Ok done) input' front back taken extra = IsAtEnd input' × (length front ≤ limit) × (back ≡ []) × (extra ≡ [])
@@ -84,7 +84,8 @@ abbrev pub TellsEnding : RecordError → Result ⊤ RecordError → Option (List
 TellsEnding error ending written written' text = (ending ≡ Err error) × Appends written written' text
 
 -- The result, by why reading ended and by what was written of the text: a part of it is Write, else the whole stands.
-abbrev pub Returns : Result Report RecordError → Result ⊤ RecordError → List Timed → Content → ℕ → Option (List ℕ) → Option (List ℕ) → List ℕ → Type 0
+abbrev pub Returns : Result Report RecordError → Result ⊤ RecordError → List Timed → Content → ℕ → Option (List ℕ) → Option (List ℕ)
+    → List ℕ → Type 0
 Returns (Ok report) ending taken game rest written written' text =
     (ending ≡ Ok tt) × Appends written written' text × Reports report taken game rest
 Returns (Err Memory) ending taken game rest written written' text = TellsEnding Memory ending written written' text
@@ -93,9 +94,11 @@ Returns (Err Board) ending taken game rest written written' text = TellsEnding B
 Returns (Err Write) ending taken game rest written written' text = AppendsPart written written' text
 Returns (Err TooLong) ending taken game rest written written' text = TellsEnding TooLong ending written written' text
 
--- What a recording leaves, whatever it returns: these bytes were read, and of the events that their front shows these were
--- taken; the board was sent what they ask for; and the PGN text of their game was written, wholly or as far as it went.
-pub record Leaves (setup : Setup) (answer : Result Report RecordError) (input input' sent sent' written written' : Option (List ℕ)) : Type 0 where
+-- What a recording leaves, whatever it returns: these bytes were read, and of the events that their front shows these
+-- were taken; the board was sent what they ask for; and the PGN text of their game was written, wholly or as far as it
+-- went.
+pub record Leaves (setup : Setup) (answer : Result Report RecordError)
+    (input input' sent sent' written written' : Option (List ℕ)) : Type 0 where
   pub ending : Result ⊤ RecordError
   pub read : List ℕ
   pub front : List ℕ

@@ -1,5 +1,5 @@
-//! What holds of all lists of events, each law as the contract of a function that does nothing; and that the text of a game
-//! reads back.
+//! What holds of all lists of events, each law as the contract of a function that does nothing; and that the text of a
+//! game reads back.
 ghost use Rattle.std.specs.Prelude.{◌≡◌, List, MatchResult};
 ghost use Rattle.dgt_frame.specs.declared.events.Event.{Event};
 ghost use Rattle.chess_game.specs.Games.{Content};
@@ -13,11 +13,13 @@ ghost use Rattle.board_session.specs.Laws.{EventsTellTheGame, FaultsAskOnce, Fau
 ghost use Rattle.board_events.specs.Settings.{Setting};
 ghost use Rattle.board_session.specs.Sizes.{FramesAreWithin, MovesTakeTenBytes, WrittenMovesTakeTenBytes};
 
+use chess_game::Game;
 use dgt_frame::laws::{fronts_show_fronts, restarts_are_shown, shows_once};
-use pgn_book::{Game, PgnError, read_pgn};
+use pgn_book::{PgnError, read_pgn};
 use std::alloc::Global;
 
-/// Idle events can be taken out: repeated updates and dumps, repeated times, updates that aren't trusted, other messages.
+/// Idle events can be taken out: repeated updates and dumps, repeated times, updates that aren't trusted, other
+/// messages.
 pub fn idle_events_can_go()
     ensures { IdleEventsCanGo }
 {}
@@ -44,7 +46,8 @@ pub fn honest_play_is_recorded()
     ensures { HonestPlayIsRecorded }
 {}
 
-/// In honest play the ply of each move has its mover's time in the reading of the first entry that shows the whole move.
+/// In honest play the ply of each move has its mover's time in the reading of the first entry that shows the whole
+/// move.
 pub fn honest_clocks_are_recorded()
     ensures { HonestClocksAreRecorded }
 {}
@@ -69,7 +72,8 @@ pub fn three_unseen_add_nothing()
     ensures { ThreeUnseenAddNothing }
 {}
 
-/// What `record` writes of honest play: where a whole stream shows a line of moves honestly, the game has exactly these moves.
+/// What `record` writes of honest play: where a whole stream shows a line of moves honestly, the game has exactly these
+/// moves.
 pub fn honest_play_is_written()
     ensures { HonestPlayIsWritten }
 {
@@ -77,8 +81,8 @@ pub fn honest_play_is_written()
     shows_once();
 }
 
-/// Wherever a recording of honest play ends, and by whatever: the game has all moves that were shown whole, and at most one
-/// try that takes no piece.
+/// Wherever a recording of honest play ends, and by whatever: the game has all moves that were shown whole, and at most
+/// one try that takes no piece.
 pub fn honest_front_is_written()
     ensures { HonestFrontIsWritten }
 {
@@ -109,9 +113,9 @@ pub fn only_the_last_ply_may_change()
     fronts_show_fronts();
 }
 
-/// Honest play resumes: whatever was sent before, where the game has no result and the board agrees with it, the moves that
-/// are shown honestly from there on are added, and nothing else is. So it is where the kings end it. Where that play stops
-/// between two moves, there may be one ply more, of a move that was tried and takes no piece.
+/// Honest play resumes: whatever was sent before, where the game has no result and the board agrees with it, the moves
+/// that are shown honestly from there on are added, and nothing else is. So it is where the kings end it. Where that
+/// play stops between two moves, there may be one ply more, of a move that was tried and takes no piece.
 pub fn honest_play_resumes()
     ensures adds { HonestPlayResumes }
     ensures stops { ResumedPlayStops }
@@ -131,15 +135,15 @@ pub fn kings_in_centre_make_no_move()
     ensures written { KingsInCentreWriteNoMove }
 {}
 
-/// Honest play with its end, pieces put away or the kings in the centre, is recorded; and so it is where this is broken off
-/// anywhere.
+/// Honest play with its end, pieces put away or the kings in the centre, is recorded; and so it is where this is broken
+/// off anywhere.
 pub fn honest_end_is_recorded()
     ensures ends { HonestEndIsRecorded }
     ensures stops { HonestStopAnywhereIsRecorded }
 {}
 
-/// Honest play with its end, as `record` leaves it, whatever it returned, unless memory ran out: the game has the plies of the
-/// line, with their clocks, and the result of its last position, else that of the kings.
+/// Honest play with its end, as `record` leaves it, whatever it returned, unless memory ran out: the game has the plies
+/// of the line, with their clocks, and the result of its last position, else that of the kings.
 pub fn honest_end_is_written()
     ensures { HonestEndIsWritten }
 {
@@ -147,9 +151,9 @@ pub fn honest_end_is_written()
     shows_once();
 }
 
-/// Honest play with its end, wherever `record` stopped in it, and whatever it returned: the game has the plies of the moves
-/// that were shown whole, and at most one more, of a move that was tried and takes no piece. After the last move the kings'
-/// result may stand.
+/// Honest play with its end, wherever `record` stopped in it, and whatever it returned: the game has the plies of the
+/// moves that were shown whole, and at most one more, of a move that was tried and takes no piece. After the last move
+/// the kings' result may stand.
 pub fn honest_stop_anywhere_is_written()
     ensures { HonestStopAnywhereIsWritten }
 {
@@ -157,8 +161,8 @@ pub fn honest_stop_anywhere_is_written()
     fronts_show_fronts();
 }
 
-/// A move that takes no piece may be made whole, taken back and made again: the game has the moves of the line. Where such
-/// play stops between two moves, there may be one ply more, of a move that was tried and takes no piece.
+/// A move that takes no piece may be made whole, taken back and made again: the game has the moves of the line. Where
+/// such play stops between two moves, there may be one ply more, of a move that was tried and takes no piece.
 pub fn moves_may_be_made_again()
     ensures recorded { MadeAgainIsRecorded }
     ensures written { MadeAgainIsWritten }
@@ -178,7 +182,8 @@ pub fn restarts_are_recorded()
     restarts_are_shown();
 }
 
-/// A dump, and then one update for each square that changes, show exactly the pictures of the board, on a rotated one too.
+/// A dump, and then one update for each square that changes, show exactly the pictures of the board, on a rotated one
+/// too.
 pub fn honest_boards_are_read()
     ensures { HonestBoardsAreRead }
 {}

@@ -13,9 +13,10 @@ ghost use Rattle.board_session.specs.Recorder.{Finished, Hears, IsFed, IsRefusal
 use crate::refusal::RecordError;
 use crate::report::Report;
 use board_events::Session;
+use chess_game::{Game, Tags};
 use chess_rules::Position;
 use dgt_frame::{BLANK, Decoder, Event, First, LIMIT};
-use pgn_book::{Game, Tags, write_pgn};
+use pgn_book::write_pgn;
 use std::alloc::Global;
 use std::io::{Read, Write};
 use watched_streams::{CHUNK, Watch, put_and_flush, read_chunk};
@@ -98,7 +99,8 @@ impl Recorder {
         ensures count { event_count self.new ≤ event_count self.old + 1 }
         ensures decoder { self.new.decoder ≡ self.old.decoder }
         ensures taken { (setting : Setting) (taken : List Timed) (offset : ℕ) → Kept self.old setting taken
-            → TakesEvent self.new setting taken offset event.now result (B.contents (inner_of board.old)) (B.contents (inner_of board.new)) }
+            → TakesEvent self.new setting taken offset event.now result (B.contents (inner_of board.old))
+            (B.contents (inner_of board.new)) }
         ensures working { OnOk result (has_failed board.new ≡ false) }
         ensures failed { result ≡ Err RecordError.Board → has_failed board.new ≡ true }
         ensures blamed { has_failed board.new ≡ true → result ≡ Err RecordError.Board }
@@ -169,8 +171,10 @@ impl Recorder {
         requires reading { has_failed reader.old ≡ false }
         requires working { has_failed board.old ≡ false }
         ensures count { event_count self.new ≤ LIMIT }
-        ensures listened { (setting : Setting) (before : Option (List ℕ)) → Live self.old setting before (B.contents (inner_of board.old)) [] []
-            → Listened result self.new setting (R.remaining (inner_of reader.old)) (R.remaining (inner_of reader.new)) before (B.contents (inner_of board.new)) }
+        ensures listened { (setting : Setting) (before : Option (List ℕ))
+            → Live self.old setting before (B.contents (inner_of board.old)) [] []
+            → Listened result self.new setting (R.remaining (inner_of reader.old)) (R.remaining (inner_of reader.new)) before
+            (B.contents (inner_of board.new)) }
         ensures ok { OnOk result ((has_failed reader.new ≡ false) × (has_failed board.new ≡ false)) }
         ensures read { result ≡ Err RecordError.Read → has_failed reader.new ≡ true }
         ensures board { result ≡ Err RecordError.Board → has_failed board.new ≡ true }
@@ -208,7 +212,8 @@ impl Recorder {
         requires working { has_failed board.old ≡ false }
         ensures count { event_count self.new ≤ LIMIT }
         ensures listened { (setting : Setting) → Kept self.old setting []
-            → Listened result self.new setting (R.remaining (inner_of reader.old)) (R.remaining (inner_of reader.new)) (B.contents (inner_of board.old)) (B.contents (inner_of board.new)) }
+            → Listened result self.new setting (R.remaining (inner_of reader.old)) (R.remaining (inner_of reader.new))
+            (B.contents (inner_of board.old)) (B.contents (inner_of board.new)) }
         ensures ok { OnOk result ((has_failed reader.new ≡ false) × (has_failed board.new ≡ false)) }
         ensures read { result ≡ Err RecordError.Read → has_failed reader.new ≡ true }
         ensures board { result ≡ Err RecordError.Board → has_failed board.new ≡ true }
@@ -231,7 +236,8 @@ impl Recorder {
         requires working { has_failed out.old ≡ false }
         requires count { event_count self ≤ LIMIT }
         requires kept { (setting : Setting) × (taken : List Timed) × Kept self setting taken }
-        ensures finished { (setting : Setting) (front : List ℕ) (events taken : List Timed) → Decoded self.decoder front events → Kept self setting taken
+        ensures finished { (setting : Setting) (front : List ℕ) (events taken : List Timed) → Decoded self.decoder front events
+            → Kept self setting taken
             → Finished result ending setting tags front events taken (W.contents (inner_of out.old)) (W.contents (inner_of out.new)) }
         ensures working { OnOk result (has_failed out.new ≡ false) }
         ensures ended { OnOk result (IsOk ending) }

@@ -14,15 +14,15 @@ use watched_streams::Watch;
 
 /// Records the game of a stream of board bytes (DGT Electronic Board Protocol) as PGN export text on `out`.
 ///
-/// The board is asked for a dump and for field updates, and for a dump again after each fault. Each event is taken before the
-/// byte after it is decoded. Memory is taken only where a ply is appended. Whatever ends the reading, the text of the events
-/// taken so far is written; `board` and `out` are flushed. At most 67,108,865 bytes are read, the last one only to see that
-/// there are more than a stream may have.
+/// The board is asked for a dump and for field updates, and for a dump again after each fault. Each event is taken
+/// before the byte after it is decoded. Memory is taken only where a ply is appended. Whatever ends the reading, the
+/// text of the events taken so far is written; `board` and `out` are flushed. At most 67,108,865 bytes are read, the
+/// last one only to see that there are more than a stream may have.
 ///
 /// # Errors
 ///
-/// `Memory`, `Read`, `Board` and `TooLong` say what ended the reading early; then the whole text of the events taken stands.
-/// `Write` says that a write or the flush failed: a first part of the text stands, perhaps all of it.
+/// `Memory`, `Read`, `Board` and `TooLong` say what ended the reading early; then the whole text of the events taken
+/// stands. `Write` says that a write or the flush failed: a first part of the text stands, perhaps all of it.
 pub fn record<R: Read, B: Write, W: Write>(
     alloc: Global,
     setup: Setup,
@@ -36,11 +36,13 @@ pub fn record<R: Read, B: Write, W: Write>(
 
     // The whole stream is recorded: the text of its game is written, and of no other game.
     ensures all { IfOk result (λ report. RecordsAll setup report (R.remaining (inner_of reader.old))
-        (B.contents (inner_of board.old)) (B.contents (inner_of board.new)) (W.contents (inner_of out.old)) (W.contents (inner_of out.new))) }
+        (B.contents (inner_of board.old)) (B.contents (inner_of board.new)) (W.contents (inner_of out.old))
+        (W.contents (inner_of out.new))) }
 
     // Whatever is returned, this was read, sent and written.
     ensures leaves { Leaves setup result (R.remaining (inner_of reader.old)) (R.remaining (inner_of reader.new))
-        (B.contents (inner_of board.old)) (B.contents (inner_of board.new)) (W.contents (inner_of out.old)) (W.contents (inner_of out.new)) }
+        (B.contents (inner_of board.old)) (B.contents (inner_of board.new)) (W.contents (inner_of out.old))
+        (W.contents (inner_of out.new)) }
 
     // A stream is blamed only where it has failed.
     ensures ok { OnOk result ((has_failed reader.new ≡ false) × (has_failed board.new ≡ false) × (has_failed out.new ≡ false)) }

@@ -1,8 +1,8 @@
 //! Why a recording may give up.
 use thiserror::Error;
 
-/// Why a recording gave up. The first of `Memory`, `Read`, `Board` and `TooLong` that comes ends the reading; the text of the
-/// events taken so far is written after it, and where that fails too it is `Write`.
+/// Why a recording gave up. The first of `Memory`, `Read`, `Board` and `TooLong` that comes ends the reading; the text
+/// of the events taken so far is written after it, and where that fails too it is `Write`.
 #[derive(Clone, Copy, Debug, PartialEq, Eq, Error)]
 pub enum RecordError {
     /// There was no memory for a move.

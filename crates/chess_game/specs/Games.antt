@@ -18,14 +18,16 @@ pub record Content : Type 0 where
   pub plies : List Ply
   pub result : Option Outcome
 
--- The result of a line over which this sign stands: the winner at checkmate, a draw at stalemate, else the sign, if any.
+-- The result of a line over which this sign stands: the winner at checkmate, a draw at stalemate, else the sign, if
+-- any.
 abbrev pub Result : Parts → List Ply → Option Outcome → Option Outcome → Type 0
 Result start plies sign result = IsResult (position_after start (moves_of plies)) sign result
 
 abbrev pub IsTimed : Ply → Type 0
 IsTimed ply = ForSome ply.clock IsTime
 
--- A game: six tag values, a valid start, a legal line with clocks in range, and the result that it has with some sign or none.
+-- A game: six tag values, a valid start, a legal line with clocks in range, and the result that it has with some sign
+-- or none.
 pub record IsGame (game : Content) : Type 0 where
   pub tags : AreValues game.tags
   pub start : Valid game.start

@@ -27,7 +27,14 @@ value_of Black values = values.black
 
 -- each tag has its value by this rule
 abbrev pub values_by : (Tag → List ℕ) → TagValues
-values_by rule = record { event = rule Event; site = rule Site; date = rule Date; round = rule Round; white = rule White; black = rule Black }
+values_by rule = record {
+  event = rule Event;
+  site = rule Site;
+  date = rule Date;
+  round = rule Round;
+  white = rule White;
+  black = rule Black;
+}
 
 -- the values with that of one tag changed
 abbrev pub with_value : Tag → List ℕ → TagValues → TagValues

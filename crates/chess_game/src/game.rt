@@ -15,8 +15,8 @@ use chess_rules::{Position, Side, Status};
 use settle_core::{Outcome, Ply};
 use std::marker::Model;
 
-/// A legal line of plies from a start, with its tags and its result. It keeps the result and not the sign it was made with,
-/// so no two games have one text.
+/// A legal line of plies from a start, with its tags and its result. It keeps the result and not the sign it was made
+/// with, so no two games have one text.
 #[derive(Debug, Drop)]
 pub struct Game {
     tags: Tags,
@@ -70,8 +70,8 @@ fn winner_over(side: Side) -> Outcome
     }
 }
 
-/// The result of a game whose last position is this one: a win of the other side at checkmate, a draw at stalemate. Else it is
-/// the sign, if one stands.
+/// The result of a game whose last position is this one: a win of the other side at checkmate, a draw at stalemate.
+/// Else it is the sign, if one stands.
 pub fn result_at(last: &Position, sign: Option<Outcome>) -> Option<Outcome>
     ensures { IsResult last.now sign result }
 {
@@ -83,7 +83,8 @@ pub fn result_at(last: &Position, sign: Option<Outcome>) -> Option<Outcome>
 }
 
 impl Game {
-    /// Whether each ply's move is legal in the position after those before it: the condition of `new`, for callers to ask.
+    /// Whether each ply's move is legal in the position after those before it: the condition of `new`, for callers to
+    /// ask.
     pub fn is_line(start: &Position, plies: &[Ply]) -> bool
         ensures { IsTrue result ↔ Line start.now (moves_of plies.now) }
     {
@@ -97,8 +98,8 @@ impl Game {
         true
     }
 
-    /// The game of a legal line. Its result is the winner at checkmate (FIDE 5.1.1), a draw at stalemate (FIDE 5.2.1), else
-    /// the sign, if any.
+    /// The game of a legal line. Its result is the winner at checkmate (FIDE 5.1.1), a draw at stalemate (FIDE 5.2.1),
+    /// else the sign, if any.
     pub fn new(tags: Tags, start: Position, plies: Vec<Ply>, sign: Option<Outcome>) -> Game
         requires { Line start (moves_of plies.items) }
         ensures tags { result.tags ≡ tags }

@@ -6,8 +6,8 @@ use crate::values::{Tag, TagError, check_value};
 use std::alloc::Global;
 use std::marker::Model;
 
-/// The values of the six tags that a user sets (PGN standard, section 8.1.1). A tag that was never set has the unknown value,
-/// `?`, for Date `????.??.??`.
+/// The values of the six tags that a user sets (PGN standard, section 8.1.1). A tag that was never set has the unknown
+/// value, `?`, for Date `????.??.??`.
 #[derive(Debug, Drop)]
 pub struct Tags {
     alloc: Global,
@@ -64,8 +64,8 @@ impl Tags {
         value_in(&self.values[tag.index()], unknown_in(tag))
     }
 
-    /// Sets the value of the tag: 0 to 100 characters of printable ASCII, for Date ten of the form `2024.05.??`. It is refused
-    /// for the first of these that holds: Text, Long, Date, Memory. Then nothing changes.
+    /// Sets the value of the tag: 0 to 100 characters of printable ASCII, for Date ten of the form `2024.05.??`. It is
+    /// refused for the first of these that holds: Text, Long, Date, Memory. Then nothing changes.
     pub fn set(&mut self, tag: Tag, value: &str) -> Result<(), TagError>
         ensures set { OnOk result (self.new ≡ with_value tag value.now self.old) }
         ensures valid { OnOk result (IsValue tag value.now) }

@@ -13,8 +13,8 @@ use Rattle.chess_rules.specs.declared.lines.Wing.TheVariants.{KingSide, QueenSid
 use Rattle.chess_rules.specs.Board.{Board, on, piece_of, other, file, row}
 use Rattle.chess_rules.specs.Attack.{gap}
 
--- The squares of castling (Article 3.8.2): the king's home (e1, e8), each rook's home (h1, a1, h8, a8), the king's target
--- (g1, c1, g8, c8) and the square that it crosses (f1, d1, f8, d8).
+-- The squares of castling (Article 3.8.2): the king's home (e1, e8), each rook's home (h1, a1, h8, a8), the king's
+-- target (g1, c1, g8, c8) and the square that it crosses (f1, d1, f8, d8).
 abbrev pub king_home : Side → ℕ
 king_home White = 60
 king_home Black = 4

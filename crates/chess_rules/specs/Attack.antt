@@ -33,7 +33,8 @@ IsPawnDiagonal Black SouthWest = Unit {0}
 IsPawnDiagonal _ _ = ⊥
 
 -- In this direction and at this distance a piece of this side and kind attacks, where nothing stands between: the rook
--- (Article 3.3), the bishop (3.2) and the queen (3.4) at any distance, the king (3.8.1) and the pawn (3.7.3) at one square.
+-- (Article 3.3), the bishop (3.2) and the queen (3.4) at any distance, the king (3.8.1) and the pawn (3.7.3) at one
+-- square.
 abbrev pub Ranges : Side → Kind → Direction → ℕ → Type 0
 Ranges side Rook d n = IsStraight d
 Ranges side Bishop d n = IsDiagonal d

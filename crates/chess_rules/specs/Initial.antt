@@ -9,7 +9,8 @@ use Rattle.chess_rules.specs.Board.{Board, piece_of}
 -- a side's pieces behind its pawns, from the a-file to the h-file
 abbrev pub back_rank : Side → Board
 back_rank side =
-    piece_of side Rook ∷ piece_of side Knight ∷ piece_of side Bishop ∷ piece_of side Queen ∷ piece_of side King ∷ piece_of side Bishop ∷ piece_of side Knight ∷ piece_of side Rook ∷ []
+    piece_of side Rook ∷ piece_of side Knight ∷ piece_of side Bishop ∷ piece_of side Queen ∷ piece_of side King
+    ∷ piece_of side Bishop ∷ piece_of side Knight ∷ piece_of side Rook ∷ []
 
 abbrev pub initial_board : Board
 initial_board =

@@ -17,8 +17,8 @@ use Rattle.chess_rules.specs.Picture.{code, picture}
 abbrev pub KeepsPieces : Side → Board → Board → Type 0
 KeepsPieces side old new = (s : ℕ) (kind : Kind) → on old s ≡ piece_of side kind → on new s ≡ piece_of side kind
 
--- In a valid position, the pieces of the mover after a legal move stand on their squares after another one too only where
--- both are one move.
+-- In a valid position, the pieces of the mover after a legal move stand on their squares after another one too only
+-- where both are one move.
 abbrev pub PiecesTellMoves : Type 0
 PiecesTellMoves =
     (p : Parts) (m n : Move)
@@ -50,8 +50,8 @@ CodesTellPieces = (a b : Option Piece) → code a ≡ code b → a ≡ b
 abbrev pub PicturesTellBoards : Type 0
 PicturesTellBoards = (p q : Parts) → picture p ≡ picture q → p.board ≡ q.board
 
--- One piece goes, and becomes what the move says. It lands on no piece of its side; on `taken`, if that is not the square it
--- leaves, a pawn is taken en passant. Nothing else changes.
+-- One piece goes, and becomes what the move says. It lands on no piece of its side; on `taken`, if that is not the
+-- square it leaves, a pawn is taken en passant. Nothing else changes.
 pub record MovesOnePiece (p : Parts) (m : Move) : Type 0 where
   pub kind : Kind
   pub taken : ℕ

@@ -16,7 +16,8 @@ promotion_place (Some Knight) = 4
 promotion_place (Some Pawn) = 5
 promotion_place (Some King) = 6
 
--- The one move stands before the other: by the square that it leaves, then by the square of arrival, then by the promotion.
+-- The one move stands before the other: by the square that it leaves, then by the square of arrival, then by the
+-- promotion.
 abbrev pub Precedes : Move → Move → Type 0
 Precedes m n =
     (m.from < n.from)

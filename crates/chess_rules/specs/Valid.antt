@@ -43,8 +43,8 @@ abbrev pub target_row : Side → ℕ
 target_row White = 2
 target_row Black = 5
 
--- EnPassant: the other side's pawn has just passed over the target. The target is empty, and so is the square from which
--- the pawn came; the pawn stands on the next square.
+-- EnPassant: the other side's pawn has just passed over the target. The target is empty, and so is the square from
+-- which the pawn came; the pawn stands on the next square.
 pub record IsTarget (board : Board) (side : Side) (t : ℕ) : Type 0 where
   pub on_row : row t ≡ target_row side
   pub empty : on board t ≡ None

@@ -171,7 +171,8 @@ fn passed_square(parts: &Parts, m: &Move) -> Option<Square>
 }
 
 fn halfmove_after(parts: &Parts, m: &Move) -> u16
-    ensures { result ≡ (if is_pawn (on parts.now.board m.now.from) || is_some (on parts.now.board m.now.to) then 0 else counted parts.now.halfmove) }
+    ensures { result ≡ (if is_pawn (on parts.now.board m.now.from) || is_some
+        (on parts.now.board m.now.to) then 0 else counted parts.now.halfmove) }
 {
     let from = m.from.number() as usize;
     let to = m.to.number() as usize;

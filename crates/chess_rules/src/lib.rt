@@ -1,5 +1,5 @@
-//! The rules of chess, by the FIDE Laws of Chess of 2023: valid positions, legal moves, the position after a move, how a game
-//! ends, and the piece codes that a DGT Electronic Board sends for a position.
+//! The rules of chess, by the FIDE Laws of Chess of 2023: valid positions, legal moves, the position after a move, how
+//! a game ends, and the piece codes that a DGT Electronic Board sends for a position.
 //!
 //! Begin with `parts.rt` and `position.rt`. `rules.rt` says which moves are legal, over `walk.rt`, which finds attacks;
 //! `moves.rt` lists them, `advance.rt` makes the position after one, `picture.rt` its codes. A call or a value marked

@@ -277,8 +277,8 @@ impl Position {
         status_of(&self.parts)
     }
 
-    /// The legal moves, each once, by the square that they leave, then by the square of arrival, then by the promotion in
-    /// the order none, queen, rook, bishop, knight. The only call of this crate that takes memory.
+    /// The legal moves, each once, by the square that they leave, then by the square of arrival, then by the promotion
+    /// in the order none, queen, rook, bishop, knight. The only call of this crate that takes memory.
     ///
     /// # Errors
     ///

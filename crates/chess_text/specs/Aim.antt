@@ -29,7 +29,9 @@ last_in low high [] = None
 last_in low high (b ∷ bs) = either (last_in low high bs) (only (is_within low high b) b)
 
 abbrev pub kind_at : ℕ → Kind
-kind_at b = if b == 75 then King else if b == 81 then Queen else if b == 82 then Rook else if b == 66 then Bishop else if b == 78 then Knight else Pawn
+kind_at b =
+    if b == 75 then King else if b == 81 then Queen else if b == 82 then Rook else
+    if b == 66 then Bishop else if b == 78 then Knight else Pawn
 
 -- the square of the last letter a to h and the last digit 1 to 8
 abbrev pub target_by : Option ℕ → Option ℕ → Option ℕ
@@ -53,7 +55,8 @@ abbrev pub castling_aim : Side → Wing → Aim
 castling_aim side wing = record { kind = King; to = castling_target side wing; promotion = None }
 
 abbrev pub text_aim : List ℕ → Option Aim
-text_aim text = aim_by (kind_at (slice_index text 0)) (target_by (last_in 97 104 text) (last_in 49 56 text)) (promotion_by (last_in 61 61 text) (last_in 66 82 text))
+text_aim text = aim_by (kind_at (slice_index text 0)) (target_by (last_in 97 104 text) (last_in 49 56 text))
+    (promotion_by (last_in 61 61 text) (last_in 66 82 text))
 
 -- what the text aims at
 abbrev pub aim_at : Side → List ℕ → Option Aim

@@ -53,7 +53,8 @@ pub record Fields : Type 0 where
 
 -- Six fields with one space between.
 abbrev pub six_fields : Fields → List ℕ
-six_fields f = join_with_byte 32 (f.placement ∷ side_text f.side ∷ castling_text f.rights ∷ target_text f.target ∷ f.halfmove ∷ f.fullmove ∷ [])
+six_fields f = join_with_byte 32
+    (f.placement ∷ side_text f.side ∷ castling_text f.rights ∷ target_text f.target ∷ f.halfmove ∷ f.fullmove ∷ [])
 
 -- The first four of them.
 abbrev pub four_fields : Fields → List ℕ

@@ -36,7 +36,14 @@ pub data AreRaw (text : List ℕ) (c : RawFields) : Type 0 where
 
 -- the fields that were found, without where they lie in memory
 abbrev pub fields_in : FoundFields → Fields
-fields_in f = record { placement = f.placement.now; side = f.side; rights = f.rights; target = f.target; halfmove = f.halfmove.now; fullmove = f.fullmove.now }
+fields_in f = record {
+  placement = f.placement.now;
+  side = f.side;
+  rights = f.rights;
+  target = f.target;
+  halfmove = f.halfmove.now;
+  fullmove = f.fullmove.now;
+}
 
 -- ---- the rights whose letters stand in a text
 

@@ -69,8 +69,8 @@ pub record IsRivalOnRank (p : Parts) (m n : Move) : Type 0 where
   pub rival : IsRival p m n
   pub rank : row n.from ≡ row m.from
 
--- The needed part of the origin: with no rival nothing, else the file if none of them starts on that file, else the rank
--- if none starts on that rank, else both.
+-- The needed part of the origin: with no rival nothing, else the file if none of them starts on that file, else the
+-- rank if none starts on that rank, else both.
 abbrev pub IsNeeded : Parts → Move → Origin → Type 0
 IsNeeded p m Nothing = (n : Move) → ¬ IsRival p m n
 IsNeeded p m ByFile = ((n : Move) × IsRival p m n) × ((n : Move) → ¬ IsRivalOnFile p m n)

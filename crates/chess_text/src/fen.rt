@@ -17,9 +17,9 @@ use thiserror::Error;
 /// Why a text is refused, in the order of the tests: the first that fails is returned.
 #[derive(Clone, Copy, PartialEq, Eq, Debug, Error)]
 pub enum FenError {
-    /// Neither six non-empty fields divided by single spaces nor four; a side other than `w` and `b`; rights other than `-`
-    /// and letters of `KQkq` in this order; a target other than `-` and a square of rank 3 or 6; a counter with a byte that
-    /// is no digit.
+    /// Neither six non-empty fields divided by single spaces nor four; a side other than `w` and `b`; rights other than
+    /// `-` and letters of `KQkq` in this order; a target other than `-` and a square of rank 3 or 6; a counter with a
+    /// byte that is no digit.
     #[error("form")]
     Form,
     /// A counter with a leading zero, a halfmove clock past 9999, or a fullmove number that is 0 or past 9999.
@@ -56,8 +56,8 @@ fn push_number(out: &mut ArrayString<128>, n: u16)
 }
 
 /// The FEN of a position: placement, side to move, castling rights, en passant target, halfmove clock and fullmove
-/// number, with one space between (PGN standard, section 16.1). The target is written after every double step, whether or
-/// not a capture is possible. At most 91 bytes.
+/// number, with one space between (PGN standard, section 16.1). The target is written after every double step, whether
+/// or not a capture is possible. At most 91 bytes.
 pub fn write_fen(p: &Position) -> ArrayString<128>
     ensures { result.bytes ≡ fen p.now }
 {
@@ -120,8 +120,8 @@ fn refusal_of(invalid: Invalid) -> FenError
     }
 }
 
-/// The position whose FEN the text is, or the first four fields of whose FEN the text is, where its counters are 0 and 1.
-/// Any other text is refused for the first of `FenError` that applies.
+/// The position whose FEN the text is, or the first four fields of whose FEN the text is, where its counters are 0 and
+/// 1. Any other text is refused for the first of `FenError` that applies.
 pub fn read_fen(text: &[u8]) -> Result<Position, FenError>
     ensures position { (p : PartsOf) → result ≡ Ok p ↔ (Valid p × TellsPosition text.now p) }
     ensures refusal { IfErr result (RefusedFirst text.now) }

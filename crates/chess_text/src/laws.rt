@@ -1,8 +1,8 @@
 //! What holds of all texts, each law as the contract of a function that does nothing.
 ghost use Rattle.chess_text.specs.Laws.{PlacementsAreThese, PlacementsReadBack, TextsTellPositions, OneRefusal, FensArePlain, TextsTellMoves, MovesTellTexts, TextsArePlain};
 
-/// A placement is the one text of eight ranks from rank 8 to rank 1 with `/` between, in each of which a piece is its letter
-/// and empty squares side by side are one digit, their number (PGN standard, section 16.1.3.1).
+/// A placement is the one text of eight ranks from rank 8 to rank 1 with `/` between, in each of which a piece is its
+/// letter and empty squares side by side are one digit, their number (PGN standard, section 16.1.3.1).
 pub fn placements_are_these()
     ensures { PlacementsAreThese }
 {}

@@ -1,7 +1,7 @@
 //! The texts of chess: positions as FEN, moves as SAN, pictures as placements.
 //!
-//! Begin with `fen.rt`, over `fields.rt` and `placement.rt`, and with `san.rt`, which writes, and `san_reading.rt`, which
-//! reads by trying the moves that `aim.rt` leaves. `start.rt` has the position that a game starts from, and
+//! Begin with `fen.rt`, over `fields.rt` and `placement.rt`, and with `san.rt`, which writes, and `san_reading.rt`,
+//! which reads by trying the moves that `aim.rt` leaves. `start.rt` has the position that a game starts from, and
 //! `placement_text.rt` follows a picture that changes. `laws.rt` has what holds of all texts.
 #![tactic(auto)]
 

@@ -64,9 +64,9 @@ pub fn put_rank(out: &mut ArrayString<128>, rank: &[u8])
     put_run(out, empty);
 }
 
-/// The placement of a picture, in at most 71 bytes (PGN standard, section 16.1.3.1): eight ranks from rank 8 to rank 1 with
-/// `/` between, each from the a-file to the h-file; `PRNBKQ` for White's pieces and `prnbkq` for Black's, a run of empty
-/// squares as its number. The codes 13 to 15, which stand for no piece, are written `*`.
+/// The placement of a picture, in at most 71 bytes (PGN standard, section 16.1.3.1): eight ranks from rank 8 to rank 1
+/// with `/` between, each from the a-file to the h-file; `PRNBKQ` for White's pieces and `prnbkq` for Black's, a run of
+/// empty squares as its number. The codes 13 to 15, which stand for no piece, are written `*`.
 pub fn write_placement(picture: &[u8; 64]) -> ArrayString<128>
     requires { All (λ c. c ≤ 15) picture.now }
     ensures text { result.bytes ≡ placement picture.now }

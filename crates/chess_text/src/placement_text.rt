@@ -9,8 +9,8 @@ use arrayvec::ArrayVec;
 /// A remembered rank for each code of each square.
 const REMEMBERED: usize = 1024;
 
-/// A picture whose ranks' texts are kept, so that after a change of one square only its rank is written anew; and not that one
-/// where it is as it was when the square last showed this code.
+/// A picture whose ranks' texts are kept, so that after a change of one square only its rank is written anew; and not
+/// that one where it is as it was when the square last showed this code.
 #[derive(Drop)]
 pub struct PlacementText {
     ranks: [RankText; 8],

@@ -269,8 +269,9 @@ fn mark_of(next: &Position) -> Mark
     }
 }
 
-/// The SAN of a legal move (PGN standard, section 8.2.3), 2 to 7 bytes: the needed part of the origin looks at the other
-/// legal moves of the same kind to the same square; `#` at the end where the move gives checkmate, else `+` for check.
+/// The SAN of a legal move (PGN standard, section 8.2.3), 2 to 7 bytes: the needed part of the origin looks at the
+/// other legal moves of the same kind to the same square; `#` at the end where the move gives checkmate, else `+` for
+/// check.
 pub fn write_san(p: &Position, m: Move) -> ArrayString<8>
     requires { Legal p.now m }
     ensures san { San p.now m result.bytes }

@@ -37,7 +37,8 @@ fn named_from(p: &Position, aim: &Aim, square: u8, text: &[u8]) -> Option<Move>
     requires { square < 64 }
     ensures legal { IfSome result (Legal p.now) }
     ensures named { IfSome result (λ m. San p.now m text.now) }
-    ensures none { IfNone result (on p.now.board square ≡ piece_of p.now.side aim.now.kind → Legal p.now (aimed_from aim.now square) → ¬ San p.now (aimed_from aim.now square) text.now) }
+    ensures none { IfNone result (on p.now.board square ≡ piece_of p.now.side aim.now.kind → Legal p.now (aimed_from aim.now square)
+        → ¬ San p.now (aimed_from aim.now square) text.now) }
 {
     let parts = p.parts();
     let kind = kind_on(&parts.board, parts.side, square)?;

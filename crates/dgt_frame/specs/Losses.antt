@@ -32,8 +32,8 @@ abbrev pub HasFault : List Timed → Type 0
 HasFault [] = ⊥
 HasFault (first ∷ events) = IsFault first.event ⊎ HasFault events
 
--- Of a stream of dumps, updates and times, one to four bytes in a row are lost, and a whole frame comes after them: the rest shows a
--- fault, whatever comes then.
+-- Of a stream of dumps, updates and times, one to four bytes in a row are lost, and a whole frame comes after them: the
+-- rest shows a fault, whatever comes then.
 abbrev pub SmallLossesShow : Type 0
 SmallLossesShow = (frames : List (List ℕ)) (next after front lost back : List ℕ) (events : List Timed) (rest : ℕ)
     → AllByRecursion IsBoardFrame frames → IsBoardFrame next

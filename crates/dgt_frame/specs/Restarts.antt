@@ -13,9 +13,9 @@ abbrev pub cut_at : ℕ → ℕ → List Timed
 cut_at offset zero = []
 cut_at offset (suc rest) = record { offset = offset; event = Fault Cut } ∷ []
 
--- The first bytes are those of a stream that was broken off anywhere. The others begin as each frame does, with a byte with its
--- top bit set. Together they show the events of the first, a cut where these leave some bytes of a frame, and the events of the
--- others at their offsets; and they leave what the others leave.
+-- The first bytes are those of a stream that was broken off anywhere. The others begin as each frame does, with a byte
+-- with its top bit set. Together they show the events of the first, a cut where these leave some bytes of a frame, and
+-- the events of the others at their offsets; and they leave what the others leave.
 abbrev pub RestartsAreShown : Type 0
 RestartsAreShown = (first again : List ℕ) (byte : ℕ) (events others : List Timed) (rest last : ℕ)
     → 128 ≤ byte → Shows first events rest → Shows (byte ∷ again) others last

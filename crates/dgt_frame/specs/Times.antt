@@ -50,8 +50,8 @@ abbrev pub reading_of : First → List ℕ → Reading
 reading_of White times = record { white = group times 0; black = group times 3 }
 reading_of Black times = record { white = group times 3; black = group times 0 }
 
--- The reading after a time message, where it was `before` until then: the same where the message acknowledges, none where no
--- clock is connected, both groups where they are times, else the same.
+-- The reading after a time message, where it was `before` until then: the same where the message acknowledges, none
+-- where no clock is connected, both groups where they are times, else the same.
 abbrev pub reading_after : First → List ℕ → Option Reading → Option Reading
 reading_after first times before = if is_acknowledgement times then before
     else (if lacks_clock times then None else (if has_digits times then Some (reading_of first times) else before))

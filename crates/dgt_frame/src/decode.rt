@@ -105,11 +105,11 @@ impl Decoder {
         }
     }
 
-    /// Takes the next byte, which may be any. Returns the event that comes at it: the message whose frame it ends, or the
-    /// fault that stands at it. `None` where no event comes.
+    /// Takes the next byte, which may be any. Returns the event that comes at it: the message whose frame it ends, or
+    /// the fault that stands at it. `None` where no event comes.
     pub fn push(&mut self, byte: u8) -> Option<Event>
-        // Before, the decoder was given some bytes, and returned some events. Now it was given this byte too, and has returned
-        // the event that comes at it too, if one does.
+        // Before, the decoder was given some bytes, and returned some events. Now it was given this byte too, and has
+        // returned the event that comes at it too, if one does.
         ensures decoded { (bytes : List ℕ) (events : List Timed) → Decoded self.old bytes events
             → Decoded self.new (bytes ++ byte ∷ []) (events ++ timed (length bytes) result) }
         ensures frame { (bytes : List ℕ) (events : List Timed) → Decoded self.old bytes events → IfSome result HasFrame }
@@ -121,14 +121,16 @@ impl Decoder {
         }
     }
 
-    /// Takes bytes up to the first at which an event comes, or all of them where none comes and the result is `None`. It
-    /// does what `push` does byte by byte, in less time. The event is put where the caller wants it, and the result is how
-    /// many bytes were taken up to it, its own among them, and at least 1. Where none comes, `event` says nothing.
+    /// Takes bytes up to the first at which an event comes, or all of them where none comes and the result is `None`.
+    /// It does what `push` does byte by byte, in less time. The event is put where the caller wants it, and the result
+    /// is how many bytes were taken up to it, its own among them, and at least 1. Where none comes, `event` says
+    /// nothing.
     pub fn push_into(&mut self, bytes: &[u8], event: &mut Event) -> Option<usize>
         ensures none { IfNone result (TakesAll self.old bytes.now self.new) }
         ensures some { IfSome result (λ taken. TakesUpTo self.old bytes.now taken event.new self.new) }
         ensures taken { IfSome result (λ taken. (0 < taken) × (taken ≤ length bytes.now)) }
-        ensures frame { (before : List ℕ) (events : List Timed) → Decoded self.old before events → IfSome result (λ taken. HasFrame event.new) }
+        ensures frame { (before : List ℕ) (events : List Timed) → Decoded self.old before events
+            → IfSome result (λ taken. HasFrame event.new) }
     {
         if self.is_idle() {
             if let Some(size) = whole(bytes, event) {
@@ -143,7 +145,8 @@ impl Decoder {
         ensures none { IfNone result (TakesAll self.old bytes.now self.new) }
         ensures some { IfSome result (λ taken. TakesUpTo self.old bytes.now taken event.new self.new) }
         ensures taken { IfSome result (λ taken. (0 < taken) × (taken ≤ length bytes.now)) }
-        ensures frame { (before : List ℕ) (events : List Timed) → Decoded self.old before events → IfSome result (λ taken. HasFrame event.new) }
+        ensures frame { (before : List ℕ) (events : List Timed) → Decoded self.old before events
+            → IfSome result (λ taken. HasFrame event.new) }
     {
         for (i, byte) in bytes.iter().enumerate() {
             let taken = i + 1;

@@ -7,9 +7,9 @@ use crate::decode::{DUMP, DUMP_SIZE, TIME, TIME_SIZE, UPDATE, UPDATE_SIZE};
 use crate::events::Message;
 use arrayvec::ArrayVec;
 
-/// Replaces what `out` holds by the frame of the message (DGT Electronic Board Protocol). A dump has codes of at most 15, an
-/// update a field of at most 63 and such a code, a time message bytes below 128; an `Other` message has no frame of its
-/// own, since its data isn't known.
+/// Replaces what `out` holds by the frame of the message (DGT Electronic Board Protocol). A dump has codes of at most
+/// 15, an update a field of at most 63 and such a code, a time message bytes below 128; an `Other` message has no frame
+/// of its own, since its data isn't known.
 pub fn encode(message: &Message, out: &mut ArrayVec<u8, 67>)
     requires { IsEncodable message.now }
     ensures { Frame message.now out.new.items }

@@ -1,5 +1,5 @@
-//! Laws of what a stream shows: each stream shows exactly one list of events, its first bytes the first of them, one that
-//! is broken off and begun again those of its two parts, and one that has lost a few bytes a fault.
+//! Laws of what a stream shows: each stream shows exactly one list of events, its first bytes the first of them, one
+//! that is broken off and begun again those of its two parts, and one that has lost a few bytes a fault.
 ghost use Rattle.std.specs.Prelude.{◌≡◌, ◌++◌, ℕ, List};
 ghost use Rattle.dgt_frame.specs.Losses.{SmallLossesShow};
 ghost use Rattle.dgt_frame.specs.Restarts.{RestartsAreShown};
@@ -31,14 +31,14 @@ pub fn shows_some(bytes: &[u8])
     decoder.pending();
 }
 
-/// A stream that is broken off anywhere and begun again shows the events of its two parts, and a cut between them where the
-/// first leaves some bytes of a frame.
+/// A stream that is broken off anywhere and begun again shows the events of its two parts, and a cut between them where
+/// the first leaves some bytes of a frame.
 pub fn restarts_are_shown()
     ensures { RestartsAreShown }
 {}
 
-/// Where one to four bytes in a row are lost of a stream of dumps, updates and times, and a whole frame comes after them, a
-/// fault shows.
+/// Where one to four bytes in a row are lost of a stream of dumps, updates and times, and a whole frame comes after
+/// them, a fault shows.
 pub fn small_losses_show()
     ensures { SmallLossesShow }
 {}

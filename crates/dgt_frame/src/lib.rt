@@ -1,8 +1,9 @@
 //! Frames of the DGT Electronic Board Protocol, both ways: messages, faults, and what time messages say of the clock.
 //!
-//! Begin with `events.rt`, what bytes show, and `decode.rt`, which takes them one by one; `whole.rt` takes a frame at once
-//! where it lies whole. `encoding.rt` makes the frame of a message, and `time.rt` reads the clocks out of one. `laws.rt` has
-//! what holds of all streams. A call marked `For its clause` changes nothing: the proof needs what its contract says.
+//! Begin with `events.rt`, what bytes show, and `decode.rt`, which takes them one by one; `whole.rt` takes a frame at
+//! once where it lies whole. `encoding.rt` makes the frame of a message, and `time.rt` reads the clocks out of one.
+//! `laws.rt` has what holds of all streams. A call marked `For its clause` changes nothing: the proof needs what its
+//! contract says.
 #![tactic(auto)]
 
 pub mod decode;

@@ -52,9 +52,9 @@ fn group(bytes: &[u8; 7], start: usize) -> Option<Hms>
     }
 }
 
-/// The reading after a time message with these data bytes, where it was `old` before. By the first rule that applies: an
-/// acknowledgement of a command to the clock leaves it; without a clock it is `None`; digits or hours that are no time
-/// leave it; else it is the two groups, the first that of the side `first`.
+/// The reading after a time message with these data bytes, where it was `old` before. By the first rule that applies:
+/// an acknowledgement of a command to the clock leaves it; without a clock it is `None`; digits or hours that are no
+/// time leave it; else it is the two groups, the first that of the side `first`.
 pub fn read_time(bytes: &[u8; 7], first: First, old: Option<Reading>) -> Option<Reading>
     ensures { result ≡ reading_after first bytes.now old }
 {

@@ -9,11 +9,11 @@ use Rattle.board_events.specs.declared.setup.Setup.{Setup}
 use Rattle.board_listing.specs.EventLines.{rest_line}
 use Rattle.board_listing.specs.OneText.{event_lines, no_line, picture_lines}
 use Rattle.board_listing.specs.declared.listing.Listing.{Listing}
-use Rattle.board_listing.specs.declared.listing.Listing.TheVariants.{Game}
+use Rattle.board_listing.specs.declared.listing.Listing.TheVariants.{Game, Watched}
 use Rattle.dgt_frame.specs.Streams.{Timed}
 use Rattle.chess_game.specs.declared.values.Tag.{Tag}
 use Rattle.replay_arguments.specs.declared.arguments.Subcommand.{Subcommand}
-use Rattle.replay_arguments.specs.Subcommands.{Asks, AsksFor, AsksForPictures, AsksToCheck, AsksToFollow, AsksToRecord, AsksToRecover, AsksToShow}
+use Rattle.replay_arguments.specs.Subcommands.{Asks, AsksFor, AsksForPictures, AsksToCheck, AsksToFollow, AsksToRecord, AsksToRecover, AsksToShow, AsksToWatch}
 use Rattle.replay_arguments.specs.Setups.{SetsUpNothing, tag_text}
 use Rattle.chess_text.specs.Start.{HasNoStart, StartsAt, given}
 use Rattle.replay_arguments.specs.TagOptions.{option_of}
@@ -29,7 +29,7 @@ use Rattle.dgt_replay.proofs.EndLemmas.{ends_for_memory, none_read, not_both}
 use Rattle.text_subcommands.proofs.MessageLemmas.{tells_alike, tells_memory}
 use Rattle.dgt_replay.proofs.RefusalLemmas.{refuses_alike, refuses_start_alike}
 use Rattle.dgt_replay.proofs.SetupLemmas.{meets_nothing}
-use Rattle.dgt_replay.proofs.SubcommandLemmas.{chooses_check, chooses_follow, chooses_pictures, chooses_record, chooses_recover, chooses_show, follow_chosen, moves_chosen, positions_chosen, record_chosen, recover_chosen}
+use Rattle.dgt_replay.proofs.SubcommandLemmas.{chooses_check, chooses_follow, chooses_pictures, chooses_record, chooses_recover, chooses_show, chooses_watch, follow_chosen, moves_chosen, positions_chosen, record_chosen, recover_chosen, watch_chosen}
 
 -- Memory ran out before anything was read, or written to the output.
 pub record LacksMemory (status : ℕ) (s : Streams) : Type 0 where
@@ -184,6 +184,22 @@ pub does_refuse_start : (arguments : List Text) (subcommand : Subcommand) (statu
     → (rows : List Row) → Asks arguments (codes "follow") rows → HasNoStart (first_of (codes "fen") rows) → Refuses (RefusesStart (first_of (codes "fen") rows)) status s
 does_refuse_start arguments subcommand status s asked does rows asks none =
     let chosen = follow_chosen arguments rows subcommand asks asked in
+    let fen = given chosen.0.fen in
+    let same = chosen.2.fen in
+    refuses_too (RefusesStart fen) (RefusesStart (first_of (codes "fen") rows)) status s
+    (λ message refuses. refuses_start_alike fen (first_of (codes "fen") rows) message same refuses)
+    ((does_as subcommand _ status s chosen.1 does).1 (subst HasNoStart (sym same) none))
+
+pub does_watch : (arguments : List Text) (subcommand : Subcommand) (status : ℕ) (s : Streams) → AsksFor arguments subcommand → Does subcommand status s
+    → (setting : Setting) → AsksToWatch arguments setting → Lists (Watched setting.start setting.first setting.rotated) status s
+does_watch arguments subcommand status s asked does setting asks =
+    let chosen = chooses_watch arguments setting subcommand asks asked in
+    (does_as subcommand _ status s chosen.1 does).0 setting chosen.2
+
+pub does_refuse_watch : (arguments : List Text) (subcommand : Subcommand) (status : ℕ) (s : Streams) → AsksFor arguments subcommand → Does subcommand status s
+    → (rows : List Row) → Asks arguments (codes "watch") rows → HasNoStart (first_of (codes "fen") rows) → Refuses (RefusesStart (first_of (codes "fen") rows)) status s
+does_refuse_watch arguments subcommand status s asked does rows asks none =
+    let chosen = watch_chosen arguments rows subcommand asks asked in
     let fen = given chosen.0.fen in
     let same = chosen.2.fen in
     refuses_too (RefusesStart fen) (RefusesStart (first_of (codes "fen") rows)) status s

@@ -11,7 +11,7 @@ use Rattle.std.proofs.KnownBytes.{Appends-kept}
 use Rattle.text_subcommands.specs.Messages.{IsTooLong, Says, Tells}
 use Rattle.text_subcommands.proofs.MessageLemmas.{tells_fault, tells_memory, tells_refused}
 use Rattle.board_listing.specs.declared.listing.Listing.{Listing}
-use Rattle.board_listing.specs.declared.listing.Listing.TheVariants.{Events, Pictures, Game}
+use Rattle.board_listing.specs.declared.listing.Listing.TheVariants.{Events, Pictures, Game, Watched}
 
 pub front_kept : (listing : Listing) (input left written so_far after : Option (List ℕ)) → ListsFront listing input left written so_far → Keeps so_far after → ListsFront listing input left written after
 front_kept listing input left written so_far after front kept =
@@ -38,11 +38,13 @@ nothing_for_memory : (listing : Listing) (input left written after : Option (Lis
 nothing_for_memory Events input left written after read wrote = (read, wrote)
 nothing_for_memory (Pictures rotated) input left written after read wrote = (read, wrote)
 nothing_for_memory (Game start first rotated) input left written after read wrote = inl (read, wrote)
+nothing_for_memory (Watched start first rotated) input left written after read wrote = inl (read, wrote)
 
 refused_for_memory : (listing : Listing) (input left written after : Option (List ℕ)) → ListsRefused listing input left written after → EndsForMemory listing input left written after
 refused_for_memory Events input left written after lists = absurd lists.8
 refused_for_memory (Pictures rotated) input left written after lists = absurd lists.8
 refused_for_memory (Game start first rotated) input left written after lists = inr lists
+refused_for_memory (Watched start first rotated) input left written after lists = inr lists
 
 pub none_read : (most : ℕ) (input left : Option (List ℕ)) → Keeps input left → ReadsWithin most input left
 none_read most None left kept = ([], tt, omega arith)

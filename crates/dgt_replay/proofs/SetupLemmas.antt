@@ -10,7 +10,6 @@ use Rattle.board_events.specs.declared.setup.Setup.{Setup}
 use Rattle.board_events.specs.Settings.{Setting}
 use Rattle.board_events.specs.Settings.{setting_of}
 use Rattle.replay_arguments.specs.declared.setup.Refusal.{Refusal}
-use Rattle.board_listing.specs.declared.listing.Listing.TheVariants.{Game}
 use Rattle.replay_arguments.specs.declared.arguments.BoardArguments.{BoardArguments}
 use Rattle.replay_arguments.specs.declared.arguments.RecordArguments.{RecordArguments}
 use Rattle.replay_arguments.specs.Setups.{ForMemory, HasNoValue, HasValue, HasValues, Meets, MeetsBoard, MeetsNothing, SetsBoardUp, SetsUp, SetsUpNothing, Wants, WantsBoard, tag_text}
@@ -34,13 +33,6 @@ meets rows options setup wants sets = record {
 }
 
 -- The setting that has this start is the one that the arguments say.
-pub same_game : (options : BoardArguments) (setting : Setting) (start : Parts) → MeetsBoard options setting → start ≡ setting.start
-    → Game start options.first options.rotated ≡ Game setting.start setting.first setting.rotated
-same_game options setting start meets same =
-    let first : options.first ≡ setting.first = sym meets.first in
-    let rotated : options.rotated ≡ setting.rotated = sym meets.rotated in
-    rw (same, first, rotated) refl
-
 pub same_setting : (options : BoardArguments) (setting : Setting) (start : Parts) → MeetsBoard options setting → start ≡ setting.start
     → record { start = start; first = options.first; rotated = options.rotated } ≡ setting
 same_setting options setting start meets same =

@@ -8,11 +8,11 @@ use Rattle.clap.specs.Simple.{subcommand_of}
 use Rattle.board_events.specs.declared.setup.Setup.{Setup}
 use Rattle.board_events.specs.Settings.{Setting}
 use Rattle.replay_arguments.specs.declared.arguments.Subcommand.{Subcommand}
-use Rattle.replay_arguments.specs.declared.arguments.Subcommand.TheVariants.{Show, Pictures, Record, Follow, Recover, Check, Moves, Positions}
+use Rattle.replay_arguments.specs.declared.arguments.Subcommand.TheVariants.{Show, Pictures, Record, Follow, Watch, Recover, Check, Moves, Positions}
 use Rattle.replay_arguments.specs.declared.arguments.BoardArguments.{BoardArguments}
 use Rattle.replay_arguments.specs.declared.arguments.RecordArguments.{RecordArguments}
 use Rattle.replay_arguments.specs.Command.{replay}
-use Rattle.replay_arguments.specs.Subcommands.{Asks, AsksForPictures, AsksToCheck, AsksToShow, AsksFor, AsksToFollow, AsksToRecord, AsksToRecover, Chooses, IsRefused, is_subcommand}
+use Rattle.replay_arguments.specs.Subcommands.{Asks, AsksForPictures, AsksToCheck, AsksToShow, AsksFor, AsksToFollow, AsksToRecord, AsksToRecover, AsksToWatch, Chooses, IsRefused, is_subcommand}
 use Rattle.replay_arguments.specs.Setups.{Meets, MeetsBoard, Wants, WantsBoard}
 use Rattle.chess_text.specs.Start.{given}
 use Rattle.dgt_replay.proofs.SetupLemmas.{meets, meets_board}
@@ -74,6 +74,19 @@ chooses_follow arguments setting subcommand (rows, asks, sets) asked =
     let found = follow_chosen arguments rows subcommand asks asked in
     (found.0, found.1, meets_board rows found.0 setting found.2 sets)
 
+-- `watch` asks that a game be watched as its options say
+pub watch_chosen : (arguments : List Text) (rows : List Row) (subcommand : Subcommand) → Asks arguments (codes "watch") rows → AsksFor arguments subcommand
+    → (options : BoardArguments) × (subcommand ≡ Watch options) × WantsBoard rows options
+watch_chosen arguments rows subcommand asks asked =
+    let found = (chosen arguments (codes "watch") rows subcommand asks asked).watch refl in
+    (found.0, found.1, found.2)
+
+pub chooses_watch : (arguments : List Text) (setting : Setting) (subcommand : Subcommand) → AsksToWatch arguments setting → AsksFor arguments subcommand
+    → (options : BoardArguments) × (subcommand ≡ Watch options) × MeetsBoard options setting
+chooses_watch arguments setting subcommand (rows, asks, sets) asked =
+    let found = watch_chosen arguments rows subcommand asks asked in
+    (found.0, found.1, meets_board rows found.0 setting found.2 sets)
+
 -- `recover` asks that a game be recovered as its options say
 pub recover_chosen : (arguments : List Text) (rows : List Row) (subcommand : Subcommand) → Asks arguments (codes "recover") rows → AsksFor arguments subcommand
     → (options : BoardArguments) × (subcommand ≡ Recover options) × WantsBoard rows options
@@ -116,6 +129,9 @@ record_unrefused arguments setup (rows, asks, sets) = unrefused arguments (codes
 
 pub follow_unrefused : (arguments : List Text) (setting : Setting) → AsksToFollow arguments setting → IsRefused arguments → ⊥
 follow_unrefused arguments setting (rows, asks, sets) = unrefused arguments (codes "follow") rows asks
+
+pub watch_unrefused : (arguments : List Text) (setting : Setting) → AsksToWatch arguments setting → IsRefused arguments → ⊥
+watch_unrefused arguments setting (rows, asks, sets) = unrefused arguments (codes "watch") rows asks
 
 pub recover_unrefused : (arguments : List Text) (setting : Setting) → AsksToRecover arguments setting → IsRefused arguments → ⊥
 recover_unrefused arguments setting (rows, asks, sets) = unrefused arguments (codes "recover") rows asks

@@ -20,8 +20,8 @@ use Rattle.board_listing.specs.GivenGame.{AreInStream, GameLine, Gives, text_of}
 use Rattle.board_listing.specs.Listings.{ListsAll}
 use Rattle.recovery.specs.Weaving.{Recovers}
 
--- Where `record` writes the PGN text of a game of a whole stream, `follow` writes, of the same bytes and as it is set up, lines
--- that give this game, and the line of the rest.
+-- Where `record` writes the PGN text of a game of a whole stream, `follow` writes, of the same bytes and as it is set
+-- up, lines that give this game, and the line of the rest.
 abbrev pub FollowTellsTheGame : Type 0
 FollowTellsTheGame = (setup : Setup) (report : Report) (bytes : List ℕ) (sent sent' written written' told told' : Option (List ℕ))
     → (recorded : RecordsGame setup report bytes sent sent' written written')
@@ -29,8 +29,8 @@ FollowTellsTheGame = (setup : Setup) (report : Report) (bytes : List ℕ) (sent 
     → (lines : List GameLine) × (rest : ℕ) × Appends told told' (text_of lines ++ rest_line rest)
     × Gives setup.start lines (reverse recorded.game.plies) recorded.game.result × AreInStream lines
 
--- The game is that of these bytes where unseen pairs are recovered: its plies and its result are what their pictures give, of which
--- one that equals the one before counts no further time.
+-- The game is that of these bytes where unseen pairs are recovered: its plies and its result are what their pictures
+-- give, of which one that equals the one before counts no further time.
 pub record IsRecoveredFrom (game : Content) (setting : Setting) (bytes : List ℕ) : Type 0 where
   pub events : List Timed
   pub rest : ℕ

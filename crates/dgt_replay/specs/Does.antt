@@ -1,5 +1,5 @@
 -- What each subcommand does with the streams, by its status.
-use Rattle.std.specs.Prelude.{◌≡◌, ◌⊎◌, ◌∷◌, [], ℕ, Contains, List, Option, codes, false, true}
+use Rattle.std.specs.Prelude.{◌≡◌, ◌⊎◌, ◌∷◌, [], ℕ, Bool, Contains, List, Option, codes, false, true, if◌then◌else◌}
 use Rattle.chess_rules.specs.declared.parts.Parts.{Parts}
 use Rattle.dgt_frame.specs.Streams.{Timed}
 use Rattle.board_events.specs.Limits.{limit}
@@ -11,10 +11,10 @@ use Rattle.watched_streams.specs.Input.{ReadsWithin}
 use Rattle.board_listing.specs.Listings.{ListingEnds}
 use Rattle.board_listing.specs.OneText.{TextEnds, event_lines, no_line, picture_lines}
 use Rattle.board_listing.specs.declared.listing.Listing.{Listing}
-use Rattle.board_listing.specs.declared.listing.Listing.TheVariants.{Game}
+use Rattle.board_listing.specs.declared.listing.Listing.TheVariants.{Game, Watched}
 use Rattle.recovery.specs.Streams.{RecoversAll, RecoversFirst, RecoversFront, RecoversRead, RecoversSome}
 use Rattle.replay_arguments.specs.declared.arguments.Subcommand.{Subcommand}
-use Rattle.replay_arguments.specs.declared.arguments.Subcommand.TheVariants.{Show, Pictures, Record, Follow, Recover, Check, Moves, Positions}
+use Rattle.replay_arguments.specs.declared.arguments.Subcommand.TheVariants.{Show, Pictures, Record, Follow, Watch, Recover, Check, Moves, Positions}
 use Rattle.replay_arguments.specs.Setups.{Meets, MeetsBoard, MeetsNothing, tag_text}
 use Rattle.chess_text.specs.Start.{HasNoStart, StartsAt, given}
 use Rattle.text_subcommands.specs.Messages.{IsTooLong, Says, Tells}
@@ -26,8 +26,8 @@ use Rattle.text_subcommands.specs.Checked.{Checks}
 use Rattle.text_subcommands.specs.Played.{Plays}
 use Rattle.text_subcommands.specs.Printed.{Prints}
 
--- The lines of a stream's events were written, and what ended that was said: that the stream is past its limit, which stream has
--- failed, or that memory ran out.
+-- The lines of a stream's events were written, and what ended that was said: that the stream is past its limit, which
+-- stream has failed, or that memory ran out.
 pub record WritesText (lines : List Timed → List ℕ) (last : ℕ → List ℕ) (status : ℕ) (s : Streams) : Type 0 where
   pub ends : TextEnds lines last status s.input s.input' s.written s.written' s.reader_failed s.out_failed
   pub tells : Tells status IsTooLong s.said s.said' s.reader_failed s.out_failed s.err_failed
@@ -52,13 +52,15 @@ pub record Records (setup : Setup) (status : ℕ) (s : Streams) : Type 0 where
 abbrev pub TellsAfter : (Option (List ℕ) → Type 0) → Streams → List ℕ → Type 0
 TellsAfter Stood s message = (told : Option (List ℕ)) × Stood told × Says told s.said' s.err_failed message
 
--- A stream was given on, with the pairs put in that no picture showed, and their lines were told; what ended it is said after them.
+-- A stream was given on, with the pairs put in that no picture showed, and their lines were told; what ended it is said
+-- after them.
 pub record RecoversPairs (setting : Setting) (status : ℕ) (s : Streams) : Type 0 where
   -- the whole of it
   pub done : status ≡ 0 → RecoversAll setting s.input s.written s.written' s.said s.said'
   -- the stream is past its limit, and what is within it was given on
   pub long : status ≡ 1 → TellsAfter (λ told. RecoversFirst setting s.input s.written s.written' s.said told) s (codes "input: too long\n")
-  -- a stream has failed: the reader, and all bytes before were given on; or the output or standard error, and a front stands
+  -- a stream has failed: the reader, and all bytes before were given on; or the output or standard error, and a front
+  -- stands
   pub fault : status ≡ 3 → ((s.reader_failed ≡ true) × TellsAfter (λ told. RecoversRead setting s.input s.input' s.written s.written' s.said told) s (codes "read fault\n"))
       ⊎ (((s.out_failed ≡ true) × TellsAfter (λ told. RecoversFront setting s.input s.input' s.written s.written' s.said told false) s (codes "write fault\n"))
       ⊎ ((s.err_failed ≡ true) × RecoversFront setting s.input s.input' s.written s.written' s.said s.said' true))
@@ -70,13 +72,19 @@ pub record RecoversPairs (setting : Setting) (status : ℕ) (s : Streams) : Type
   -- where a read has failed, all bytes before it were given on before it began
   pub read : s.reader_failed ≡ true → (status ≡ 3) × ((told : Option (List ℕ)) × RecoversRead setting s.input s.input' s.written s.written' s.said told)
 
+-- what is listed of a game that is followed or, with what the board and the clocks show, watched
+abbrev pub game_listing : Bool → Setting → Listing
+game_listing watched setting = if watched then Watched setting.start setting.first setting.rotated else Game setting.start setting.first setting.rotated
+
 -- What a subcommand does, by the setups, settings or starts that its options give.
 abbrev pub Does : Subcommand → ℕ → Streams → Type 0
 Does Show status s = WritesText event_lines rest_line status s
 Does (Pictures rotated) status s = WritesText (picture_lines rotated) no_line status s
 Does (Record options) status s = ((setup : Setup) → Meets options setup → Records setup status s)
     × (MeetsNothing options → Refuses (RefusesSetup (given options.board.fen) (tag_text options)) status s)
-Does (Follow options) status s = ((setting : Setting) → MeetsBoard options setting → Lists (Game setting.start setting.first setting.rotated) status s)
+Does (Follow options) status s = ((setting : Setting) → MeetsBoard options setting → Lists (game_listing false setting) status s)
+    × (HasNoStart (given options.fen) → Refuses (RefusesStart (given options.fen)) status s)
+Does (Watch options) status s = ((setting : Setting) → MeetsBoard options setting → Lists (game_listing true setting) status s)
     × (HasNoStart (given options.fen) → Refuses (RefusesStart (given options.fen)) status s)
 Does (Recover options) status s = ((setting : Setting) → MeetsBoard options setting → RecoversPairs setting status s)
     × (HasNoStart (given options.fen) → Refuses (RefusesStart (given options.fen)) status s)

@@ -21,8 +21,8 @@ abbrev pub RecordsAndTells : Setup → Streams → Type 0
 RecordsAndTells setup s = (report : Report) × (asked : Option (List ℕ))
     × RecordsAll setup report s.input s.said asked s.written s.written' × Appends asked s.said' (report_line report)
 
--- The recording has ended for this reason, and left what it leaves then: bytes read, bytes for the board and the reason, and a
--- text.
+-- The recording has ended for this reason, and left what it leaves then: bytes read, bytes for the board and the
+-- reason, and a text.
 abbrev pub EndsFor : RecordError → Setup → Streams → Type 0
 EndsFor reason setup s = (asked : Option (List ℕ))
     × Leaves setup (Err reason) s.input s.input' s.said asked s.written s.written' × Says asked s.said' s.err_failed (message_of reason)

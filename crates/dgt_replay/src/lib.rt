@@ -1,8 +1,8 @@
 //! The subcommands of the program, over any streams.
 //!
-//! Begin with `program.rt`, which has `run`. `record.rt` and `recover.rt` are the subcommands of these names; `check`, `moves`
-//! and `positions` stand in `text_subcommands`. A call marked `For its clause` changes nothing: the proof needs what its
-//! contract says.
+//! Begin with `program.rt`, which has `run`. `record.rt` and `recover.rt` are the subcommands of these names; `check`,
+//! `moves` and `positions` stand in `text_subcommands`. A call marked `For its clause` changes nothing: the proof needs
+//! what its contract says.
 #![tactic(auto)]
 
 pub mod laws;

@@ -9,7 +9,7 @@ ghost use Rattle.clap.specs.Values.{kind_of};
 ghost use Rattle.clap.specs.Walk.{Row, first_of};
 ghost use Rattle.watched_streams.specs.Watch.{IsFlushed, inner_of, has_failed};
 ghost use Rattle.replay_arguments.specs.declared.arguments.BoardArguments.{BoardArguments as BoardOptions};
-ghost use Rattle.replay_arguments.specs.Subcommands.{AreMistaken, Asks, AsksForHelp, AsksForVersion, AsksToFollow, AsksToRecord, AsksToRecover, IsCheck, IsPictures, IsRefused, IsShow};
+ghost use Rattle.replay_arguments.specs.Subcommands.{AreMistaken, Asks, AsksForHelp, AsksForVersion, AsksToFollow, AsksToRecord, AsksToRecover, AsksToWatch, IsCheck, IsPictures, IsRefused, IsShow};
 ghost use Rattle.board_listing.specs.declared.listing.Listing.{Listing};
 ghost use Rattle.board_listing.specs.EventLines.{rest_line};
 ghost use Rattle.board_listing.specs.OneText.{event_lines, no_line, picture_lines};
@@ -17,7 +17,7 @@ ghost use Rattle.replay_arguments.specs.Setups.{MeetsBoard, SetsUpNothing};
 ghost use Rattle.chess_text.specs.Start.{HasNoStart, StartsAt, given};
 ghost use Rattle.replay_arguments.specs.TagOptions.{option_of};
 ghost use Rattle.text_subcommands.specs.Checked.{Checks};
-ghost use Rattle.dgt_replay.specs.Does.{Does, Lists, Records, RecoversPairs, WritesText};
+ghost use Rattle.dgt_replay.specs.Does.{Does, Lists, Records, RecoversPairs, WritesText, game_listing};
 ghost use Rattle.text_subcommands.specs.Played.{Plays};
 ghost use Rattle.text_subcommands.specs.Printed.{Prints};
 ghost use Rattle.text_subcommands.specs.Refusals.{Refuses, RefusesStart};
@@ -29,9 +29,11 @@ ghost use Rattle.text_subcommands.specs.Streams.{streams};
 use crate::record::record_game;
 use crate::recover::recover;
 use board_listing::{Listing, list_stream};
+use chess_rules::Position;
 use chess_text::start_of;
 use clap::Error;
 use clap::error::ErrorKind;
+use dgt_frame::First;
 use replay_arguments::laws::without_options;
 use replay_arguments::{BoardArguments, Subcommand, read_arguments};
 use std::alloc::Global;
@@ -102,9 +104,29 @@ fn list<R: Read, O: Write, E: Write>(
     }
 }
 
-/// Lists what each event makes of a game.
+/// What is listed of a game that is followed or watched.
+fn game_listing(watched: bool, start: Position, first: First, rotated: bool) -> Listing
+    ensures { let setting : Setting = record { start = start; first = first; rotated = rotated } in result ≡ game_listing watched setting }
+{
+    if watched {
+        Listing::Watched {
+            start,
+            first,
+            rotated,
+        }
+    } else {
+        Listing::Game {
+            start,
+            first,
+            rotated,
+        }
+    }
+}
+
+/// Lists what each event makes of a game; where it is watched, with what the board and the clocks show.
 fn follow<R: Read, O: Write, E: Write>(
     alloc: Global,
+    watched: bool,
     options: &BoardArguments<'_>,
     reader: &mut Watch<R>,
     out: &mut Watch<O>,
@@ -113,7 +135,7 @@ fn follow<R: Read, O: Write, E: Write>(
     requires reading { has_failed reader.old ≡ false }
     requires working { has_failed out.old ≡ false }
     requires erring { has_failed err.old ≡ false }
-    ensures lists { (setting : Setting) → MeetsBoard options.now setting → Lists (Listing.Game setting.start setting.first setting.rotated) result
+    ensures lists { (setting : Setting) → MeetsBoard options.now setting → Lists (game_listing watched setting) result
         (streams R.remaining O.contents E.contents reader.old reader.new out.old out.new err.old err.new) }
     ensures refuses { HasNoStart (given options.now.fen) → Refuses (RefusesStart (given options.now.fen)) result
         (streams R.remaining O.contents E.contents reader.old reader.new out.old out.new err.old err.new) }
@@ -127,11 +149,7 @@ fn follow<R: Read, O: Write, E: Write>(
 {
     match start_of(options.fen) {
         Ok(start) => {
-            let listing = Listing::Game {
-                start,
-                first: options.first,
-                rotated: options.rotated,
-            };
+            let listing = game_listing(watched, start, options.first, options.rotated);
             list(alloc, listing, reader, out, err)
         }
         Err(error) => refused_fen(err, error),
@@ -167,7 +185,8 @@ fn dispatch<R: Read, O: Write, E: Write>(
             list(alloc, pictures, reader, out, err)
         }
         Subcommand::Record(options) => record_game(alloc, options, reader, out, err),
-        Subcommand::Follow(options) => follow(alloc, options, reader, out, err),
+        Subcommand::Follow(options) => follow(alloc, false, options, reader, out, err),
+        Subcommand::Watch(options) => follow(alloc, true, options, reader, out, err),
         Subcommand::Recover(options) => recover(alloc, options, reader, out, err),
         Subcommand::Check => check(alloc, reader, out, err),
         Subcommand::Moves { fen } => moves(alloc, *fen, out, err),
@@ -175,10 +194,10 @@ fn dispatch<R: Read, O: Write, E: Write>(
     }
 }
 
-/// Does what the arguments ask for, of which the first is the program's name, and returns the exit status: 0 where all was
-/// done, or help or the version was asked for, 1 where the input is refused, 2 where the arguments are, 3 where a stream
-/// has failed, 4 where memory ran out. Under `record` the bytes for the board go to `err`, under `recover` the lines. No
-/// stream may have failed before.
+/// Does what the arguments ask for, of which the first is the program's name, and returns the exit status: 0 where all
+/// was done, or help or the version was asked for, 1 where the input is refused, 2 where the arguments are, 3 where a
+/// stream has failed, 4 where memory ran out. Under `record` the bytes for the board go to `err`, under `recover` the
+/// lines. No stream may have failed before.
 pub fn run<R: Read, O: Write, E: Write>(
     alloc: Global,
     arguments: &[String],
@@ -198,8 +217,8 @@ pub fn run<R: Read, O: Write, E: Write>(
     ensures pictures { (rotated : Bool) → IsPictures rotated (map string_bytes arguments.now) → WritesText (picture_lines rotated) no_line result
         (streams R.remaining O.contents E.contents reader.old reader.new out.old out.new err.old err.new) }
 
-    // `record` with any options: the game, from the start and with the tags that they say. Where no position has the FEN, or a
-    // tag may not have its text, the first reason is said.
+    // `record` with any options: the game, from the start and with the tags that they say. Where no position has the
+    // FEN, or a tag may not have its text, the first reason is said.
     ensures record_is { (setup : Setup) → AsksToRecord (map string_bytes arguments.now) setup → Records setup result
         (streams R.remaining O.contents E.contents reader.old reader.new out.old out.new err.old err.new) }
     ensures record_refuses { (rows : List Row) → Asks (map string_bytes arguments.now) (codes "record") rows → SetsUpNothing rows
@@ -211,6 +230,14 @@ pub fn run<R: Read, O: Write, E: Write>(
     ensures follow { (setting : Setting) → AsksToFollow (map string_bytes arguments.now) setting → Lists (Listing.Game setting.start setting.first setting.rotated) result
         (streams R.remaining O.contents E.contents reader.old reader.new out.old out.new err.old err.new) }
     ensures follow_refuses { (rows : List Row) → Asks (map string_bytes arguments.now) (codes "follow") rows → HasNoStart (first_of (codes "fen") rows)
+        → Refuses (RefusesStart (first_of (codes "fen") rows)) result
+        (streams R.remaining O.contents E.contents reader.old reader.new out.old out.new err.old err.new) }
+
+    // `watch` with any options: the same lines, and between them those of what the board and the clocks show and of
+    // each position.
+    ensures watch { (setting : Setting) → AsksToWatch (map string_bytes arguments.now) setting → Lists (Listing.Watched setting.start setting.first setting.rotated) result
+        (streams R.remaining O.contents E.contents reader.old reader.new out.old out.new err.old err.new) }
+    ensures watch_refuses { (rows : List Row) → Asks (map string_bytes arguments.now) (codes "watch") rows → HasNoStart (first_of (codes "fen") rows)
         → Refuses (RefusesStart (first_of (codes "fen") rows)) result
         (streams R.remaining O.contents E.contents reader.old reader.new out.old out.new err.old err.new) }
 
@@ -247,13 +274,14 @@ pub fn run<R: Read, O: Write, E: Write>(
     ensures version { AsksForVersion (map string_bytes arguments.now) → (reader.new ≡ reader.old) × GivesText result (O.contents (inner_of out.old)) (O.contents (inner_of out.new))
         (E.contents (inner_of err.old)) (E.contents (inner_of err.new)) (has_failed out.new) (has_failed err.new) }
 
-    // Whatever was asked for, status 0 comes only where no stream has failed; where the input or the output has, it is 3.
+    // Whatever was asked for, status 0 comes only where no stream has failed; where the input or the output has, it is
+    // 3.
     ensures works { result ≡ 0 → (has_failed reader.new ≡ false) × ((has_failed out.new ≡ false) × (has_failed err.new ≡ false)) }
     ensures reader_blamed { has_failed reader.new ≡ true → result ≡ 3 }
     ensures out_blamed { has_failed out.new ≡ true → result ≡ 3 }
 
-    // Whatever was asked for, what was written to the output doesn't wait for a flush, unless a call on it has failed. Under
-    // `recover` with status 0 neither does a line on standard error.
+    // Whatever was asked for, what was written to the output doesn't wait for a flush, unless a call on it has failed.
+    // Under `recover` with status 0 neither does a line on standard error.
     ensures flushed { IsFlushed out.old → IsFlushed out.new }
     ensures recover_told { (rows : List Row) → Asks (map string_bytes arguments.now) (codes "recover") rows → result ≡ 0
         → IsFlushed err.old → IsFlushed err.new }

@@ -66,8 +66,8 @@ fn tell<E: Write>(err: &mut Watch<E>, report: &Report) -> u8
     }
 }
 
-/// What the program says of a recording that was given up, on a line after the bytes for the board: nothing where their stream
-/// has failed.
+/// What the program says of a recording that was given up, on a line after the bytes for the board: nothing where their
+/// stream has failed.
 fn line_of(error: RecordError) -> &'static [u8]
     ensures { result.now ≡ message_of error }
 {
@@ -119,8 +119,8 @@ fn record_as<R: Read, O: Write, E: Write>(
     }
 }
 
-/// Records the game of a board whose bytes are read, and returns the status. The bytes for the board go to `err`, and one
-/// more line after them.
+/// Records the game of a board whose bytes are read, and returns the status. The bytes for the board go to `err`, and
+/// one more line after them.
 pub fn record_game<R: Read, O: Write, E: Write>(
     alloc: Global,
     options: &RecordArguments<'_>,

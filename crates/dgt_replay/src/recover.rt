@@ -57,8 +57,8 @@ fn recover_from<R: Read, O: Write, E: Write>(
     }
 }
 
-/// Gives on the bytes of a board, with the moves put in that two hands hid, and returns the status. The line of each pair
-/// goes to `err`.
+/// Gives on the bytes of a board, with the moves put in that two hands hid, and returns the status. The line of each
+/// pair goes to `err`.
 pub fn recover<R: Read, O: Write, E: Write>(
     alloc: Global,
     options: &BoardArguments<'_>,

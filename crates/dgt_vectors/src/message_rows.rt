@@ -1,5 +1,5 @@
-//! Captures with faults, times, signs and turned boards, with what is recorded of them. All expected values are worked by hand
-//! from the protocol, the laws and PGN.
+//! Captures with faults, times, signs and turned boards, with what is recorded of them. All expected values are worked
+//! by hand from the protocol, the laws and PGN.
 
 use crate::captures::INITIAL;
 use crate::captures::Signal::{

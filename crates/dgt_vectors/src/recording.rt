@@ -3,10 +3,11 @@
 use crate::bytes::Bytes;
 use crate::row::Row;
 use crate::streams::{Sink, Source};
-use board_session::{RecordError, Report, Setup, record};
+use board_events::Setup;
+use board_session::{RecordError, Report, record};
+use chess_game::Tags;
 use chess_rules::Position;
 use chess_text::{FenError, read_fen};
-use pgn_book::Tags;
 use std::alloc::Global;
 use watched_streams::Watch;
 

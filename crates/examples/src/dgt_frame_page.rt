@@ -2,8 +2,8 @@
 
 use dgt_frame::{Decoder, Event};
 
-/// The last event of these bytes. Of 8E 00 05 34 8E 00 05 34 00 it is the update of field 52 to the code 0, and before it
-/// comes a fault, since the first update is cut off.
+/// The last event of these bytes. Of 8E 00 05 34 8E 00 05 34 00 it is the update of field 52 to the code 0, and before
+/// it comes a fault, since the first update is cut off.
 fn last_event(bytes: &[u8]) -> Option<Event> {
     let mut decoder = Decoder::new();
     let mut last = None;

@@ -5,7 +5,8 @@ ghost use Rattle.watched_streams.specs.Watch.{has_failed};
 use std::io::Write;
 use watched_streams::{Lines, Watch, add, add_number, put_and_flush};
 
-/// Writes a line with a number and sends it on its way. False where a call has failed. The stream must not have failed before.
+/// Writes a line with a number and sends it on its way. False where a call has failed. The stream must not have failed
+/// before.
 fn tell<W: Write>(out: &mut Watch<W>, ply: u32) -> bool
     requires { has_failed out.old ≡ false }
 {

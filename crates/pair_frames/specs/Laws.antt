@@ -1,4 +1,5 @@
--- What put in frames do to a stream, and to what is read from it. Events of the past, and entries, are listed with the latest first.
+-- What put in frames do to a stream, and to what is read from it. Events of the past, and entries, are listed with the
+-- latest first.
 use Rattle.std.specs.Prelude.{◌≡◌, ◌≤◌, ℕ, ◌+◌, Bool, true, List, [], ◌∷◌, ◌++◌, reverse, length, Option, Some, None, ⊤}
 use Rattle.dgt_frame.specs.declared.events.Event.{Event}
 use Rattle.dgt_frame.specs.declared.events.Event.TheVariants.{Message as MessageEvent, Fault}
@@ -38,8 +39,8 @@ abbrev pub IsRead : Option Reading → Type 0
 IsRead None = ⊤
 IsRead (Some reading) = IsTime reading.white × IsTime reading.black
 
--- Behind these events, what was put in leaves the board trusted, the entry's picture and its reading; and it adds the entries of
--- the pair, and the entry again.
+-- Behind these events, what was put in leaves the board trusted, the entry's picture and its reading; and it adds the
+-- entries of the pair, and the entry again.
 pub record IsReadBehind (first : First) (rotated : Bool) (past : List Event) (entry : Entry) (r : Recovery) : Type 0 where
   pub trust : is_trusted (reverse (put_in first rotated entry r) ++ past) ≡ true
   pub shown : picture_of rotated (reverse (put_in first rotated entry r) ++ past) ≡ entry.picture

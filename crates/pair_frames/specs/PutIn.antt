@@ -1,5 +1,5 @@
--- What is put in behind an entry that confirmed a pair: dumps and time messages of the DGT Electronic Board Protocol. Events stand
--- in their order.
+-- What is put in behind an entry that confirmed a pair: dumps and time messages of the DGT Electronic Board Protocol.
+-- Events stand in their order.
 use Rattle.std.specs.Prelude.{◌≡◌, ℕ, ◌+◌, ◌*◌, ◌/◌, ◌%◌, Bool, if◌then◌else◌, List, [], ◌∷◌, ◌++◌, map, Option, Some, None}
 use Rattle.std.specs.Str.{bytes_eq}
 use Rattle.dgt_frame.specs.declared.events.Message.TheVariants.{Dump, Time}
@@ -23,8 +23,8 @@ digits n = 16 * (n / 10) + n % 10
 abbrev pub group_of : Clock → List ℕ
 group_of clock = clock.hours ∷ digits clock.minutes ∷ digits clock.seconds ∷ []
 
--- The seven data bytes of a time message that gives this reading: two groups, of which the first is that of this side, and the
--- status, of which bit 5 says that no clock is connected.
+-- The seven data bytes of a time message that gives this reading: two groups, of which the first is that of this side,
+-- and the status, of which bit 5 says that no clock is connected.
 abbrev pub times_of : First → Option Reading → List ℕ
 times_of first None = 0 ∷ 0 ∷ 0 ∷ 0 ∷ 0 ∷ 0 ∷ 0x20 ∷ []
 times_of White (Some reading) = group_of reading.white ++ group_of reading.black ++ 0 ∷ []
@@ -39,8 +39,8 @@ time_put_in first now reading =
 abbrev pub dump_of : Bool → List ℕ → Event
 dump_of rotated shown = MessageEvent (Dump (fields_of rotated shown))
 
--- Behind the entry: the reading that the pair has, the boards after its first and its second ply, the entry's reading again, and
--- its board.
+-- Behind the entry: the reading that the pair has, the boards after its first and its second ply, the entry's reading
+-- again, and its board.
 abbrev pub put_in : First → Bool → Entry → Recovery → List Event
 put_in first rotated entry r =
     time_put_in first entry.reading r.reading

@@ -130,9 +130,10 @@ fn add_time(
     }
 }
 
-/// Replaces what `out` holds by the frames that are put in behind an entry, its picture with codes of at most 15 by square
-/// number and its reading, that confirmed this pair: the reading that the pair has, the boards after its plies, and the entry
-/// again. With `rotated`, field n is square 63 - n; the first group of a time message is that of the side `first`.
+/// Replaces what `out` holds by the frames that are put in behind an entry, its picture with codes of at most 15 by
+/// square number and its reading, that confirmed this pair: the reading that the pair has, the boards after its plies,
+/// and the entry again. With `rotated`, field n is square 63 - n; the first group of a time message is that of the side
+/// `first`.
 pub fn put_in(
     first: First,
     rotated: bool,

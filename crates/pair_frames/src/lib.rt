@@ -1,5 +1,5 @@
-//! The frames that are put in behind an entry that confirmed a pair of plies. Begin with `frames.rt`; `laws.rt` has what they
-//! do to a stream. A call marked `For its clause` changes nothing: the proof needs what its contract says.
+//! The frames that are put in behind an entry that confirmed a pair of plies. Begin with `frames.rt`; `laws.rt` has
+//! what they do to a stream. A call marked `For its clause` changes nothing: the proof needs what its contract says.
 #![tactic(auto)]
 
 mod frames;

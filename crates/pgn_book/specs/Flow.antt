@@ -3,7 +3,8 @@ use Rattle.std.specs.Prelude.{◌≡◌, ℕ, ◌+◌, ◌-◌, ◌^◌, ◌<◌
 use Rattle.std.specs.Io.KnownBytes.{Appends, Keeps}
 use Rattle.pgn_book.specs.declared.place.Place.{Place}
 
--- what a token adds behind a line of this length, and the length of the line that it then stands in; 0 is before the first token
+-- what a token adds behind a line of this length, and the length of the line that it then stands in; 0 is before the
+-- first token
 abbrev pub piece : ℕ → List ℕ → List ℕ
 piece col t = if nat_eq col 0 then t else if nat_le (col + 1 + length t) 79 then 32 ∷ t else 10 ∷ t
 

@@ -47,7 +47,8 @@ two_digits n = (48 + n / 10) ∷ (48 + n % 10) ∷ []
 
 -- `{[%clk h:mm:ss]}`, one token with a space in it
 abbrev pub clock_text : Hms → List ℕ
-clock_text time = codes "{[%clk " ++ ((48 + time.hours) ∷ 58 ∷ [] ++ (two_digits time.minutes ++ (58 ∷ two_digits time.seconds ++ codes "]}")))
+clock_text time = codes "{[%clk " ++ ((48 + time.hours) ∷ 58 ∷ [] ++
+    (two_digits time.minutes ++ (58 ∷ two_digits time.seconds ++ codes "]}")))
 
 -- one comment behind a move whose clock's time is known, else none
 abbrev pub clock_tokens : Option Hms → List (List ℕ)

@@ -9,7 +9,8 @@ use watched_streams::{Watch, put};
 
 /// Writes the bytes behind what came, unless the stream has failed.
 pub fn add<W: Write>(out: &mut Watch<W>, at: &mut Place, bytes: &[u8])
-    ensures adds { Adds (W.contents (inner_of out.old)) (W.contents (inner_of out.new)) (has_failed out.old) (has_failed out.new) at.old at.new bytes.now }
+    ensures adds { Adds (W.contents (inner_of out.old)) (W.contents (inner_of out.new)) (has_failed out.old)
+        (has_failed out.new) at.old at.new bytes.now }
     ensures column { at.new.column ≡ at.old.column }
 {
     if out.failed() {

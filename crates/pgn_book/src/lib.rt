@@ -1,8 +1,9 @@
-//! Games as PGN export text (PGN Specification and Implementation Guide, 1994), both ways. What a game is, is `chess_game`'s.
+//! Games as PGN export text (PGN Specification and Implementation Guide, 1994), both ways. What a game is, is
+//! `chess_game`'s.
 //!
 //! Begin with `writing.rt`, which writes a game, over `place.rt` and `appending.rt`; `reading.rt` reads one, over
-//! `sections.rt` (tags) and `words.rt` (moves). `laws.rt` has what holds of all games. A call marked `For its clause` changes
-//! nothing: the proof needs what its contract says.
+//! `sections.rt` (tags) and `words.rt` (moves). `laws.rt` has what holds of all games. A call marked `For its clause`
+//! changes nothing: the proof needs what its contract says.
 #![tactic(auto)]
 
 mod appending;

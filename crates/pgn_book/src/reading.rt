@@ -41,7 +41,8 @@ pub enum PgnError {
 /// The ply of a word and of what stands behind it, if the word is the SAN of a legal move.
 fn read_ply(position: &Position, word: &[u8], behind: Option<&[u8]>) -> Option<Ply>
     ensures legal { IfSome result (λ ply. Legal position.now ply.mv) }
-    ensures only { (ply : PlyOf) → IsTurn position.now ply (record { san = word.now; clock = clock_at (words_behind behind.entry) }) → result ≡ Some ply }
+    ensures only { (ply : PlyOf) → IsTurn position.now ply (record { san = word.now; clock = clock_at (words_behind behind.entry) })
+        → result ≡ Some ply }
 {
     match read_san(position, word) {
         Ok(mv) => Some(Ply {
@@ -67,8 +68,10 @@ fn read_turn(
     behind: Option<&[u8]>,
 ) -> Result<Position, PgnError>
     ensures { MatchResult result
-        (λ next. TakesTurn position.now next plies.old.items plies.new.items (record { san = word.now; clock = clock_at (words_behind behind.entry) }))
-        (λ error. (ply : PlyOf) → IsTurn position.now ply (record { san = word.now; clock = clock_at (words_behind behind.entry) }) → error ≡ PgnError.Memory) }
+        (λ next. TakesTurn position.now next plies.old.items plies.new.items
+        (record { san = word.now; clock = clock_at (words_behind behind.entry) }))
+        (λ error. (ply : PlyOf) → IsTurn position.now ply (record { san = word.now; clock = clock_at (words_behind behind.entry) })
+        → error ≡ PgnError.Memory) }
 {
     let Some(ply) = read_ply(position, word, behind) else {
         return Err(PgnError::NotExport);
@@ -195,9 +198,9 @@ fn is_text_of(alloc: Global, game: &Game, text: &[u8]) -> Result<bool, PgnError>
     }
 }
 
-/// Reads the export text of a game. Any other text is NotExport: other ends of lines, moves in another notation, another order
-/// or breaking of lines, a tag too many or too few, a result that the board or the tag contradicts, an illegal move.
-/// The time grows with the text, the memory with the game.
+/// Reads the export text of a game. Any other text is NotExport: other ends of lines, moves in another notation,
+/// another order or breaking of lines, a tag too many or too few, a result that the board or the tag contradicts, an
+/// illegal move. The time grows with the text, the memory with the game.
 pub fn read_pgn(alloc: Global, text: &[u8]) -> Result<Game, PgnError>
     // The text is that of the game.
     ensures found { IfOk result (λ game. Pgn game text.now) }

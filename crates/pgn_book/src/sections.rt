@@ -17,7 +17,8 @@ fn is_plain(quoted: bool, byte: u8) -> bool
 }
 
 fn keep(value: &mut ArrayString<100>, byte: u8) -> bool
-    ensures kept { OnTrue result ((value.new.bytes ≡ value.old.bytes ++ byte ∷ []) × (31 < byte) × (byte < 127) × (length value.old.bytes < 100)) }
+    ensures kept { OnTrue result ((value.new.bytes ≡ value.old.bytes ++ byte ∷ []) × (31 < byte) × (byte < 127)
+        × (length value.old.bytes < 100)) }
     ensures refused { OnFalse result ((31 < byte) × (byte < 127) × (length value.old.bytes < 100) → ⊥) }
 {
     if byte < b' ' || byte > b'~' || value.is_full() {

@@ -33,7 +33,8 @@ const LINE: usize = 79;
 /// Writes a token: on the line where it has room, else on a new one.
 fn put_token<W: Write>(out: &mut Watch<W>, at: &mut Place, token: &[u8])
     requires { length token.now ≤ 79 }
-    ensures { Writes (W.contents (inner_of out.old)) (W.contents (inner_of out.new)) (has_failed out.old) (has_failed out.new) at.old at.new (token.now ∷ []) }
+    ensures { Writes (W.contents (inner_of out.old)) (W.contents (inner_of out.new)) (has_failed out.old)
+        (has_failed out.new) at.old at.new (token.now ∷ []) }
 {
     let column = at.column;
     if column == 0 {
@@ -110,7 +111,8 @@ fn number_str(side: Side, number: u16) -> ArrayString<48>
 }
 
 fn put_number<W: Write>(out: &mut Watch<W>, at: &mut Place, side: Side, number: u16, wanted: bool)
-    ensures { Writes (W.contents (inner_of out.old)) (W.contents (inner_of out.new)) (has_failed out.old) (has_failed out.new) at.old at.new (number_tokens side number wanted) }
+    ensures { Writes (W.contents (inner_of out.old)) (W.contents (inner_of out.new)) (has_failed out.old)
+        (has_failed out.new) at.old at.new (number_tokens side number wanted) }
 {
     if wanted || is_white(side) {
         let token = number_str(side, number);
@@ -119,7 +121,8 @@ fn put_number<W: Write>(out: &mut Watch<W>, at: &mut Place, side: Side, number: 
 }
 
 fn put_clock<W: Write>(out: &mut Watch<W>, at: &mut Place, clock: Option<Hms>)
-    ensures { Writes (W.contents (inner_of out.old)) (W.contents (inner_of out.new)) (has_failed out.old) (has_failed out.new) at.old at.new (clock_tokens clock) }
+    ensures { Writes (W.contents (inner_of out.old)) (W.contents (inner_of out.new)) (has_failed out.old)
+        (has_failed out.new) at.old at.new (clock_tokens clock) }
 {
     if let Some(time) = clock {
         let token = clock_bytes(time);
@@ -137,7 +140,8 @@ fn put_ply<W: Write>(
 )
     requires { Legal position.now ply.now.mv }
     ensures { (shown : ShownMove) × IsShown position.now ply.now shown
-        × Writes (W.contents (inner_of out.old)) (W.contents (inner_of out.new)) (has_failed out.old) (has_failed out.new) at.old at.new (move_tokens wanted shown) }
+        × Writes (W.contents (inner_of out.old)) (W.contents (inner_of out.new)) (has_failed out.old) (has_failed out.new) at.old at.new
+        (move_tokens wanted shown) }
 {
     let parts = position.parts();
     put_number(out, at, parts.side, parts.fullmove, wanted);
@@ -150,7 +154,8 @@ fn put_ply<W: Write>(
 fn put_plies<W: Write>(out: &mut Watch<W>, at: &mut Place, start: &Position, plies: &[Ply])
     requires { Line start.now (moves_of plies.now) }
     ensures { (moves : List ShownMove) × AreShown start.now plies.now moves
-        × Writes (W.contents (inner_of out.old)) (W.contents (inner_of out.new)) (has_failed out.old) (has_failed out.new) at.old at.new (tokens_of true moves) }
+        × Writes (W.contents (inner_of out.old)) (W.contents (inner_of out.new)) (has_failed out.old) (has_failed out.new) at.old at.new
+        (tokens_of true moves) }
 {
     let mut position = *start;
     let mut wanted = true;
@@ -162,7 +167,8 @@ fn put_plies<W: Write>(out: &mut Watch<W>, at: &mut Place, start: &Position, pli
 }
 
 fn put_escaped<W: Write>(out: &mut Watch<W>, at: &mut Place, byte: u8)
-    ensures adds { Adds (W.contents (inner_of out.old)) (W.contents (inner_of out.new)) (has_failed out.old) (has_failed out.new) at.old at.new (escape byte) }
+    ensures adds { Adds (W.contents (inner_of out.old)) (W.contents (inner_of out.new)) (has_failed out.old)
+        (has_failed out.new) at.old at.new (escape byte) }
     ensures column { at.new.column ≡ at.old.column }
 {
     if byte == b'"' || byte == b'\\' {
@@ -173,7 +179,8 @@ fn put_escaped<W: Write>(out: &mut Watch<W>, at: &mut Place, byte: u8)
 }
 
 fn put_value<W: Write>(out: &mut Watch<W>, at: &mut Place, value: &[u8])
-    ensures adds { Adds (W.contents (inner_of out.old)) (W.contents (inner_of out.new)) (has_failed out.old) (has_failed out.new) at.old at.new (escaped value.now) }
+    ensures adds { Adds (W.contents (inner_of out.old)) (W.contents (inner_of out.new)) (has_failed out.old)
+        (has_failed out.new) at.old at.new (escaped value.now) }
     ensures column { at.new.column ≡ at.old.column }
 {
     for b in value {
@@ -182,7 +189,8 @@ fn put_value<W: Write>(out: &mut Watch<W>, at: &mut Place, value: &[u8])
 }
 
 fn put_tag<W: Write>(out: &mut Watch<W>, at: &mut Place, name: &str, value: &str)
-    ensures adds { Adds (W.contents (inner_of out.old)) (W.contents (inner_of out.new)) (has_failed out.old) (has_failed out.new) at.old at.new (tag_line name.now value.now) }
+    ensures adds { Adds (W.contents (inner_of out.old)) (W.contents (inner_of out.new)) (has_failed out.old)
+        (has_failed out.new) at.old at.new (tag_line name.now value.now) }
     ensures column { at.new.column ≡ at.old.column }
 {
     add(out, at, b"[");
@@ -194,7 +202,8 @@ fn put_tag<W: Write>(out: &mut Watch<W>, at: &mut Place, name: &str, value: &str
 
 /// Writes the lines of the tags that a user sets.
 fn put_tags<W: Write>(out: &mut Watch<W>, at: &mut Place, tags: &Tags)
-    ensures adds { Adds (W.contents (inner_of out.old)) (W.contents (inner_of out.new)) (has_failed out.old) (has_failed out.new) at.old at.new
+    ensures adds { Adds (W.contents (inner_of out.old)) (W.contents (inner_of out.new)) (has_failed out.old)
+        (has_failed out.new) at.old at.new
         (tag_lines tags.now all_tags) }
     ensures column { at.new.column ≡ at.old.column }
 {
@@ -204,7 +213,8 @@ fn put_tags<W: Write>(out: &mut Watch<W>, at: &mut Place, tags: &Tags)
 }
 
 fn put_roster<W: Write>(out: &mut Watch<W>, at: &mut Place, game: &Game)
-    ensures adds { Adds (W.contents (inner_of out.old)) (W.contents (inner_of out.new)) (has_failed out.old) (has_failed out.new) at.old at.new
+    ensures adds { Adds (W.contents (inner_of out.old)) (W.contents (inner_of out.new)) (has_failed out.old)
+        (has_failed out.new) at.old at.new
         (roster game.now.tags (result_text game.now.result)) }
     ensures column { at.new.column ≡ at.old.column }
 {
@@ -221,7 +231,8 @@ fn is_initial(start: &Position) -> bool
 /// Writes FEN and SetUp where the start isn't the initial position.
 fn put_set_up<W: Write>(out: &mut Watch<W>, at: &mut Place, start: &Position)
     ensures adds { (lines : List ℕ) × IsSetUp start.now lines
-        × Adds (W.contents (inner_of out.old)) (W.contents (inner_of out.new)) (has_failed out.old) (has_failed out.new) at.old at.new lines }
+        × Adds (W.contents (inner_of out.old)) (W.contents (inner_of out.new)) (has_failed out.old)
+        (has_failed out.new) at.old at.new lines }
     ensures column { at.new.column ≡ at.old.column }
 {
     if is_initial(start) {
@@ -246,7 +257,8 @@ fn put_movetext<W: Write>(out: &mut Watch<W>, at: &mut Place, game: &Game)
 fn put_game<W: Write>(out: &mut Watch<W>, at: &mut Place, game: &Game)
     requires { at.old.column ≡ 0 }
     ensures { (text : List ℕ) × Pgn game.now text
-        × Adds (W.contents (inner_of out.old)) (W.contents (inner_of out.new)) (has_failed out.old) (has_failed out.new) at.old at.new text }
+        × Adds (W.contents (inner_of out.old)) (W.contents (inner_of out.new)) (has_failed out.old)
+        (has_failed out.new) at.old at.new text }
 {
     // For its clause: a move has 2 to 7 printable characters, and no space.
     texts_are_plain();
@@ -256,8 +268,8 @@ fn put_game<W: Write>(out: &mut Watch<W>, at: &mut Place, game: &Game)
     put_movetext(out, at, game);
 }
 
-/// Writes the export text of a game (PGN standard, sections 3.2 and 8). It doesn't flush. The stream must not have failed
-/// before.
+/// Writes the export text of a game (PGN standard, sections 3.2 and 8). It doesn't flush. The stream must not have
+/// failed before.
 ///
 /// # Errors
 ///

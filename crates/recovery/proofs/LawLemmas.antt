@@ -7,13 +7,14 @@ use Rattle.dgt_frame.specs.Streams.{Shows, Timed}
 use Rattle.chess_rules.specs.declared.parts.Parts.{Parts}
 use Rattle.settle_core.specs.Entries.{Entry, deduplicated, repeats}
 use Rattle.unseen_pairs.specs.declared.pair.Recovery.{Recovery}
+use Rattle.unseen_pairs.specs.HandsAtRest.{HandsAtRestConfirmNone}
 use Rattle.unseen_pairs.specs.Laws.{ConfirmNone}
 use Rattle.board_events.specs.Commands.{past_of}
 use Rattle.board_events.specs.Entries.{entry_at, is_entry}
 use Rattle.board_events.specs.Settings.{Setting}
 use Rattle.board_events.specs.Session.{entries_in}
 use Rattle.recovery.specs.Keeping.{RecoversAt}
-use Rattle.recovery.specs.Laws.{LeavesAlone}
+use Rattle.recovery.specs.Laws.{HonestHandsKeepTheirBytes, LeavesAlone}
 use Rattle.recovery.specs.Weaving.{Put, Puts, PutsAll, TellsPuts, Weaves}
 
 -- A stream shows one list of events.
@@ -81,3 +82,8 @@ leaves_alone once setting bytes woven text events rest shows none r =
     let C : List Event → Type 0 = λ es. ConfirmNone setting.start (deduplicated (entries_in setting es)) in
     let here : C (map (λ (t : Timed). t.event) (reverse r.events)) = subst C (ap past_of same ∙ past_is) none in
     woven_none bytes woven text r.puts (put_none setting (reverse r.events) r.puts here r.puts_are) r.weaves r.told
+
+pub hands_keep_bytes : ShowsOnce → HandsAtRestConfirmNone → HonestHandsKeepTheirBytes
+hands_keep_bytes once none setting moves turns rested first rest bytes woven text events left v l h a e shows is r =
+    let C : List Entry → Type 0 = λ es. ConfirmNone setting.start (deduplicated es) in
+    leaves_alone once setting bytes woven text events left shows (subst C (sym is) (none setting.start moves turns rested first rest v l h a e)) r

@@ -13,22 +13,24 @@ use Rattle.board_events.specs.Session.{entries_in}
 use Rattle.board_events.specs.View.{Views}
 use Rattle.recovery.specs.declared.keeper.Keeper.{Keeper}
 
--- What is recovered at an event after these: the pair that its picture confirms; or none, where it gives no entry, or one that
--- shows nothing but what it shows by itself.
+-- What is recovered at an event after these: the pair that its picture confirms; or none, where it gives no entry, or
+-- one that shows nothing but what it shows by itself.
 abbrev pub RecoversAt : Setting → List Event → Event → Option Recovery → Type 0
 RecoversAt setting past event (Some r) = (is_entry event past ≡ true)
     × ReturnsTold setting.start (entries_in setting past) (picture_of setting.rotated (event ∷ past)) (Recovered r)
 RecoversAt setting past event None = is_entry event past ≡ true
     → (seen : Seen) × ReturnsTold setting.start (entries_in setting past) (picture_of setting.rotated (event ∷ past)) (Shown seen)
 
--- After these events the next one shows another picture than the last one, or the first: at no other event is memory taken.
+-- After these events the next one shows another picture than the last one, or the first: at no other event is memory
+-- taken.
 abbrev pub ShowsAnother : Setting → List Event → Event → Type 0
 ShowsAnother setting past event = (is_entry event past ≡ true)
     × (repeats (picture_of setting.rotated (event ∷ past)) (entries_in setting past) ≡ false)
 
 -- The entries with what was put in, after one more event.
 abbrev pub entries_with : Setting → List Event → Event → Option Recovery → List Entry → List Entry
-entries_with setting past event (Some r) written = written_after (entry_at setting.first setting.rotated (event ∷ past)) (Recovered r) written
+entries_with setting past event (Some r) written = written_after (entry_at setting.first setting.rotated (event ∷ past))
+    (Recovered r) written
 entries_with setting past event None written =
     if is_entry event past then entry_at setting.first setting.rotated (event ∷ past) ∷ written else written
 
@@ -41,6 +43,7 @@ pub record Keeps (keeper : Keeper) (setting : Setting) (past : List Event) (writ
   pub recoverer : StandsForRecovered keeper.recoverer setting.start (entries_in setting past) written
 
 -- It was given one more, at which this was recovered.
-pub record KeepsNext (keeper : Keeper) (setting : Setting) (past : List Event) (event : Event) (found : Option Recovery) (written : List Entry) : Type 0 where
+pub record KeepsNext (keeper : Keeper) (setting : Setting) (past : List Event) (event : Event) (found : Option Recovery)
+    (written : List Entry) : Type 0 where
   pub keeps : Keeps keeper setting (event ∷ past) (entries_with setting past event found written)
   pub finds : RecoversAt setting past event found

@@ -17,8 +17,8 @@ use Rattle.recovery.specs.declared.keeper.Keeper.{Keeper}
 use Rattle.recovery.specs.Keeping.{Keeps, RecoversAt}
 use Rattle.recovery.specs.Weaving.{Put, PutsAll, TellsPuts, TellsRecovered, Weaves}
 
--- Whatever these bytes and more of them show, the woven ones and the same show too: what was written, and then that which is still
--- to come, so many bytes later as were put in.
+-- Whatever these bytes and more of them show, the woven ones and the same show too: what was written, and then that
+-- which is still to come, so many bytes later as were put in.
 pub record Follows (bytes : List ℕ) (events : List Timed) (woven : List ℕ) (written : List Timed) : Type 0 where
   pub ahead : ℕ
   pub longer : length woven ≡ ahead + length bytes
@@ -35,7 +35,8 @@ EndsAt [] end = ⊥
 EndsAt (x ∷ []) end = IsMessage x.event × (x.offset + 1 ≡ end)
 EndsAt (x ∷ y ∷ more) end = EndsAt (y ∷ more) end
 
--- The first events, and the second ones, after which a board is trusted, shows the same picture and has the same reading.
+-- The first events, and the second ones, after which a board is trusted, shows the same picture and has the same
+-- reading.
 pub record Alike (setting : Setting) (past written : List Event) : Type 0 where
   pub trust : is_trusted written ≡ is_trusted past
   pub picture : picture_of setting.rotated written ≡ picture_of setting.rotated past
@@ -46,10 +47,12 @@ pub record Carries (keeper : Keeper) (setting : Setting) (past written : List Ev
   pub keeps : Keeps keeper setting past (entries_in setting written)
   pub alike : Alike setting past written
 
--- What was put in at the last of these events: nothing, or the frames of the pair that was recovered there, with its line.
+-- What was put in at the last of these events: nothing, or the frames of the pair that was recovered there, with its
+-- line.
 abbrev pub Adds : Setting → List Event → ℕ → Option Recovery → List ℕ → List ℕ → Type 0
 Adds setting past offset None frames text = (frames ≡ []) × (text ≡ [])
-Adds setting past offset (Some r) frames text = ShowsWhole frames (put_in setting.first setting.rotated (entry_at setting.first setting.rotated past) r)
+Adds setting past offset (Some r) frames text = ShowsWhole frames
+    (put_in setting.first setting.rotated (entry_at setting.first setting.rotated past) r)
     × TellsRecovered offset r text
 
 -- the last of these events, and what was put in behind it
@@ -59,13 +62,15 @@ added setting past event (Some r) written =
     reverse (put_in setting.first setting.rotated (entry_at setting.first setting.rotated (event ∷ past)) r) ++ event ∷ written
 
 -- After these events, and those with what was put in, the keeper was given one more, and this is put in there.
-pub record Hears (keeper : Keeper) (setting : Setting) (past written : List Event) (offset : ℕ) (event : Event) (frames text : List ℕ) : Type 0 where
+pub record Hears (keeper : Keeper) (setting : Setting) (past written : List Event) (offset : ℕ) (event : Event)
+    (frames text : List ℕ) : Type 0 where
   pub found : Option Recovery
   pub finds : RecoversAt setting past event found
   pub carries : Carries keeper setting (event ∷ past) (added setting past event found written)
   pub adds : Adds setting (event ∷ past) offset found frames text
 
--- The decoder and the keeper were given these bytes, which with what was put in are the woven ones, and this text tells of it.
+-- The decoder and the keeper were given these bytes, which with what was put in are the woven ones, and this text tells
+-- of it.
 pub record Stands (decoder : Decoder) (keeper : Keeper) (setting : Setting) (bytes woven text : List ℕ) : Type 0 where
   pub events : List Timed
   pub written : List Timed

@@ -13,24 +13,29 @@ use Rattle.recovery.specs.Weaving.{Recovers}
 
 -- What stands for the bytes that were given so far is what they show.
 abbrev pub Concludes : Decoder → Keeper → Type 0
-Concludes decoder keeper = (setting : Setting) (bytes woven text : List ℕ) → Stands decoder keeper setting bytes woven text → Recovers setting bytes woven text
+Concludes decoder keeper = (setting : Setting) (bytes woven text : List ℕ) → Stands decoder keeper setting bytes woven text
+    → Recovers setting bytes woven text
 
 -- So many bytes were given.
 abbrev pub HasBegun : Decoder → Keeper → ℕ → Type 0
-HasBegun decoder keeper count = (setting : Setting) × (bytes woven text : List ℕ) × (length bytes ≡ count) × Stands decoder keeper setting bytes woven text
+HasBegun decoder keeper count = (setting : Setting) × (bytes woven text : List ℕ) × (length bytes ≡ count)
+    × Stands decoder keeper setting bytes woven text
 
 -- Where that stood, memory ran out at the next event, which is among these bytes.
 abbrev pub RefusesAmong : Decoder → Keeper → List ℕ → Type 0
-RefusesAmong decoder keeper more = (setting : Setting) (bytes woven text : List ℕ) → Stands decoder keeper setting bytes woven text → RefusesNext setting bytes more
+RefusesAmong decoder keeper more = (setting : Setting) (bytes woven text : List ℕ) → Stands decoder keeper setting bytes woven text
+    → RefusesNext setting bytes more
 
 -- What was put in at an event: nothing, or frames with their line.
 abbrev pub IsPutIn : List ℕ → List ℕ → Type 0
 IsPutIn frames line = ((frames ≡ []) × (line ≡ [])) ⊎ ((0 < length line) × IsLine line)
 
--- Where that stood, these bytes were given too, the first of which has this offset: they were written with what was put in, but
--- for those that wait, and the lines were said.
-abbrev pub PassesOn : Decoder → Keeper → ℕ → List ℕ → Decoder → Keeper → List ℕ → Option (List ℕ) → Option (List ℕ) → Option (List ℕ) → Option (List ℕ) → Type 0
-PassesOn old keeper start chunk new keeper' waiting written written' said said' = (setting : Setting) (bytes woven text : List ℕ) → length bytes ≡ start
+-- Where that stood, these bytes were given too, the first of which has this offset: they were written with what was put
+-- in, but for those that wait, and the lines were said.
+abbrev pub PassesOn : Decoder → Keeper → ℕ → List ℕ → Decoder → Keeper → List ℕ → Option (List ℕ) → Option (List ℕ) → Option (List ℕ)
+    → Option (List ℕ) → Type 0
+PassesOn old keeper start chunk new keeper' waiting written written' said said' = (setting : Setting) (bytes woven text : List ℕ)
+    → length bytes ≡ start
     → Stands old keeper setting bytes woven text
     → (more lines : List ℕ) × Stands new keeper' setting (bytes ++ chunk) (woven ++ more ++ waiting) (text ++ lines)
     × Appends written written' more × Appends said said' lines
@@ -39,7 +44,8 @@ PassesOn old keeper start chunk new keeper' waiting written written' said said' 
 abbrev pub Stops : RecoverError → List ℕ → List ℕ → Option (List ℕ) → Option (List ℕ) → Option (List ℕ) → Option (List ℕ) → Type 0
 Stops Memory more lines written written' said said' = Appends written written' more × Appends said said' lines
 Stops Write more lines written written' said said' = AppendsPart written written' more × Appends said said' lines
-Stops Lines more lines written written' said said' = AppendsPart written written' more × ((part : List ℕ) × BeginsLine part × Appends said said' (lines ++ part))
+Stops Lines more lines written written' said said' = AppendsPart written written' more
+    × ((part : List ℕ) × BeginsLine part × Appends said said' (lines ++ part))
 Stops Read more lines written written' said said' = ⊥
 Stops TooLong more lines written written' said said' = ⊥
 
@@ -49,7 +55,8 @@ StopsBefore Memory setting bytes behind = RefusesNext setting bytes behind
 StopsBefore error setting bytes behind = ⊤
 
 -- Where that stood, a part of these bytes was given too, and this refusal came.
-abbrev pub BreaksOff : RecoverError → Decoder → Keeper → ℕ → List ℕ → Option (List ℕ) → Option (List ℕ) → Option (List ℕ) → Option (List ℕ) → Type 0
+abbrev pub BreaksOff : RecoverError → Decoder → Keeper → ℕ → List ℕ → Option (List ℕ) → Option (List ℕ) → Option (List ℕ)
+    → Option (List ℕ) → Type 0
 BreaksOff error old keeper start chunk written written' said said' = (setting : Setting) (bytes woven text : List ℕ) → length bytes ≡ start
     → Stands old keeper setting bytes woven text
     → (taken after more lines : List ℕ) × (chunk ≡ taken ++ after)
@@ -63,7 +70,8 @@ PutsPart Write bytes line written written' said said' = AppendsPart written writ
 PutsPart error bytes line written written' said said' = ⊥
 
 -- So many bytes were read, and given on.
-abbrev pub HasGiven : Decoder → Keeper → Setting → ℕ → Option (List ℕ) → Option (List ℕ) → Option (List ℕ) → Option (List ℕ) → Option (List ℕ) → Option (List ℕ) → Type 0
+abbrev pub HasGiven : Decoder → Keeper → Setting → ℕ → Option (List ℕ) → Option (List ℕ) → Option (List ℕ) → Option (List ℕ)
+    → Option (List ℕ) → Option (List ℕ) → Type 0
 HasGiven decoder keeper setting count input input' written written' said said' = (bytes woven text : List ℕ)
     × (length bytes ≡ count) × Consumes input input' bytes × Stands decoder keeper setting bytes woven text
     × Appends written written' woven × Appends said said' text

@@ -1,5 +1,6 @@
--- What is left of a stream that is given on, with what is put in. Its streams are `input`, of which bytes are left, `written`, what
--- the output holds, and `said`, what the stream of the lines holds; a prime marks what they are afterwards.
+-- What is left of a stream that is given on, with what is put in. Its streams are `input`, of which bytes are left,
+-- `written`, what the output holds, and `said`, what the stream of the lines holds; a prime marks what they are
+-- afterwards.
 use Rattle.std.specs.Prelude.{◌≡◌, ◌+◌, ◌<◌, ◌≤◌, ◌⊎◌, ℕ, List, [], ◌∷◌, ◌++◌, length, Option, IfSome, Bool, true}
 use Rattle.std.specs.Io.KnownBytes.{Appends, Consumes}
 use Rattle.dgt_frame.specs.Streams.{Shows, Timed}
@@ -11,7 +12,8 @@ use Rattle.board_events.specs.Settings.{Setting}
 use Rattle.recovery.specs.Keeping.{ShowsAnother}
 use Rattle.recovery.specs.Weaving.{Recovers, TellsRecovered}
 
--- All of the input was read, which is within the limit: its bytes were written, with what was put in, and the lines said.
+-- All of the input was read, which is within the limit: its bytes were written, with what was put in, and the lines
+-- said.
 abbrev pub RecoversAll : Setting → Option (List ℕ) → Option (List ℕ) → Option (List ℕ) → Option (List ℕ) → Option (List ℕ) → Type 0
 RecoversAll setting input written written' said said' = IfSome input (λ bytes. (woven text : List ℕ) × (length bytes ≤ limit)
     × Recovers setting bytes woven text × Appends written written' woven × Appends said said' text)
@@ -23,12 +25,14 @@ RecoversFirst setting input written written' said said' = IfSome input (λ bytes
     × Recovers setting first woven text × Appends written written' woven × Appends said said' text)
 
 -- These bytes were read, and that was done of them.
-abbrev pub RecoversRead : Setting → Option (List ℕ) → Option (List ℕ) → Option (List ℕ) → Option (List ℕ) → Option (List ℕ) → Option (List ℕ) → Type 0
+abbrev pub RecoversRead : Setting → Option (List ℕ) → Option (List ℕ) → Option (List ℕ) → Option (List ℕ) → Option (List ℕ)
+    → Option (List ℕ) → Type 0
 RecoversRead setting input input' written written' said said' = (bytes woven text : List ℕ)
     × Consumes input input' bytes × Recovers setting bytes woven text × Appends written written' woven × Appends said said' text
 
--- Memory ran out at the next event behind these bytes. They show all events before it; the next of those behind them complete it,
--- and no other. It comes at the last of these, and shows another picture than the one before it, or the first.
+-- Memory ran out at the next event behind these bytes. They show all events before it; the next of those behind them
+-- complete it, and no other. It comes at the last of these, and shows another picture than the one before it, or the
+-- first.
 pub record RefusesNext (setting : Setting) (bytes behind : List ℕ) : Type 0 where
   pub events : List Timed
   pub rest : ℕ
@@ -43,7 +47,8 @@ pub record RefusesNext (setting : Setting) (bytes behind : List ℕ) : Type 0 wh
   pub another : ShowsAnother setting (past_of events) refused.event
 
 -- That was done of first bytes that show all events before the one at which memory ran out, and not that one.
-abbrev pub RecoversSome : Setting → Option (List ℕ) → Option (List ℕ) → Option (List ℕ) → Option (List ℕ) → Option (List ℕ) → Option (List ℕ) → Type 0
+abbrev pub RecoversSome : Setting → Option (List ℕ) → Option (List ℕ) → Option (List ℕ) → Option (List ℕ) → Option (List ℕ)
+    → Option (List ℕ) → Type 0
 RecoversSome setting input input' written written' said said' = (bytes behind woven text : List ℕ)
     × Consumes input input' (bytes ++ behind) × RefusesNext setting bytes behind
     × Recovers setting bytes woven text × Appends written written' woven × Appends said said' text
@@ -55,9 +60,11 @@ IsLine text = (offset : ℕ) × (r : Recovery) × TellsRecovered offset r text
 abbrev pub BeginsLine : List ℕ → Type 0
 BeginsLine part = (text rest : List ℕ) × IsLine text × (text ≡ part ++ rest)
 
--- A front was written of what the first of the bytes that were read give, and no other byte; all of its lines were said, and of
--- the next one at most a part, where their stream has failed. So no frame was put in whose line was not said.
-pub record RecoversFront (setting : Setting) (input input' written written' said said' : Option (List ℕ)) (lines_failed : Bool) : Type 0 where
+-- A front was written of what the first of the bytes that were read give, and no other byte; all of its lines were
+-- said, and of the next one at most a part, where their stream has failed. So no frame was put in whose line was not
+-- said.
+pub record RecoversFront (setting : Setting) (input input' written written' said said' : Option (List ℕ))
+    (lines_failed : Bool) : Type 0 where
   pub bytes : List ℕ
   pub after : List ℕ
   pub woven : List ℕ

@@ -60,11 +60,12 @@ TellsRecovered offset r text = (san reply : List ℕ) × San r.before r.pair.fir
 -- The lines of all that was put in, in its order.
 abbrev pub TellsPuts : List Put → List ℕ → Type 0
 TellsPuts [] text = text ≡ []
-TellsPuts (put ∷ earlier) text = (before more : List ℕ) × TellsPuts earlier before × TellsRecovered put.offset put.recovery more × (text ≡ before ++ more)
+TellsPuts (put ∷ earlier) text = (before more : List ℕ) × TellsPuts earlier before × TellsRecovered put.offset put.recovery more
+    × (text ≡ before ++ more)
 
--- The bytes of a stream, with what was put in, are the woven ones: for each pair that is recovered at one of their events, its frames,
--- behind the byte at which its entry came, and nothing else; the text has its lines. The game of the woven bytes is that of the
--- bytes where unseen pairs are recovered.
+-- The bytes of a stream, with what was put in, are the woven ones: for each pair that is recovered at one of their
+-- events, its frames, behind the byte at which its entry came, and nothing else; the text has its lines. The game of
+-- the woven bytes is that of the bytes where unseen pairs are recovered.
 pub record Recovers (setting : Setting) (bytes woven text : List ℕ) : Type 0 where
   pub events : List Timed
   pub rest : ℕ

@@ -31,8 +31,8 @@ pub struct Keeper {
     found: Option<Recovery>,
 }
 
-/// Shows the recoverer a picture which differs from the one before on this square, and says whether it confirms a pair, which
-/// is put into `found`.
+/// Shows the recoverer a picture which differs from the one before on this square, and says whether it confirms a pair,
+/// which is put into `found`.
 #[inline(always)]
 fn see_square(
     alloc: Global,
@@ -46,9 +46,11 @@ fn see_square(
     requires codes { All (λ code. code < 16) picture.now }
     requires seen { has_seen recoverer.old.settler ≡ true }
     ensures squares { length picture.now ≡ 64 }
-    ensures sees { (start : PartsOf) (before : Entry) (past written : List Entry) → StandsForRecovered recoverer.old start (before ∷ past) written
+    ensures sees { (start : PartsOf) (before : Entry) (past written : List Entry)
+        → StandsForRecovered recoverer.old start (before ∷ past) written
         → picture.now ≡ slice_set before.picture square (slice_index picture.now square)
-        → IfOk result (λ is. Sees recoverer.new start (before ∷ past) written (entry_of picture.now reading) (if is then found.new else None)) }
+        → IfOk result (λ is. Sees recoverer.new start (before ∷ past) written (entry_of picture.now reading)
+        (if is then found.new else None)) }
 {
     let Some(square) = Square::new(square) else {
         unreachable!();
@@ -104,13 +106,13 @@ impl Keeper {
         }
     }
 
-    /// Takes the next event, and says whether its picture confirms a pair, which `found` then has. Codes are at most 15 and
-    /// fields at most 63, as the decoder gives them.
+    /// Takes the next event, and says whether its picture confirms a pair, which `found` then has. Codes are at most 15
+    /// and fields at most 63, as the decoder gives them.
     ///
     /// # Errors
     ///
-    /// Where there was no memory, which is taken only at an event that shows another picture; then it must not be used any
-    /// more.
+    /// Where there was no memory, which is taken only at an event that shows another picture; then it must not be used
+    /// any more.
     #[inline(always)]
     pub fn take(&mut self, alloc: Global, event: &Event) -> Result<bool, AllocError>
         requires range { IsInRange event.now }
@@ -151,10 +153,13 @@ impl Keeper {
     /// Replaces what `frames` holds by what is put in for the pair that was recovered at the last event.
     #[inline(never)]
     pub fn put_in(&self, found: &Recovery, frames: &mut ArrayVec<u8, MOST>)
-        ensures shows { (setting : Setting) (past : List EventOf) (event : EventOf) (written : List Entry) → Keeps self.now setting (event ∷ past) written
+        ensures shows { (setting : Setting) (past : List EventOf) (event : EventOf) (written : List Entry)
+            → Keeps self.now setting (event ∷ past) written
             → RecoversAt setting past event (Some found.now)
-            → ShowsWhole frames.new.items (frames_for setting.first setting.rotated (entry_at setting.first setting.rotated (event ∷ past)) found.now) }
-        ensures read { (setting : Setting) (past : List EventOf) (event : EventOf) (written : List Entry) → Keeps self.now setting (event ∷ past) written
+            → ShowsWhole frames.new.items (frames_for setting.first setting.rotated
+            (entry_at setting.first setting.rotated (event ∷ past)) found.now) }
+        ensures read { (setting : Setting) (past : List EventOf) (event : EventOf) (written : List Entry)
+            → Keeps self.now setting (event ∷ past) written
             → RecoversAt setting past event (Some found.now)
             → (before : List EventOf) → reading_at setting.first before ≡ reading_at setting.first (event ∷ past)
             → IsReadBehind setting.first setting.rotated before (entry_at setting.first setting.rotated (event ∷ past)) found.now }

@@ -1,9 +1,9 @@
 //! Streams in which pairs of plies are recovered that no picture showed whole.
 //!
-//! Begin with `stream.rt`, the loop over a stream. `keeper.rt` says at which event a pair is recovered, `passer.rt` gives the
-//! bytes on with what is put in behind that event, `lines.rt` has the line of a pair, `refusal.rt` why it gave up, and
-//! `laws.rt` what holds of all streams. A call marked `For its clause` changes nothing: the proof needs what its contract
-//! says.
+//! Begin with `stream.rt`, the loop over a stream. `keeper.rt` says at which event a pair is recovered, `passer.rt`
+//! gives the bytes on with what is put in behind that event, `lines.rt` has the line of a pair, `refusal.rt` why it
+//! gave up, and `laws.rt` what holds of all streams. A call marked `For its clause` changes nothing: the proof needs
+//! what its contract says.
 #![tactic(auto)]
 
 mod keeper;

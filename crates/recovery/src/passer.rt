@@ -40,8 +40,8 @@ fn tell(keeper: &Keeper, offset: u32, frames: &mut Frames, line: &mut Lines)
     add_recovered(line, offset, found);
 }
 
-/// Gives the keeper an event, and replaces what `frames` and `line` hold by what is put in there, and its line; by nothing,
-/// where nothing is.
+/// Gives the keeper an event, and replaces what `frames` and `line` hold by what is put in there, and its line; by
+/// nothing, where nothing is.
 #[inline(always)]
 pub fn hear(
     alloc: Global,
@@ -70,9 +70,9 @@ pub fn hear(
     }
 }
 
-/// Gives the decoder the bytes up to the next event, and the keeper this event, and returns how many bytes these are; none,
-/// where no event comes at any of them, and then the decoder was given them all. The first has the offset `start`. What
-/// `frames` and `line` hold is replaced by what is put in behind these bytes, and its line.
+/// Gives the decoder the bytes up to the next event, and the keeper this event, and returns how many bytes these are;
+/// none, where no event comes at any of them, and then the decoder was given them all. The first has the offset
+/// `start`. What `frames` and `line` hold is replaced by what is put in behind these bytes, and its line.
 ///
 /// # Errors
 ///
@@ -126,5 +126,6 @@ pub fn conclude(decoder: &Decoder, keeper: &Keeper)
 
 /// What stands before the first byte.
 pub fn begin(decoder: &Decoder, keeper: &Keeper)
-    ensures { (setting : Setting) → Decoded decoder.now [] [] → Keeps keeper.now setting [] [] → Stands decoder.now keeper.now setting [] [] [] }
+    ensures { (setting : Setting) → Decoded decoder.now [] [] → Keeps keeper.now setting [] []
+        → Stands decoder.now keeper.now setting [] [] [] }
 {}

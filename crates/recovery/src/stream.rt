@@ -43,7 +43,8 @@ fn put_pair<O: Write, E: Write>(
 ) -> Result<(), RecoverError>
     requires working { has_failed out.old ≡ false }
     requires telling { has_failed err.old ≡ false }
-    ensures written { OnOk result (Appends (O.contents (inner_of out.old)) (O.contents (inner_of out.new)) (waiting.now ++ frames.now.items)) }
+    ensures written { OnOk result (Appends (O.contents (inner_of out.old)) (O.contents (inner_of out.new))
+        (waiting.now ++ frames.now.items)) }
     ensures said { OnOk result (Appends (E.contents (inner_of err.old)) (E.contents (inner_of err.new)) line.now.items) }
     ensures working { OnOk result ((has_failed out.new ≡ false) × (has_failed err.new ≡ false)) }
     ensures part { IfErr result (λ error. PutsPart error (waiting.now ++ frames.now.items) line.now.items
@@ -55,10 +56,12 @@ fn put_pair<O: Write, E: Write>(
     if !put_and_flush(err, line.as_slice()) {
         return Err(RecoverError::Lines);
     }
-    if put(out, waiting).is_err() {
+    let unsent = put(out, waiting).is_err();
+    if unsent {
         return Err(RecoverError::Write);
     }
-    if put(out, frames.as_slice()).is_err() {
+    let unframed = put(out, frames.as_slice()).is_err();
+    if unframed {
         return Err(RecoverError::Write);
     }
     Ok(())
@@ -78,10 +81,12 @@ fn give_chunk<O: Write, E: Write>(
     requires telling { has_failed err.old ≡ false }
     requires room { start + length chunk.now < 2 ^ 32 }
     requires begun { HasBegun decoder.old keeper.old start }
-    ensures ok { OnOk result (PassesOn decoder.old keeper.old start chunk.now decoder.new keeper.new [] (O.contents (inner_of out.old)) (O.contents (inner_of out.new))
+    ensures ok { OnOk result (PassesOn decoder.old keeper.old start chunk.now decoder.new keeper.new [] (O.contents (inner_of out.old))
+        (O.contents (inner_of out.new))
         (E.contents (inner_of err.old)) (E.contents (inner_of err.new))) }
     ensures working { OnOk result ((has_failed out.new ≡ false) × (has_failed err.new ≡ false)) }
-    ensures broken { IfErr result (λ error. BreaksOff error decoder.old keeper.old start chunk.now (O.contents (inner_of out.old)) (O.contents (inner_of out.new))
+    ensures broken { IfErr result (λ error. BreaksOff error decoder.old keeper.old start chunk.now (O.contents (inner_of out.old))
+        (O.contents (inner_of out.new))
         (E.contents (inner_of err.old)) (E.contents (inner_of err.new))) }
     ensures write { result ≡ Err RecoverError.Write → (has_failed out.new ≡ true) × (has_failed err.new ≡ false) }
     ensures lines { result ≡ Err RecoverError.Lines → (has_failed err.new ≡ true) × (has_failed out.new ≡ false) }
@@ -129,23 +134,27 @@ fn give_chunk<O: Write, E: Write>(
     }
 }
 
-/// Gives on a stream of board bytes (DGT Electronic Board Protocol), with the frames of pairs of plies that no picture showed
-/// whole put in behind the bytes at which they are recovered. The line of a pair is told on `err` before its frames are
-/// written.
+/// Gives on a stream of board bytes (DGT Electronic Board Protocol), with the frames of pairs of plies that no picture
+/// showed whole put in behind the bytes at which they are recovered. The line of a pair is told on `err` before its
+/// frames are written.
 ///
-/// With `rotated`, field n means square 63 - n. What was read in one go is given on and flushed before more is read. Memory is
-/// taken for plies, for moves with which a pair may begin, and for pairs that explain a picture. At most 67,108,865 bytes are
-/// read, the last one only to see that there are more than a stream may have. No stream may have failed before.
+/// With `rotated`, field n means square 63 - n. What was read in one go is given on and flushed before more is read.
+/// Memory is taken for plies, for moves with which a pair may begin, and for pairs that explain a picture. At most
+/// 67,108,865 bytes are read, the last one only to see that there are more than a stream may have. No stream may have
+/// failed before.
 ///
 /// # Errors
 ///
 /// - `Read`: a read failed. All bytes before it were given on.
 /// - `TooLong`: there are more than 67,108,864 bytes. The first 67,108,864 were given on.
-/// - `Memory`: memory ran out at an event that shows another picture. First bytes that show all events before it, and not
+/// - `Memory`: memory ran out at an event that shows another picture. First bytes that show all events before it, and
+///   not
 ///   it, were given on, with what is put in among them.
-/// - `Write`: a write of the bytes failed or took no byte, or their flush failed. A first part was written of what some first
+/// - `Write`: a write of the bytes failed or took no byte, or their flush failed. A first part was written of what some
+///   first
 ///   bytes give, and the lines of all pairs in it were told.
-/// - `Lines`: a write of a line failed or took no byte, or its flush failed. The bytes are as under `Write`; of the line that
+/// - `Lines`: a write of a line failed or took no byte, or its flush failed. The bytes are as under `Write`; of the
+///   line that
 ///   failed, a part may be told.
 pub fn recover_stream<R: Read, O: Write, E: Write>(
     alloc: Global,
@@ -162,21 +171,24 @@ pub fn recover_stream<R: Read, O: Write, E: Write>(
     ensures ok { OnOk result (RecoversAll (record { start = start; first = first; rotated = rotated }) (R.remaining (inner_of reader.old))
         (O.contents (inner_of out.old)) (O.contents (inner_of out.new)) (E.contents (inner_of err.old)) (E.contents (inner_of err.new))) }
 
-    // Before a read nobody knows whether it will fail, and after one that failed nothing may be written. So each read begins
-    // with all bytes before it given on.
+    // Before a read nobody knows whether it will fail, and after one that failed nothing may be written. So each read
+    // begins with all bytes before it given on.
     ensures read { result ≡ Err RecoverError.Read → RecoversRead (record { start = start; first = first; rotated = rotated })
         (R.remaining (inner_of reader.old)) (R.remaining (inner_of reader.new))
         (O.contents (inner_of out.old)) (O.contents (inner_of out.new)) (E.contents (inner_of err.old)) (E.contents (inner_of err.new)) }
-    ensures long { result ≡ Err RecoverError.TooLong → RecoversFirst (record { start = start; first = first; rotated = rotated }) (R.remaining (inner_of reader.old))
+    ensures long { result ≡ Err RecoverError.TooLong
+        → RecoversFirst (record { start = start; first = first; rotated = rotated }) (R.remaining (inner_of reader.old))
         (O.contents (inner_of out.old)) (O.contents (inner_of out.new)) (E.contents (inner_of err.old)) (E.contents (inner_of err.new)) }
     ensures memory { result ≡ Err RecoverError.Memory → RecoversSome (record { start = start; first = first; rotated = rotated })
         (R.remaining (inner_of reader.old)) (R.remaining (inner_of reader.new))
         (O.contents (inner_of out.old)) (O.contents (inner_of out.new)) (E.contents (inner_of err.old)) (E.contents (inner_of err.new)) }
 
-    // Whatever is returned, nothing but a front of the bytes with what is put in is ever written, and no frame without its
-    // line.
-    ensures front { RecoversFront (record { start = start; first = first; rotated = rotated }) (R.remaining (inner_of reader.old)) (R.remaining (inner_of reader.new))
-        (O.contents (inner_of out.old)) (O.contents (inner_of out.new)) (E.contents (inner_of err.old)) (E.contents (inner_of err.new)) (has_failed err.new) }
+    // Whatever is returned, nothing but a front of the bytes with what is put in is ever written, and no frame without
+    // its line.
+    ensures front { RecoversFront (record { start = start; first = first; rotated = rotated }) (R.remaining (inner_of reader.old))
+        (R.remaining (inner_of reader.new))
+        (O.contents (inner_of out.old)) (O.contents (inner_of out.new)) (E.contents (inner_of err.old)) (E.contents (inner_of err.new))
+        (has_failed err.new) }
     ensures bounded { ReadsWithin LIMIT (R.remaining (inner_of reader.old)) (R.remaining (inner_of reader.new)) }
 
     // A stream is blamed where it has failed, and only there.
@@ -188,8 +200,8 @@ pub fn recover_stream<R: Read, O: Write, E: Write>(
     ensures out_blamed { has_failed out.new ≡ true → result ≡ Err RecoverError.Write }
     ensures err_blamed { has_failed err.new ≡ true → result ≡ Err RecoverError.Lines }
 
-    // Nothing waits for a flush on a stream that works, so each read begins with all that was written flushed. Where a line
-    // could not be told, the pairs of its chunk that were put in before it may wait.
+    // Nothing waits for a flush on a stream that works, so each read begins with all that was written flushed. Where a
+    // line could not be told, the pairs of its chunk that were put in before it may wait.
     ensures flushed { result ≢ Err RecoverError.Lines → IsFlushed out.old → IsFlushed out.new }
     ensures told { IsFlushed err.old → IsFlushed err.new }
 {

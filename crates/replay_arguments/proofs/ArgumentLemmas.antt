@@ -19,7 +19,7 @@ use Rattle.chess_game.specs.declared.values.Tag.TheVariants.{Event, Site, Date, 
 use Rattle.board_events.specs.Settings.{setting_of}
 use Rattle.replay_arguments.specs.declared.arguments.Subcommand.{Subcommand}
 use Rattle.replay_arguments.specs.Command.{replay}
-use Rattle.replay_arguments.specs.Subcommands.{Asks, AsksForPictures, AsksToCheck, AsksToShow, AsksForMoves, AsksForPositions, AsksToFollow, AsksToRecord, AsksToRecover, Chooses, IsCheck, IsFollow, IsMoves, IsPictures, IsPositions, IsRecord, IsRecover, IsShow, is_subcommand}
+use Rattle.replay_arguments.specs.Subcommands.{Asks, AsksForPictures, AsksToCheck, AsksToShow, AsksForMoves, AsksForPositions, AsksToFollow, AsksToRecord, AsksToRecover, AsksToWatch, Chooses, IsCheck, IsFollow, IsMoves, IsPictures, IsPositions, IsRecord, IsRecover, IsWatch, IsShow, is_subcommand}
 use Rattle.replay_arguments.specs.Setups.{SetsBoardUp, flag_text, plain_setup, side_in}
 use Rattle.chess_text.specs.Start.{given}
 use Rattle.replay_arguments.specs.TagOptions.{option_of}
@@ -218,6 +218,31 @@ follow_asks false arguments (name, is) =
     let f = follow_found name in
     let P : List Text → Type 0 = λ w. AsksToFollow w (setting_of (plain_setup false)) in
     subst P (sym is) (asks_of_a_board (codes "follow") (name ∷ codes "follow" ∷ []) false f.0 f.1 f.2 f.3 f.4 (rw f.2 refl))
+
+watch_found : (name : Text) → (name_in (subcommand_of replay (name ∷ codes "watch" ∷ [])) ≡ Some (codes "watch"))
+    × (one_of (codes "rotated") (rows_for (name ∷ codes "watch" ∷ [])) ≡ Some (codes "false"))
+    × (first_of (codes "first") (rows_for (name ∷ codes "watch" ∷ [])) ≡ None) × (first_of (codes "fen") (rows_for (name ∷ codes "watch" ∷ [])) ≡ None)
+    × (takes replay (name ∷ codes "watch" ∷ []) ≡ true)
+unfolding clap_on_literals
+watch_found name = (refl, refl, refl, refl, refl)
+
+turned_watch_found : (name : Text) → (name_in (subcommand_of replay (name ∷ codes "watch" ∷ codes "--rotated" ∷ [])) ≡ Some (codes "watch"))
+    × (one_of (codes "rotated") (rows_for (name ∷ codes "watch" ∷ codes "--rotated" ∷ [])) ≡ Some (codes "true"))
+    × (first_of (codes "first") (rows_for (name ∷ codes "watch" ∷ codes "--rotated" ∷ [])) ≡ None)
+    × (first_of (codes "fen") (rows_for (name ∷ codes "watch" ∷ codes "--rotated" ∷ [])) ≡ None)
+    × (takes replay (name ∷ codes "watch" ∷ codes "--rotated" ∷ []) ≡ true)
+unfolding clap_on_literals
+turned_watch_found name = (refl, refl, refl, refl, refl)
+
+pub watch_asks : (rotated : Bool) (arguments : List Text) → IsWatch rotated arguments → AsksToWatch arguments (setting_of (plain_setup rotated))
+watch_asks true arguments (name, is) =
+    let f = turned_watch_found name in
+    let P : List Text → Type 0 = λ w. AsksToWatch w (setting_of (plain_setup true)) in
+    subst P (sym is) (asks_of_a_board (codes "watch") (name ∷ codes "watch" ∷ codes "--rotated" ∷ []) true f.0 f.1 f.2 f.3 f.4 (rw f.2 refl))
+watch_asks false arguments (name, is) =
+    let f = watch_found name in
+    let P : List Text → Type 0 = λ w. AsksToWatch w (setting_of (plain_setup false)) in
+    subst P (sym is) (asks_of_a_board (codes "watch") (name ∷ codes "watch" ∷ []) false f.0 f.1 f.2 f.3 f.4 (rw f.2 refl))
 
 recover_found : (name : Text) → (name_in (subcommand_of replay (name ∷ codes "recover" ∷ [])) ≡ Some (codes "recover"))
     × (one_of (codes "rotated") (rows_for (name ∷ codes "recover" ∷ [])) ≡ Some (codes "false"))

@@ -54,6 +54,9 @@ positions_app = with_text (new_app (codes "positions")) (codes "fen")
 abbrev pub follow_app : App
 follow_app = with_board (new_app (codes "follow"))
 
+abbrev pub watch_app : App
+watch_app = with_board (new_app (codes "watch"))
+
 abbrev pub recover_app : App
 recover_app = with_board (new_app (codes "recover"))
 
@@ -63,8 +66,8 @@ with_version app = record app { top = record app.top { has_version = true; subco
 
 -- with the subcommands that read what a board sends, in this order
 abbrev pub with_board_subcommands : App → App
-with_board_subcommands app = with_subcommand (with_subcommand (with_subcommand (with_subcommand (with_subcommand app
-    show_app.top) pictures_app.top) record_app.top) follow_app.top) recover_app.top
+with_board_subcommands app = with_subcommand (with_subcommand (with_subcommand (with_subcommand (with_subcommand (with_subcommand app
+    show_app.top) pictures_app.top) record_app.top) follow_app.top) watch_app.top) recover_app.top
 
 -- with those that read texts, or nothing
 abbrev pub with_text_subcommands : App → App

@@ -1,4 +1,4 @@
--- What the options of `record`, `follow` and `recover` set up.
+-- What the options of `record`, `follow`, `watch` and `recover` set up.
 use Rattle.std.specs.Prelude.{◌≡◌, ◌⊎◌, Bool, List, ◌∷◌, ◌++◌, All, ℕ, codes, Option, Some, None, MatchOption, unwrap_or, true, false, if◌then◌else◌, ⊤}
 use Rattle.std.specs.Str.{bytes_eq}
 use Rattle.clap.specs.Walk.{Row, Text, first_of, one_of}
@@ -88,7 +88,7 @@ pub record Wants (rows : List Row) (options : RecordArguments) : Type 0 where
 abbrev pub HasValues : RecordArguments → TagValues → Type 0
 HasValues options values = (tag : Tag) → HasValue tag (tag_text options tag) (value_of tag values)
 
--- The setting in which a game is recorded, followed or recovered is as the arguments say.
+-- The setting in which a game is recorded, followed, watched or recovered is as the arguments say.
 pub record MeetsBoard (options : BoardArguments) (setting : Setting) : Type 0 where
   pub rotated : setting.rotated ≡ options.rotated
   pub first : setting.first ≡ options.first
@@ -112,7 +112,8 @@ abbrev pub ForMemory : Refusal → Type 0
 ForMemory (Fen error) = ⊥
 ForMemory (OfTag tag error) = error ≡ Memory
 
--- The refusal is that of a tag whose text, or memory for it, is refused. The tags before it may have the texts given for them.
+-- The refusal is that of a tag whose text, or memory for it, is refused. The tags before it may have the texts given
+-- for them.
 abbrev pub OfFirstTag : (Tag → Option Text) → Refusal → Type 0
 OfFirstTag text (Fen error) = ⊥
 OfFirstTag text (OfTag tag error) = (before after : List Tag) × (all_tags ≡ before ++ tag ∷ after)

@@ -13,7 +13,7 @@ use Rattle.chess_rules.specs.declared.parts.Parts.{Parts}
 use Rattle.board_events.specs.declared.setup.Setup.{Setup}
 use Rattle.board_events.specs.Settings.{Setting}
 use Rattle.replay_arguments.specs.declared.arguments.Subcommand.{Subcommand}
-use Rattle.replay_arguments.specs.declared.arguments.Subcommand.TheVariants.{Show, Pictures, Record, Follow, Recover, Check, Moves, Positions}
+use Rattle.replay_arguments.specs.declared.arguments.Subcommand.TheVariants.{Show, Pictures, Record, Follow, Watch, Recover, Check, Moves, Positions}
 use Rattle.replay_arguments.specs.declared.arguments.BoardArguments.{BoardArguments}
 use Rattle.replay_arguments.specs.declared.arguments.RecordArguments.{RecordArguments}
 use Rattle.replay_arguments.specs.Command.{replay}
@@ -22,7 +22,7 @@ use Rattle.chess_text.specs.Start.{StartsAt, given}
 
 -- whether the subcommand is one of the program's, and the side after `--first`, if there is one, is white or black
 abbrev pub is_subcommand : Text → List Row → Bool
-is_subcommand name rows = if bytes_eq name (codes "record") || bytes_eq name (codes "follow") || bytes_eq name (codes "recover") then is_some (side_in (first_of (codes "first") rows))
+is_subcommand name rows = if bytes_eq name (codes "record") || bytes_eq name (codes "follow") || bytes_eq name (codes "watch") || bytes_eq name (codes "recover") then is_some (side_in (first_of (codes "first") rows))
     else (bytes_eq name (codes "show") || bytes_eq name (codes "pictures") || bytes_eq name (codes "check") || bytes_eq name (codes "moves") || bytes_eq name (codes "positions"))
 
 -- what a subcommand with these arguments asks for
@@ -31,6 +31,7 @@ pub record Chooses (name : Text) (rows : List Row) (subcommand : Option Subcomma
   pub pictures : (rotated : Bool) → name ≡ codes "pictures" → one_of (codes "rotated") rows ≡ Some (flag_text rotated) → subcommand ≡ Some (Pictures rotated)
   pub record_is : name ≡ codes "record" → IfSome subcommand (λ chosen. (options : RecordArguments) × (chosen ≡ Record options) × Wants rows options)
   pub follow : name ≡ codes "follow" → IfSome subcommand (λ chosen. (options : BoardArguments) × (chosen ≡ Follow options) × WantsBoard rows options)
+  pub watch : name ≡ codes "watch" → IfSome subcommand (λ chosen. (options : BoardArguments) × (chosen ≡ Watch options) × WantsBoard rows options)
   pub recover : name ≡ codes "recover" → IfSome subcommand (λ chosen. (options : BoardArguments) × (chosen ≡ Recover options) × WantsBoard rows options)
   pub check : name ≡ codes "check" → subcommand ≡ Some Check
   pub moves : name ≡ codes "moves" → (fen : Option (Bor Text)) × (subcommand ≡ Some (Moves fen)) × (given fen ≡ first_of (codes "fen") rows)
@@ -53,8 +54,8 @@ AsksForHelp arguments = fault_of replay arguments ≡ kind.DisplayHelp ∷ []
 abbrev pub AsksForVersion : List Text → Type 0
 AsksForVersion arguments = fault_of replay arguments ≡ kind.DisplayVersion ∷ []
 
--- The arguments are mistaken: a parse finds fault with them, or they ask for nothing that the program does; and they don't ask
--- for help or for a version.
+-- The arguments are mistaken: a parse finds fault with them, or they ask for nothing that the program does; and they
+-- don't ask for help or for a version.
 pub record AreMistaken (arguments : List Text) : Type 0 where
   pub fault : (fault_of replay arguments ≢ []) ⊎ (option_map_or (λ found. is_subcommand found.0 found.1) (subcommand_of replay arguments) false ≡ false)
   pub no_help : IsAmong kind.DisplayHelp (fault_of replay arguments) → ⊥
@@ -86,6 +87,10 @@ AsksToRecord arguments setup = (rows : List Row) × Asks arguments (codes "recor
 abbrev pub AsksToFollow : List Text → Setting → Type 0
 AsksToFollow arguments setting = (rows : List Row) × Asks arguments (codes "follow") rows × SetsBoardUp rows setting
 
+-- The arguments ask that a game be watched that is set up so.
+abbrev pub AsksToWatch : List Text → Setting → Type 0
+AsksToWatch arguments setting = (rows : List Row) × Asks arguments (codes "watch") rows × SetsBoardUp rows setting
+
 -- The arguments ask that a game be recovered that is set up so.
 abbrev pub AsksToRecover : List Text → Setting → Type 0
 AsksToRecover arguments setting = (rows : List Row) × Asks arguments (codes "recover") rows × SetsBoardUp rows setting
@@ -113,6 +118,10 @@ IsRecord rotated arguments = (name : Text) × (arguments ≡ name ∷ codes "rec
 -- The arguments are a program's name, whatever it is, and `follow`, with or without `--rotated`.
 abbrev pub IsFollow : Bool → List Text → Type 0
 IsFollow rotated arguments = (name : Text) × (arguments ≡ name ∷ codes "follow" ∷ (if rotated then codes "--rotated" ∷ [] else []))
+
+-- The arguments are a program's name, whatever it is, and `watch`, with or without `--rotated`.
+abbrev pub IsWatch : Bool → List Text → Type 0
+IsWatch rotated arguments = (name : Text) × (arguments ≡ name ∷ codes "watch" ∷ (if rotated then codes "--rotated" ∷ [] else []))
 
 -- The arguments are a program's name, whatever it is, and `recover`, with or without `--rotated`.
 abbrev pub IsRecover : Bool → List Text → Type 0

@@ -31,6 +31,8 @@ pub enum Subcommand<'a> {
     Record(RecordArguments<'a>),
     /// What each event of a stream makes of the game.
     Follow(BoardArguments<'a>),
+    /// The same, with what the board and the clocks show, and each position.
+    Watch(BoardArguments<'a>),
     /// The bytes of a stream, and between them those that recover its hidden moves.
     Recover(BoardArguments<'a>),
     /// Whether a text is PGN in export form.
@@ -144,6 +146,10 @@ fn subcommand_named<'a>(name: &str, matches: &ArgMatches<'a>) -> Option<Subcomma
         },
         "follow" => match board_arguments_of(matches) {
             Some(follow) => Some(Subcommand::Follow(follow)),
+            None => None,
+        },
+        "watch" => match board_arguments_of(matches) {
+            Some(watch) => Some(Subcommand::Watch(watch)),
             None => None,
         },
         "recover" => match board_arguments_of(matches) {

@@ -1,7 +1,7 @@
 //! The command line of the program, as `clap` parses it.
 ghost use Rattle.std.specs.Prelude.{◌≡◌, IfOk};
 ghost use Rattle.clap.specs.Simple.{App, app_of, new_app};
-ghost use Rattle.replay_arguments.specs.Command.{AddsRule, AddsApp, IsApp, Makes, check_app, follow_app, moves_app, pictures_app, positions_app, record_app, recover_app, replay, rotated_rule, show_app, text_rule, with_board, with_board_subcommands, with_tags, with_text_subcommands};
+ghost use Rattle.replay_arguments.specs.Command.{AddsRule, AddsApp, IsApp, Makes, check_app, follow_app, moves_app, pictures_app, positions_app, record_app, recover_app, replay, rotated_rule, show_app, text_rule, watch_app, with_board, with_board_subcommands, with_tags, with_text_subcommands};
 
 use crate::tag_options::{option_help, option_name};
 use chess_game::Tag;
@@ -137,6 +137,17 @@ fn follow<'a>(alloc: Global) -> Result<Command<'a>, AllocError>
     with_board(alloc, Ok(command))
 }
 
+fn watch<'a>(alloc: Global) -> Result<Command<'a>, AllocError>
+    ensures { IfOk result (λ command. IsApp command watch_app) }
+{
+    let command = named(
+        alloc,
+        "watch",
+        "Prints what follow prints, and each picture, each position of the game and each reading of the clocks",
+    );
+    with_board(alloc, Ok(command))
+}
+
 fn recover<'a>(alloc: Global) -> Result<Command<'a>, AllocError>
     ensures { IfOk result (λ command. IsApp command recover_app) }
 {
@@ -193,6 +204,7 @@ fn with_board_subcommands<'a>(
     let command = with_subcommand(command, pictures(alloc));
     let command = with_subcommand(command, record(alloc));
     let command = with_subcommand(command, follow(alloc));
+    let command = with_subcommand(command, watch(alloc));
     with_subcommand(command, recover(alloc))
 }
 

@@ -1,7 +1,7 @@
 //! The command line of the program: what its arguments ask for, and the setup of a recording.
 //!
-//! Begin with `arguments.rt`, which reads them by the command of `command.rt`. `setup.rt` sets a recording up. `laws.rt`
-//! has what arguments without options ask for.
+//! Begin with `arguments.rt`, which reads them by the command of `command.rt`. `setup.rt` sets a recording up.
+//! `laws.rt` has what arguments without options ask for.
 #![tactic(auto)]
 
 mod arguments;

@@ -110,7 +110,8 @@ whole_step start earlier m score seen reading shown s l e o h =
           ])
     ]
 
--- While the move is on its way: it is open what stands in its place, but where its whole picture was the last one, it stands.
+-- While the move is on its way: it is open what stands in its place, but where its whole picture was the last one, it
+-- stands.
 record Coming (start : Parts) (earlier : List Ply) (m : Move) (past : List Entry) : Type 0 where
   open_so_far : Opens start earlier Any past
   whole : last_picture past ≡ Some (picture (after (reached start (moves_of earlier)) m))

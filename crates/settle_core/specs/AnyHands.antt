@@ -14,12 +14,13 @@ use Rattle.settle_core.specs.HonestPlay.{AllPass, HasOneMore, HasWhole, HoldsOne
 use Rattle.settle_core.specs.Laws.{GivesScore, joined}
 use Rattle.settle_core.specs.Settling.{Line, position_after}
 
--- The whole picture of a move that takes no piece has pieces in hand: so it may stand among the pictures on the way to this move,
--- and to any other of the same side.
+-- The whole picture of a move that takes no piece has pieces in hand: so it may stand among the pictures on the way to
+-- this move, and to any other of the same side.
 abbrev pub WholeMoveIsInHand : Type 0
 WholeMoveIsInHand = (p : Parts) (m : Move) → Valid p → Legal p m → ¬ IsCapture p m → IsInHand p (picture (after p m))
 
--- The entries, in their order, show the move in the end: the last of them has the picture after the move, and others may have it too.
+-- The entries, in their order, show the move in the end: the last of them has the picture after the move, and others
+-- may have it too.
 abbrev pub ShownInTheEnd : Parts → Move → List Entry → Type 0
 ShownInTheEnd p m [] = ⊥
 ShownInTheEnd p m (entry ∷ []) = entry.picture ≡ picture (after p m)
@@ -32,8 +33,8 @@ ShownEachInTheEnd p [] (list ∷ lists) = ⊥
 ShownEachInTheEnd p (m ∷ moves) [] = ⊥
 ShownEachInTheEnd p (m ∷ moves) (list ∷ lists) = ShownInTheEnd p m list × ShownEachInTheEnd (after p m) moves lists
 
--- Honest play folds to its line also where a move that takes no piece is made whole, taken back, and made again before the other
--- side begins: the plies have exactly these moves, and no sign stands.
+-- Honest play folds to its line also where a move that takes no piece is made whole, taken back, and made again before
+-- the other side begins: the plies have exactly these moves, and no sign stands.
 abbrev pub TakenBackAndMadeAgain : Type 0
 TakenBackAndMadeAgain =
     (start : Parts) (moves : List Move) (lists : List (List Entry)) (score : Score)
@@ -64,8 +65,8 @@ AllHoldOne p m (entry ∷ more) = HoldsOne p m entry.picture × AllHoldOne p m m
 abbrev pub IsOfThePiece : Parts → Move → Move → Type 0
 IsOfThePiece p m tried = (tried.from ≡ m.from) ⊎ ((wing : Wing) × Castles p m wing × (tried.from ≡ rook_home p.side wing))
 
--- Where honest play is broken off on the way to the move m, and each picture since the last whole move has one piece in hand, the
--- one ply more, if there is one, is of this piece.
+-- Where honest play is broken off on the way to the move m, and each picture since the last whole move has one piece in
+-- hand, the one ply more, if there is one, is of this piece.
 abbrev pub OneHandStops : Type 0
 OneHandStops =
     (start : Parts) (moves : List Move) (lists : List (List Entry)) (first : List Entry) (m : Move) (later : List Move) (made : List Ply)
@@ -76,4 +77,5 @@ OneHandStops =
     → AllHoldOne (position_after start front.done) m front.part
     → HasWhole start front.done front.whole front.part made
     → (made ≡ shown_plies start front.done front.whole)
-    ⊎ ((ply : Ply) × (made ≡ shown_plies start front.done front.whole ++ ply ∷ []) × IsOfThePiece (position_after start front.done) m ply.mv)
+    ⊎ ((ply : Ply) × (made ≡ shown_plies start front.done front.whole ++ ply ∷ [])
+    × IsOfThePiece (position_after start front.done) m ply.mv)

@@ -16,8 +16,9 @@ use Rattle.settle_core.specs.HonestPlay.{AllPass, AllRest, HasWhole, ShownEach, 
 use Rattle.settle_core.specs.Laws.{joined}
 use Rattle.settle_core.specs.Sign.{InCentre, IsSign}
 
--- Each of the plies was shown whole: some entry has the picture after it, and in the reading of that entry its mover has the
--- time that is the ply's clock; and the plies before it were shown in the entries before that one. All have the latest first.
+-- Each of the plies was shown whole: some entry has the picture after it, and in the reading of that entry its mover
+-- has the time that is the ply's clock; and the plies before it were shown in the entries before that one. All have the
+-- latest first.
 abbrev pub WereShown : Parts → List Ply → List Entry → Type 0
 WereShown start [] past = Unit {0}
 WereShown start (ply ∷ earlier) past = (later : List Entry) × (entry : Entry) × (before : List Entry)
@@ -44,8 +45,9 @@ OnlyTheLastPlyMayChange =
     → Folds start (later ++ past) score
     → KeepsAllButLast before.plies score.plies
 
--- Honest play resumes: whatever was seen before, where no sign stands and the last picture is that of the position reached, the
--- moves that are shown honestly from there on are added to the plies, each with its clock, and nothing else is.
+-- Honest play resumes: whatever was seen before, where no sign stands and the last picture is that of the position
+-- reached, the moves that are shown honestly from there on are added to the plies, each with its clock, and nothing
+-- else is.
 abbrev pub HonestPlayResumes : Type 0
 HonestPlayResumes =
     (start : Parts) (past : List Entry) (before score : Score) (moves : List Move) (lists : List (List Entry))
@@ -58,7 +60,8 @@ HonestPlayResumes =
     → Folds start (deduplicated (reverse (joined lists) ++ past)) score
     → score ≡ record { plies = reverse (shown_plies (reached start (moves_of before.plies)) moves lists) ++ before.plies; sign = None }
 
--- And where it then stops between two moves, the plies that were added are those of the whole moves, or these and one more.
+-- And where it then stops between two moves, the plies that were added are those of the whole moves, or these and one
+-- more.
 abbrev pub ResumedPlayStops : Type 0
 ResumedPlayStops =
     (start : Parts) (past : List Entry) (before score : Score) (moves : List Move) (lists : List (List Entry)) (part : List Entry)
@@ -88,7 +91,11 @@ KingsEndResumedPlay =
     → IsSign (position_after (reached start (moves_of before.plies)) moves) kings.picture outcome
     → AllRest (position_after (reached start (moves_of before.plies)) moves) later
     → Folds start (deduplicated (reverse (joined lists ++ (clearing ++ kings ∷ later)) ++ past)) score
-    → score ≡ record { plies = reverse (shown_plies (reached start (moves_of before.plies)) moves lists) ++ before.plies; sign = Some outcome }
+    → score ≡ record {
+      plies = reverse (shown_plies (reached start
+          (moves_of before.plies)) moves lists) ++ before.plies;
+      sign = Some outcome;
+    }
 
 -- The codes of both kings stand in the centre; whatever else shows.
 pub record ShowsBothKings (seen : List ℕ) : Type 0 where

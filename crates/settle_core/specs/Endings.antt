@@ -37,8 +37,8 @@ HonestPlayEnds =
     → GivesScore start (joined lists ++ end) score
     → score ≡ score_of (shown_plies start moves lists) sign
 
--- These are the first entries of honest play, in a move or between two; the plies are those of the whole moves, or these and one
--- more; and no sign stands.
+-- These are the first entries of honest play, in a move or between two; the plies are those of the whole moves, or
+-- these and one more; and no sign stands.
 abbrev pub StopsWithin : Parts → List Move → List (List Entry) → List Entry → Score → Type 0
 StopsWithin start moves lists first score = (score.sign ≡ None)
     × ((front : IsFront start moves lists first) × HasWhole start front.done front.whole front.part (reverse score.plies))
@@ -51,7 +51,8 @@ StopsAfter start moves lists sign score =
 -- Honest play with such an end may be broken off anywhere.
 abbrev pub HonestPlayStopsAnywhere : Type 0
 HonestPlayStopsAnywhere =
-    (start : Parts) (moves : List Move) (lists : List (List Entry)) (end : List Entry) (sign : Option Outcome) (first rest : List Entry) (score : Score)
+    (start : Parts) (moves : List Move) (lists : List (List Entry)) (end : List Entry) (sign : Option Outcome) (first rest : List Entry)
+    (score : Score)
     → Valid start
     → Line start moves
     → ShownEach start moves lists

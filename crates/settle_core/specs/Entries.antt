@@ -25,7 +25,8 @@ abbrev pub repeats : List ℕ → List Entry → Bool
 repeats picture [] = false
 repeats picture (before ∷ past) = bytes_eq picture before.picture
 
--- the entries that are first or whose picture differs from the one just before: the first of a run stays, with its reading
+-- the entries that are first or whose picture differs from the one just before: the first of a run stays, with its
+-- reading
 abbrev pub deduplicated : List Entry → List Entry
 deduplicated [] = []
 deduplicated (entry ∷ past) = if repeats entry.picture past then deduplicated past else entry ∷ deduplicated past

@@ -12,7 +12,8 @@ abbrev pub win_of : Side → Outcome
 win_of White = WhiteWins
 win_of Black = BlackWins
 
--- The result where the last position is p and this sign stands: at checkmate the winner, at stalemate a draw, else the sign.
+-- The result where the last position is p and this sign stands: at checkmate the winner, at stalemate a draw, else the
+-- sign.
 pub record IsResult (p : Parts) (sign result : Option Outcome) : Type 0 where
   pub mated : Mated p → result ≡ Some (win_of (other p.side))
   pub stale : Stale p → result ≡ Some Drawn

@@ -31,11 +31,12 @@ abbrev pub HasKingsApart : List ℕ → Type 0
 HasKingsApart seen = (white black : ℕ) → InCentre white → InCentre black
     → slice_index seen white ≡ code_of_piece White King → slice_index seen black ≢ code_of_piece Black King
 
--- The picture shows the mover with pieces in hand. His own pieces may show anywhere, or nowhere. A piece of the other side
--- shows where it stands, or nowhere. The kings are not both in the centre. And no capture shows: the picture is not that after
--- a legal move that takes a piece.
+-- The picture shows the mover with pieces in hand. His own pieces may show anywhere, or nowhere. A piece of the other
+-- side shows where it stands, or nowhere. The kings are not both in the centre. And no capture shows: the picture is
+-- not that after a legal move that takes a piece.
 pub record IsInHand (p : Parts) (seen : List ℕ) : Type 0 where
-  pub theirs : (s : ℕ) (kind : Kind) → s < 64 → slice_index seen s ≡ code_of_piece (other p.side) kind → on p.board s ≡ piece_of (other p.side) kind
+  pub theirs : (s : ℕ) (kind : Kind) → s < 64 → slice_index seen s ≡ code_of_piece (other p.side) kind
+      → on p.board s ≡ piece_of (other p.side) kind
   pub kings : HasKingsApart seen
   pub no_capture : (n : Move) → Legal p n → IsCapture p n → seen ≢ picture (after p n)
 
@@ -68,8 +69,8 @@ AllRest p (entry ∷ more) = MayRest p entry.picture × AllRest p more
 abbrev pub ChangesSquare : Parts → Move → ℕ → Type 0
 ChangesSquare p m s = on p.board s ≢ on (after p m).board s
 
--- what a square that the move changes may show: what stood there, what stands there after the move, nothing, or, where a
--- promotion ends, the mover's pawn
+-- what a square that the move changes may show: what stood there, what stands there after the move, nothing, or, where
+-- a promotion ends, the mover's pawn
 abbrev pub MayShow : Parts → Move → ℕ → ℕ → Type 0
 MayShow p m s shown = (shown ≡ code (on p.board s)) ⊎ (shown ≡ code (on (after p m).board s)) ⊎ (shown ≡ 0)
     ⊎ (IsSome m.promotion × (s ≡ m.to) × (shown ≡ code_of_piece p.side Pawn))
@@ -82,7 +83,8 @@ pub record LiftsAnother (p : Parts) (m : Move) (seen : List ℕ) : Type 0 where
   pub stays : ¬ ChangesSquare p m square
   pub lifted : slice_index seen square ≡ 0
 
--- A piece of the mover shows on s, and none that the move leaves where it is stands there: it is taken for one that is moved.
+-- A piece of the mover shows on s, and none that the move leaves where it is stands there: it is taken for one that is
+-- moved.
 pub record ShowsMoved (p : Parts) (m : Move) (seen : List ℕ) (s : ℕ) (kind : Kind) : Type 0 where
   pub low : s < 64
   pub shows : slice_index seen s ≡ code_of_piece p.side kind
@@ -92,8 +94,8 @@ pub record ShowsMoved (p : Parts) (m : Move) (seen : List ℕ) (s : ℕ) (kind :
 abbrev pub AreKingAndRook : Kind → Kind → Type 0
 AreKingAndRook j k = ((j ≡ King) × (k ≡ Rook)) ⊎ ((j ≡ Rook) × (k ≡ King))
 
--- The picture shows one piece moved at most where another piece of the mover is lifted; where the move castles, the king and
--- the rook.
+-- The picture shows one piece moved at most where another piece of the mover is lifted; where the move castles, the
+-- king and the rook.
 abbrev pub HoldsOne : Parts → Move → List ℕ → Type 0
 HoldsOne p m seen = LiftsAnother p m seen
     → (s t : ℕ) (j k : Kind) → ShowsMoved p m seen s j → ShowsMoved p m seen t k
@@ -105,8 +107,8 @@ pub record IsPartial (p : Parts) (m : Move) (seen : List ℕ) : Type 0 where
   pub changed : (s : ℕ) → s < 64 → ChangesSquare p m s → MayShow p m s (slice_index seen s)
   pub unchanged : (s : ℕ) → s < 64 → ¬ ChangesSquare p m s → slice_index seen s ≡ code (on p.board s)
 
--- The picture shows the move's piece tried on another square: it is that after another legal move of the piece, which captures
--- nothing.
+-- The picture shows the move's piece tried on another square: it is that after another legal move of the piece, which
+-- captures nothing.
 pub record IsTry (p : Parts) (m : Move) (seen : List ℕ) : Type 0 where
   pub tried : Move
   pub legal : Legal p tried
@@ -140,7 +142,8 @@ last_reading [] = None
 last_reading (entry ∷ []) = entry.reading
 last_reading (entry ∷ next ∷ more) = last_reading (next ∷ more)
 
--- the plies of a line that lists of entries show: each has its mover's time in the reading of the entry that ends its list
+-- the plies of a line that lists of entries show: each has its mover's time in the reading of the entry that ends its
+-- list
 abbrev pub shown_plies : Parts → List Move → List (List Entry) → List Ply
 shown_plies p [] lists = []
 shown_plies p (m ∷ moves) [] = []
@@ -155,8 +158,8 @@ pub record IsAmong (entries : List Entry) (seen : List ℕ) : Type 0 where
   pub stands : entries ≡ first ++ entry ∷ rest
   pub shows : entry.picture ≡ seen
 
--- The plies made are these, which lead to p, and one more: of a legal move that takes no piece, and the picture after it is among
--- those of these entries.
+-- The plies made are these, which lead to p, and one more: of a legal move that takes no piece, and the picture after
+-- it is among those of these entries.
 pub record HasOneMore (p : Parts) (plies : List Ply) (part : List Entry) (made : List Ply) : Type 0 where
   pub ply : Ply
   pub legal : Legal p ply.mv
@@ -178,7 +181,8 @@ pub record IsPartOfNext (left : List (List Entry)) (part : List Entry) : Type 0 
   pub more : List Entry
   pub list_is : list ≡ part ++ entry ∷ more
 
--- The first entries of lists that show a line of moves are those of whole moves, and a part of the next move's list, if any.
+-- The first entries of lists that show a line of moves are those of whole moves, and a part of the next move's list, if
+-- any.
 pub record IsFront (start : Parts) (moves : List Move) (lists : List (List Entry)) (first : List Entry) : Type 0 where
   pub done : List Move
   pub later : List Move

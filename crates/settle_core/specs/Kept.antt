@@ -15,8 +15,8 @@ use Rattle.settle_core.specs.Folding.{score_of}
 use Rattle.settle_core.specs.Masks.{IsDiff, IsOwned, IsShown}
 use Rattle.settle_core.specs.Settler.{Sheet}
 
--- `picture` is that of the position. `mask` has the squares on which the picture that was seen differs from it. `ours` has the
--- squares on which the side to move has pieces, and `theirs` those on which the other side has.
+-- `picture` is that of the position. `mask` has the squares on which the picture that was seen differs from it. `ours`
+-- has the squares on which the side to move has pieces, and `theirs` those on which the other side has.
 pub record IsCompared (compared : Compared) (seen : List ℕ) : Type 0 where
   pub picture : compared.picture ≡ picture compared.position
   pub mask : IsDiff compared.mask compared.picture seen
@@ -45,9 +45,10 @@ abbrev pub IsComparedIn : Option Compared → List ℕ → Type 0
 IsComparedIn None seen = Unit {0}
 IsComparedIn (Some compared) seen = IsCompared compared seen
 
--- The moves, of which the latest comes first, are legal in their turn. They lead to `here`, and the last one was made in
--- `before`. Both are compared with the last picture, and `shown` has the squares on which this picture shows pieces.
-pub record IsKept (start : Parts) (moves : List Move) (here : Compared) (before : Option Compared) (seen : List ℕ) (shown : ℕ) : Type 0 where
+-- The moves, of which the latest comes first, are legal in their turn. They lead to `here`, and the last one was made
+-- in `before`. Both are compared with the last picture, and `shown` has the squares on which this picture shows pieces.
+pub record IsKept (start : Parts) (moves : List Move) (here : Compared) (before : Option Compared) (seen : List ℕ)
+    (shown : ℕ) : Type 0 where
   pub played : Played start moves
   pub position : here.position ≡ reached start moves
   pub before_is : position_in before ≡ before_last start moves

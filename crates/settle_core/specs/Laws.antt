@@ -26,8 +26,8 @@ joined lists = flat_map (λ list. list) lists
 abbrev pub GivesScore : Parts → List Entry → Score → Type 0
 GivesScore start entries score = Folds start (deduplicated (reverse entries)) score
 
--- For every line of moves, with a list of entries that shows each in its position, whatever the readings: the lists, one
--- after the other, fold to plies with exactly these moves, and after no entry a sign stands.
+-- For every line of moves, with a list of entries that shows each in its position, whatever the readings: the lists,
+-- one after the other, fold to plies with exactly these moves, and after no entry a sign stands.
 abbrev pub HonestPlayFolds : Type 0
 HonestPlayFolds =
     (start : Parts) (moves : List Move) (lists : List (List Entry))
@@ -47,8 +47,8 @@ HonestPlayIsKept =
     → StandsFor sheet start (reverse (joined lists))
     → (moves_of (plies_of sheet) ≡ moves) × (sheet.score.sign ≡ None)
 
--- And the score is that of the plies which the lists show: the ply of each move has its mover's time in the reading of the
--- entry that ends the move's list, the first of the list with the picture after the move.
+-- And the score is that of the plies which the lists show: the ply of each move has its mover's time in the reading of
+-- the entry that ends the move's list, the first of the list with the picture after the move.
 abbrev pub HonestPlayKeepsClocks : Type 0
 HonestPlayKeepsClocks =
     (start : Parts) (moves : List Move) (lists : List (List Entry)) (score : Score)
@@ -58,8 +58,9 @@ HonestPlayKeepsClocks =
     → GivesScore start (joined lists) score
     → score ≡ score_of (shown_plies start moves lists) None
 
--- Where honest play stops between two moves: after a line, and then pictures with pieces in hand or a king off the board, no sign
--- stands, and the plies are those of the line, or these and one more: of a legal move that takes no piece, and that was shown.
+-- Where honest play stops between two moves: after a line, and then pictures with pieces in hand or a king off the
+-- board, no sign stands, and the plies are those of the line, or these and one more: of a legal move that takes no
+-- piece, and that was shown.
 abbrev pub HonestPlayStops : Type 0
 HonestPlayStops =
     (start : Parts) (moves : List Move) (lists : List (List Entry)) (part : List Entry) (score : Score)
@@ -82,8 +83,8 @@ FrontsOfHonestPlay =
     → (score.sign ≡ None)
     × ((front : IsFront start moves lists first) × HasWhole start front.done front.whole front.part (reverse score.plies))
 
--- After moves that are legal in their turn, a picture waits that shows no more than the position has, or on which a king
--- stands nowhere, whatever else it shows.
+-- After moves that are legal in their turn, a picture waits that shows no more than the position has, or on which a
+-- king stands nowhere, whatever else it shows.
 abbrev pub RestingWaits : Type 0
 RestingWaits =
     (start : Parts) (moves : List Move) (seen : List ℕ)
@@ -92,8 +93,8 @@ RestingWaits =
     → MayRest (reached start moves) seen
     → SeenAs start moves seen Waits
 
--- Nothing is guessed where two plies were not seen: after moves that are legal in their turn, whatever they are, the picture
--- after a legal move and a legal reply waits.
+-- Nothing is guessed where two plies were not seen: after moves that are legal in their turn, whatever they are, the
+-- picture after a legal move and a legal reply waits.
 abbrev pub TwoUnseenWait : Type 0
 TwoUnseenWait =
     (start : Parts) (moves : List Move) (m reply : Move)
@@ -148,8 +149,8 @@ ThreeUnseenAddNothing =
     → Folds start (entry ∷ past) score
     → (score ≡ before) ⊎ HasAnotherLastPly before score
 
--- A move that is tried while another one is to be made, with its piece in hand and no other, is a move of that piece, or the
--- rook's where the move castles.
+-- A move that is tried while another one is to be made, with its piece in hand and no other, is a move of that piece,
+-- or the rook's where the move castles.
 abbrev pub OneHandTriesItsPiece : Type 0
 OneHandTriesItsPiece =
     (p : Parts) (m tried : Move) (seen : List ℕ)
@@ -160,11 +161,12 @@ OneHandTriesItsPiece =
     → seen ≡ picture (after p tried)
     → (tried.from ≡ m.from) ⊎ ((wing : Wing) × Castles p m wing × (tried.from ≡ rook_home p.side wing))
 
--- The end by the kings: after honest play, pictures of these two kinds, the sign of a result, and again such pictures, the
--- score has the plies of the line and the sign.
+-- The end by the kings: after honest play, pictures of these two kinds, the sign of a result, and again such pictures,
+-- the score has the plies of the line and the sign.
 abbrev pub KingsEndHonestPlay : Type 0
 KingsEndHonestPlay =
-    (start : Parts) (moves : List Move) (lists : List (List Entry)) (clearing later : List Entry) (kings : Entry) (outcome : Outcome) (score : Score)
+    (start : Parts) (moves : List Move) (lists : List (List Entry)) (clearing later : List Entry) (kings : Entry) (outcome : Outcome)
+    (score : Score)
     → Valid start
     → Line start moves
     → ShownEach start moves lists
@@ -182,8 +184,8 @@ NoMoreIsInHand = (p : Parts) (seen : List ℕ) → Valid p → ShowsNoMore p see
 abbrev pub UnderWayIsInHand : Type 0
 UnderWayIsInHand = (p : Parts) (m : Move) (seen : List ℕ) → Valid p → Legal p m → IsUnderWay p m seen → IsInHand p seen
 
--- Taking out an entry whose picture equals the one before leaves the score: entries are listed with the latest first, so
--- `later` came after the entry.
+-- Taking out an entry whose picture equals the one before leaves the score: entries are listed with the latest first,
+-- so `later` came after the entry.
 abbrev pub RepeatsCountOnce : Type 0
 RepeatsCountOnce =
     (start : Parts) (later past : List Entry) (entry : Entry) (score : Score)

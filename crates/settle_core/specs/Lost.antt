@@ -20,6 +20,7 @@ Loses p seen side = (s : ℕ) × LosesAt p seen side s
 abbrev pub Bares : Parts → List ℕ → Side → Type 0
 Bares p seen side = (s : ℕ) × LosesAt p seen side s × (slice_index seen s ≡ 0)
 
--- Two plies from this position may give the picture: the side to move has left a square, and the other side one that is bare.
+-- Two plies from this position may give the picture: the side to move has left a square, and the other side one that is
+-- bare.
 abbrev pub MayHideTwo : Parts → List ℕ → Type 0
 MayHideTwo p seen = Loses p seen p.side × Bares p seen (other p.side)

@@ -27,8 +27,8 @@ position_of sheet = reached sheet.start (moves_of sheet.score.plies)
 abbrev pub plies_of : Sheet → List Ply
 plies_of sheet = reverse sheet.score.plies
 
--- From this start the settler was given these entries, the latest first: its last picture is that of the last entry, and
--- its plies and sign are those of the entries without repeated pictures.
+-- From this start the settler was given these entries, the latest first: its last picture is that of the last entry,
+-- and its plies and sign are those of the entries without repeated pictures.
 pub record StandsFor (sheet : Sheet) (start : Parts) (past : List Entry) : Type 0 where
   pub start_is : sheet.start ≡ start
   pub last : sheet.last ≡ last_picture past

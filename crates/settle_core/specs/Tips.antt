@@ -36,8 +36,8 @@ moves_after moves Same = moves
 abbrev pub LeadsTo : Parts → List Move → List ℕ → Tip → Type 0
 LeadsTo start moves seen tip = (answer : Seen) × SeenAs start moves seen answer × IsTip start (moves_after moves answer) tip
 
--- There are moves with this tip to which entries with these pictures, in their order, fold, whatever the readings; of the
--- entries, listed with the latest first, only those count that are kept.
+-- There are moves with this tip to which entries with these pictures, in their order, fold, whatever the readings; of
+-- the entries, listed with the latest first, only those count that are kept.
 abbrev pub FoldsTo : (List Entry → List Entry) → Parts → List (List ℕ) → Tip → Type 0
 FoldsTo kept start pictures tip = (moves : List Move) × IsTip start moves tip
     × ((entries : List Entry) → map (λ entry. entry.picture) entries ≡ pictures

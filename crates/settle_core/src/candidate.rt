@@ -13,8 +13,9 @@ use crate::codes::{BLACK_KING, BLACK_PAWN, EMPTY, WHITE_KING, WHITE_PAWN, is_own
 use crate::masks::{first_square, landed, shown_in, with, without};
 use chess_rules::{Kind, Move, Side, Square};
 
-/// The one move that the squares on which two pictures differ can show: where a position has the first picture and a move
-/// of it settles the second, it is that move. None where they differ on fewer squares than two, or on more than four.
+/// The one move that the squares on which two pictures differ can show: where a position has the first picture and a
+/// move of it settles the second, it is that move. None where they differ on fewer squares than two, or on more than
+/// four.
 pub fn candidate(before: &[u8; 64], after: &[u8; 64], mask: u64) -> Option<Move>
     requires { IsDiff mask before.now after.now }
     ensures finds { (p : PartsOf) (m : MoveOf) → Valid p → before.now ≡ picture p → Settles p after.now m → result ≡ Some m }
@@ -92,7 +93,8 @@ fn landing_without_castling(
     requires shown { IsShown shown after.now }
     ensures range { IfSome result (λ s. s < 64) }
     ensures some { IfSome result (λ s. lands_test false (slice_index before.now s) (slice_index after.now s) ≡ true) }
-    ensures none { IfNone result (count_ones mask ≤ 3 → (s : ℕ) → s < 64 → lands_test false (slice_index before.now s) (slice_index after.now s) ≡ false) }
+    ensures none { IfNone result (count_ones mask ≤ 3 → (s : ℕ) → s < 64
+        → lands_test false (slice_index before.now s) (slice_index after.now s) ≡ false) }
 {
     let bits = mask.count_ones();
     if bits > 3 {

@@ -1,5 +1,5 @@
-//! Piece codes of the DGT Electronic Board Protocol: 1 to 6 are White's pawn, rook, knight, bishop, king and queen, 7 to 12
-//! Black's in this order; and whose pieces they are.
+//! Piece codes of the DGT Electronic Board Protocol: 1 to 6 are White's pawn, rook, knight, bishop, king and queen, 7
+//! to 12 Black's in this order; and whose pieces they are.
 ghost use Rattle.std.specs.Prelude.{◌≡◌};
 ghost use Rattle.settle_core.specs.Candidate.{is_owned_code, side_number};
 

@@ -13,8 +13,8 @@ use crate::masks::{diff_mask, exceeds, meets};
 use chess_rules::laws::pictures_tell_moves;
 use chess_rules::{Move, Position};
 
-/// A position, its picture, the squares on which the picture that was seen last differs from it, and those on which pieces
-/// stand of the side to move, and of the other side.
+/// A position, its picture, the squares on which the picture that was seen last differs from it, and those on which
+/// pieces stand of the side to move, and of the other side.
 #[derive(Clone, Copy, Debug)]
 pub struct Compared {
     pub position: Position,

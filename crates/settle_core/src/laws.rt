@@ -1,5 +1,5 @@
-//! What holds of all games: each law is the contract of a function, which changes nothing. `candidate` and `diff_mask`, which
-//! read a move off two pictures, can be had from here too.
+//! What holds of all games: each law is the contract of a function, which changes nothing. `candidate` and `diff_mask`,
+//! which read a move off two pictures, can be had from here too.
 ghost use Rattle.settle_core.specs.AnyHands.{MadeAgainStops, OneHandStops, TakenBackAndMadeAgain, WholeMoveIsInHand};
 ghost use Rattle.settle_core.specs.AnyPlay.{HonestPlayResumes, KingsEndResumedPlay, KingsInCentreKeepThePlies, KingsInCentreMakeNoMove, NothingIsInvented, OnlyTheLastPlyMayChange, ResumedPlayStops};
 ghost use Rattle.settle_core.specs.Endings.{HonestPlayEnds, HonestPlayStopsAnywhere};
@@ -20,13 +20,14 @@ pub fn honest_play_is_kept()
     ensures { HonestPlayIsKept }
 {}
 
-/// In honest play the ply of each move has its mover's time in the reading of the first entry that shows the whole move.
+/// In honest play the ply of each move has its mover's time in the reading of the first entry that shows the whole
+/// move.
 pub fn honest_play_keeps_clocks()
     ensures { HonestPlayKeepsClocks }
 {}
 
-/// Where honest play stops between two moves, the plies are those of the moves that were shown whole. There may be one more,
-/// of a move that was tried and takes no piece. No sign stands.
+/// Where honest play stops between two moves, the plies are those of the moves that were shown whole. There may be one
+/// more, of a move that was tried and takes no piece. No sign stands.
 pub fn honest_play_stops()
     ensures { HonestPlayStops }
 {}
@@ -47,20 +48,21 @@ pub fn two_unseen_wait()
     ensures score { TwoUnseenChangeNothing }
 {}
 
-/// Where three plies were not seen, the picture after them settles no move of the position reached, and is no sign. So it adds
-/// no ply. It may put another move in the place of the last one.
+/// Where three plies were not seen, the picture after them settles no move of the position reached, and is no sign. So
+/// it adds no ply. It may put another move in the place of the last one.
 pub fn three_unseen_settle_nothing()
     ensures settles { ThreeUnseenSettleNothing }
     ensures score { ThreeUnseenAddNothing }
 {}
 
-/// A move that is tried with one piece in hand is a move of that piece, or the rook's where the move to be made castles.
+/// A move that is tried with one piece in hand is a move of that piece, or the rook's where the move to be made
+/// castles.
 pub fn one_hand_tries_its_piece()
     ensures { OneHandTriesItsPiece }
 {}
 
-/// After honest play, pieces are taken off, the kings are put into the centre, and pieces are set up again: the line and the
-/// sign stand.
+/// After honest play, pieces are taken off, the kings are put into the centre, and pieces are set up again: the line
+/// and the sign stand.
 pub fn kings_end_honest_play()
     ensures { KingsEndHonestPlay }
 {}
@@ -85,8 +87,8 @@ pub fn folds_once()
     ensures { FoldsOnce }
 {}
 
-/// From any start, entries with whatever pictures and readings fold to some score: all of them, and also those that are left
-/// where repeated pictures are taken out. Takes no memory.
+/// From any start, entries with whatever pictures and readings fold to some score: all of them, and also those that are
+/// left where repeated pictures are taken out. Takes no memory.
 pub fn folds_some(start: Position, pictures: &[[u8; 64]])
     ensures all { FoldsSome start pictures.now }
     ensures without_repeats { GivesSome start pictures.now }
@@ -132,39 +134,40 @@ pub fn only_the_last_ply_may_change()
     ensures { OnlyTheLastPlyMayChange }
 {}
 
-/// Honest play resumes: whatever was seen before, where no sign stands and the board agrees with the game, the moves that are
-/// shown honestly from there on are added, and nothing else is. So it is where play stops, and where the kings end it.
+/// Honest play resumes: whatever was seen before, where no sign stands and the board agrees with the game, the moves
+/// that are shown honestly from there on are added, and nothing else is. So it is where play stops, and where the kings
+/// end it.
 pub fn honest_play_resumes()
     ensures adds { HonestPlayResumes }
     ensures stops { ResumedPlayStops }
     ensures ends { KingsEndResumedPlay }
 {}
 
-/// While both kings stand in the centre no move is made, whatever else shows: pieces may be put away, and the sign alone can
-/// change.
+/// While both kings stand in the centre no move is made, whatever else shows: pieces may be put away, and the sign
+/// alone can change.
 pub fn kings_in_centre_make_no_move()
     ensures settles { KingsInCentreMakeNoMove }
     ensures plies { KingsInCentreKeepThePlies }
 {}
 
-/// After honest play pieces are taken off and set up again, and the kings may give a sign: the line stands, with the sign. And
-/// where all this is broken off anywhere, no whole move is lost.
+/// After honest play pieces are taken off and set up again, and the kings may give a sign: the line stands, with the
+/// sign. And where all this is broken off anywhere, no whole move is lost.
 pub fn honest_play_stops_anywhere()
     ensures ends { HonestPlayEnds }
     ensures stops { HonestPlayStopsAnywhere }
 {}
 
-/// A move that takes no piece may be made whole, taken back and made again before the other side begins. Its whole picture has
-/// pieces in hand, and honest play with such pictures folds to its moves. Where it stops between two moves, there may be one
-/// ply more, of a move that was tried.
+/// A move that takes no piece may be made whole, taken back and made again before the other side begins. Its whole
+/// picture has pieces in hand, and honest play with such pictures folds to its moves. Where it stops between two moves,
+/// there may be one ply more, of a move that was tried.
 pub fn moves_may_be_made_again()
     ensures hand { WholeMoveIsInHand }
     ensures folds { TakenBackAndMadeAgain }
     ensures stops { MadeAgainStops }
 {}
 
-/// Where honest play is broken off on the way to a move, and each picture since the last whole move has one piece in hand, the
-/// one ply more, if there is one, is of this piece; or of the rook, where the move to be made castles.
+/// Where honest play is broken off on the way to a move, and each picture since the last whole move has one piece in
+/// hand, the one ply more, if there is one, is of this piece; or of the rook, where the move to be made castles.
 pub fn one_hand_stops()
     ensures { OneHandStops }
 {}

@@ -28,7 +28,8 @@ pub fn landed(mask: u64, shown: u64) -> u64
     mask & shown
 }
 
-/// One of the squares of a mask, 0 to 63. The mask must have one. The contract doesn't say which it is; it is the lowest.
+/// One of the squares of a mask, 0 to 63. The mask must have one. The contract doesn't say which it is; it is the
+/// lowest.
 pub fn first_square(mask: u64) -> u8
     requires { 0 < mask }
     ensures range { result < 64 }

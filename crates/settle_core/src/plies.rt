@@ -2,8 +2,8 @@
 use chess_clock::Hms;
 use chess_rules::Move;
 
-/// The result of a game. The sign of the kings tells it too: with one king on e4 and one on d5 White wins, on d4 and e5 Black
-/// wins, and on one light and one dark of these squares it is a draw.
+/// The result of a game. The sign of the kings tells it too: with one king on e4 and one on d5 White wins, on d4 and e5
+/// Black wins, and on one light and one dark of these squares it is a draw.
 #[derive(Clone, Copy, PartialEq, Eq, Debug)]
 pub enum Outcome {
     WhiteWins,
@@ -27,7 +27,8 @@ pub enum Seen {
     Moved(Move),
     /// The picture is the sign of this result, which now stands.
     Sign(Outcome),
-    /// The picture is that after this legal move from the position before the last ply. The move took the last ply's place.
+    /// The picture is that after this legal move from the position before the last ply. The move took the last ply's
+    /// place.
     Replaced(Move),
     /// None of the others: the picture tells nothing yet. The plies and the sign stay as they were.
     Waits,

@@ -82,11 +82,13 @@ fn compare_all(compared: &mut Option<Compared>, seen: &[u8; 64])
     }
 }
 
-/// Compares the position, if there is one, with a picture that is the last one but for one square, which shows this code.
+/// Compares the position, if there is one, with a picture that is the last one but for one square, which shows this
+/// code.
 fn change_all(compared: &mut Option<Compared>, at: u8, code: u8)
     requires { at < 64 }
     ensures positions { position_in compared.new ≡ position_in compared.old }
-    ensures compared { (seen : List ℕ) → length seen ≡ 64 → IsComparedIn compared.old seen → IsComparedIn compared.new (slice_set seen at code) }
+    ensures compared { (seen : List ℕ) → length seen ≡ 64 → IsComparedIn compared.old seen
+        → IsComparedIn compared.new (slice_set seen at code) }
 {
     if let Some(compared) = compared {
         compared.change(at, code);
@@ -144,8 +146,8 @@ impl Settler {
         }
     }
 
-    /// Takes the last picture with this code, at most 15, on this square; one must have been seen. Changes one square, and
-    /// one bit of each mask.
+    /// Takes the last picture with this code, at most 15, on this square; one must have been seen. Changes one square,
+    /// and one bit of each mask.
     ///
     /// # Errors
     ///
@@ -296,8 +298,8 @@ impl Settler {
         self.sign = None;
     }
 
-    /// The plies so far, in their order. They are plies, though the name says moves: each is a move and its mover's time, if
-    /// there was one.
+    /// The plies so far, in their order. They are plies, though the name says moves: each is a move and its mover's
+    /// time, if there was one.
     pub fn moves(&self) -> &[Ply]
         ensures plies { result.now ≡ plies_of self.now }
         // Each move is legal where it stands.
@@ -347,7 +349,8 @@ impl Settler {
         self.here.mask
     }
 
-    /// Whether the last picture shows something else where a piece of the side that is not to move stands in the position.
+    /// Whether the last picture shows something else where a piece of the side that is not to move stands in the
+    /// position.
     pub fn theirs_lost(&self) -> bool
         ensures { (seen : List ℕ) → self.now.last ≡ Some seen
             → IsTrue result ↔ Loses (position_of self.now) seen (other (position_of self.now).side) }
@@ -355,8 +358,8 @@ impl Settler {
         self.here.theirs_lost(&self.picture)
     }
 
-    /// Whether two plies from the position may give the last picture: the side to move has left a square, and the other side
-    /// one that is bare.
+    /// Whether two plies from the position may give the last picture: the side to move has left a square, and the other
+    /// side one that is bare.
     pub fn may_hide_two(&self) -> bool
         ensures { (seen : List ℕ) → self.now.last ≡ Some seen → IsTrue result ↔ MayHideTwo (position_of self.now) seen }
     {
@@ -365,7 +368,8 @@ impl Settler {
 
     /// The same of the position before the last ply; false where no ply was made.
     pub fn may_hide_two_before(&self) -> bool
-        ensures last { (seen : List ℕ) (ply : PlyOf) (earlier : List PlyOf) → self.now.last ≡ Some seen → self.now.score.plies ≡ ply ∷ earlier
+        ensures last { (seen : List ℕ) (ply : PlyOf) (earlier : List PlyOf) → self.now.last ≡ Some seen
+            → self.now.score.plies ≡ ply ∷ earlier
             → IsTrue result ↔ MayHideTwo (reached self.now.start (moves_of earlier)) seen }
         ensures none { self.now.score.plies ≡ [] → result ≡ false }
     {

@@ -1,5 +1,5 @@
-//! The end of a line of moves, and what a picture makes of it: all that the law by which entries fold to some score keeps of
-//! the line.
+//! The end of a line of moves, and what a picture makes of it: all that the law by which entries fold to some score
+//! keeps of the line.
 ghost use Rattle.std.specs.Prelude.{◌≡◌, ◌<◌, List, [], IfSome, IfNone, Some, length, map, reverse, slice_index_or, take};
 ghost use Rattle.chess_rules.specs.declared.chess_move.Move.{Move as MoveOf};
 ghost use Rattle.chess_rules.specs.declared.parts.Parts.{Parts as PartsOf};

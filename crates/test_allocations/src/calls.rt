@@ -7,7 +7,8 @@ use dgt_vectors::texts::{GameText, NO_MOVE};
 use pgn_book::{Game, PgnError, Tag, TagError, Tags, read_pgn};
 use std::alloc::{AllocError, Global};
 
-/// The origin and the target of each move of the initial position: two for each pawn, from a2 to h2, two for each knight.
+/// The origin and the target of each move of the initial position: two for each pawn, from a2 to h2, two for each
+/// knight.
 const FIRST_MOVES: [(u8, u8); 20] = [
     (48, 32),
     (48, 40),

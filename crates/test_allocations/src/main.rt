@@ -1,5 +1,5 @@
-//! Calls that take memory, each made a second time where it was refused. Each line says whether the call was granted, was
-//! refused and left all as it was so that the second one gave what is due, or is broken.
+//! Calls that take memory, each made a second time where it was refused. Each line says whether the call was granted,
+//! was refused and left all as it was so that the second one gave what is due, or is broken.
 #![tactic(auto)]
 
 mod calls;
@@ -116,8 +116,8 @@ fn number_in(text: &[u8]) -> u32 {
     number
 }
 
-/// Standard input has a number, or nothing: so many allocations are spent before the calls. So where the 1,000th one fails,
-/// and 1,000 less n are spent, the calls' nth is the one.
+/// Standard input has a number, or nothing: so many allocations are spent before the calls. So where the 1,000th one
+/// fails, and 1,000 less n are spent, the calls' nth is the one.
 fn main(rt: HostRuntime) -> io::Result<()> {
     let mut buffer = [0u8; 16];
     let count = rt.stdin().read(&mut buffer)?;

@@ -43,7 +43,7 @@ const PLAIN: Case<'static> = Case {
     ply_refused: "",
 };
 
-pub static CASES: [Case<'static>; 6] = [
+pub static CASES: [Case<'static>; 7] = [
     Case {
         name: "record",
         arguments: &["record"],
@@ -59,6 +59,15 @@ pub static CASES: [Case<'static>; 6] = [
         input: &[Dump(INITIAL), Lift("e2"), Put("e4", "P")],
         out: "66 agrees\n71 differs e2\n76 move 1. e4\nrest 0\n",
         without_ply: "66 agrees\n71 differs e2\n",
+        ply_refused: "memory\n",
+        ..PLAIN
+    },
+    Case {
+        name: "watch",
+        arguments: &["watch"],
+        input: &[Dump(INITIAL), Lift("e2"), Put("e4", "P")],
+        out: "0 position rnbqkbnr/pppppppp/8/8/8/8/PPPPPPPP/RNBQKBNR w KQkq - 0 1\n66 picture rnbqkbnr/pppppppp/8/8/8/8/PPPPPPPP/RNBQKBNR\n66 agrees\n71 picture rnbqkbnr/pppppppp/8/8/8/8/PPPP1PPP/RNBQKBNR\n71 differs e2\n76 picture rnbqkbnr/pppppppp/8/8/4P3/8/PPPP1PPP/RNBQKBNR\n76 move 1. e4\n76 position rnbqkbnr/pppppppp/8/8/4P3/8/PPPP1PPP/RNBQKBNR b KQkq e3 0 1\nrest 0\n",
+        without_ply: "0 position rnbqkbnr/pppppppp/8/8/8/8/PPPPPPPP/RNBQKBNR w KQkq - 0 1\n66 picture rnbqkbnr/pppppppp/8/8/8/8/PPPPPPPP/RNBQKBNR\n66 agrees\n71 picture rnbqkbnr/pppppppp/8/8/8/8/PPPP1PPP/RNBQKBNR\n71 differs e2\n",
         ply_refused: "memory\n",
         ..PLAIN
     },

@@ -1,5 +1,5 @@
-//! The calls on settlers and sessions. Before the refused one a sign was shown and taken back, so that it stands; the ply
-//! clears it.
+//! The calls on settlers and sessions. Before the refused one a sign was shown and taken back, so that it stands; the
+//! ply clears it.
 ghost use Rattle.std.specs.Prelude.{◌≡◌, ◌<◌, IfSome, true};
 ghost use Rattle.settle_core.specs.Settler.{has_seen};
 

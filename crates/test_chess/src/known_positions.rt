@@ -101,8 +101,8 @@ fn squares_are_0_to_63(rt: HostRuntime) {
     assert!(rt; Square::new(64).is_none());
 }
 
-/// Pieces from a8 to h1 with White to move, the halfmove clock, the fullmove number, whether White may castle short, the
-/// number of the en passant target, and why these parts are refused, if they are.
+/// Pieces from a8 to h1 with White to move, the halfmove clock, the fullmove number, whether White may castle short,
+/// the number of the en passant target, and why these parts are refused, if they are.
 type Refused<'a> = (&'a [u8; 64], u16, u16, bool, Option<u8>, Option<Invalid>);
 
 /// Whether the parts are refused for this reason, or not at all.
@@ -300,7 +300,8 @@ fn count_replies(
     Ok(Some(replies))
 }
 
-/// Of the initial position: whether it has the first moves in their order, how many they are, and how many replies they have.
+/// Of the initial position: whether it has the first moves in their order, how many they are, and how many replies they
+/// have.
 fn listed(alloc: Global, initial: &Position) -> Result<(bool, usize, Option<usize>), AllocError> {
     let moves = initial.legal_moves(alloc)?;
     let replies = count_replies(alloc, initial, &moves)?;

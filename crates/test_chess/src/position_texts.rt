@@ -307,8 +307,8 @@ static LISTS: [(&str, &[&str]); 3] = [
     ),
 ];
 
-/// The number of the first move that is illegal or has another SAN than the text with its number, or the first number that
-/// only one of both lists has.
+/// The number of the first move that is illegal or has another SAN than the text with its number, or the first number
+/// that only one of both lists has.
 fn first_unlike_text(p: &Position, moves: &[Move], texts: &[&str]) -> Option<usize> {
     for (i, m) in moves.iter().enumerate() {
         let Some(text) = texts.get(i) else {
@@ -416,8 +416,8 @@ fn after_again(p: &Position, text: &str) -> Option<Position> {
     }
 }
 
-/// Plays a game: how many plies it has and the position after them, or the number of the first text that isn't that of a
-/// move.
+/// Plays a game: how many plies it has and the position after them, or the number of the first text that isn't that of
+/// a move.
 fn play_game(game: &str) -> Result<(u32, Position), u32> {
     let mut p = Position::initial();
     let mut plies = 0u32;

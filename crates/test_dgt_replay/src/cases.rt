@@ -1,5 +1,5 @@
-//! The program over streams in memory: what it is given, and what it leaves. The expected texts and statuses are worked by
-//! hand from the formats.
+//! The program over streams in memory: what it is given, and what it leaves. The expected texts and statuses are worked
+//! by hand from the formats.
 
 use crate::running::{Left, run_over};
 use dgt_vectors::bytes::Bytes;

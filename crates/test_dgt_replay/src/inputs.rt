@@ -10,6 +10,14 @@ pub const INITIAL: &[u8] =
 pub const TURNED: &[u8] =
     b"\x86\x00\x43\x02\x03\x04\x05\x06\x04\x03\x02\x01\x01\x01\x01\x01\x01\x01\x01\0\0\0\0\0\0\0\0\0\0\0\0\0\0\0\0\0\0\0\0\0\0\0\0\0\0\0\0\0\0\0\0\x07\x07\x07\x07\x07\x07\x07\x07\x08\x09\x0a\x0b\x0c\x0a\x09\x08";
 
+/// The two kings at home.
+pub const TWO_KINGS: &[u8] =
+    b"\x86\x00\x43\0\0\0\0\x0b\0\0\0\0\0\0\0\0\0\0\0\0\0\0\0\0\0\0\0\0\0\0\0\0\0\0\0\0\0\0\0\0\0\0\0\0\0\0\0\0\0\0\0\0\0\0\0\0\0\0\0\0\0\0\0\x05\0\0\0";
+
+/// White may mate on h8.
+pub const MATE: &[u8] =
+    b"\x86\x00\x43\x0b\0\0\0\0\0\0\0\0\0\0\0\0\0\0\0\0\x05\0\0\0\0\0\0\0\0\0\0\0\0\0\0\0\0\0\0\0\0\0\0\0\0\0\0\0\0\0\0\0\0\0\0\0\0\0\0\0\0\0\0\0\0\0\x02";
+
 /// After 1. e4.
 pub const KINGS_PAWN: &[u8] =
     b"\x86\x00\x43\x08\x09\x0a\x0c\x0b\x0a\x09\x08\x07\x07\x07\x07\x07\x07\x07\x07\0\0\0\0\0\0\0\0\0\0\0\0\0\0\0\0\0\0\0\0\x01\0\0\0\0\0\0\0\0\0\0\0\x01\x01\x01\x01\0\x01\x01\x01\x02\x03\x04\x06\x05\x04\x03\x02";
@@ -41,6 +49,9 @@ pub const BROKEN: &[u8] = b"\x05\x34\x00\x8E\x00\x06\x8E\x00\x05\x40";
 
 /// 1:30:00 and 1:29:59.
 pub const TIME: &[u8] = b"\x8D\x00\x0A\x01\x30\x00\x01\x29\x59\x00";
+
+/// No clock is connected.
+pub const NO_CLOCK: &[u8] = b"\x8D\x00\x0A\x01\x30\x00\x01\x29\x59\x20";
 
 /// The text of a game in which White castles short.
 pub const CASTLED: GameText<'static> = GameText {

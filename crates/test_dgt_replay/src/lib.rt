@@ -28,3 +28,5 @@ mod refused_arguments;
 pub mod running;
 #[cfg(test)]
 mod show_lines;
+#[cfg(test)]
+mod watched_games;

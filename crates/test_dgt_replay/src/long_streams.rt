@@ -33,7 +33,7 @@ const TOO_LONG: Case<'static> = Case {
     ..PLAIN
 };
 
-static LISTED: [Case<'static>; 5] = [
+static LISTED: [Case<'static>; 6] = [
     Case {
         more: 67_108_864,
         out: &[b"0 fault stray\nrest 0\n"],
@@ -50,6 +50,14 @@ static LISTED: [Case<'static>; 5] = [
         more: 67_108_870,
         unread: 5,
         out: &[b"0 fault stray\n"],
+        ..TOO_LONG
+    },
+    Case {
+        arguments: &["watch"],
+        more: 67_108_865,
+        out: &[
+            b"0 position rnbqkbnr/pppppppp/8/8/8/8/PPPPPPPP/RNBQKBNR w KQkq - 0 1\n0 fault stray\n",
+        ],
         ..TOO_LONG
     },
     Case {

@@ -7,13 +7,15 @@ use dgt_vectors::bytes::Bytes;
 use dgt_vectors::streams::{Sink, Source};
 use std::alloc::Global;
 
-static REFUSED_ARGUMENTS: [&[&str]; 17] = [
+static REFUSED_ARGUMENTS: [&[&str]; 19] = [
     &[],
     &["fly"],
     &["record", "--first", "green"],
     &["record", "--fen"],
     &["follow", "--first", "green"],
     &["follow", "--white", "Anna"],
+    &["watch", "--first", "green"],
+    &["watch", "--white", "Anna"],
     &["recover", "--first", "green"],
     &["recover", "--first"],
     &["recover", "--white", "Anna"],
@@ -38,8 +40,8 @@ fn run_on(alloc: Global, arguments: &[&str], input: &[u8], zeros: u32) -> Option
     )
 }
 
-/// With these arguments the program has status 2 and something on standard error, and no output, and none of the zeros is
-/// read.
+/// With these arguments the program has status 2 and something on standard error, and no output, and none of the zeros
+/// is read.
 fn are_refused(alloc: Global, arguments: &[&str], input: &[u8], zeros: u32) -> bool {
     match run_on(alloc, arguments, input, zeros) {
         Some(left) => left.status == 2

@@ -148,7 +148,8 @@ fn streams_show_their_events(rt: HostRuntime) {
     expect_none(&rt, first_not_pushed_into(&STREAMS));
 }
 
-/// Whether `push` and `push_into` show this message with the byte at this offset, which is the last, and nothing before it.
+/// Whether `push` and `push_into` show this message with the byte at this offset, which is the last, and nothing before
+/// it.
 fn is_message(bytes: &[u8], message: Message, last: u16) -> bool {
     let events = [(last as usize, Event::Message(message))];
     match bytes.get(..last as usize) {

@@ -155,8 +155,8 @@ static WRITTEN_AND_FLUSHED: [Result<usize, ErrorKind>; 6] = [
     Err(ErrorKind::BrokenPipe),
 ];
 
-/// For each call whether it is a write, else it is a flush, and whether something waits after it: after each write, of no byte
-/// too, up to a flush that succeeds.
+/// For each call whether it is a write, else it is a flush, and whether something waits after it: after each write, of
+/// no byte too, up to a flush that succeeds.
 static WAITING: [(bool, bool); 6] = [
     (true, true),
     (true, true),
@@ -241,8 +241,8 @@ static OFFERED: [Result<usize, ErrorKind>; 6] = [
     Err(ErrorKind::Interrupted),
 ];
 
-/// How many bytes are left up to the limit, and what a read then gives: how many bytes within the limit, and whether one past
-/// it.
+/// How many bytes are left up to the limit, and what a read then gives: how many bytes within the limit, and whether
+/// one past it.
 static CHUNKS: [(usize, Result<Option<(usize, bool)>, ErrorKind>); 6] = [
     (10, Ok(Some((3, false)))),
     (7, Ok(Some((7, false)))),

@@ -1,12 +1,13 @@
 //! Captures that are cut or damaged: nothing is refused, and only what the damage hits is lost.
 
 use crate::recordings::text_without_move;
+use chess_game::Game;
 use dgt_vectors::bytes::Bytes;
 use dgt_vectors::recording::{Recording, recorded, report_of};
 use dgt_vectors::row::{OPENING, Row, commands};
 use dgt_vectors::rows::rows_by_subject;
 use dgt_vectors::streams::Sink;
-use pgn_book::{Game, read_pgn, write_pgn};
+use pgn_book::{read_pgn, write_pgn};
 use std::alloc::Global;
 use watched_streams::Watch;
 

@@ -8,7 +8,8 @@ use dgt_vectors::rows::rows_by_subject;
 /// The bytes of the short lists: those that bound something in the protocol.
 const EDGES: [u8; 10] = [0x00, 0x03, 0x05, 0x43, 0x7F, 0x80, 0x86, 0x8D, 0x8E, 0xFF];
 
-/// At each byte `push` returns what the slow reading of all bytes up to there says, and so does `pending`; before any it is 0.
+/// At each byte `push` returns what the slow reading of all bytes up to there says, and so does `pending`; before any
+/// it is 0.
 fn agrees(bytes: &[u8]) -> bool {
     let mut decoder = Decoder::new();
     if decoder.pending() != 0 {
@@ -30,8 +31,8 @@ fn agrees(bytes: &[u8]) -> bool {
     true
 }
 
-/// The first list of four such bytes that doesn't agree. `agrees` looks at each front too, so these are all lists of at most
-/// four bytes.
+/// The first list of four such bytes that doesn't agree. `agrees` looks at each front too, so these are all lists of at
+/// most four bytes.
 fn first_short_list() -> Option<[u8; 4]> {
     for a in EDGES {
         for b in EDGES {

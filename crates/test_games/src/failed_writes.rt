@@ -1,10 +1,11 @@
 //! Writers that fail.
 
 use crate::games::{EMPTY, game};
+use chess_game::Game;
 use dgt_vectors::streams::Sink;
-use pgn_book::{Game, WriteFault, write_pgn};
+use pgn_book::write_pgn;
 use std::alloc::Global;
-use watched_streams::Watch;
+use watched_streams::{Watch, WriteFault};
 
 /// A stream that takes ten bytes, a few at a time, and then fails.
 fn ten() -> Sink {

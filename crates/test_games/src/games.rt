@@ -1,11 +1,13 @@
-//! Games and their export texts. The texts are those of the PGN standard's export form, worked out by hand from known games.
+//! Games and their export texts. The texts are those of the PGN standard's export form, worked out by hand from known
+//! games.
 
 use chess_clock::Hms;
+use chess_game::{Game, Tags};
 use chess_rules::{Move, Position};
 use chess_text::{read_fen, read_san};
 use dgt_vectors::bytes::Bytes;
 use dgt_vectors::texts::text_of;
-use pgn_book::{Game, Tags, write_pgn};
+use pgn_book::write_pgn;
 use settle_core::{Outcome, Ply};
 use std::alloc::Global;
 use std::process::Abort;

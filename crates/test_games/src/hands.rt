@@ -1,5 +1,5 @@
-//! Hands as they really move: pieces that are slid, tried, straightened and handled in any order. Each movetext is worked
-//! by hand from the rules.
+//! Hands as they really move: pieces that are slid, tried, straightened and handled in any order. Each movetext is
+//! worked by hand from the rules.
 
 use crate::words::record_all;
 

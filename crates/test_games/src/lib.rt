@@ -1,5 +1,5 @@
-//! Tests of the public calls of `chess_game`, `pgn_book`, `board_events` and `board_session`, and of the crates up to those
-//! together: what is recorded of the captures of `dgt_vectors`.
+//! Tests of the public calls of `chess_game`, `pgn_book`, `board_events` and `board_session`, and of the crates up to
+//! those together: what is recorded of the captures of `dgt_vectors`.
 #![tactic(auto)]
 
 #[cfg(test)]

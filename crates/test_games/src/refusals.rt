@@ -105,7 +105,8 @@ fn is_read_whole(alloc: Global, row: &Row<'_>) -> bool {
     row.bytes().len() == 138 && is_recorded(alloc, row, streams)
 }
 
-/// The number of reads after which one fails and it isn't told so; `READS` where none fails and the row isn't recorded whole.
+/// The number of reads after which one fails and it isn't told so; `READS` where none fails and the row isn't recorded
+/// whole.
 fn first_read_untold(alloc: Global, row: &Row<'_>) -> Option<u32> {
     for reads in 0..READS {
         if !stops_at_read(alloc, row, reads) {
@@ -162,8 +163,8 @@ fn first_board_call_untold(alloc: Global, row: &Row<'_>) -> Option<u32> {
     None
 }
 
-/// The board's stream is written and flushed twice. After a failure nothing more is sent, and the text is that of the events
-/// up to the one that asked.
+/// The board's stream is written and flushed twice. After a failure nothing more is sent, and the text is that of the
+/// events up to the one that asked.
 #[test]
 fn each_call_on_the_board_fails_in_turn(rt: HostRuntime) {
     assert_eq!(rt; first_board_call_untold(rt.alloc(), &CUT), None);
@@ -211,8 +212,8 @@ fn written_after(alloc: Global, row: &Row<'_>, out_calls: u32) -> Written {
     }
 }
 
-/// How many bytes are held where the last call fails, each call having failed in turn; or the first number of calls with
-/// another result.
+/// How many bytes are held where the last call fails, each call having failed in turn; or the first number of calls
+/// with another result.
 fn held_before_last_call(alloc: Global, row: &Row<'_>) -> Result<usize, u32> {
     let mut held = 0;
     for calls in 0..1000 {
@@ -231,8 +232,8 @@ fn all_is_held_before_last_call(alloc: Global, row: &Row<'_>) -> Result<bool, u3
     Ok(held == row.text().len())
 }
 
-/// The output fails at each write and at the flush: a part of the text stands, and only a flush shows it. The last call is the
-/// flush: all was written before it, and nothing showed.
+/// The output fails at each write and at the flush: a part of the text stands, and only a flush shows it. The last call
+/// is the flush: all was written before it, and nothing showed.
 #[test]
 fn each_call_on_the_output_fails_in_turn(rt: HostRuntime) {
     assert_eq!(rt; all_is_held_before_last_call(rt.alloc(), &CUT), Ok(true));

@@ -3,7 +3,7 @@ ghost use Rattle.board_events.specs.History.{IsInRange};
 ghost use Rattle.std.specs.Prelude.{IfSome};
 
 use crate::slow::last_event;
-use board_session::{Session, Taken};
+use board_events::{Session, Taken};
 use chess_clock::{Hms, Reading};
 use chess_rules::{Move, Position, Side, Status};
 use chess_text::FenError;
@@ -330,8 +330,8 @@ fn first_untold(alloc: Global, row: &Row<'_>, beside: &mut Beside) -> Option<usi
     None
 }
 
-/// After each event of a capture the session and the recorded game are as its pictures tell; else how many bytes have come, 0
-/// where the start isn't read.
+/// After each event of a capture the session and the recorded game are as its pictures tell; else how many bytes have
+/// come, 0 where the start isn't read.
 pub fn settling_failing(alloc: Global, row: &Row<'_>) -> Option<usize> {
     match Beside::new(alloc, row) {
         Ok(mut beside) => first_untold(alloc, row, &mut beside),

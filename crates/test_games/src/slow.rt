@@ -1,5 +1,5 @@
-//! The events of a byte list, slowly: each frame is judged as a whole, by the rules of the protocol. From byte to byte it is
-//! kept only where the frame began, or that bytes are skipped.
+//! The events of a byte list, slowly: each frame is judged as a whole, by the rules of the protocol. From byte to byte
+//! it is kept only where the frame began, or that bytes are skipped.
 
 use dgt_frame::{Event, FaultKind, Message};
 

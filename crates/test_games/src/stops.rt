@@ -1,5 +1,5 @@
-//! How games begin and end, and what is left of them where a cable is pulled or plies were not seen. Each movetext is worked
-//! by hand from the rules.
+//! How games begin and end, and what is left of them where a cable is pulled or plies were not seen. Each movetext is
+//! worked by hand from the rules.
 
 use crate::words::record_all;
 

@@ -1,15 +1,17 @@
 //! What a recording over streams in memory leaves.
 
-use board_session::{Setup, record};
+use board_events::Setup;
+use board_session::record;
+use chess_game::Tags;
 use chess_rules::Position;
 use dgt_frame::First;
 use dgt_vectors::bytes::Bytes;
 use dgt_vectors::streams::{Sink, Source};
-use pgn_book::Tags;
 use std::alloc::Global;
 use watched_streams::Watch;
 
-/// These bytes are recorded from the start, White's time first, as this text. Nothing is asked of the board but at the start.
+/// These bytes are recorded from the start, White's time first, as this text. Nothing is asked of the board but at the
+/// start.
 pub fn leaves(alloc: Global, start: Position, bytes: &Bytes, text: &Bytes) -> bool {
     let setup = Setup {
         start,

@@ -1,9 +1,10 @@
 //! Values of tags, and how they are escaped.
 
 use crate::games::{expect_none, is_written_as};
+use chess_game::{Game, Tag, TagError, Tags};
 use chess_rules::Position;
 use dgt_vectors::texts::{GameText, NO_MOVE};
-use pgn_book::{Game, Tag, TagError, Tags, read_pgn};
+use pgn_book::read_pgn;
 use std::alloc::{AllocError, Global};
 
 /// So many of this part.

@@ -1,7 +1,8 @@
 //! Games told in words, and what is recorded of them.
 //!
-//! A line with a colon begins a game: what it shows, and the FEN of its start, or nothing for the initial position. The board
-//! sends the start's dump. Each line below it tells what the board sends next and, behind `=`, the movetext if it ends there:
+//! A line with a colon begins a game: what it shows, and the FEN of its start, or nothing for the initial position. The
+//! board sends the start's dump. Each line below it tells what the board sends next and, behind `=`, the movetext if it
+//! ends there:
 //!
 //! | Word | What the board sends, with the letters of a FEN |
 //! |---|---|

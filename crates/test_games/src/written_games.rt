@@ -1,7 +1,8 @@
 //! Games that are written and read back.
 
 use crate::games::{CASTLING, EMPTY, Row, expect_none, game, is_written_as};
-use pgn_book::{Game, read_pgn};
+use chess_game::Game;
+use pgn_book::read_pgn;
 use settle_core::Outcome;
 use std::alloc::Global;
 

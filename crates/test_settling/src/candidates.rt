@@ -4,7 +4,8 @@ use crate::starts::{KING_FIRST, before_castling};
 use crate::told::{Way, way_of};
 use crate::ways::{E1_G1, H1_F1};
 use chess_rules::Square;
-use settle_core::laws::{candidate, diff_mask};
+use settle_core::laws::candidate;
+use settle_core::masks::diff_mask;
 
 /// Whether the change from one picture to the other shows this move.
 fn is_candidate(before: &[u8; 64], after: &[u8; 64], way: Option<Way>) -> bool {

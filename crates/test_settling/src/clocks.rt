@@ -41,8 +41,8 @@ const EARLIER: [u8; 7] = [1, 0x30, 0, 1, 0x29, 0x59, 0];
 
 const LATER: [u8; 7] = [1, 0x29, 0x50, 1, 0x29, 0x59, 0];
 
-/// Where the pawn of e2 is shown, in hand where there is no number, the time message before it, what is returned, and the last
-/// ply's clock.
+/// Where the pawn of e2 is shown, in hand where there is no number, the time message before it, what is returned, and
+/// the last ply's clock.
 static CORRECTED: [(Option<u8>, [u8; 7], Told, Clock); 5] = [
     (None, EARLIER, WAITS, None),
     (Some(36), EARLIER, Told::Moved(E2_E4), Some((1, 30, 0))),

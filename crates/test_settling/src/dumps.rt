@@ -1,5 +1,5 @@
-//! Dumps of the boards of 1. e4 e5 2. Nf3, worked by hand from the protocol: the identifier 0x86, the length 67, the codes
-//! of fields 0 to 63. 1 to 6 are White's pawn, rook, knight, bishop, king and queen, 7 to 12 Black's.
+//! Dumps of the boards of 1. e4 e5 2. Nf3, worked by hand from the protocol: the identifier 0x86, the length 67, the
+//! codes of fields 0 to 63. 1 to 6 are White's pawn, rook, knight, bishop, king and queen, 7 to 12 Black's.
 
 /// The parts of a frame.
 pub type Parts = [&'static [u8]; 9];

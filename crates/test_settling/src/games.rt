@@ -1,4 +1,5 @@
-//! Games as updates: whole pictures go to one settler, updates to another, and pictures to the one that tries every move.
+//! Games as updates: whole pictures go to one settler, updates to another, and pictures to the one that tries every
+//! move.
 ghost use Rattle.std.specs.Prelude.{All, ◌<◌, ◌≡◌, OnOk, true};
 ghost use Rattle.settle_core.specs.Settler.{has_seen};
 
@@ -76,8 +77,8 @@ fn wait(
     Ok(of_pictures == WAITS && of_updates == WAITS && of_plain == WAITS)
 }
 
-/// Shows an update to each settler, as a picture or as it is: what is returned, where all three return the same, and then hold
-/// the same sign and the two the same moves.
+/// Shows an update to each settler, as a picture or as it is: what is returned, where all three return the same, and
+/// then hold the same sign and the two the same moves.
 fn show(
     by_pictures: &mut Settler,
     by_updates: &mut Settler,

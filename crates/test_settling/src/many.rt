@@ -17,8 +17,8 @@ fn in_hand(b1: u8) -> [u8; 64]
     picture
 }
 
-/// Shows 1. e4 e5 in one picture, so many pictures with knights in hand, which no pair explains, and 2. Nf3: whether the line
-/// is these three plies.
+/// Shows 1. e4 e5 in one picture, so many pictures with knights in hand, which no pair explains, and 2. Nf3: whether
+/// the line is these three plies.
 fn is_recovered_after(alloc: Global, count: u16) -> Result<bool, AllocError> {
     let mut recoverer = Recoverer::new(alloc, Position::initial());
     show(alloc, &mut recoverer, &after_two(3, 0), None)?;

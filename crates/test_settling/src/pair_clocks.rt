@@ -13,15 +13,16 @@ use unseen_pairs::Recoverer;
 /// The hours, minutes and seconds of a clock.
 type Clock = (u8, u8, u8);
 
-/// The data of three time messages, one after the other: White 1:30:00, 1:29:50, 1:29:40; Black 1:30:00, 1:29:59, 1:29:10.
+/// The data of three time messages, one after the other: White 1:30:00, 1:29:50, 1:29:40; Black 1:30:00, 1:29:59,
+/// 1:29:10.
 const FIRST: [u8; 7] = [1, 0x30, 0, 1, 0x30, 0, 0];
 
 const SECOND: [u8; 7] = [1, 0x29, 0x50, 1, 0x29, 0x59, 0];
 
 const THIRD: [u8; 7] = [1, 0x29, 0x40, 1, 0x29, 0x10, 0];
 
-/// The updates between the pictures of the initial position, after 1. e4 e5, and after 2. Nf3, with the time message before
-/// each.
+/// The updates between the pictures of the initial position, after 1. e4 e5, and after 2. Nf3, with the time message
+/// before each.
 static SHOWN: [([u8; 7], &[(u8, u8)]); 3] = [
     (FIRST, &[]),
     (SECOND, &[(52, 0), (36, 1), (12, 0), (28, 7)]),

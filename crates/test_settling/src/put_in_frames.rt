@@ -1,7 +1,7 @@
 //! The frames of 1. e4 e5, which no picture shows ply by ply, recovered with 2. Nf3.
 //!
-//! A time message is worked by hand from the protocol: the identifier 0x8D, the length 10, for each side its hours, and in two
-//! digits its minutes and its seconds, and the status, 0x20 where no clock is connected.
+//! A time message is worked by hand from the protocol: the identifier 0x8D, the length 10, for each side its hours, and
+//! in two digits its minutes and its seconds, and the status, 0x20 where no clock is connected.
 ghost use Rattle.std.specs.Prelude.{All, ◌<◌};
 
 use crate::dumps::{AFTER_E4, AFTER_E5, AFTER_NF3, TURNED_E4, TURNED_E5, TURNED_NF3};

@@ -65,8 +65,8 @@ pub fn show(
     }
 }
 
-/// Shows the update with these numbers, and changes the picture by it; nothing is returned where the numbers are those of no
-/// square or no code.
+/// Shows the update with these numbers, and changes the picture by it; nothing is returned where the numbers are those
+/// of no square or no code.
 fn update(
     alloc: Global,
     recoverer: &mut Recoverer,

@@ -64,8 +64,8 @@ fens_more p (n ∷ moves) m =
     let last = fen (after (position_after (after p n) moves) m) ++ codes "\n" in
     ap (λ (x : List ℕ). fen p ++ codes "\n" ++ x) (fens_more (after p n) moves m) ∙ sym (append_assoc (fen p ++ codes "\n") (fen_lines (after p n) moves) last)
 
--- Of all words these stand behind those that were moves: the position that these lead to, the lines behind what stood before, and
--- how many they are.
+-- Of all words these stand behind those that were moves: the position that these lead to, the lines behind what stood
+-- before, and how many they are.
 pub record PlaysSoFar (start : Parts) (begin : List ℕ) (all behind : List (List ℕ)) (position : Parts) (lines : List ℕ) (number : ℕ) : Type 0 where
   pub found : List (List ℕ)
   pub moves : List Move

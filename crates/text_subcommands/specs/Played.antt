@@ -47,8 +47,8 @@ PlaysAll start input written written' = (moves : List Move) × IfSome input (λ 
 abbrev pub word_message : ℕ → List ℕ
 word_message number = codes "move " ++ decimal number ++ codes ": not a legal move\n"
 
--- The message about a refused input, and what was written: nothing of an input that is longer than the limit; else the positions
--- up to the first word that is no move, of which the message says the number, from 1.
+-- The message about a refused input, and what was written: nothing of an input that is longer than the limit; else the
+-- positions up to the first word that is no move, of which the message says the number, from 1.
 abbrev pub RefusesMoves : Parts → Option (List ℕ) → Option (List ℕ) → Option (List ℕ) → List ℕ → Type 0
 RefusesMoves start input written written' message =
     (IfSome input (λ bytes. line_limit < length bytes) × Keeps written written' × IsTooLong message)

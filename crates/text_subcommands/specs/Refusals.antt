@@ -14,7 +14,8 @@ RefusesStart fen message = MatchOption fen ⊥ (λ text. (error : FenError) × R
 abbrev pub Untouched : Streams → Type 0
 Untouched s = Keeps s.input s.input' × Keeps s.written s.written'
 
--- The options are refused with such a message, or memory ran out before; nothing was read, and nothing written to the output.
+-- The options are refused with such a message, or memory ran out before; nothing was read, and nothing written to the
+-- output.
 pub record Refuses (May : List ℕ → Type 0) (status : ℕ) (s : Streams) : Type 0 where
   pub known : (status ≡ 1) ⊎ (status ≡ 4)
   pub untouched : Untouched s

@@ -108,9 +108,10 @@ fn put_summary<O: Write, E: Write>(game: &Game, out: &mut Watch<O>, err: &mut Wa
     put_answer(out, err, lines.as_slice())
 }
 
-/// Says whether the input is a game in PGN export form, and returns the exit status: 0 where it is, 1 where it isn't or is
-/// longer than `TEXT_LIMIT`, 3 where a stream has failed, 4 where memory ran out. The number of a game's moves and its result
-/// go to `out`, in one line; else one line on `err` says why. Neither `reader` nor `out` may have failed before.
+/// Says whether the input is a game in PGN export form, and returns the exit status: 0 where it is, 1 where it isn't or
+/// is longer than `TEXT_LIMIT`, 3 where a stream has failed, 4 where memory ran out. The number of a game's moves and
+/// its result go to `out`, in one line; else one line on `err` says why. Neither `reader` nor `out` may have failed
+/// before.
 pub fn check<R: Read, O: Write, E: Write>(
     alloc: Global,
     reader: &mut Watch<R>,

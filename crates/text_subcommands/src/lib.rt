@@ -1,7 +1,9 @@
-//! The subcommands that read no board: `check`, `moves` and `positions`, over any streams, and what is said of refusals.
+//! The subcommands that read no board: `check`, `moves` and `positions`, over any streams, and what is said of
+//! refusals.
 //!
-//! Begin with `printing.rt`, which has `moves`; `checking.rt` has `check`, and `playing.rt` `positions`. `input.rt` reads a
-//! whole input, and `messages.rt` writes answers, and says why something is refused, also for the subcommands that read a board.
+//! Begin with `printing.rt`, which has `moves`; `checking.rt` has `check`, and `playing.rt` `positions`. `input.rt`
+//! reads a whole input, and `messages.rt` writes answers, and says why something is refused, also for the subcommands
+//! that read a board.
 #![tactic(auto)]
 
 mod checking;

@@ -11,8 +11,8 @@ use pgn_book::{Tag, TagError};
 use std::io::Write;
 use watched_streams::{Lines, Watch, add, put, put_and_flush};
 
-/// Writes the message about a refusal to standard error, unless that has failed before, and returns the status that was given.
-/// The message is a whole line, with its end. Where the write fails, a first part of it stands.
+/// Writes the message about a refusal to standard error, unless that has failed before, and returns the status that was
+/// given. The message is a whole line, with its end. Where the write fails, a first part of it stands.
 pub fn refused<E: Write>(err: &mut Watch<E>, message: &[u8], status: u8) -> u8
     ensures status { result ≡ status }
     ensures says { Says (E.contents (inner_of err.old)) (E.contents (inner_of err.new)) (has_failed err.new) message.now }
@@ -24,8 +24,8 @@ pub fn refused<E: Write>(err: &mut Watch<E>, message: &[u8], status: u8) -> u8
     status
 }
 
-/// Writes the answer to what was asked for, flushes it, and returns the status: 0, or 3 where the output has failed, which is
-/// then said.
+/// Writes the answer to what was asked for, flushes it, and returns the status: 0, or 3 where the output has failed,
+/// which is then said.
 pub fn put_answer<O: Write, E: Write>(out: &mut Watch<O>, err: &mut Watch<E>, answer: &[u8]) -> u8
     requires { has_failed out.old ≡ false }
     ensures done { result ≡ 0 → Appends (O.contents (inner_of out.old)) (O.contents (inner_of out.new)) answer.now × (has_failed out.new ≡ false)
@@ -100,8 +100,8 @@ fn refused_value<E: Write>(err: &mut Watch<E>, tag: Tag, reason: &[u8]) -> u8
     refused(err, line.as_slice(), 1)
 }
 
-/// Says on standard error why the value of a tag is refused, in one line that names the tag, and returns the status, 1; or
-/// that memory ran out, with status 4.
+/// Says on standard error why the value of a tag is refused, in one line that names the tag, and returns the status, 1;
+/// or that memory ran out, with status 4.
 pub fn refused_tag<E: Write>(err: &mut Watch<E>, tag: Tag, error: TagError) -> u8
     ensures memory { error ≡ TagError.Memory → result ≡ 4 }
     ensures value { error ≢ TagError.Memory → result ≡ 1 }

@@ -66,7 +66,8 @@ fn add_position(lines: &mut Vec<u8>, position: &Position) -> Result<(), AllocErr
     lines.extend_from_slice(b"\n")
 }
 
-/// Adds the position at the start, and that after each move, up to the first word that is no move, whose number it returns.
+/// Adds the position at the start, and that after each move, up to the first word that is no move, whose number it
+/// returns.
 fn play_words(
     start: Position,
     text: &[u8],
@@ -191,10 +192,10 @@ fn play<R: Read, O: Write, E: Write>(
     }
 }
 
-/// Writes the position that has the FEN, or the initial one, and that after each move of the input, as FEN, one a line, and
-/// returns the exit status: 0 where each word of the input is a legal move in SAN, 1 where one isn't, where the input is
-/// longer than `LINE_LIMIT`, or where no position has the FEN, 3 where a stream has failed, 4 where memory ran out; one line
-/// on `err` says why it isn't 0. Neither `reader` nor `out` may have failed before.
+/// Writes the position that has the FEN, or the initial one, and that after each move of the input, as FEN, one a line,
+/// and returns the exit status: 0 where each word of the input is a legal move in SAN, 1 where one isn't, where the
+/// input is longer than `LINE_LIMIT`, or where no position has the FEN, 3 where a stream has failed, 4 where memory ran
+/// out; one line on `err` says why it isn't 0. Neither `reader` nor `out` may have failed before.
 pub fn positions<R: Read, O: Write, E: Write>(
     alloc: Global,
     fen: Option<&str>,

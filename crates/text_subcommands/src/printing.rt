@@ -82,9 +82,9 @@ fn print_moves<O: Write, E: Write>(
     0
 }
 
-/// Writes the legal moves of the position that has the FEN, or of the initial one, in SAN, one a line and in the order of
-/// `legal_moves`, and returns the exit status: 0 where all were written, 1 where no position has the FEN, 3 where `out` has
-/// failed, 4 where memory ran out; one line on `err` says why it isn't 0. `out` may not have failed before.
+/// Writes the legal moves of the position that has the FEN, or of the initial one, in SAN, one a line and in the order
+/// of `legal_moves`, and returns the exit status: 0 where all were written, 1 where no position has the FEN, 3 where
+/// `out` has failed, 4 where memory ran out; one line on `err` says why it isn't 0. `out` may not have failed before.
 pub fn moves<O: Write, E: Write>(
     alloc: Global,
     fen: Option<&str>,

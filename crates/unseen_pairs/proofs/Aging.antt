@@ -1,5 +1,5 @@
 -- The candidates after one more entry.
-use Rattle.std.proofs.Common.{◌≡◌, ◌≢◌, ◌↔◌, ℕ, zero, suc, ◌<◌, ◌≤◌, ◌+◌, ◌^◌, Bool, true, false, inl, inr, List, [], ◌∷◌, ◌++◌, Option, Some, Result, Ok, Err, OnOk, Contains, length, slice_index_or, refl, sym, ap, subst, ◌∙◌, arith, add-one}
+use Rattle.std.proofs.Common.{◌≡◌, ◌≢◌, ◌↔◌, ℕ, zero, suc, ◌<◌, ◌≤◌, ◌+◌, ◌^◌, Bool, true, false, inl, inr, List, [], ◌∷◌, ◌++◌, Option, Some, Result, Ok, Err, OnOk, Contains, length, slice_get, slice_index_or, refl, sym, ap, subst, ◌∙◌, arith, add-one}
 use Rattle.std.proofs.lemmas.Bool.{cases_Bool, cases_eq}
 use Rattle.std.proofs.lemmas.List.{get_or_default}
 use Rattle.std.proofs.lemmas.List.Elements.{Contains-append_left, Contains-push, Contains-push_cases}
@@ -19,8 +19,8 @@ use Rattle.settle_core.proofs.Stages.{valid_reached}
 use Rattle.unseen_pairs.specs.declared.pair.Pair.{Pair}
 use Rattle.unseen_pairs.specs.declared.pair.TwoPlies.{TwoPlies}
 use Rattle.unseen_pairs.specs.declared.confirming.Candidate.{Candidate}
-use Rattle.unseen_pairs.specs.Pairs.{Explains, ExplainsAt, IsAfterTwo, IsInstead, begins, ends, root}
-use Rattle.unseen_pairs.specs.Candidates.{AddedBelow, AgedBelow, AreAdded, AreAllAdded, AreAged, IsCandidate, IsNew, ListsCandidates, aged}
+use Rattle.unseen_pairs.specs.Pairs.{Explains, ExplainsAt, IsAfterTwo, IsBack, IsInstead, IsMissedIn, begins, ends, root}
+use Rattle.unseen_pairs.specs.Candidates.{AddedBelow, AreAdded, AreAllAdded, AreKept, IsCandidate, IsKept, IsNew, KeptBelow, ListsCandidates, aged}
 use Rattle.std.specs.Int.RustNames.{count_ones}
 use Rattle.settle_core.specs.Masks.{IsDiff}
 use Rattle.unseen_pairs.proofs.Counting.{two_change, two_correct}
@@ -32,60 +32,60 @@ use Rattle.settle_core.proofs.Boards.{other-other}
 use Rattle.settle_core.specs.Lost.{Loses, MayHideTwo}
 
 -- the first candidates, and one more
-pub aged_none : (old : List Candidate) → AgedBelow old 0 []
-aged_none old = record {
+pub kept_none : (p : Parts) (seen : List ℕ) (old : List Candidate) → KeptBelow p seen old 0 []
+kept_none p seen old = record {
   sound = λ c h. absurd (let low : h.0 < 0 = h.1 in let n : ⊥ = omega arith in n);
   whole = λ b k low. absurd (let n : ⊥ = omega arith in n);
 }
 
-pub aged_more :
-    (old : List Candidate) (n : ℕ) (now new : List Candidate) (c : Candidate)
+pub kept_more :
+    (p : Parts) (seen : List ℕ) (old : List Candidate) (n : ℕ) (now new : List Candidate) (c : Candidate)
     → n < length old
     → c ≡ slice_index_or old n c
-    → c.age < 255
+    → IsKept p seen c
     → new ≡ now ++ aged c ∷ []
-    → AgedBelow old n now
-    → AgedBelow old (n + 1) new
-aged_more old n now new c low is young add h =
+    → KeptBelow p seen old n now
+    → KeptBelow p seen old (n + 1) new
+kept_more p seen old n now new c low is kept add h =
     let In : Candidate → List Candidate → Type 0 = λ x xs. Contains xs x in
     record {
       sound = λ x k.
           elim (Contains-push_cases now (aged c) x (subst (In x) add k)) [
             | inl before ↦ h.sound x before
-            | inr e ↦ (c, (n, low, sym is), young, sym e)
+            | inr e ↦ (c, (n, low, sym is), kept, sym e)
           ];
-      whole = λ b k below at less.
+      whole = λ b k below at stays.
           elim (cases_eq k n) [
-            | inr ne ↦ subst (In (aged b)) (sym add) (Contains-append_left now (aged c ∷ []) (aged b) (h.whole b k (omega arith) at less))
+            | inr ne ↦ subst (In (aged b)) (sym add) (Contains-append_left now (aged c ∷ []) (aged b) (h.whole b k (omega arith) at stays))
             | inl e ↦
                 let q : b ≡ c = sym at ∙ ap (λ j. slice_index_or old j b) e ∙ get_or_default old n b c low ∙ sym is in
                 subst (In (aged b)) (sym add) (subst (λ (z : Candidate). Contains (now ++ aged c ∷ []) (aged z)) (sym q) (Contains-push now (aged c)))
           ];
     }
 
-pub aged_skip :
-    (old : List Candidate) (n : ℕ) (now : List Candidate) (c : Candidate)
+pub kept_skip :
+    (p : Parts) (seen : List ℕ) (old : List Candidate) (n : ℕ) (now : List Candidate) (c : Candidate)
     → n < length old
     → c ≡ slice_index_or old n c
-    → 255 ≤ c.age
-    → AgedBelow old n now
-    → AgedBelow old (n + 1) now
-aged_skip old n now c low is full h = record {
+    → ¬ IsKept p seen c
+    → KeptBelow p seen old n now
+    → KeptBelow p seen old (n + 1) now
+kept_skip p seen old n now c low is none h = record {
   sound = h.sound;
-  whole = λ b k below at less.
+  whole = λ b k below at stays.
       elim (cases_eq k n) [
-        | inr ne ↦ h.whole b k (omega arith) at less
+        | inr ne ↦ h.whole b k (omega arith) at stays
         | inl e ↦
             let q : b ≡ c = sym at ∙ ap (λ j. slice_index_or old j b) e ∙ get_or_default old n b c low ∙ sym is in
-            let same : b.age ≡ c.age = ap (λ (z : Candidate). z.age) q in
-            absurd (let f : ⊥ = omega arith in f)
+            absurd (none (subst (λ (z : Candidate). IsKept p seen z) q stays))
       ];
 }
 
-pub aged_all : (old : List Candidate) (n : ℕ) (new : List Candidate) → n ≡ length old → AgedBelow old n new → AreAged old new
-aged_all old n new end h = record {
+pub kept_all :
+    (p : Parts) (seen : List ℕ) (old : List Candidate) (n : ℕ) (new : List Candidate) → n ≡ length old → KeptBelow p seen old n new → AreKept p seen old new
+kept_all p seen old n new end h = record {
   sound = h.sound;
-  whole = λ b k less. h.whole b k.0 (rw end k.1) k.2 less;
+  whole = λ b k stays. h.whole b k.0 (rw end k.1) k.2 stays;
 }
 
 -- the first pairs, and one more
@@ -143,18 +143,43 @@ added_all corrects p seen reading xs n old new end lists h = record {
       h.whole x at.0 (rw end at.1) at.2;
 }
 
+same_entry : (entry other : Entry) → Some entry ≡ Some other → entry ≡ other
+same_entry entry other e = cc
+
 -- a candidate, one entry later
+gone_more :
+    (start : Parts) (moves : List Move) (waiting : List Entry) (entry : Entry) (pair : Pair) (n : ℕ)
+    → ¬ IsBack (reached start moves) (ends start moves pair) entry.picture
+    → ((k : ℕ) (later : Entry) → k < n → slice_get waiting k ≡ Some later → ¬ IsBack (reached start moves) (ends start moves pair) later.picture)
+    → (k : ℕ) (later : Entry) → k < n + 1 → slice_get (entry ∷ waiting) k ≡ Some later
+    → ¬ IsBack (reached start moves) (ends start moves pair) later.picture
+gone_more start moves waiting entry pair n now before zero later low e =
+    let same : entry ≡ later = same_entry entry later e in
+    subst (λ (z : Entry). ¬ IsBack (reached start moves) (ends start moves pair) z.picture) same now
+gone_more start moves waiting entry pair n now before (suc k) later low e = before k later (omega arith) e
+
 is_aged :
     (start : Parts) (moves : List Move) (waiting : List Entry) (entry : Entry) (c : Candidate)
-    → c.age < 255 → IsCandidate start moves waiting c → IsCandidate start moves (entry ∷ waiting) (aged c)
-is_aged start moves waiting entry c young h = record {
-  entry = h.entry;
-  at = record { low = omega arith; waits = rw add-one (h.at).waits; explains = (h.at).explains };
-  reading_is = h.reading_is;
-  before_is = h.before_is;
-  middle_is = h.middle_is;
-  after_is = h.after_is;
-}
+    → IsKept (reached start moves) entry.picture c → IsCandidate start moves waiting c → IsCandidate start moves (entry ∷ waiting) (aged c)
+is_aged start moves waiting entry c kept h =
+    let young : c.age < 255 = kept.young in
+    let now : ¬ IsBack (reached start moves) (ends start moves c.pair) entry.picture =
+    subst (λ (q : Parts). ¬ IsBack (reached start moves) q entry.picture) h.after_is
+    (subst (λ (left : List ℕ). ¬ IsMissedIn (picture (reached start moves)) left entry.picture) h.shown_is kept.gone) in
+    record {
+      entry = h.entry;
+      at = record {
+        low = omega arith;
+        waits = rw add-one (h.at).waits;
+        explains = (h.at).explains;
+        gone = gone_more start moves waiting entry c.pair c.age now (h.at).gone;
+      };
+      reading_is = h.reading_is;
+      before_is = h.before_is;
+      middle_is = h.middle_is;
+      after_is = h.after_is;
+      shown_is = h.shown_is;
+    }
 
 pair_is : (pair : Pair) (corrects : Bool) (m n : Move) → pair.corrects ≡ corrects → pair.first ≡ m → pair.second ≡ n
     → pair ≡ record { corrects = corrects; first = m; second = n }
@@ -177,6 +202,7 @@ is_new start moves waiting entry corrects x c two instead h =
       low = omega arith;
       waits = refl;
       explains = record { after_two = two; instead = instead };
+      gone = λ k later low. absurd (let n : ⊥ = omega arith in n);
     } in
     record {
       entry = entry;
@@ -185,6 +211,7 @@ is_new start moves waiting entry corrects x c two instead h =
       before_is = h.before_is ∙ ap (λ (z : Pair). begins start moves z) (sym q);
       middle_is = h.middle_is ∙ ap (λ (z : Pair). after (begins start moves z) z.first) (sym q);
       after_is = h.after_is ∙ ap (λ (z : Pair). ends start moves z) (sym q);
+      shown_is = h.shown_is;
     }
 
 -- Where a picture waits, no pair with the last move in it explains it: the second ply alone would be settled.
@@ -206,7 +233,7 @@ another start last earlier seen m n v played waits two e =
 old_one :
     (start : Parts) (moves : List Move) (waiting : List Entry) (entry : Entry) (old kept : List Candidate) (c : Candidate)
     → ListsCandidates start moves waiting old
-    → AreAged old kept
+    → AreKept (reached start moves) entry.picture old kept
     → Contains kept c
     → IsCandidate start moves (entry ∷ waiting) c
 old_one start moves waiting entry old kept c lists are k =
@@ -216,7 +243,7 @@ old_one start moves waiting entry old kept c lists are k =
 one_of :
     (start : Parts) (moves : List Move) (waiting : List Entry) (entry : Entry) (old kept one : List Candidate) (c : Candidate)
     → ListsCandidates start moves waiting old
-    → AreAged old kept
+    → AreKept (reached start moves) entry.picture old kept
     → AreAdded false (reached start moves) entry.picture entry.reading kept one
     → Contains one c
     → IsCandidate start moves (entry ∷ waiting) c
@@ -230,14 +257,20 @@ one_of start moves waiting entry old kept one c lists are add k =
 kept_one :
     (start : Parts) (moves : List Move) (waiting : List Entry) (entry : Entry) (old kept : List Candidate) (pair : Pair) (k : ℕ) (other : Entry)
     → ListsCandidates start moves waiting old
-    → AreAged old kept
+    → AreKept (reached start moves) entry.picture old kept
     → ExplainsAt start moves (entry ∷ waiting) pair (suc k) other
     → (c : Candidate) × Contains kept c × (c.pair ≡ pair) × (c.age ≡ suc k)
 kept_one start moves waiting entry old kept pair k other lists are at =
     let low : suc k < 256 = at.low in
-    let b = lists.whole pair k other (record { low = omega arith; waits = at.waits; explains = at.explains }) in
+    let b = lists.whole pair k other (record { low = omega arith; waits = at.waits; explains = at.explains; gone = λ j later less e. at.gone (suc j) later (omega arith) e }) in
     let age : (b.0).age ≡ k = b.3 in
-    (aged b.0, are.whole b.0 b.1 (omega arith), b.2, omega arith)
+    let is : IsCandidate start moves waiting b.0 = lists.each b.0 b.1 in
+    let now : ¬ IsBack (reached start moves) (ends start moves pair) entry.picture = at.gone 0 entry (omega arith) refl in
+    let after : (b.0).after ≡ ends start moves pair = is.after_is ∙ ap (λ (z : Pair). ends start moves z) b.2 in
+    let gone : ¬ IsMissedIn (picture (reached start moves)) (b.0).shown entry.picture =
+    subst (λ (left : List ℕ). ¬ IsMissedIn (picture (reached start moves)) left entry.picture) (sym is.shown_is)
+    (subst (λ (q : Parts). ¬ IsBack (reached start moves) q entry.picture) (sym after) now) in
+    (aged b.0, are.whole b.0 b.1 (record { young = omega arith; gone = gone }), b.2, omega arith)
 
 new_one :
     (corrects : Bool) (p : Parts) (reading : Option Reading) (x : TwoPlies) (pair : Pair) (c : Candidate)
@@ -245,9 +278,6 @@ new_one :
 new_one corrects p reading x pair c a b d h =
     pair_is c.pair corrects pair.first pair.second h.corrects_is (h.first_is ∙ b) (h.second_is ∙ d)
     ∙ sym (pair_is pair corrects pair.first pair.second a refl refl)
-
-same_entry : (entry other : Entry) → Some entry ≡ Some other → entry ≡ other
-same_entry entry other e = cc
 
 -- the entry itself is explained by one that is new
 new_whole :
@@ -269,7 +299,7 @@ new_whole corrects start moves waiting entry old new pair other is add at =
 whole_at :
     (start : Parts) (moves : List Move) (waiting : List Entry) (entry : Entry) (old kept last : List Candidate) (pair : Pair) (place : ℕ) (other : Entry)
     → ListsCandidates start moves waiting old
-    → AreAged old kept
+    → AreKept (reached start moves) entry.picture old kept
     → ((c : Candidate) → Contains kept c → Contains last c)
     → (ExplainsAt start moves (entry ∷ waiting) pair 0 other → (c : Candidate) × Contains last c × (c.pair ≡ pair) × (c.age ≡ 0))
     → ExplainsAt start moves (entry ∷ waiting) pair place other
@@ -283,7 +313,7 @@ whole_at start moves waiting entry old kept last pair (suc k) other lists are ke
 pub lists_first :
     (start : Parts) (waiting : List Entry) (entry : Entry) (old kept one : List Candidate)
     → ListsCandidates start [] waiting old
-    → AreAged old kept
+    → AreKept (reached start []) entry.picture old kept
     → AreAdded false start entry.picture entry.reading kept one
     → ListsCandidates start [] (entry ∷ waiting) one
 lists_first start waiting entry old kept one lists are add = record {
@@ -304,7 +334,7 @@ pub lists_more :
     → Played start (last ∷ earlier)
     → SeenAs start (last ∷ earlier) entry.picture Waits
     → ListsCandidates start (last ∷ earlier) waiting old
-    → AreAged old kept
+    → AreKept (reached start (last ∷ earlier)) entry.picture old kept
     → AreAdded false (reached start (last ∷ earlier)) entry.picture entry.reading kept one
     → AreAdded true (reached start earlier) entry.picture entry.reading one two
     → ListsCandidates start (last ∷ earlier) (entry ∷ waiting) two
@@ -336,7 +366,7 @@ pub lists_next :
     → Played start (moves_of plies)
     → SeenAs start (moves_of plies) entry.picture Waits
     → ListsCandidates start (moves_of plies) waiting old
-    → AreAged old kept
+    → AreKept (reached start (moves_of plies)) entry.picture old kept
     → AreAdded false (reached start (moves_of plies)) entry.picture entry.reading kept one
     → ((ply : Ply) (earlier : List Ply) → plies ≡ ply ∷ earlier → AreAdded true (reached start (moves_of earlier)) entry.picture entry.reading one two)
     → (plies ≡ [] → two ≡ one)

@@ -66,13 +66,13 @@ plain p m seen v l q =
     }
 
 -- what goes on is a move
-goes_by_move : (p : Parts) (m : Move) (q : Parts) (seen : List ℕ) (a : Seen) → MayCome p m seen → GoesOn q seen a → (x : Move) × Settles q seen x
-goes_by_move p m q seen (Moved x) c h = (x, h)
-goes_by_move p m q seen (Sign o) (inl way) h = absurd (no_sign_apart seen way.kings q o h)
-goes_by_move p m q seen (Sign o) (inr lacks) h = absurd (lacking_no_sign q seen o lacks h)
-goes_by_move p m q seen (Replaced x) c h = absurd h
-goes_by_move p m q seen Same c h = absurd h
-goes_by_move p m q seen Waits c h = absurd h
+goes_by_move : (now p : Parts) (m : Move) (q : Parts) (seen : List ℕ) (a : Seen) → MayCome p m seen → GoesOn now q seen a → (x : Move) × Settles q seen x
+goes_by_move now p m q seen (Moved x) c h = (x, h)
+goes_by_move now p m q seen (Sign o) (inl way) h = absurd (no_sign_apart seen way.kings q o h.0)
+goes_by_move now p m q seen (Sign o) (inr lacks) h = absurd (lacking_no_sign q seen o lacks h.0)
+goes_by_move now p m q seen (Replaced x) c h = absurd h
+goes_by_move now p m q seen Same c h = absurd h
+goes_by_move now p m q seen Waits c h = absurd h
 
 valid_two : (p : Parts) (seen : List ℕ) (k n : Move) → Valid p → IsAfterTwo p seen k n → Valid (after (after p k) n)
 valid_two p seen k n v two = moves_stay_valid (after p k) n (moves_stay_valid p k v two.first) two.second
@@ -142,12 +142,12 @@ record IsUpTo (start : Parts) (earlier : List Move) (m : Move) (now : List Move)
   pub waits : AllCame (reached start earlier) m waiting
 
 -- what is known of the line so far, and of its next move
-record IsNext (start : Parts) (earlier : List Move) (m : Move) : Type 0 where
+pub record IsNext (start : Parts) (earlier : List Move) (m : Move) : Type 0 where
   pub valid : Valid start
   pub played : Played start earlier
   pub legal : Legal (reached start earlier) m
 
-now_valid : (start : Parts) (earlier : List Move) (m : Move) → IsNext start earlier m → Valid (reached start earlier)
+pub now_valid : (start : Parts) (earlier : List Move) (m : Move) → IsNext start earlier m → Valid (reached start earlier)
 now_valid start earlier m s = valid_reached start earlier s.valid s.played
 
 -- no pair is confirmed
@@ -159,7 +159,7 @@ confirms_none :
     → ¬ Confirms start now waiting seen r
 confirms_none start earlier m now waiting seen r s up came c =
     let p : Parts = reached start earlier in
-    let next : (x : Move) × Settles (ends start now r.pair) seen x = goes_by_move p m (ends start now r.pair) seen r.sequel came c.goes_on in
+    let next : (x : Move) × Settles (ends start now r.pair) seen x = goes_by_move (reached start now) p m (ends start now r.pair) seen r.sequel came c.goes_on in
     let before : MayCome p m (c.entry).picture = up.waits c.place c.entry (c.explains).waits in
     let E : List Move → Type 0 = λ ms. Explains start ms (c.entry).picture r.pair in
     let S : List Move → Type 0 = λ ms. Settles (ends start ms r.pair) seen next.0 in
@@ -263,7 +263,7 @@ told_more start earlier m score waiting entry (Shown (Replaced n)) s up came h =
     }
 
 -- exactly the move was told, and nothing waits
-abbrev IsMade : List Move → List Move → List Entry → Type 0
+abbrev pub IsMade : List Move → List Move → List Entry → Type 0
 IsMade moves now waiting = (now ≡ moves) × (waiting ≡ [])
 
 -- the move that was tried is the one that is to come, where the picture after this one waits
@@ -330,11 +330,11 @@ told_end start earlier m score waiting entry (Shown Waits) s up came e h =
     ]
 
 -- the last entry has this picture
-abbrev ShowsLast : List ℕ → List Entry → Type 0
+abbrev pub ShowsLast : List ℕ → List Entry → Type 0
 ShowsLast seen [] = ⊥
 ShowsLast seen (entry ∷ past) = entry.picture ≡ seen
 
-repeats_last : (seen : List ℕ) (past : List Entry) → repeats seen past ≡ true → ShowsLast seen past
+pub repeats_last : (seen : List ℕ) (past : List Entry) → repeats seen past ≡ true → ShowsLast seen past
 repeats_last seen [] e = let never : ⊥ = cc in never
 repeats_last seen (before ∷ past) e = let d = bytes_eq-Decides seen before.picture in sym (d.0 e)
 
@@ -397,7 +397,7 @@ comes_more start earlier m past entry s came c =
     ]
 
 -- the entries so far, after these moves
-record Stands (start : Parts) (moves : List Move) (past : List Entry) : Type 0 where
+pub record Stands (start : Parts) (moves : List Move) (past : List Entry) : Type 0 where
   pub none : ConfirmNone start (deduplicated past)
   pub made : (score : Score) (waiting : List Entry) → FoldsRecovering start (deduplicated past) score waiting → IsMade moves (moves_of score.plies) waiting
   pub last : EndsAt (reached start moves) past
@@ -431,6 +431,15 @@ shown_stands start earlier m (entry ∷ []) past s c h =
 shown_stands start earlier m (entry ∷ next ∷ more) past s c h =
     shown_stands start earlier m (next ∷ more) (entry ∷ past) s (comes_more start earlier m past entry s h.0 c) h.1
 
+-- one more move that is shown
+pub stands_after :
+    (start : Parts) (earlier : List Move) (m : Move) (entries past : List Entry)
+    → IsNext start earlier m
+    → Stands start earlier past
+    → ShownByHand (reached start earlier) m entries
+    → Stands start (m ∷ earlier) (reverse_aux entries past)
+stands_after start earlier m entries past s h shown = shown_stands start earlier m entries past s (comes_first start earlier m past s h) shown
+
 line_none :
     (start : Parts) (earlier : List Move) (past : List Entry) (moves : List Move) (lists : List (List Entry))
     → Valid start
@@ -445,12 +454,12 @@ line_none start earlier past (m ∷ moves) [] v played s l h = absurd h
 line_none start earlier past (m ∷ moves) (list ∷ lists) v played s l h =
     let next : IsNext start earlier m = record { valid = v; played = played; legal = l.0 } in
     let N : List Entry → Type 0 = λ es. ConfirmNone start (deduplicated es) in
-    let one : Stands start (m ∷ earlier) (reverse_aux list past) = shown_stands start earlier m list past next (comes_first start earlier m past next s) h.0 in
+    let one : Stands start (m ∷ earlier) (reverse_aux list past) = stands_after start earlier m list past next s h.0 in
     subst N (sym (reverse_aux-append list (joined lists) past))
     (line_none start (m ∷ earlier) (reverse_aux list past) moves lists v (l.0, played) one l.1 h.1)
 
 -- so it is where the entries are broken off
-broken_off :
+pub broken_off :
     (start : Parts) (rest past : List Entry) → ConfirmNone start (deduplicated (reverse_aux rest past)) → ConfirmNone start (deduplicated past)
 broken_off start [] past h = h
 broken_off start (entry ∷ rest) past h =
@@ -463,7 +472,7 @@ broken_off start (entry ∷ rest) past h =
           both.0
     ]
 
-begins_alone : (start : Parts) → Stands start [] []
+pub begins_alone : (start : Parts) → Stands start [] []
 begins_alone start = record { none = tt; made = λ score waiting f. (ap (λ (s : Score). moves_of s.plies) f.0, f.1); last = tt }
 
 pub honest_hands_confirm_none : HonestHandsConfirmNone

@@ -70,16 +70,16 @@ replaced_come start (last ∷ earlier) entry past score m e r h = (
 )
 
 sequel_come :
-    (start : Parts) (score : Score) (a : Seen) (entry : Entry) (past : List Entry)
-    → GoesOn (reached start (moves_of score.plies)) entry.picture a
+    (now start : Parts) (score : Score) (a : Seen) (entry : Entry) (past : List Entry)
+    → GoesOn now (reached start (moves_of score.plies)) entry.picture a
     → AllComeFrom start score.plies (entry ∷ past)
     → AllComeFrom start (score_after start score entry.reading a).plies (entry ∷ past)
-sequel_come start score (Moved m) entry past g h =
+sequel_come now start score (Moved m) entry past g h =
     (inl (record { later = []; entry = entry; before = past; among = refl; shows = g.shows; clock_is = refl }), h)
-sequel_come start score (Sign outcome) entry past g h = h
-sequel_come start score (Replaced m) entry past g h = absurd g
-sequel_come start score Waits entry past g h = absurd g
-sequel_come start score Same entry past g h = absurd g
+sequel_come now start score (Sign outcome) entry past g h = h
+sequel_come now start score (Replaced m) entry past g h = absurd g
+sequel_come now start score Waits entry past g h = absurd g
+sequel_come now start score Same entry past g h = absurd g
 
 told_come :
     (start : Parts) (entry : Entry) (past : List Entry) (before : Score) (waited : List Entry) (told : Told)
@@ -131,8 +131,8 @@ told_come start entry past before waited (Recovered r) f t h =
         older,
       ),
     ) in
-    let G : List Move → Type 0 = λ ms. GoesOn (after (after (reached start ms) r.pair.first) r.pair.second) entry.picture r.sequel in
-    sequel_come start s r.sequel entry past (subst G same (t.1).goes_on) two
+    let G : List Move → Type 0 = λ ms. GoesOn (reached start (moves_of before.plies)) (after (after (reached start ms) r.pair.first) r.pair.second) entry.picture r.sequel in
+    sequel_come (reached start (moves_of before.plies)) start s r.sequel entry past (subst G same (t.1).goes_on) two
 
 pub nothing_is_invented : NothingIsInvented
 nothing_is_invented start [] score waiting h = let P : Score → Type 0 = λ s. AllComeFrom start s.plies [] in subst P (sym h.0) tt

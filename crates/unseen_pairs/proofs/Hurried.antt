@@ -172,7 +172,7 @@ recovery start moves h a = record {
 confirmed :
     (start : Parts) (moves : List Move) (waiting : List Entry) (next : List ℕ) (h : Hidden) (a : Seen)
     → HidesTwo start moves waiting next h
-    → GoesOn (after_both (reached start moves) h) next a
+    → GoesOn (reached start moves) (after_both (reached start moves) h) next a
     → Confirms start moves waiting next (recovery start moves h a)
 confirmed start moves waiting next h a two goes = record {
   place = two.place;
@@ -184,8 +184,9 @@ confirmed start moves waiting next h a two goes = record {
       after_two = record { first = two.first_legal; second = two.second_legal; shows = two.shows };
       instead = λ e. absurd (let n : ⊥ = cc in n);
     };
+    gone = two.gone;
   };
-  first = λ k other less at. two.oldest k other less at.low at.waits (((at.explains).after_two).shows ∙ sym two.shows);
+  first = two.oldest;
   reading_is = refl;
   before_is = refl;
   middle_is = refl;
@@ -355,7 +356,7 @@ kings_told start earlier past silent h kings outcome g e =
     let left : List Entry = left_waiting start moves [] silent in
     one_told start (come_after silent past) kings (bare earlier) left (Recovered (recovery start moves h (Sign outcome))) s.valid
     (silent_told start earlier silent past [] s.valid g.only e.are_silent)
-    ((none.0, e.no_sign_before, none.1), confirmed start moves left kings.picture h (Sign outcome) e.hides e.is_sign)
+    ((none.0, e.no_sign_before, none.1), confirmed start moves left kings.picture h (Sign outcome) e.hides (e.is_sign, e.puts))
 
 pub kings_end_hurried_hands : KingsEndHurriedHands
 kings_end_hurried_hands start stretches silent h kings outcome score waiting v i e f =

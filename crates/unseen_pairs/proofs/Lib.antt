@@ -1,3 +1,4 @@
+pub mod Times
 pub mod Adding
 pub mod Aging
 pub mod Choosing
@@ -12,3 +13,4 @@ pub mod Coming
 pub mod OnTheWay
 pub mod Alone
 pub mod Hurried
+pub mod AtRest

@@ -103,8 +103,8 @@ other_loses p m n seen v two = let b = other_bares p m n seen v two in (b.0, b.1
 pub hides_two : (p : Parts) (m n : Move) (seen : List ℕ) → Valid p → IsAfterTwo p seen m n → MayHideTwo p seen
 hides_two p m n seen v two = (mover_loses p m n seen v two, other_bares p m n seen v two)
 
--- Where another move than the last one and a reply explain the picture, a piece of the side of these moves is not where the last
--- one left it: the pieces of a side tell its move.
+-- Where another move than the last one and a reply explain the picture, a piece of the side of these moves is not where
+-- the last one left it: the pieces of a side tell its move.
 pub correcting_loses :
     (p : Parts) (last m n : Move) (seen : List ℕ)
     → Valid p → Legal p last → IsAfterTwo p seen m n → m ≢ last → ¬ ¬ Loses (after p last) seen p.side

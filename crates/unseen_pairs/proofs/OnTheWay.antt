@@ -99,8 +99,8 @@ no_return p k n o v w x ahead e h (castling wing s) =
     let home : IsAtHome (after p k).board (other p.side) wing = w.rights (other p.side) wing s.right in
     king_no_pawn (ap kind_of (sym home.king ∙ ap (on (after p k).board) (sym s.from) ∙ h))
 
--- Where the pictures of a position and of that after a move of the other side are both on the way, each of its pieces stands in
--- that position where it stood.
+-- Where the pictures of a position and of that after a move of the other side are both on the way, each of its pieces
+-- stands in that position where it stood.
 theirs_stand :
     (p : Parts) (m : Move) (q : Parts) (r : Move) (seen now : List ℕ)
     → Valid p → Legal p m → Valid q → Legal q r

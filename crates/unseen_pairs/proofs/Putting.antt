@@ -1,5 +1,5 @@
--- Pictures put in give the recovered score: the entries with those of a confirmed pair's two positions before its sequel fold, as
--- entries do, to the score that the pair gives.
+-- Pictures put in give the recovered score: the entries with those of a confirmed pair's two positions before its
+-- sequel fold, as entries do, to the score that the pair gives.
 use Rattle.std.proofs.Common.{◌≡◌, ℕ, Bool, true, false, List, [], ◌∷◌, Option, drop, refl, sym, subst}
 use Rattle.chess_clock.specs.declared.times.Reading.{Reading}
 use Rattle.chess_rules.specs.declared.chess_move.Move.{Move}
@@ -93,12 +93,12 @@ pair_folds start past before reading corrects m n v f l i k =
     (s, Moved n, one, settles_own (reached start (moves_of s.plies)) n (valid_reached start (moves_of s.plies) v h) k, refl)
 
 -- what goes on from a position is seen over moves that lead to it
-pub goes_seen : (start : Parts) (moves : List Move) (seen : List ℕ) (a : Seen) → GoesOn (reached start moves) seen a → SeenAs start moves seen a
-goes_seen start moves seen (Moved m) h = h
-goes_seen start moves seen (Sign outcome) h = h
-goes_seen start moves seen (Replaced m) h = absurd h
-goes_seen start moves seen Waits h = absurd h
-goes_seen start moves seen Same h = absurd h
+pub goes_seen : (now start : Parts) (moves : List Move) (seen : List ℕ) (a : Seen) → GoesOn now (reached start moves) seen a → SeenAs start moves seen a
+goes_seen now start moves seen (Moved m) h = h
+goes_seen now start moves seen (Sign outcome) h = h.0
+goes_seen now start moves seen (Replaced m) h = absurd h
+goes_seen now start moves seen Waits h = absurd h
+goes_seen now start moves seen Same h = absurd h
 
 pub roots : (corrects : Bool) (plies : List Ply) → root corrects (moves_of plies) ≡ moves_of (root corrects plies)
 roots false plies = refl
@@ -121,7 +121,7 @@ put_in_folds start past before waiting seen reading r v f c =
     let P : List Move → Type 0 = λ ms.
     Legal (reached start ms) pair.first
     → Legal (after (reached start ms) pair.first) pair.second
-    → GoesOn (after (after (reached start ms) pair.first) pair.second) seen r.sequel
+    → GoesOn (reached start (moves_of before.plies)) (after (after (reached start ms) pair.first) pair.second) seen r.sequel
     → Folds start
     (entry_of seen reading
     ∷ entry_of (picture (after (after (reached start ms) pair.first) pair.second)) r.reading
@@ -130,7 +130,7 @@ put_in_folds start past before waiting seen reading r v f c =
     (score_told start before reading (Recovered r)) in
     let at : P (moves_of (root pair.corrects before.plies)) = λ l k g.
     let s : Score = recovered start before r.reading pair in
-    (s, r.sequel, pair_folds start past before r.reading pair.corrects pair.first pair.second v f l e.instead k, goes_seen start (moves_of s.plies) seen r.sequel g, refl) in
+    (s, r.sequel, pair_folds start past before r.reading pair.corrects pair.first pair.second v f l e.instead k, goes_seen (reached start (moves_of before.plies)) start (moves_of s.plies) seen r.sequel g, refl) in
     let M : Parts → Type 0 = λ (q : Parts). Folds start
     (entry_of seen reading ∷ entry_of (picture (ends start (moves_of before.plies) pair)) r.reading ∷ entry_of (picture q) r.reading ∷ past)
     (score_told start before reading (Recovered r)) in

@@ -12,7 +12,7 @@ use Rattle.settle_core.specs.declared.plies.Ply.{Ply}
 use Rattle.settle_core.specs.declared.plies.Seen.{Seen}
 use Rattle.settle_core.specs.declared.plies.Seen.TheVariants.{Waits}
 use Rattle.settle_core.specs.Entries.{Entry}
-use Rattle.settle_core.specs.Settling.{Played}
+use Rattle.settle_core.specs.Settling.{Played, reached}
 use Rattle.settle_core.specs.Folding.{Folds, Score, SeenAs, moves_of}
 use Rattle.settle_core.proofs.Lists.{line_played}
 use Rattle.settle_core.proofs.Once.{folds_played, shows_once}
@@ -130,8 +130,8 @@ plies_are_legal start past score waiting v h =
     line_played start (reverse score.plies) (subst P (sym (reverse-reverse score.plies)) (recovering_played start past score waiting v h))
 
 -- what goes on from a position is one
-goes_once : (p : Parts) (seen : List ℕ) (a b : Seen) → Valid p → GoesOn p seen a → GoesOn p seen b → a ≡ b
-goes_once p seen a b v g h = shows_once p [] seen a b v (goes_seen p [] seen a g) (goes_seen p [] seen b h)
+goes_once : (now p : Parts) (seen : List ℕ) (a b : Seen) → Valid p → GoesOn now p seen a → GoesOn now p seen b → a ≡ b
+goes_once now p seen a b v g h = shows_once p [] seen a b v (goes_seen now p [] seen a g) (goes_seen now p [] seen b h)
 
 recovery_is :
     (r s : Recovery) → r.pair ≡ s.pair → r.before ≡ s.before → r.middle ≡ s.middle → r.after ≡ s.after → r.reading ≡ s.reading → r.sequel ≡ s.sequel
@@ -172,13 +172,13 @@ confirms_once start moves waiting seen r s v played g h =
     let u : Valid (begins start moves r.pair) = valid_root r.pair.corrects start moves v played in
     let um : Valid (after (begins start moves r.pair) r.pair.first) = moves_stay_valid _ r.pair.first u two.first in
     let ue : Valid (ends start moves r.pair) = moves_stay_valid _ r.pair.second um two.second in
-    let G : Pair → Type 0 = λ x. GoesOn (ends start moves x) seen s.sequel in
+    let G : Pair → Type 0 = λ x. GoesOn (reached start moves) (ends start moves x) seen s.sequel in
     recovery_is r s pair
     (g.before_is ∙ ap (λ (x : Pair). begins start moves x) pair ∙ sym h.before_is)
     (g.middle_is ∙ ap (λ (x : Pair). after (begins start moves x) x.first) pair ∙ sym h.middle_is)
     (g.after_is ∙ ap (λ (x : Pair). ends start moves x) pair ∙ sym h.after_is)
     (g.reading_is ∙ ap (λ (x : Entry). x.reading) entry ∙ sym h.reading_is)
-    (goes_once (ends start moves r.pair) seen r.sequel s.sequel ue g.goes_on (subst G (sym pair) h.goes_on))
+    (goes_once (reached start moves) (ends start moves r.pair) seen r.sequel s.sequel ue g.goes_on (subst G (sym pair) h.goes_on))
 
 told_once :
     (start : Parts) (moves : List Move) (waiting : List Entry) (seen : List ℕ) (a b : Told)

@@ -1,5 +1,5 @@
 -- What goes on from a position.
-use Rattle.std.proofs.Common.{◌≡◌, ℕ, ◌<◌, ◌≤◌, ◌+◌, inl, inr, List, [], Option, Some, None, Contains, get_or, length, slice_index_or, Result, Ok, Err, IfOk, sym, ap, subst, ◌∙◌, arith}
+use Rattle.std.proofs.Common.{◌≡◌, ℕ, ◌<◌, ◌≤◌, ◌+◌, inl, inr, List, [], Option, Some, None, Contains, get_or, length, slice_index_or, Result, Ok, Err, IfOk, IfNone, sym, ap, subst, ◌∙◌, arith}
 use Rattle.std.proofs.lemmas.Bool.{cases_eq}
 use Rattle.std.specs.declared.alloc.AllocError.{AllocError}
 use Rattle.std.proofs.lemmas.List.{get_or_default}
@@ -7,14 +7,18 @@ use Rattle.chess_rules.specs.declared.parts.Parts.{Parts}
 use Rattle.settle_core.specs.declared.plies.Seen.{Seen}
 use Rattle.settle_core.specs.declared.plies.Seen.TheVariants.{Same, Moved, Sign, Replaced, Waits}
 use Rattle.chess_rules.specs.declared.chess_move.Move.{Move}
-use Rattle.settle_core.specs.Sign.{InCentre}
+use Rattle.chess_rules.specs.Picture.{picture}
+use Rattle.chess_rules.specs.Valid.{Valid}
+use Rattle.settle_core.proofs.Once.{shows_once}
+use Rattle.settle_core.specs.declared.plies.Outcome.{Outcome}
+use Rattle.settle_core.specs.Sign.{InCentre, IsSign}
 use Rattle.settle_core.specs.Settling.{Settles}
 use Rattle.settle_core.specs.Folding.{Score, SeenAs, moves_of}
 use Rattle.settle_core.specs.Settler.{ReturnsSeen, ReturnsNewSeen}
 use Rattle.unseen_pairs.specs.declared.confirming.Candidate.{Candidate}
 use Rattle.unseen_pairs.specs.declared.confirming.Confirmed.{Confirmed}
-use Rattle.unseen_pairs.specs.Pairs.{GoesOn}
-use Rattle.unseen_pairs.specs.Candidates.{FoundBelow, IsOlder, IsOnlyOne, ShowsKing}
+use Rattle.unseen_pairs.specs.Pairs.{GoesOn, PutsPiece}
+use Rattle.unseen_pairs.specs.Candidates.{AreShown, Follows, FoundBelow, IsOlder, IsOnlyOne, ShowsKing}
 
 new_alone : (p : Parts) (seen : List ℕ) (a : Seen) → ReturnsNewSeen p [] seen a → SeenAs p [] seen a
 new_alone p seen a h =
@@ -34,12 +38,20 @@ pub alone_result :
 alone_result p seen (Ok a) h = alone p seen a h
 alone_result p seen (Err e) h = tt
 
-pub waits_none : (p : Parts) (seen : List ℕ) → SeenAs p [] seen Waits → (a : Seen) → ¬ GoesOn p seen a
-waits_none p seen h (Moved m) g = h.0 m g
-waits_none p seen h (Sign outcome) g = h.1 outcome g
-waits_none p seen h (Replaced m) g = g
-waits_none p seen h Waits g = g
-waits_none p seen h Same g = g
+pub waits_none : (now p : Parts) (seen : List ℕ) → SeenAs p [] seen Waits → (a : Seen) → ¬ GoesOn now p seen a
+waits_none now p seen h (Moved m) g = h.0 m g
+waits_none now p seen h (Sign outcome) g = h.1 outcome g.0
+waits_none now p seen h (Replaced m) g = g
+waits_none now p seen h Waits g = g
+waits_none now p seen h Same g = g
+
+-- Nor does anything go on where the picture is a sign, and the pair put no piece down.
+pub sign_none : (now p : Parts) (seen : List ℕ) (outcome : Outcome) → Valid p → ¬ PutsPiece now p → SeenAs p [] seen (Sign outcome) → (a : Seen) → ¬ GoesOn now p seen a
+sign_none now p seen outcome v none h (Moved m) g = let never : ⊥ = cc (shows_once p [] seen (Moved m) (Sign outcome) v g h) in never
+sign_none now p seen outcome v none h (Sign other) g = none g.1
+sign_none now p seen outcome v none h (Replaced m) g = g
+sign_none now p seen outcome v none h Waits g = g
+sign_none now p seen outcome v none h Same g = g
 
 -- where White's king does not stand in the centre, the picture is no sign
 no_king : (seen : List ℕ) (s : ℕ) → ¬ ShowsKing seen → InCentre s → get_or seen s 0 ≡ 5 → ⊥
@@ -48,12 +60,24 @@ no_king seen s none (inl (inr e)) h = none (inl (ap (λ n. get_or seen n 0) (sym
 no_king seen s none (inr (inl e)) h = none (inr (inr (inl (ap (λ n. get_or seen n 0) (sym e) ∙ h))))
 no_king seen s none (inr (inr e)) h = none (inr (inl (ap (λ n. get_or seen n 0) (sym e) ∙ h)))
 
-pub nothing_goes : (p : Parts) (seen : List ℕ) → ¬ ShowsKing seen → ((m : Move) → ¬ Settles p seen m) → (a : Seen) → ¬ GoesOn p seen a
-nothing_goes p seen none never (Moved m) g = never m g
-nothing_goes p seen none never (Sign outcome) g = no_king seen g.white_king none (g.white).centre (g.white).stands
-nothing_goes p seen none never (Replaced m) g = g
-nothing_goes p seen none never Waits g = g
-nothing_goes p seen none never Same g = g
+pub nothing_goes : (now p : Parts) (seen : List ℕ) → ¬ ShowsKing seen → ((m : Move) → ¬ Settles p seen m) → (a : Seen) → ¬ GoesOn now p seen a
+nothing_goes now p seen none never (Moved m) g = never m g
+nothing_goes now p seen none never (Sign outcome) g = let i : IsSign p seen outcome = g.0 in no_king seen i.white_king none (i.white).centre (i.white).stands
+nothing_goes now p seen none never (Replaced m) g = g
+nothing_goes now p seen none never Waits g = g
+nothing_goes now p seen none never Same g = g
+
+-- so nothing follows on a candidate
+pub nothing_follows :
+    (now : Parts) (c : Candidate) (seen : List ℕ)
+    → ¬ ShowsKing seen → (c.shown ≡ picture c.after → (m : Move) → ¬ Settles c.after seen m) → (a : Seen) → ¬ Follows now c seen a
+nothing_follows now c seen none never a f = nothing_goes now c.after seen none (never f.shown) a f.goes
+
+pub none_follow :
+    (now : Parts) (c : Candidate) (seen : List ℕ) (r : Option Seen)
+    → IfNone r ((a : Seen) → ¬ GoesOn now c.after seen a) → IfNone r ((a : Seen) → ¬ Follows now c seen a)
+none_follow now c seen (Some a) h = tt
+none_follow now c seen None h = λ a f. h a f.goes
 
 same_age : (a b : ℕ) → a ≡ b → a ≤ b
 same_age a b e = omega arith
@@ -63,20 +87,20 @@ no_older a b c g h = omega arith
 
 -- the first candidates, and one more
 pub found_more :
-    (cs : List Candidate) (seen : List ℕ) (i : ℕ) (c : Candidate) (found : Option Confirmed)
+    (now : Parts) (cs : List Candidate) (seen : List ℕ) (i : ℕ) (c : Candidate) (found : Option Confirmed)
     → i < length cs
     → c ≡ slice_index_or cs i c
-    → ((a : Seen) → ¬ GoesOn c.after seen a)
-    → FoundBelow cs seen i found
-    → FoundBelow cs seen (i + 1) found
-found_more cs seen i c None low is never h = λ d a k below at g.
+    → ((a : Seen) → ¬ Follows now c seen a)
+    → FoundBelow now cs seen i found
+    → FoundBelow now cs seen (i + 1) found
+found_more now cs seen i c None low is never h = λ d a k below at g.
     elim (cases_eq k i) [
       | inr ne ↦ h d a k (omega arith) at g
       | inl e ↦
           let q : d ≡ c = sym at ∙ ap (λ j. slice_index_or cs j d) e ∙ get_or_default cs i d c low ∙ sym is in
-          never a (subst (λ (z : Candidate). GoesOn z.after seen a) q g)
+          never a (subst (λ (z : Candidate). Follows now z seen a) q g)
     ]
-found_more cs seen i c (Some one) low is never h = (
+found_more now cs seen i c (Some one) low is never h = (
   h.0,
   h.1,
   λ d a k below at g.
@@ -84,19 +108,19 @@ found_more cs seen i c (Some one) low is never h = (
         | inr ne ↦ h.2 d a k (omega arith) at g
         | inl e ↦
             let q : d ≡ c = sym at ∙ ap (λ j. slice_index_or cs j d) e ∙ get_or_default cs i d c low ∙ sym is in
-            absurd (never a (subst (λ (z : Candidate). GoesOn z.after seen a) q g))
+            absurd (never a (subst (λ (z : Candidate). Follows now z seen a) q g))
       ],
 )
 
 -- the first one that goes on
 pub found_first :
-    (cs : List Candidate) (seen : List ℕ) (i : ℕ) (one : Confirmed)
+    (now : Parts) (cs : List Candidate) (seen : List ℕ) (i : ℕ) (one : Confirmed)
     → i < length cs
     → one.candidate ≡ slice_index_or cs i one.candidate
-    → GoesOn one.candidate.after seen one.sequel
-    → FoundBelow cs seen i None
-    → FoundBelow cs seen (i + 1) (Some one)
-found_first cs seen i one low is goes h = (
+    → GoesOn now one.candidate.after seen one.sequel
+    → FoundBelow now cs seen i None
+    → FoundBelow now cs seen (i + 1) (Some one)
+found_first now cs seen i one low is goes h = (
   (i, low, sym is),
   goes,
   λ d a k below at g.
@@ -110,21 +134,21 @@ found_first cs seen i one low is goes h = (
 
 -- one more of the same pair
 pub found_again :
-    (cs : List Candidate) (seen : List ℕ) (i : ℕ) (one two found : Confirmed)
+    (now : Parts) (cs : List Candidate) (seen : List ℕ) (i : ℕ) (one two found : Confirmed)
     → i < length cs
     → two.candidate ≡ slice_index_or cs i two.candidate
-    → GoesOn two.candidate.after seen two.sequel
+    → GoesOn now two.candidate.after seen two.sequel
     → one.candidate.pair ≡ two.candidate.pair
     → IsOlder one two found
-    → FoundBelow cs seen i (Some one)
-    → FoundBelow cs seen (i + 1) (Some found)
-found_again cs seen i one two found low is goes same old h =
+    → FoundBelow now cs seen i (Some one)
+    → FoundBelow now cs seen (i + 1) (Some found)
+found_again now cs seen i one two found low is goes same old h =
     let pair : found.candidate.pair ≡ one.candidate.pair = elim old.one [
       | inl e ↦ ap (λ (z : Confirmed). z.candidate.pair) e
       | inr e ↦ ap (λ (z : Confirmed). z.candidate.pair) e ∙ sym same
     ] in
     let In : Confirmed → Type 0 = λ (z : Confirmed). Contains cs z.candidate in
-    let On : Confirmed → Type 0 = λ (z : Confirmed). GoesOn z.candidate.after seen z.sequel in (
+    let On : Confirmed → Type 0 = λ (z : Confirmed). GoesOn now z.candidate.after seen z.sequel in (
       elim old.one [ inl e ↦ subst In (sym e) h.0 | inr e ↦ subst In (sym e) (i, low, sym is) ],
       elim old.one [ inl e ↦ subst On (sym e) h.1 | inr e ↦ subst On (sym e) goes ],
       λ d a k below at g.
@@ -142,23 +166,33 @@ found_again cs seen i one two found low is goes same old h =
 
 -- two that go on with two pairs
 pub found_two :
-    (cs : List Candidate) (seen : List ℕ) (i : ℕ) (c : Candidate) (a : Seen) (one : Confirmed)
+    (now : Parts) (cs : List Candidate) (seen : List ℕ) (i : ℕ) (c : Candidate) (a : Seen) (one : Confirmed)
     → i < length cs
     → c ≡ slice_index_or cs i c
-    → GoesOn c.after seen a
+    → GoesOn now c.after seen a
     → (one.candidate.pair ≡ c.pair → ⊥)
-    → FoundBelow cs seen i (Some one)
-    → (any : Confirmed) → ¬ IsOnlyOne cs seen any
-found_two cs seen i c a one low is goes differ h any only =
-    differ (only.alone one.candidate one.sequel h.0 h.1 ∙ sym (only.alone c a (i, low, sym is) goes))
+    → FoundBelow now cs seen i (Some one)
+    → (any : Confirmed) → AreShown cs → ¬ IsOnlyOne now cs seen any
+found_two now cs seen i c a one low is goes differ h any shown only =
+    let first : Follows now one.candidate seen one.sequel = record { shown = shown one.candidate h.0; goes = h.1 } in
+    let second : Follows now c seen a = record { shown = shown c (i, low, sym is); goes = goes } in
+    differ (only.alone one.candidate one.sequel h.0 first ∙ sym (only.alone c a (i, low, sym is) second))
 
-pub found_none : (cs : List Candidate) (seen : List ℕ) (i : ℕ) → i ≡ length cs → FoundBelow cs seen i None → (any : Confirmed) → ¬ IsOnlyOne cs seen any
-found_none cs seen i end h any only =
+pub found_none :
+    (now : Parts) (cs : List Candidate) (seen : List ℕ) (i : ℕ)
+    → i ≡ length cs → FoundBelow now cs seen i None → (any : Confirmed) → AreShown cs → ¬ IsOnlyOne now cs seen any
+found_none now cs seen i end h any shown only =
     let at = only.listed in
-    h any.candidate any.sequel at.0 (rw end at.1) at.2 only.goes_on
+    h any.candidate any.sequel at.0 (rw end at.1) at.2 (record { shown = shown any.candidate only.listed; goes = only.goes_on })
 
-pub found_one : (cs : List Candidate) (seen : List ℕ) (i : ℕ) (one : Confirmed) → i ≡ length cs → FoundBelow cs seen i (Some one) → IsOnlyOne cs seen one
-found_one cs seen i one end h = record {
+pub found_all :
+    (now : Parts) (cs : List Candidate) (seen : List ℕ) (i : ℕ) (found : Option Confirmed)
+    → i ≤ length cs → length cs ≤ i → FoundBelow now cs seen i found → IfNone found ((any : Confirmed) → AreShown cs → ¬ IsOnlyOne now cs seen any)
+found_all now cs seen i (Some one) low high h = tt
+found_all now cs seen i None low high h = let end : i ≡ length cs = omega arith in found_none now cs seen i end h
+
+pub found_one : (now : Parts) (cs : List Candidate) (seen : List ℕ) (i : ℕ) (one : Confirmed) → i ≡ length cs → FoundBelow now cs seen i (Some one) → IsOnlyOne now cs seen one
+found_one now cs seen i one end h = record {
   listed = h.0;
   goes_on = h.1;
   alone = λ c a at g. let both = h.2 c a at.0 (rw end at.1) at.2 g in both.0;

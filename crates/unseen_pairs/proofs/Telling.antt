@@ -30,7 +30,7 @@ use Rattle.unseen_pairs.specs.declared.confirming.Confirmed.{Confirmed}
 use Rattle.unseen_pairs.specs.Pairs.{Confirms, Explains, GoesOn, IsInstead, begins, ends, root}
 use Rattle.unseen_pairs.specs.Recovering.{FoldsRecovering, TellsAs, score_told, waiting_after}
 use Rattle.unseen_pairs.specs.Recoverer.{Desk, HasTold, HoldsOf, IsWaiting, StandsForRecovered, TellsNew}
-use Rattle.unseen_pairs.specs.Candidates.{AreAged, AreAllAdded, HidesNone, IsOnlyOne, ListsCandidates}
+use Rattle.unseen_pairs.specs.Candidates.{AreKept, AreAllAdded, HidesNone, IsOnlyOne, ListsCandidates}
 use Rattle.unseen_pairs.proofs.Aging.{lists_next}
 use Rattle.unseen_pairs.proofs.Choosing.{recovery_of, one_confirmed, confirmed_one}
 use Rattle.unseen_pairs.proofs.Putting.{put_in_folds, settles_own}
@@ -176,7 +176,7 @@ to_wait old new start past written entry v st after h =
 -- The picture waits, and the candidates are brought to it.
 kept_told :
     (desk : Desk) (candidates : List Candidate) (start : Parts) (past written : List Entry) (entry : Entry) (w : IsWaiting desk start past written entry)
-    → ((one : Confirmed) → ¬ IsOnlyOne desk.candidates entry.picture one)
+    → ((one : Confirmed) → ¬ IsOnlyOne (reached start (moves_of desk.settler.score.plies)) desk.candidates entry.picture one)
     → ListsCandidates start (moves_of desk.settler.score.plies) (waiting_after start (moves_of desk.settler.score.plies) w.waiting entry (Shown Waits)) candidates
     → HasTold (record { settler = desk.settler; candidates = candidates }) start past written entry (Shown Waits)
 kept_told desk candidates start past written entry w none lists =
@@ -204,7 +204,7 @@ kept_told desk candidates start past written entry w none lists =
 pub own_told :
     (desk : Desk) (candidates : List Candidate) (start : Parts) (past written : List Entry) (entry : Entry)
     → IsWaiting desk start past written entry
-    → ((one : Confirmed) → ¬ IsOnlyOne desk.candidates entry.picture one)
+    → ((one : Confirmed) → ¬ IsOnlyOne (reached start (moves_of desk.settler.score.plies)) desk.candidates entry.picture one)
     → entry.picture ≡ picture (reached start (moves_of desk.settler.score.plies))
     → candidates ≡ []
     → HasTold (record { settler = desk.settler; candidates = candidates }) start past written entry (Shown Waits)
@@ -219,7 +219,7 @@ own_told desk candidates start past written entry w none own empty =
 -- It is another one.
 pub other_told :
     (desk : Desk) (candidates : List Candidate) (start : Parts) (past written : List Entry) (entry : Entry) (w : IsWaiting desk start past written entry)
-    → ((one : Confirmed) → ¬ IsOnlyOne desk.candidates entry.picture one)
+    → ((one : Confirmed) → ¬ IsOnlyOne (reached start (moves_of desk.settler.score.plies)) desk.candidates entry.picture one)
     → entry.picture ≢ picture (reached start (moves_of desk.settler.score.plies))
     → ListsCandidates start (moves_of desk.settler.score.plies) (entry ∷ w.waiting) candidates
     → HasTold (record { settler = desk.settler; candidates = candidates }) start past written entry (Shown Waits)
@@ -234,11 +234,11 @@ other_told desk candidates start past written entry w none other lists =
 none_listed : (cs : List Candidate) (c : Candidate) → cs ≡ [] → ¬ Contains cs c
 none_listed cs c e k = let at : Contains [] c = subst (λ (xs : List Candidate). Contains xs c) e k in let low : at.0 < 0 = at.1 in let n : ⊥ = omega arith in n
 
-pub none_only : (cs : List Candidate) (seen : List ℕ) → cs ≡ [] → (one : Confirmed) → ¬ IsOnlyOne cs seen one
-none_only cs seen e one only = none_listed cs one.candidate e only.listed
+pub none_only : (now : Parts) (cs : List Candidate) (seen : List ℕ) → cs ≡ [] → (one : Confirmed) → ¬ IsOnlyOne now cs seen one
+none_only now cs seen e one only = none_listed cs one.candidate e only.listed
 
-none_aged : (cs : List Candidate) → cs ≡ [] → AreAged cs cs
-none_aged cs e = record {
+none_kept : (p : Parts) (seen : List ℕ) (cs : List Candidate) → cs ≡ [] → AreKept p seen cs cs
+none_kept p seen cs e = record {
   sound = λ c k. absurd (none_listed cs c e k);
   whole = λ b k low. absurd (none_listed cs b e k);
 }
@@ -264,14 +264,14 @@ idle_told desk start past written entry v w empty hides =
     let A : Parts → Type 0 = λ (q : Parts). AreAllAdded q plies entry.picture entry.reading desk.candidates desk.candidates in
     let all : AreAllAdded start plies entry.picture entry.reading desk.candidates desk.candidates =
     subst A start_is (hides entry.picture entry.reading desk.candidates (w.settles).last (subst P (sym start_is) played) (subst S (sym start_is) w.waits)) in
-    let none : (one : Confirmed) → ¬ IsOnlyOne desk.candidates entry.picture one = λ one only. none_listed desk.candidates one.candidate empty only.listed in
+    let none : (one : Confirmed) → ¬ IsOnlyOne (reached start (moves_of desk.settler.score.plies)) desk.candidates entry.picture one = λ one only. none_listed desk.candidates one.candidate empty only.listed in
     let d = bytes_eq-Decides entry.picture (picture p) in
     elim (cases_Bool (bytes_eq entry.picture (picture p))) [
       | inl own ↦ own_told desk desk.candidates start past written entry w none (d.0 own) empty
       | inr other ↦
           other_told desk desk.candidates start past written entry w none (λ e. both_ways _ other (d.1 e))
           (lists_next start plies w.waiting entry desk.candidates desk.candidates all.one desk.candidates
-          v played w.waits w.candidates (none_aged desk.candidates empty) all.next all.more all.none)
+          v played w.waits w.candidates (none_kept p entry.picture desk.candidates empty) all.next all.more all.none)
     ]
 
 -- The last picture with another code on a square.
@@ -314,19 +314,19 @@ middle_new true start (last ∷ earlier) seen m v h waits l instead e =
     let own = settles_own (reached start earlier) m (valid_reached start earlier v h.1) l in
     waits.2 m (record { legal = l; shows = sym e; alone = λ k a b. own.alone k a (e ∙ b) }, instead refl)
 
-goes_elsewhere : (p : Parts) (seen : List ℕ) (a : Seen) → Valid p → GoesOn p seen a → seen ≢ picture p
-goes_elsewhere p seen (Moved m) v h e = picture_moves p m v h.legal (sym h.shows ∙ e)
-goes_elsewhere p seen (Sign outcome) v h e = no_sign_valid p seen v e p outcome h
-goes_elsewhere p seen (Replaced m) v h e = h
-goes_elsewhere p seen Waits v h e = h
-goes_elsewhere p seen Same v h e = h
+goes_elsewhere : (now p : Parts) (seen : List ℕ) (a : Seen) → Valid p → GoesOn now p seen a → seen ≢ picture p
+goes_elsewhere now p seen (Moved m) v h e = picture_moves p m v h.legal (sym h.shows ∙ e)
+goes_elsewhere now p seen (Sign outcome) v h e = no_sign_valid p seen v e p outcome h.0
+goes_elsewhere now p seen (Replaced m) v h e = h
+goes_elsewhere now p seen Waits v h e = h
+goes_elsewhere now p seen Same v h e = h
 
 -- The pair is told, and its pictures were put in.
 pub put_in_told :
     (desk new : Desk) (start : Parts) (past written : List Entry) (entry : Entry) (one : Confirmed)
     → Valid start
     → IsWaiting desk start past written entry
-    → IsOnlyOne desk.candidates entry.picture one
+    → IsOnlyOne (reached start (moves_of desk.settler.score.plies)) desk.candidates entry.picture one
     → StandsFor new.settler start
     (entry
     ∷ entry_of (picture one.candidate.after) one.candidate.reading
@@ -352,7 +352,7 @@ put_in_told desk new start past written entry one v w only st none =
     let two_differs : picture r.after ≢ picture r.middle = λ q.
     picture_moves (after p r.pair.first) r.pair.second um (e.after_two).second (ap picture (sym conf.after_is) ∙ q ∙ ap picture conf.middle_is) in
     let three_differs : entry.picture ≢ picture r.after = λ q.
-    goes_elsewhere (ends start moves r.pair) entry.picture r.sequel ue conf.goes_on (q ∙ ap picture conf.after_is) in
+    goes_elsewhere (reached start moves) (ends start moves r.pair) entry.picture r.sequel ue conf.goes_on (q ∙ ap picture conf.after_is) in
     let d0 = one_new entry written w.same in
     let d1 : deduplicated (first ∷ entry ∷ written) ≡ first ∷ entry ∷ deduplicated written =
     one_new first (entry ∷ written) (differ_false _ _ one_differs) ∙ ap (λ es. first ∷ es) d0 in

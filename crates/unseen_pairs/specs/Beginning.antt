@@ -15,8 +15,8 @@ pub record LandsAt (p : Parts) (seen : List ℕ) (s : ℕ) : Type 0 where
   pub some : slice_index seen s ≢ 0
   pub differs : slice_index (picture p) s ≢ slice_index seen s
 
--- A pawn here is not taken in passing: no pawn of the other side is seen in front of it. Nor does it promote: it isn't on the
--- row before the last.
+-- A pawn here is not taken in passing: no pawn of the other side is seen in front of it. Nor does it promote: it isn't
+-- on the row before the last.
 pub record IsPlainPawn (p : Parts) (seen : List ℕ) (from : ℕ) : Type 0 where
   pub unpassed : (s : ℕ) → s < 64 → Ahead (forward p.side) 1 from s → slice_index seen s ≢ code_of_piece (other p.side) Pawn
   pub far : row from ≢ second_row (other p.side)
@@ -27,8 +27,8 @@ pub record TheirsLand (p : Parts) (seen : List ℕ) : Type 0 where
   pub lands : LandsAt p seen square
   pub owned : is_owned_code (other p.side) (slice_index seen square) ≡ true
 
--- A piece of the side that is not to move landed. And no pawn of the side to move that is off its square is taken in passing
--- or promotes.
+-- A piece of the side that is not to move landed. And no pawn of the side to move that is off its square is taken in
+-- passing or promotes.
 pub record BeginsPlainly (p : Parts) (seen : List ℕ) : Type 0 where
   pub theirs : TheirsLand p seen
   pub pawns : (s : ℕ) → s < 64 → slice_index (picture p) s ≢ slice_index seen s → on p.board s ≡ piece_of p.side Pawn → IsPlainPawn p seen s

@@ -14,4 +14,5 @@ pub record AddsPairs (p : Parts) (seen : List ℕ) (m : Move) (old new : List Tw
 -- These pairs explain the picture, and of those whose first ply is one of the first n moves all are there.
 pub record ListsPairs (p : Parts) (seen : List ℕ) (moves : List Move) (n : ℕ) (pairs : List TwoPlies) : Type 0 where
   pub sound : (x : TwoPlies) → Contains pairs x → IsAfterTwo p seen x.first x.second
-  pub whole : (x : TwoPlies) (k : ℕ) → k < n → slice_index_or moves k x.first ≡ x.first → IsAfterTwo p seen x.first x.second → Contains pairs x
+  pub whole : (x : TwoPlies) (k : ℕ) → k < n → slice_index_or moves k x.first ≡ x.first → IsAfterTwo p seen x.first x.second
+      → Contains pairs x

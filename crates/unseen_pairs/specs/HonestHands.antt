@@ -27,11 +27,12 @@ pub record IsOff (p : Parts) (seen : List ℕ) : Type 0 where
   pub stands : on p.board square ≡ piece_of (other p.side) kind
   pub off : slice_index seen square ≢ code_of_piece (other p.side) kind
 
--- The picture shows hands on the way to a move. The other side's pieces show where they stand and nowhere else, but the one that
--- the move takes may be off. While it is off, the mover's pieces show where they stand, but those that the move moves. Beside that,
--- his pieces may show anywhere, or nowhere. The two kings are not both in the centre.
+-- The picture shows hands on the way to a move. The other side's pieces show where they stand and nowhere else, but the
+-- one that the move takes may be off. While it is off, the mover's pieces show where they stand, but those that the
+-- move moves. Beside that, his pieces may show anywhere, or nowhere. The two kings are not both in the centre.
 pub record IsOnTheWay (p : Parts) (m : Move) (seen : List ℕ) : Type 0 where
-  pub nowhere_else : (s : ℕ) (kind : Kind) → s < 64 → slice_index seen s ≡ code_of_piece (other p.side) kind → on p.board s ≡ piece_of (other p.side) kind
+  pub nowhere_else : (s : ℕ) (kind : Kind) → s < 64 → slice_index seen s ≡ code_of_piece (other p.side) kind
+      → on p.board s ≡ piece_of (other p.side) kind
   pub theirs : (s : ℕ) (kind : Kind) → Leaves p m s (other p.side) kind → slice_index seen s ≡ code_of_piece (other p.side) kind
   pub own : IsOff p seen → (s : ℕ) (kind : Kind) → Leaves p m s p.side kind → slice_index seen s ≡ code_of_piece p.side kind
   pub kings : HasKingsApart seen
@@ -40,8 +41,8 @@ pub record IsOnTheWay (p : Parts) (m : Move) (seen : List ℕ) : Type 0 where
 abbrev pub MayCome : Parts → Move → List ℕ → Type 0
 MayCome p m seen = IsOnTheWay p m seen ⊎ LacksKing seen
 
--- The entries, in their order, show the move: any number of pictures that may be seen up to it, repeats of them too, and at the
--- end the picture after it.
+-- The entries, in their order, show the move: any number of pictures that may be seen up to it, repeats of them too,
+-- and at the end the picture after it.
 abbrev pub ShownByHand : Parts → Move → List Entry → Type 0
 ShownByHand p m [] = ⊥
 ShownByHand p m (entry ∷ []) = entry.picture ≡ picture (after p m)

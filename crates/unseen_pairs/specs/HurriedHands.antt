@@ -1,6 +1,6 @@
--- Hurried hands: a line of moves in which some pairs of plies are not seen ply by ply. Entries stand in their order; those of the
--- past and those that wait have the latest first.
-use Rattle.std.specs.Prelude.{◌≡◌, ◌≢◌, ◌<◌, ◌⊎◌, ℕ, false, List, [], ◌∷◌, Some, None, reverse, slice_get}
+-- Hurried hands: a line of moves in which some pairs of plies are not seen ply by ply. Entries stand in their order;
+-- those of the past and those that wait have the latest first.
+use Rattle.std.specs.Prelude.{◌≡◌, ◌<◌, ◌⊎◌, ℕ, false, List, [], ◌∷◌, Some, None, reverse, slice_get}
 use Rattle.chess_rules.specs.declared.chess_move.Move.{Move}
 use Rattle.chess_rules.specs.declared.parts.Parts.{Parts}
 use Rattle.chess_rules.specs.After.{after}
@@ -20,7 +20,7 @@ use Rattle.unseen_pairs.specs.declared.pair.Pair.{Pair}
 use Rattle.unseen_pairs.specs.declared.pair.Recovery.{Recovery}
 use Rattle.unseen_pairs.specs.declared.pair.Told.TheVariants.{Recovered}
 use Rattle.unseen_pairs.specs.declared.pair.Told.TheVariants as told
-use Rattle.unseen_pairs.specs.Pairs.{ExplainsAt, GoesOn, ends}
+use Rattle.unseen_pairs.specs.Pairs.{ExplainsAt, GoesOn, IsBack, PutsPiece, ends}
 use Rattle.unseen_pairs.specs.Recovering.{FoldsRecovering, TellsAs, waiting_after}
 
 -- Two plies that are hidden, and the entry that tells their time.
@@ -29,14 +29,14 @@ pub record Hidden : Type 0 where
   pub second : Move
   pub entry : Entry
 
--- A stretch of a recording: entries that show nothing by themselves, and then those that show a move, as honest hands do. Among the
--- first ones two plies may be hidden; then the one that comes next is written apart.
+-- A stretch of a recording: entries that show nothing by themselves, and then those that show a move, as honest hands
+-- do. Among the first ones two plies may be hidden; then the one that comes next is written apart.
 pub data Stretch : Type 0 where
   plain : (silent : List Entry) (m : Move) (shown : List Entry) → Stretch
   hiding : (silent : List Entry) (h : Hidden) (next : Entry) (m : Move) (more : List Entry) → Stretch
 
--- Each of these entries shows nothing by itself after these moves, and confirms no pair. The picture after two legal plies always
--- shows nothing by itself.
+-- Each of these entries shows nothing by itself after these moves, and confirms no pair. The picture after two legal
+-- plies always shows nothing by itself.
 abbrev pub AreSilent : Parts → List Move → List Entry → List Entry → Type 0
 AreSilent start moves waiting [] = Unit {0}
 AreSilent start moves waiting (entry ∷ more) = TellsAs start moves waiting entry.picture (told.Shown Waits)
@@ -62,7 +62,8 @@ ConfirmsNothing start past entry =
 abbrev pub AllButLastConfirmNothing : Parts → List Entry → List Entry → Type 0
 AllButLastConfirmNothing start past [] = Unit {0}
 AllButLastConfirmNothing start past (entry ∷ []) = Unit {0}
-AllButLastConfirmNothing start past (entry ∷ next ∷ more) = ConfirmsNothing start past entry × AllButLastConfirmNothing start (entry ∷ past) (next ∷ more)
+AllButLastConfirmNothing start past (entry ∷ next ∷ more) = ConfirmsNothing start past entry
+    × AllButLastConfirmNothing start (entry ∷ past) (next ∷ more)
 
 -- the pair that the two plies are, and the position after them
 abbrev pub pair_of : Hidden → Pair
@@ -71,9 +72,10 @@ pair_of h = record { corrects = false; first = h.first; second = h.second }
 abbrev pub after_both : Parts → Hidden → Parts
 after_both p h = after (after p h.first) h.second
 
--- Two legal plies are hidden after these moves, while these entries wait, and this picture comes next. Of the last 256 of the
--- entries some have the picture after both plies, and the first of those tells the plies' time. And of all pairs that explain one
--- of the 256, the next picture goes on from this pair alone: after d2-d4 and e4xd3 en passant it goes on from d2-d3 and e4xd3 too.
+-- Two legal plies are hidden after these moves, while these entries wait, and this picture comes next. Of the last 256
+-- of the entries some have the picture after both plies, with no piece that these took back behind them, and the first
+-- of those tells the plies' time. And of all pairs that explain one of the 256, the next picture goes on from this pair
+-- alone: after d2-d4 and e4xd3 en passant it goes on from d2-d3 and e4xd3 too.
 pub record HidesTwo (start : Parts) (moves : List Move) (waiting : List Entry) (next : List ℕ) (h : Hidden) : Type 0 where
   pub first_legal : Legal (reached start moves) h.first
   pub second_legal : Legal (after (reached start moves) h.first) h.second
@@ -81,9 +83,11 @@ pub record HidesTwo (start : Parts) (moves : List Move) (waiting : List Entry) (
   pub low : place < 256
   pub waits : slice_get waiting place ≡ Some h.entry
   pub shows : h.entry.picture ≡ picture (after_both (reached start moves) h)
-  pub oldest : (k : ℕ) (other : Entry) → place < k → k < 256 → slice_get waiting k ≡ Some other → other.picture ≢ h.entry.picture
+  pub gone : (k : ℕ) (later : Entry) → k < place → slice_get waiting k ≡ Some later
+      → ¬ IsBack (reached start moves) (after_both (reached start moves) h) later.picture
+  pub oldest : (k : ℕ) (other : Entry) → place < k → ¬ ExplainsAt start moves waiting (pair_of h) k other
   pub alone : (pair : Pair) (k : ℕ) (other : Entry) (a : Seen)
-      → ExplainsAt start moves waiting pair k other → GoesOn (ends start moves pair) next a → pair ≡ pair_of h
+      → ExplainsAt start moves waiting pair k other → GoesOn (reached start moves) (ends start moves pair) next a → pair ≡ pair_of h
 
 -- a stretch in which no plies are hidden
 pub record IsPlain (start : Parts) (moves : List Move) (past silent : List Entry) (m : Move) (shown : List Entry) : Type 0 where
@@ -92,10 +96,12 @@ pub record IsPlain (start : Parts) (moves : List Move) (past silent : List Entry
   pub are_shown : Shown (reached start moves) m shown
   pub confirm_nothing : AllButLastConfirmNothing start (come_after silent past) shown
 
--- A stretch in which two plies are hidden before the move that is shown. The next picture settles a move of the position after both
--- plies, and none in the place of the last one before them: where a rook's move from a1 to a2 was shown, and Nc6 and the rook's move
--- to a3 are hidden, the knight's return to b8 would be taken for Ra3 in the place of Ra2.
-pub record IsHiding (start : Parts) (moves : List Move) (past silent : List Entry) (h : Hidden) (next : Entry) (m : Move) (more : List Entry) : Type 0 where
+-- A stretch in which two plies are hidden before the move that is shown. The next picture settles a move of the
+-- position after both plies, and none in the place of the last one before them: where a rook's move from a1 to a2 was
+-- shown, and Nc6 and the rook's move to a3 are hidden, the knight's return to b8 would be taken for Ra3 in the place of
+-- Ra2.
+pub record IsHiding (start : Parts) (moves : List Move) (past silent : List Entry) (h : Hidden) (next : Entry) (m : Move)
+    (more : List Entry) : Type 0 where
   pub are_silent : AreSilent start moves [] silent
   pub hides : HidesTwo start moves (left_waiting start moves [] silent) next.picture h
   pub replaces_nothing : (k : Move) → ¬ Replaces start moves next.picture k
@@ -125,8 +131,8 @@ line_of [] = []
 line_of (plain silent m shown ∷ stretches) = m ∷ line_of stretches
 line_of (hiding silent h next m more ∷ stretches) = h.first ∷ h.second ∷ m ∷ line_of stretches
 
--- Its plies: each of a hidden pair has its mover's time in the reading of the first entry with the picture after both, each other
--- one in that of the entry that ends its stretch.
+-- Its plies: each of a hidden pair has its mover's time in the reading of the first entry with the picture after both,
+-- each other one in that of the entry that ends its stretch.
 abbrev pub hurried_plies : Parts → List Stretch → List Ply
 hurried_plies p [] = []
 hurried_plies p (plain silent m shown ∷ stretches) =
@@ -155,10 +161,13 @@ HurriedHandsKeepClocks =
     → FoldsRecovering start (recorded [] stretches) score waiting
     → (score ≡ score_of (hurried_plies start stretches) None) × (waiting ≡ [])
 
--- The kings end a game whose last two plies are hidden: they give a sign over the position after both, and none over the one before.
-pub record EndsHiding (start : Parts) (moves : List Move) (silent : List Entry) (h : Hidden) (kings : Entry) (outcome : Outcome) : Type 0 where
+-- The kings end a game whose last two plies are hidden: these put a piece down, and the kings give a sign over the
+-- position after both, and none over the one before.
+pub record EndsHiding (start : Parts) (moves : List Move) (silent : List Entry) (h : Hidden) (kings : Entry)
+    (outcome : Outcome) : Type 0 where
   pub are_silent : AreSilent start moves [] silent
   pub hides : HidesTwo start moves (left_waiting start moves [] silent) kings.picture h
+  pub puts : PutsPiece (reached start moves) (after_both (reached start moves) h)
   pub is_sign : IsSign (after_both (reached start moves) h) kings.picture outcome
   pub no_sign_before : (other : Outcome) → ¬ IsSign (reached start moves) kings.picture other
 
@@ -171,9 +180,14 @@ with_hidden p h earlier =
 -- So end hurried hands by the kings: the score has the plies of the line, those two, and the sign.
 abbrev pub KingsEndHurriedHands : Type 0
 KingsEndHurriedHands =
-    (start : Parts) (stretches : List Stretch) (silent : List Entry) (h : Hidden) (kings : Entry) (outcome : Outcome) (score : Score) (waiting : List Entry)
+    (start : Parts) (stretches : List Stretch) (silent : List Entry) (h : Hidden) (kings : Entry) (outcome : Outcome) (score : Score)
+    (waiting : List Entry)
     → Valid start
     → IsHurried start [] [] stretches
     → EndsHiding start (reverse (line_of stretches)) silent h kings outcome
     → FoldsRecovering start (kings ∷ come_after silent (recorded [] stretches)) score waiting
-    → score ≡ record { plies = with_hidden (position_after start (line_of stretches)) h (reverse (hurried_plies start stretches)); sign = Some outcome }
+    → score ≡ record {
+      plies = with_hidden (position_after start (line_of stretches)) h
+          (reverse (hurried_plies start stretches));
+      sign = Some outcome;
+    }

@@ -1,4 +1,5 @@
--- What holds of all games in which unseen pairs are recovered. Entries, plies and moves are listed with the latest first.
+-- What holds of all games in which unseen pairs are recovered. Entries, plies and moves are listed with the latest
+-- first.
 use Rattle.std.specs.Prelude.{◌≡◌, ◌⊎◌, ◌↔◌, List, [], ◌∷◌, ◌++◌, None, reverse}
 use Rattle.chess_rules.specs.declared.parts.Parts.{Parts}
 use Rattle.chess_rules.specs.After.{after}
@@ -22,7 +23,8 @@ ConfirmNone start (entry ∷ past) = ConfirmNone start past
     × ((score : Score) (waiting : List Entry) (r : Recovery)
     → FoldsRecovering start past score waiting → ¬ TellsAs start (moves_of score.plies) waiting entry.picture (Recovered r))
 
--- The first entries give this score and these of them wait, as in FoldsRecovering; the second ones are those with what is put in.
+-- The first entries give this score and these of them wait, as in FoldsRecovering; the second ones are those with what
+-- is put in.
 abbrev pub Writes : Parts → List Entry → List Entry → Score → List Entry → Type 0
 Writes start [] written score waiting = (written ≡ []) × (score ≡ record { plies = []; sign = None }) × (waiting ≡ [])
 Writes start (entry ∷ past) written score waiting =
@@ -88,8 +90,8 @@ PliesAreLegal =
     → FoldsRecovering start past score waiting
     → Line start (moves_of (reverse score.plies))
 
--- This ply after these was shown whole: one of the entries has the picture after it, and in its reading the mover has the time
--- that is the ply's clock.
+-- This ply after these was shown whole: one of the entries has the picture after it, and in its reading the mover has
+-- the time that is the ply's clock.
 pub record WasShown (start : Parts) (ply : Ply) (earlier : List Ply) (past : List Entry) : Type 0 where
   pub later : List Entry
   pub entry : Entry
@@ -98,8 +100,8 @@ pub record WasShown (start : Parts) (ply : Ply) (earlier : List Ply) (past : Lis
   pub shows : entry.picture ≡ picture (after (reached start (moves_of earlier)) ply.mv)
   pub clock_is : ply.clock ≡ time_of (reached start (moves_of earlier)).side entry.reading
 
--- This ply after these is one of a pair: the pair was told by one of the entries, and is the ply and its reply, or the ply is the
--- reply in it. In the pair's reading the mover has the time that is the ply's clock.
+-- This ply after these is one of a pair: the pair was told by one of the entries, and is the ply and its reply, or the
+-- ply is the reply in it. In the pair's reading the mover has the time that is the ply's clock.
 pub record WasRecovered (start : Parts) (ply : Ply) (earlier : List Ply) (past : List Entry) : Type 0 where
   pub later : List Entry
   pub entry : Entry

@@ -7,3 +7,4 @@ pub mod Recoverer
 pub mod Laws
 pub mod HonestHands
 pub mod HurriedHands
+pub mod HandsAtRest

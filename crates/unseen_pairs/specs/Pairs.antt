@@ -1,5 +1,5 @@
 -- Two plies of which no picture was whole.
-use Rattle.std.specs.Prelude.{◌≡◌, ◌≢◌, ◌<◌, ℕ, Bool, true, List, [], ◌∷◌, Some, drop, slice_get, if◌then◌else◌}
+use Rattle.std.specs.Prelude.{◌≡◌, ◌≢◌, ◌<◌, ◌==◌, ℕ, Bool, true, List, [], ◌∷◌, Some, count_by, drop, slice_get, slice_index, if◌then◌else◌}
 use Rattle.chess_rules.specs.declared.chess_move.Move.{Move}
 use Rattle.chess_rules.specs.declared.parts.Parts.{Parts}
 use Rattle.chess_rules.specs.After.{after}
@@ -35,26 +35,56 @@ abbrev pub IsInstead : List Move → Move → Type 0
 IsInstead [] m = ⊥
 IsInstead (last ∷ earlier) m = m ≢ last
 
--- The pair explains the picture after these moves: two legal plies in the position reached, or, where it corrects, another
--- move in the place of the last one and a reply to it.
+-- The pair explains the picture after these moves: two legal plies in the position reached, or, where it corrects,
+-- another move in the place of the last one and a reply to it.
 pub record Explains (start : Parts) (moves : List Move) (seen : List ℕ) (pair : Pair) : Type 0 where
   pub after_two : IsAfterTwo (begins start moves pair) seen pair.first pair.second
   pub instead : pair.corrects ≡ true → IsInstead moves pair.first
 
--- Of the last 256 of these entries, of which the latest comes first, the pair explains the one at this place.
+-- how many squares show this code
+abbrev pub times_shown : ℕ → List ℕ → ℕ
+times_shown code seen = count_by (λ shown. shown == code) seen
+
+-- Of some code the second picture has fewer than the first, and fewer than the third.
+pub record IsMissedIn (before left seen : List ℕ) : Type 0 where
+  pub code : ℕ
+  pub some : 0 < code
+  pub taken : times_shown code left < times_shown code before
+  pub shown : times_shown code left < times_shown code seen
+
+-- A piece is back that was taken between these two positions, the second of which has fewer of its code than the first:
+-- the picture shows more of them than the second has.
+abbrev pub IsBack : Parts → Parts → List ℕ → Type 0
+IsBack now after seen = IsMissedIn (picture now) (picture after) seen
+
+-- Of the last 256 of these entries, of which the latest comes first, the pair explains the one at this place. And no
+-- piece that it took is back in an entry that came later.
 pub record ExplainsAt (start : Parts) (moves : List Move) (waiting : List Entry) (pair : Pair) (place : ℕ) (entry : Entry) : Type 0 where
   pub low : place < 256
   pub waits : slice_get waiting place ≡ Some entry
   pub explains : Explains start moves entry.picture pair
+  pub gone : (k : ℕ) (later : Entry) → k < place → slice_get waiting k ≡ Some later
+      → ¬ IsBack (reached start moves) (ends start moves pair) later.picture
 
--- The picture goes on from this position: by a move, or by a sign.
-abbrev pub GoesOn : Parts → List ℕ → Seen → Type 0
-GoesOn p seen (Moved m) = Settles p seen m
-GoesOn p seen (Sign outcome) = IsSign p seen outcome
-GoesOn p seen _ = ⊥
+-- A piece was put down between these two positions: the second has one on a square where the first has none, or
+-- another.
+pub record PutsPiece (now after : Parts) : Type 0 where
+  pub square : ℕ
+  pub low : square < 64
+  pub some : slice_index (picture after) square ≢ 0
+  pub new : slice_index (picture after) square ≢ slice_index (picture now) square
 
--- The picture confirms this pair, and no other: the pair explains an entry that waits, of which the first in time has this
--- reading, and the picture goes on from the position after both plies; it goes on from no other pair that explains one that waits.
+-- The picture goes on from the second of these positions, to which a pair leads from the first: by a move; or by a
+-- sign, where the pair put a piece down. Else pieces may just have been taken off the board before the kings were set
+-- up.
+abbrev pub GoesOn : Parts → Parts → List ℕ → Seen → Type 0
+GoesOn now after seen (Moved m) = Settles after seen m
+GoesOn now after seen (Sign outcome) = IsSign after seen outcome × PutsPiece now after
+GoesOn now after seen _ = ⊥
+
+-- The picture confirms this pair, and no other: the pair explains an entry that waits, of which the first in time has
+-- this reading, and the picture goes on from the position after both plies; it goes on from no other pair that explains
+-- one that waits.
 pub record Confirms (start : Parts) (moves : List Move) (waiting : List Entry) (seen : List ℕ) (r : Recovery) : Type 0 where
   pub place : ℕ
   pub entry : Entry
@@ -64,6 +94,6 @@ pub record Confirms (start : Parts) (moves : List Move) (waiting : List Entry) (
   pub before_is : r.before ≡ begins start moves r.pair
   pub middle_is : r.middle ≡ after (begins start moves r.pair) r.pair.first
   pub after_is : r.after ≡ ends start moves r.pair
-  pub goes_on : GoesOn (ends start moves r.pair) seen r.sequel
+  pub goes_on : GoesOn (reached start moves) (ends start moves r.pair) seen r.sequel
   pub alone : (pair : Pair) (k : ℕ) (other : Entry) (a : Seen)
-      → ExplainsAt start moves waiting pair k other → GoesOn (ends start moves pair) seen a → pair ≡ r.pair
+      → ExplainsAt start moves waiting pair k other → GoesOn (reached start moves) (ends start moves pair) seen a → pair ≡ r.pair

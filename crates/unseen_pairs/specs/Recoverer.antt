@@ -19,9 +19,9 @@ pub record Desk : Type 0 where
   pub settler : Sheet
   pub candidates : List Candidate
 
--- From this start the recoverer was given the first entries, the latest first, and the second ones are those with what was put
--- in. Its settler stands for these; its score is what the first ones give where unseen pairs are recovered; and its candidates
--- explain those that wait.
+-- From this start the recoverer was given the first entries, the latest first, and the second ones are those with what
+-- was put in. Its settler stands for these; its score is what the first ones give where unseen pairs are recovered; and
+-- its candidates explain those that wait.
 pub record StandsForRecovered (desk : Desk) (start : Parts) (past written : List Entry) : Type 0 where
   pub settles : StandsFor desk.settler start written
   pub last : last_picture written ≡ last_picture past
@@ -29,15 +29,15 @@ pub record StandsForRecovered (desk : Desk) (start : Parts) (past written : List
   pub folds : FoldsRecovering start (deduplicated past) desk.settler.score waiting
   pub candidates : ListsCandidates start (moves_of desk.settler.score.plies) waiting desk.candidates
 
--- The entries with what was put in, after one more: where a pair was recovered, the pictures after each of its plies, at the
--- reading of the entry that it explains, and then the entry again.
+-- The entries with what was put in, after one more: where a pair was recovered, the pictures after each of its plies,
+-- at the reading of the entry that it explains, and then the entry again.
 abbrev pub written_after : Entry → Told → List Entry → List Entry
 written_after entry (Shown answer) written = entry ∷ written
 written_after entry (Recovered r) written =
     entry ∷ entry_of (picture r.after) r.reading ∷ entry_of (picture r.middle) r.reading ∷ entry ∷ written
 
--- P holds of what was told. Where that was no pair, it is the answer that was heard. Where a pair was heard, it is the pair that
--- was found; where none was found then, this is false.
+-- P holds of what was told. Where that was no pair, it is the answer that was heard. Where a pair was heard, it is the
+-- pair that was found; where none was found then, this is false.
 abbrev pub HoldsOf : (Told → Type 0) → Heard → Option Recovery → Type 0
 HoldsOf P (Heard.Shown answer) found = P (Shown answer)
 HoldsOf P Heard.Recovered (Some r) = P (Recovered r)
@@ -58,8 +58,8 @@ ReturnsTold start past seen (Shown (Replaced m)) = TellsNew start past seen (Sho
 ReturnsTold start past seen (Shown Waits) = TellsNew start past seen (Shown Waits)
 ReturnsTold start past seen (Recovered r) = TellsNew start past seen (Recovered r)
 
--- After these entries, and those with what was put in, this new one shows nothing by itself, and the settler has seen it
--- (private).
+-- After these entries, and those with what was put in, this new one shows nothing by itself, and the settler has seen
+-- it (private).
 pub record IsWaiting (desk : Desk) (start : Parts) (past written : List Entry) (entry : Entry) : Type 0 where
   pub settles : StandsFor desk.settler start (entry ∷ written)
   pub folded : Folds start (deduplicated written) desk.settler.score

@@ -15,8 +15,8 @@ use Rattle.unseen_pairs.specs.declared.pair.Told.{Told}
 use Rattle.unseen_pairs.specs.declared.pair.Told.TheVariants.{Shown, Recovered}
 use Rattle.unseen_pairs.specs.Pairs.{Confirms, root}
 
--- What a picture tells after these moves, while these entries wait: what it shows; but where it shows nothing yet and confirms
--- one pair, that pair.
+-- What a picture tells after these moves, while these entries wait: what it shows; but where it shows nothing yet and
+-- confirms one pair, that pair.
 abbrev pub TellsAs : Parts → List Move → List Entry → List ℕ → Told → Type 0
 TellsAs start moves waiting seen (Shown answer) =
     SeenAs start moves seen answer × (answer ≡ Waits → (r : Recovery) → ¬ Confirms start moves waiting seen r)

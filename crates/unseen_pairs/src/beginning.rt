@@ -1,4 +1,5 @@
-//! The first plies of the pairs that may explain a picture, as the squares tell on which it differs from the position's.
+//! The first plies of the pairs that may explain a picture, as the squares tell on which it differs from the
+//! position's.
 ghost use Rattle.std.specs.Prelude.{◌≡◌, ◌<◌, IfOk, IsTrue, None, OnOk};
 ghost use Rattle.chess_rules.specs.declared.pieces.Kind.TheVariants.{Pawn};
 ghost use Rattle.chess_rules.specs.Board.{on, piece_of};
@@ -39,8 +40,8 @@ fn lands_theirs(p: &Position, seen: &[u8; 64], mask: u64) -> bool
     false
 }
 
-/// Whether the position has no pawn of the side to move on this square, or one that is not taken in passing and does not
-/// promote.
+/// Whether the position has no pawn of the side to move on this square, or one that is not taken in passing and does
+/// not promote.
 fn is_plain_on(p: &Position, seen: &[u8; 64], from: u8) -> bool
     requires { from < 64 }
     ensures { IsTrue result → on p.now.board from ≡ piece_of p.now.side Pawn → IsPlainPawn p.now seen.now from }
@@ -144,7 +145,8 @@ fn landing_moves(
     seen: &[u8; 64],
     mask: u64,
 ) -> Result<Vec<Move>, AllocError>
-    ensures { IfOk result (λ moves. IsDiff mask (picture p.now) seen.now → BeginsPlainly p.now seen.now → ListsFirst p.now seen.now moves.items) }
+    ensures { IfOk result (λ moves. IsDiff mask (picture p.now) seen.now → BeginsPlainly p.now seen.now
+        → ListsFirst p.now seen.now moves.items) }
 {
     // For its clause: the position is valid.
     p.parts();

@@ -2,11 +2,13 @@
 ghost use Rattle.std.specs.Prelude.{◌≡◌, ◌<◌, ◌↔◌, [], ℕ, List, All, IfOk, IfSome, IfNone, IsTrue};
 ghost use Rattle.chess_rules.specs.declared.parts.Parts.{Parts as PartsOf};
 ghost use Rattle.settle_core.specs.declared.plies.Seen.{Seen as SeenOf};
+ghost use Rattle.chess_rules.specs.Valid.{Valid};
 ghost use Rattle.settle_core.specs.Folding.{SeenAs};
-ghost use Rattle.unseen_pairs.specs.Pairs.{GoesOn};
+ghost use Rattle.unseen_pairs.specs.Pairs.{GoesOn, PutsPiece};
 ghost use Rattle.unseen_pairs.specs.declared.confirming.Confirmed.{Confirmed as ConfirmedOf};
-ghost use Rattle.unseen_pairs.specs.Candidates.{IsOlder, IsOnlyOne, ShowsKing};
+ghost use Rattle.unseen_pairs.specs.Candidates.{AreShown, Follows, IsOlder, IsOnlyOne, ShowsKing};
 
+use crate::evidence::puts_piece;
 use crate::pair::Pair;
 use crate::settled::settled_in;
 use chess_clock::Reading;
@@ -37,6 +39,8 @@ pub struct Candidate {
     pub middle: Position,
     /// The position after both.
     pub after: Position,
+    /// The picture of that position.
+    pub shown: [u8; 64],
     /// The clocks' reading of that picture.
     pub reading: Option<Reading>,
     /// How many pictures have come to wait after that one.
@@ -59,14 +63,17 @@ fn shown_alone(alloc: Global, p: &Position, picture: &[u8; 64]) -> Result<Seen, 
     settler.see(picture, None)
 }
 
-/// What of this goes on from the position.
-fn going_on(seen: Seen) -> Option<Seen>
-    ensures some { (p : PartsOf) (picture : List ℕ) → SeenAs p [] picture seen → IfSome result (GoesOn p picture) }
-    ensures none { (p : PartsOf) (picture : List ℕ) → SeenAs p [] picture seen → IfNone result ((a : SeenOf) → ¬ GoesOn p picture a) }
+/// What of this goes on from the position, to which a pair leads that put a piece down or didn't.
+fn going_on(seen: Seen, puts: bool) -> Option<Seen>
+    ensures some { (now p : PartsOf) (picture : List ℕ) → IsTrue puts ↔ PutsPiece now p → SeenAs p [] picture seen
+        → IfSome result (GoesOn now p picture) }
+    ensures none { (now p : PartsOf) (picture : List ℕ) → Valid p → IsTrue puts ↔ PutsPiece now p → SeenAs p [] picture seen
+        → IfNone result ((a : SeenOf) → ¬ GoesOn now p picture a) }
 {
     match seen {
         Seen::Moved(m) => Some(Seen::Moved(m)),
-        Seen::Sign(outcome) => Some(Seen::Sign(outcome)),
+        Seen::Sign(outcome) if puts => Some(Seen::Sign(outcome)),
+        Seen::Sign(_) => None,
         Seen::Replaced(_) => None,
         Seen::Same => None,
         Seen::Waits => None,
@@ -83,17 +90,26 @@ fn shows_king(picture: &[u8; 64]) -> bool
         || picture[E4] == WHITE_KING
 }
 
-/// What goes on from the position, if anything: the move that the picture settles there, or the sign over it.
-fn sequel(alloc: Global, p: &Position, picture: &[u8; 64]) -> Result<Option<Seen>, AllocError>
+/// What goes on from the candidate, if anything: the move that the picture settles behind its pair, or the sign over
+/// that position, where the pair put a piece down.
+fn sequel(
+    alloc: Global,
+    now: &Position,
+    candidate: &Candidate,
+    picture: &[u8; 64],
+) -> Result<Option<Seen>, AllocError>
     requires { All (λ code. code < 16) picture.now }
-    ensures some { IfOk result (λ found. IfSome found (GoesOn p.now picture.now)) }
-    ensures none { IfOk result (λ found. IfNone found ((a : SeenOf) → ¬ GoesOn p.now picture.now a)) }
+    ensures some { IfOk result (λ found. IfSome found (GoesOn now.now candidate.now.after picture.now)) }
+    ensures none { IfOk result (λ found. IfNone found ((a : SeenOf) → ¬ Follows now.now candidate.now picture.now a)) }
 {
+    let after = &candidate.after;
+    // For its clause: the position is valid.
+    after.parts();
     if shows_king(picture) {
-        let seen = shown_alone(alloc, p, picture)?;
-        return Ok(going_on(seen));
+        let seen = shown_alone(alloc, after, picture)?;
+        return Ok(going_on(seen, puts_piece(now, after)));
     }
-    match settled_in(p, picture) {
+    match settled_in(after, &candidate.shown, picture) {
         Some(m) => Ok(Some(Seen::Moved(m))),
         None => Ok(None),
     }
@@ -120,16 +136,18 @@ fn older(a: &Confirmed, b: &Confirmed) -> Confirmed
 #[inline(never)]
 fn only_one_of(
     alloc: Global,
+    now: &Position,
     candidates: &[Candidate],
     picture: &[u8; 64],
 ) -> Result<Option<Confirmed>, AllocError>
     requires { All (λ code. code < 16) picture.now }
-    ensures some { IfOk result (λ found. IfSome found (IsOnlyOne candidates.now picture.now)) }
-    ensures none { IfOk result (λ found. IfNone found ((one : ConfirmedOf) → ¬ IsOnlyOne candidates.now picture.now one)) }
+    ensures some { IfOk result (λ found. IfSome found (IsOnlyOne now.now candidates.now picture.now)) }
+    ensures none { IfOk result (λ found. IfNone found ((one : ConfirmedOf) → AreShown candidates.now
+        → ¬ IsOnlyOne now.now candidates.now picture.now one)) }
 {
     let mut found = None;
     for candidate in candidates {
-        let Some(sequel) = sequel(alloc, &candidate.after, picture)? else {
+        let Some(sequel) = sequel(alloc, now, candidate, picture)? else {
             continue;
         };
         let one = Confirmed {
@@ -149,18 +167,21 @@ fn only_one_of(
     Ok(found)
 }
 
-/// The oldest candidate of the one pair from which the picture goes on, if there is exactly one such pair.
+/// The oldest candidate of the one pair from which the picture goes on, if there is exactly one such pair. The position
+/// is the one that is reached.
 pub fn only_one(
     alloc: Global,
+    now: &Position,
     candidates: &[Candidate],
     picture: &[u8; 64],
 ) -> Result<Option<Confirmed>, AllocError>
     requires { All (λ code. code < 16) picture.now }
-    ensures some { IfOk result (λ found. IfSome found (IsOnlyOne candidates.now picture.now)) }
-    ensures none { IfOk result (λ found. IfNone found ((one : ConfirmedOf) → ¬ IsOnlyOne candidates.now picture.now one)) }
+    ensures some { IfOk result (λ found. IfSome found (IsOnlyOne now.now candidates.now picture.now)) }
+    ensures none { IfOk result (λ found. IfNone found ((one : ConfirmedOf) → AreShown candidates.now
+        → ¬ IsOnlyOne now.now candidates.now picture.now one)) }
 {
     if candidates.is_empty() {
         return Ok(None);
     }
-    only_one_of(alloc, candidates, picture)
+    only_one_of(alloc, now, candidates, picture)
 }

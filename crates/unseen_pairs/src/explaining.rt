@@ -55,7 +55,8 @@ pub fn has_more(mask: u64, most: u32) -> bool
     mask.count_ones() > most
 }
 
-/// Whether each side has left a square, and no more than eight squares differ: without that, no pair explains the picture.
+/// Whether each side has left a square, and no more than eight squares differ: without that, no pair explains the
+/// picture.
 pub fn may_be_explained(p: &Position, seen: &[u8; 64]) -> bool
     ensures { (m n : MoveOf) → IsAfterTwo p.now seen.now m n → IsTrue result }
 {
@@ -79,7 +80,8 @@ fn stays(before: &[u8; 64], seen: &[u8; 64], m: &Move) -> bool
     before[from] == seen[from]
 }
 
-/// Adds the pair with this first ply that explains the picture, if any: its second ply is the one that the picture settles.
+/// Adds the pair with this first ply that explains the picture, if any: its second ply is the one that the picture
+/// settles.
 fn push_pair_with(
     pairs: &mut Vec<TwoPlies>,
     p: &Position,
@@ -97,7 +99,8 @@ fn push_pair_with(
         return Ok(());
     }
     let middle = p.play(first.copy());
-    let Some(second) = settled_in(&middle, seen) else {
+    let shown = middle.picture();
+    let Some(second) = settled_in(&middle, &shown, seen) else {
         return Ok(());
     };
     pairs.push(TwoPlies {

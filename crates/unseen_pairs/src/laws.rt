@@ -1,5 +1,6 @@
 //! What holds of all games in which unseen pairs are recovered, each law as the contract of a function.
 ghost use Rattle.unseen_pairs.specs.HonestHands.{HonestHandsAreLeftAlone, HonestHandsConfirmNone, PlainHandsAreOnTheWay};
+ghost use Rattle.unseen_pairs.specs.HandsAtRest.{HandsAtRestAreLeftAlone, HandsAtRestConfirmNone};
 ghost use Rattle.unseen_pairs.specs.HurriedHands.{HurriedHands, HurriedHandsKeepClocks, KingsEndHurriedHands};
 ghost use Rattle.unseen_pairs.specs.Laws.{IsWritten, NothingConfirmed, NothingIsInvented, NothingPutIn, PliesAreLegal, RecoversOnce, WritesOnce, WrittenFolds};
 
@@ -31,17 +32,27 @@ pub fn nothing_is_invented()
     ensures { NothingIsInvented }
 {}
 
-/// Honest hands are left alone: no pair is confirmed, and nothing is put in. Such hands leave the other side's pieces where
-/// they stand, but may take off the one that the move takes. While it is off, the mover's pieces stand still too, but those
-/// that the move moves. The kings are not both in the centre. While a king is off the board, anything may show.
+/// Honest hands are left alone: no pair is confirmed, and nothing is put in. Such hands leave the other side's pieces
+/// where they stand, but may take off the one that the move takes. While it is off, the mover's pieces stand still too,
+/// but those that the move moves. The kings are not both in the centre. While a king is off the board, anything may
+/// show.
 pub fn honest_hands_are_left_alone()
     ensures confirms { HonestHandsConfirmNone }
     ensures written { HonestHandsAreLeftAlone }
     ensures plain { PlainHandsAreOnTheWay }
 {}
 
-/// Hurried hands: where some pairs of a line are not seen ply by ply, and the next moves or the kings go on from them alone,
-/// the entries give the line, with its clocks.
+/// So are hands at rest: where each move is shown by such hands, and between two of them and after the last one both
+/// sides lift pieces and put them back, no pair is confirmed. A piece comes back only while the others of its kind and
+/// all pawns of its side stand; before the next move all stand again. After the last one the board may be cleared and
+/// the kings set up, in any order.
+pub fn hands_at_rest_are_left_alone()
+    ensures confirms { HandsAtRestConfirmNone }
+    ensures written { HandsAtRestAreLeftAlone }
+{}
+
+/// Hurried hands: where some pairs of a line are not seen ply by ply, and the next moves or the kings go on from them
+/// alone, the entries give the line, with its clocks.
 pub fn hurried_hands_give_their_line()
     ensures moves { HurriedHands }
     ensures score { HurriedHandsKeepClocks }

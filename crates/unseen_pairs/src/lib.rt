@@ -1,13 +1,15 @@
 //! Unseen pairs: two plies of which no picture was whole, and the next move, or the kings, that confirm them.
 //!
 //! Begin with `recoverer.rt`, which takes pictures. `beginning.rt` lists the plies with which a pair may begin,
-//! `explaining.rt` finds the pairs that explain a picture, over `settled.rt`; `waiting.rt` keeps them, and `confirming.rt`
-//! says which of them a later picture confirms. `pair.rt` has what is answered, `laws.rt` what holds of all games. A call
-//! marked `For its clause` changes nothing: the proof needs what its contract says.
+//! `explaining.rt` finds the pairs that explain a picture, over `settled.rt`; `waiting.rt` keeps them, and
+//! `confirming.rt` says which of them a later picture confirms, over `evidence.rt`. `pair.rt` has what is answered,
+//! `laws.rt` what holds of all games. A call marked `For its clause` changes nothing: the proof needs what its contract
+//! says.
 #![tactic(auto)]
 
 mod beginning;
 mod confirming;
+mod evidence;
 mod explaining;
 pub mod laws;
 mod pair;

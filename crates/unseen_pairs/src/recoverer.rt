@@ -1,8 +1,9 @@
-//! The recoverer: it takes pictures, and keeps the line that they show, with the pairs that no picture showed ply by ply.
+//! The recoverer: it takes pictures, and keeps the line that they show, with the pairs that no picture showed ply by
+//! ply.
 ghost use Rattle.std.specs.Prelude.{◌≡◌, ◌<◌, ◌↔◌, ◌^◌, ℕ, List, [], ◌∷◌, All, IfOk, OnOk, IsTrue, true, slice_index, slice_set};
 ghost use Rattle.chess_rules.specs.declared.parts.Parts.{Parts as PartsOf};
 ghost use Rattle.settle_core.specs.Entries.{Entry, entry_of};
-ghost use Rattle.settle_core.specs.Settler.{has_seen};
+ghost use Rattle.settle_core.specs.Settler.{has_seen, position_of};
 ghost use Rattle.unseen_pairs.specs.declared.confirming.Confirmed.{Confirmed as ConfirmedOf};
 ghost use Rattle.unseen_pairs.specs.declared.pair.Told.{Told as ToldOf};
 ghost use Rattle.unseen_pairs.specs.Candidates.{IsOnlyOne};
@@ -10,7 +11,7 @@ ghost use Rattle.unseen_pairs.specs.Recoverer.{HasTold, HoldsOf, IsWaiting, Retu
 
 use crate::confirming::{Candidate, Confirmed, only_one};
 use crate::pair::{Heard, Recovery, Told};
-use crate::waiting::{add_all, all_aged, copy, hides_none};
+use crate::waiting::{add_all, all_kept, copy, hides_none};
 use chess_clock::Reading;
 use chess_rules::{Position, Square};
 use settle_core::{Seen, Settler};
@@ -82,8 +83,8 @@ impl Recoverer {
     }
 
     /// Takes a picture that is the last one but for this square; one must have been seen. Where it returns
-    /// `Heard::Recovered`, the pair that the picture confirms is in `found`; else what `found` holds tells nothing. Changes
-    /// one square, and one bit of each mask; most pictures that wait cost no more.
+    /// `Heard::Recovered`, the pair that the picture confirms is in `found`; else what `found` holds tells nothing.
+    /// Changes one square, and one bit of each mask; most pictures that wait cost no more.
     ///
     /// # Errors
     ///
@@ -99,11 +100,13 @@ impl Recoverer {
     ) -> Result<Heard, AllocError>
         requires seen { has_seen self.old.settler ≡ true }
         requires codes { All (λ code. code < 16) picture.now }
-        ensures stands { (start : PartsOf) (before : Entry) (past written : List Entry) → StandsForRecovered self.old start (before ∷ past) written
+        ensures stands { (start : PartsOf) (before : Entry) (past written : List Entry)
+            → StandsForRecovered self.old start (before ∷ past) written
             → picture.now ≡ slice_set before.picture square (slice_index picture.now square)
             → IfOk result (λ heard. HoldsOf (λ told. StandsForRecovered self.new start (entry_of picture.now clock ∷ before ∷ past)
             (written_after (entry_of picture.now clock) told written)) heard found.new) }
-        ensures answer { (start : PartsOf) (before : Entry) (past written : List Entry) → StandsForRecovered self.old start (before ∷ past) written
+        ensures answer { (start : PartsOf) (before : Entry) (past written : List Entry)
+            → StandsForRecovered self.old start (before ∷ past) written
             → picture.now ≡ slice_set before.picture square (slice_index picture.now square)
             → IfOk result (λ heard. HoldsOf (ReturnsTold start (before ∷ past) picture.now) heard found.new) }
     {
@@ -129,7 +132,8 @@ impl Recoverer {
     /// Whether the last picture, which shows nothing by itself, confirms no pair, and none explains it.
     #[inline(always)]
     fn idles(&self) -> bool
-        ensures { IsTrue result → (start : PartsOf) (past written : List Entry) (entry : Entry) → IsWaiting self.now start past written entry
+        ensures { IsTrue result → (start : PartsOf) (past written : List Entry) (entry : Entry)
+            → IsWaiting self.now start past written entry
             → HasTold self.now start past written entry (ToldOf.Shown Seen.Waits) }
     {
         // For its clause: the start is valid.
@@ -190,7 +194,7 @@ impl Recoverer {
         ensures { (start : PartsOf) (past written : List Entry) → IsWaiting self.old start past written (entry_of picture.now clock.now)
             → IfOk result (HasTold self.new start past written (entry_of picture.now clock.now)) }
     {
-        let found = only_one(alloc, &self.candidates, picture)?;
+        let found = only_one(alloc, self.settler.position(), &self.candidates, picture)?;
         if let Some(one) = found {
             return self.put_in(&one, picture, clock);
         }
@@ -208,7 +212,7 @@ impl Recoverer {
     ) -> Result<Told, AllocError>
         requires { All (λ code. code < 16) picture.now }
         ensures { (start : PartsOf) (past written : List Entry) → IsWaiting self.old start past written (entry_of picture.now clock.now)
-            → IsOnlyOne self.old.candidates picture.now one.now
+            → IsOnlyOne (position_of self.old.settler) self.old.candidates picture.now one.now
             → IfOk result (HasTold self.new start past written (entry_of picture.now clock.now)) }
     {
         // For its clause: the start is valid.
@@ -238,7 +242,7 @@ impl Recoverer {
         clock: &Option<Reading>,
     ) -> Result<(), AllocError>
         ensures { (start : PartsOf) (past written : List Entry) → IsWaiting self.old start past written (entry_of picture.now clock.now)
-            → ((one : ConfirmedOf) → ¬ IsOnlyOne self.old.candidates picture.now one)
+            → ((one : ConfirmedOf) → ¬ IsOnlyOne (position_of self.old.settler) self.old.candidates picture.now one)
             → OnOk result (HasTold self.new start past written (entry_of picture.now clock.now) (Told.Shown Seen.Waits)) }
     {
         // For its clause: the start is valid.
@@ -247,7 +251,7 @@ impl Recoverer {
             self.candidates.clear();
             return Ok(());
         }
-        let mut candidates = all_aged(alloc, &self.candidates)?;
+        let mut candidates = all_kept(alloc, self.settler.position(), picture, &self.candidates)?;
         add_all(alloc, &mut candidates, &self.settler, picture, clock)?;
         self.candidates = candidates;
         Ok(())

@@ -1,6 +1,7 @@
 //! The move that a picture settles in a position.
 ghost use Rattle.std.specs.Prelude.{◌≡◌, ◌↔◌, IfSome, IfNone, IsTrue, Some};
 ghost use Rattle.chess_rules.specs.declared.chess_move.Move.{Move as MoveOf};
+ghost use Rattle.chess_rules.specs.Picture.{picture};
 ghost use Rattle.settle_core.specs.Settling.{Settles};
 
 use chess_rules::laws::pictures_tell_moves;
@@ -19,20 +20,20 @@ fn settles(p: &Position, seen: &[u8; 64], m: &Move) -> bool
 }
 
 /// The one move that the squares may show on which the picture differs from the position's, if any.
-fn candidate_in(p: &Position, seen: &[u8; 64]) -> Option<Move>
-    ensures { (m : MoveOf) → Settles p.now seen.now m → result ≡ Some m }
+fn candidate_in(p: &Position, before: &[u8; 64], seen: &[u8; 64]) -> Option<Move>
+    ensures { before.now ≡ picture p.now → (m : MoveOf) → Settles p.now seen.now m → result ≡ Some m }
 {
     // For its clause: the position is valid.
     p.parts();
-    let before = p.picture();
-    candidate(&before, seen, diff_mask(&before, seen))
+    candidate(before, seen, diff_mask(before, seen))
 }
 
-/// The move that the picture settles in the position, if any: the one candidate is tested.
-pub fn settled_in(p: &Position, seen: &[u8; 64]) -> Option<Move>
+/// The move that the picture settles in the position, if any: the one candidate is tested. The first picture is that of
+/// the position.
+pub fn settled_in(p: &Position, before: &[u8; 64], seen: &[u8; 64]) -> Option<Move>
     ensures some { IfSome result (Settles p.now seen.now) }
-    ensures none { IfNone result ((m : MoveOf) → ¬ Settles p.now seen.now m) }
+    ensures none { before.now ≡ picture p.now → IfNone result ((m : MoveOf) → ¬ Settles p.now seen.now m) }
 {
-    let m = candidate_in(p, seen)?;
+    let m = candidate_in(p, before, seen)?;
     if settles(p, seen, &m) { Some(m) } else { None }
 }

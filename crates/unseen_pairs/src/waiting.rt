@@ -1,16 +1,19 @@
 //! The candidates of the entries that wait.
-ghost use Rattle.std.specs.Prelude.{◌≡◌, ◌<◌, ◌∷◌, [], true, false, List, Some, IfOk, IsTrue, OnOk};
+ghost use Rattle.std.specs.Prelude.{◌≡◌, ◌<◌, ◌↔◌, ◌∷◌, [], true, false, List, Some, IfOk, IsTrue, OnOk};
+ghost use Rattle.chess_rules.specs.declared.parts.Parts.{Parts as PartsOf};
 ghost use Rattle.chess_rules.specs.After.{after};
 ghost use Rattle.chess_rules.specs.Legal.{Legal};
+ghost use Rattle.chess_rules.specs.Picture.{picture as picture_of};
 ghost use Rattle.chess_rules.specs.Valid.{Valid};
 ghost use Rattle.settle_core.specs.declared.plies.Ply.{Ply as PlyOf};
 ghost use Rattle.settle_core.specs.declared.plies.Seen.{Seen as SeenOf};
 ghost use Rattle.settle_core.specs.Folding.{SeenAs, moves_of};
 ghost use Rattle.settle_core.specs.Settler.{position_of};
 ghost use Rattle.settle_core.specs.Settling.{Played, reached};
-ghost use Rattle.unseen_pairs.specs.Candidates.{AreAdded, AreAllAdded, AreAged, HidesNone, IsNew};
+ghost use Rattle.unseen_pairs.specs.Candidates.{AreAdded, AreAllAdded, AreKept, HidesNone, IsKept, IsNew};
 
 use crate::confirming::Candidate;
+use crate::evidence::is_back;
 use crate::explaining::{has_more, may_be_explained, pairs_that_explain};
 use crate::pair::{Pair, TwoPlies};
 use chess_clock::Reading;
@@ -25,31 +28,50 @@ pub fn copy(reading: &Option<Reading>) -> Option<Reading>
     *reading
 }
 
-/// What `all_aged` returns, however many candidates there are: apart, since a picture seldom meets any.
-#[inline(never)]
-fn aged_each(alloc: Global, candidates: &[Candidate]) -> Result<Vec<Candidate>, AllocError>
-    ensures { IfOk result (λ aged. AreAged candidates.now aged.items) }
+/// Whether the candidate is not as old as can be, and no piece is back that its pair took.
+fn is_kept(before: &[u8; 64], picture: &[u8; 64], candidate: &Candidate) -> bool
+    ensures { (now : PartsOf) → before.now ≡ picture_of now → IsTrue result ↔ IsKept now picture.now candidate.now }
 {
-    let mut aged = Vec::new(alloc);
+    candidate.age < 255 && !is_back(before, &candidate.shown, picture)
+}
+
+/// What `all_kept` returns, however many candidates there are: apart, since a picture seldom meets any.
+#[inline(never)]
+fn kept_each(
+    alloc: Global,
+    now: &Position,
+    picture: &[u8; 64],
+    candidates: &[Candidate],
+) -> Result<Vec<Candidate>, AllocError>
+    ensures { IfOk result (λ kept. AreKept now.now picture.now candidates.now kept.items) }
+{
+    let before = now.picture();
+    let mut kept = Vec::new(alloc);
     for candidate in candidates {
-        if candidate.age < 255 {
-            aged.push(Candidate {
+        if is_kept(&before, picture, candidate) {
+            kept.push(Candidate {
                 age: candidate.age + 1,
                 ..*candidate
             })?;
         }
     }
-    Ok(aged)
+    Ok(kept)
 }
 
-/// The candidates after one more entry: those that are as old as can be are left out.
-pub fn all_aged(alloc: Global, candidates: &[Candidate]) -> Result<Vec<Candidate>, AllocError>
-    ensures { IfOk result (λ aged. AreAged candidates.now aged.items) }
+/// The candidates after one more entry: those are left out that are as old as can be, and those whose pair took a piece
+/// that is back in it.
+pub fn all_kept(
+    alloc: Global,
+    now: &Position,
+    picture: &[u8; 64],
+    candidates: &[Candidate],
+) -> Result<Vec<Candidate>, AllocError>
+    ensures { IfOk result (λ kept. AreKept now.now picture.now candidates.now kept.items) }
 {
     if candidates.is_empty() {
         return Ok(Vec::new(alloc));
     }
-    aged_each(alloc, candidates)
+    kept_each(alloc, now, picture, candidates)
 }
 
 /// The candidate of two plies from a position.
@@ -74,12 +96,14 @@ fn candidate_of(
         before: *p,
         middle,
         after,
+        shown: after.picture(),
         reading: copy(reading),
         age: 0,
     }
 }
 
-/// Adds the pairs from a position that explain the picture, without a test before: apart, since few pictures come so far.
+/// Adds the pairs from a position that explain the picture, without a test before: apart, since few pictures come so
+/// far.
 #[inline(never)]
 fn add_explaining(
     alloc: Global,
@@ -154,7 +178,9 @@ fn add_correcting(
     reading: &Option<Reading>,
 ) -> Result<(), AllocError>
     ensures last { (ply : PlyOf) (earlier : List PlyOf) → settler.now.last ≡ Some picture.now → settler.now.score.plies ≡ ply ∷ earlier
-        → Valid (reached settler.now.start (moves_of earlier)) → OnOk result (AreAdded true (reached settler.now.start (moves_of earlier)) picture.now reading.now candidates.old.items candidates.new.items) }
+        → Valid (reached settler.now.start (moves_of earlier))
+        → OnOk result (AreAdded true (reached settler.now.start
+        (moves_of earlier)) picture.now reading.now candidates.old.items candidates.new.items) }
     ensures none { settler.now.score.plies ≡ [] → OnOk result (candidates.new.items ≡ candidates.old.items) }
 {
     if !settler.may_hide_two_before() {
@@ -166,9 +192,9 @@ fn add_correcting(
     add_pairs(alloc, candidates, true, &before, picture, reading)
 }
 
-/// Whether the squares that the sides have left tell that no pair explains the last picture, where it waits. A pair leaves a
-/// square of each side. Where it corrects the last ply, the side that is not to move has left the square to which this ply
-/// went.
+/// Whether the squares that the sides have left tell that no pair explains the last picture, where it waits. A pair
+/// leaves a square of each side. Where it corrects the last ply, the side that is not to move has left the square to
+/// which this ply went.
 #[inline(always)]
 pub fn hides_none(settler: &Settler) -> bool
     ensures { IsTrue result → HidesNone settler.now }
@@ -184,8 +210,8 @@ pub fn hides_none(settler: &Settler) -> bool
     !settler.may_hide_two_before()
 }
 
-/// Adds all pairs that explain a picture which waits: those from the settler's position, and those from the position before
-/// its last ply.
+/// Adds all pairs that explain a picture which waits: those from the settler's position, and those from the position
+/// before its last ply.
 pub fn add_all(
     alloc: Global,
     candidates: &mut Vec<Candidate>,
@@ -196,11 +222,13 @@ pub fn add_all(
     ensures { settler.now.last ≡ Some picture.now
         → Played settler.now.start (moves_of settler.now.score.plies)
         → SeenAs settler.now.start (moves_of settler.now.score.plies) picture.now SeenOf.Waits
-        → OnOk result (AreAllAdded settler.now.start settler.now.score.plies picture.now reading.now candidates.old.items candidates.new.items) }
+        → OnOk result (AreAllAdded settler.now.start settler.now.score.plies picture.now reading.now
+        candidates.old.items candidates.new.items) }
 {
     // For its clause: the start is valid.
     settler.start().parts();
-    // No ply changes more than four squares. Where the last ply is taken back and two others are made, that is twelve at most.
+    // No ply changes more than four squares. Where the last ply is taken back and two others are made, that is twelve
+    // at most.
     if has_more(settler.differs(), 12) {
         return Ok(());
     }

@@ -3,8 +3,8 @@ use Rattle.std.specs.Prelude.{◌≡◌, ℕ, ◌+◌, ◌<◌, ◌≤◌, List,
 use Rattle.std.specs.Io.KnownBytes.{Consumes, IsAtEnd, Keeps}
 use Rattle.watched_streams.specs.declared.chunks.ReadChunk.{ReadChunk}
 
--- The next bytes of the input are the first of the buffer, at most as many as were left up to the limit; and where the limit is
--- passed, one more was read.
+-- The next bytes of the input are the first of the buffer, at most as many as were left up to the limit; and where the
+-- limit is passed, one more was read.
 pub record GivesChunk (left : ℕ) (buffer : List ℕ) (chunk : ReadChunk) (input input' : Option (List ℕ)) : Type 0 where
   pub beyond : List ℕ
   pub consumes : Consumes input input' (take chunk.within buffer ++ beyond)

@@ -14,7 +14,8 @@ pub struct WriteFault {
     pub written: u64,
 }
 
-/// Writes all the bytes, by as many calls of `write` as it takes. It doesn't flush. The stream must not have failed before.
+/// Writes all the bytes, by as many calls of `write` as it takes. It doesn't flush. The stream must not have failed
+/// before.
 ///
 /// # Errors
 ///
@@ -56,7 +57,8 @@ pub fn flush_unless_failed<W: Write>(out: &mut Watch<W>) -> bool
 /// perhaps all. The stream must not have failed before.
 pub fn put_and_flush<W: Write>(out: &mut Watch<W>, bytes: &[u8]) -> bool
     requires { has_failed out.old ≡ false }
-    ensures done { IsTrue result → Appends (W.contents (inner_of out.old)) (W.contents (inner_of out.new)) bytes.now × (has_failed out.new ≡ false) }
+    ensures done { IsTrue result → Appends (W.contents (inner_of out.old)) (W.contents (inner_of out.new)) bytes.now
+        × (has_failed out.new ≡ false) }
     ensures part { AppendsPart (W.contents (inner_of out.old)) (W.contents (inner_of out.new)) bytes.now }
     ensures failed { result ≡ false → has_failed out.new ≡ true }
     ensures flushed { IsFlushed out.new }

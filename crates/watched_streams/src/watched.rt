@@ -6,8 +6,8 @@ ghost use Rattle.watched_streams.specs.Watch.{inner_of, has_failed, is_unflushed
 
 use std::io::{self, Read, Write};
 
-/// A stream that remembers whether a call on it has failed, and whether it was written to since it was flushed. A write of at
-/// least one byte that takes none counts as failed, and so does an interrupted call.
+/// A stream that remembers whether a call on it has failed, and whether it was written to since it was flushed. A write
+/// of at least one byte that takes none counts as failed, and so does an interrupted call.
 ///
 /// It passes each call of `Read` and `Write` on to its stream and returns what that returns.
 #[derive(Debug, Drop)]

@@ -10,7 +10,7 @@ invariant-events g l = record {
   inside : l.taken ≤ length l.chunk;
   working : has_failed l.out ≡ false;
   begun : HasBegun l.printer;
-  room : array_vec_len l.lines + 256 ≤ 8192;
+  room : array_vec_len l.lines + 768 ≤ 8192;
   taken : HasTaken l.decoder (l.start + l.taken);
   listing : ListsChunk l.fn.decoder l.fn.printer l.start (take l.taken l.chunk) l.decoder l.printer (g.O.Write.contents (inner_of l.fn.out)) (g.O.Write.contents (inner_of l.out)) l.lines.items;
 }

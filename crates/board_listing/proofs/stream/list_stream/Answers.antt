@@ -1,9 +1,11 @@
-use Rattle.std.proofs.Common.{◌≡◌, [], take, subst, inl, inr, arith, rules}
+use Prim.{search}
+use Rattle.std.proofs.Common.{◌≡◌, ◌∙◌, [], take, subst, sym, inl, inr, arith, rules}
+use Rattle.watched_streams.proofs.ResultLemmas.{at_err, at_ok}
 use Rattle.std.specs.Io.KnownBytes.{Consumes, IsAtEnd}
 use Rattle.watched_streams.specs.Input.{GivesChunk}
 use Rattle.watched_streams.specs.Watch.{inner_of}
 use Rattle.board_listing.specs.Progress.{BreaksOff, Finishes}
-use Rattle.board_listing.proofs.StreamLemmas.{all_at_end, first_at_limit, front_at_end, front_at_chunk, front_of_read, front_past_limit, has_begun, listed_more, no_other, read_so_far, reads_no_more, reads_none, reads_within, refused_at_chunk}
+use Rattle.board_listing.proofs.StreamLemmas.{all_at_end, first_at_limit, front_at_begin, front_at_end, front_at_chunk, front_of_read, front_past_limit, has_begun, listed_more, listed_none, no_other, read_so_far, reads_no_more, reads_none, reads_within, refused_at_chunk}
 use Rattle.board_listing.proofs.GatherLemmas.{ok_through}
 use Rattle.board_listing.specs.Listings.{ListsAll}
 use Rattle.board_listing.specs.declared.stream.ListError.{ListError}
@@ -161,9 +163,17 @@ returns-in_default-read-clause-bounded g c =
     c.chunks.invariant.within c.chunks.invariant.done ended.0
 
 pub chunks-init : goal.chunks-init
-chunks-init g c = record {
-  within = omega arith;
-  reading = c.requires.reading;
-  working = c.requires.working;
-  done = search rules;
-}
+chunks-init g c =
+    let begun = sym c.is_err.ensures.value ∙ c.if-is_err.false in
+    record {
+      within = omega arith;
+      reading = c.requires.reading;
+      working = at_ok _ c.begin.result begun c.begin.ensures.working;
+      done = listed_none c.new-decoder.result c.new-printer.result c.args.listing (g.R.Read.remaining (inner_of c.args.reader.now)) (g.O.Write.contents (inner_of c.args.out.now))
+          (g.O.Write.contents (inner_of c.begin.new.out)) (search rules) c.new-printer.ensures (search rules) (at_ok _ c.begin.result begun c.begin.ensures.ok);
+    }
+
+pub returns-then-is_err-clause-front : goal.returns-then-is_err-clause-front
+returns-then-is_err-clause-front g c =
+    front_at_begin c.args.listing (g.R.Read.remaining (inner_of c.args.reader.now)) (g.O.Write.contents (inner_of c.args.out.now)) (g.O.Write.contents (inner_of c.begin.new.out))
+    (search rules) (at_err _ c.begin.result (sym c.is_err.ensures.value ∙ c.if-is_err.true) c.begin.ensures.front)

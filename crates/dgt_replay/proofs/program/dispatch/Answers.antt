@@ -14,6 +14,9 @@ returns-in-Record-clause-does g c = rw c.in-Record.is (c.record_game.ensures.rec
 pub returns-in-Follow-clause-does : goal.returns-in-Follow-clause-does
 returns-in-Follow-clause-does g c = rw c.in-Follow.is (c.follow.ensures.lists, c.follow.ensures.refuses)
 
+pub returns-in-Watch-clause-does : goal.returns-in-Watch-clause-does
+returns-in-Watch-clause-does g c = rw c.in-Watch.is (c.follow-in-Watch.ensures.lists, c.follow-in-Watch.ensures.refuses)
+
 pub returns-in-Recover-clause-does : goal.returns-in-Recover-clause-does
 returns-in-Recover-clause-does g c = rw c.in-Recover.is (c.recover.ensures.recovers, c.recover.ensures.refuses)
 

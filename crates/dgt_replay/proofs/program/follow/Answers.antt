@@ -1,19 +1,22 @@
-use Rattle.std.proofs.Common.{◌∙◌, inl, sym}
+use Rattle.std.proofs.Common.{◌≡◌, ◌∙◌, ap, inl, sym}
 use Rattle.std.proofs.KnownBytes.{Keeps-refl}
 use Rattle.watched_streams.specs.Watch.{inner_of}
 use Rattle.chess_text.specs.Start.{given}
+use Rattle.dgt_replay.specs.Does.{game_listing}
 use Rattle.text_subcommands.specs.Refusals.{RefusesStart}
 use Rattle.text_subcommands.specs.Messages.{fen_message}
 use Rattle.text_subcommands.proofs.MessageLemmas.{tells_refused}
 use Rattle.text_subcommands.proofs.RefusalLemmas.{start_refused}
 use Rattle.watched_streams.proofs.ResultLemmas.{ok_same}
-use Rattle.dgt_replay.proofs.SetupLemmas.{same_game}
+use Rattle.dgt_replay.proofs.SetupLemmas.{same_setting}
 use Rattle.dgt_replay.proofs.program.follow.Goals as goal
 
 pub returns-in-Ok-clause-lists : goal.returns-in-Ok-clause-lists
 returns-in-Ok-clause-lists g c setting meets =
     let same = ok_same c.start_of.result c.in-Ok.start setting.start c.in-Ok.is ((c.start_of.ensures.start setting.start).1 meets.start) in
-    rw (← same_game c.args.options.now setting c.in-Ok.start meets same) c.list.ensures.lists
+    let listing : c.game_listing-listing.result ≡ game_listing c.args.watched setting =
+    c.game_listing-listing.ensures ∙ ap (game_listing c.args.watched) (same_setting c.args.options.now setting c.in-Ok.start meets same) in
+    rw (← listing) c.list.ensures.lists
 
 pub returns-in-Ok-clause-refuses : goal.returns-in-Ok-clause-refuses
 returns-in-Ok-clause-refuses g c none = absurd (none c.in-Ok.start ((c.start_of.ensures.start c.in-Ok.start).0 c.in-Ok.is))

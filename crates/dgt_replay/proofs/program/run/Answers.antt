@@ -6,13 +6,13 @@ use Rattle.clap.specs.declared.error.kind.ErrorKind.TheVariants as kind
 use Rattle.watched_streams.specs.Watch.{inner_of}
 use Rattle.board_listing.specs.EventLines.{rest_line}
 use Rattle.board_listing.specs.OneText.{event_lines, no_line, picture_lines}
-use Rattle.board_listing.specs.declared.listing.Listing.TheVariants.{Game}
+use Rattle.board_listing.specs.declared.listing.Listing.TheVariants.{Game, Watched}
 use Rattle.replay_arguments.specs.TagOptions.{option_of}
 use Rattle.dgt_replay.specs.Refusals.{RefusesSetup}
 use Rattle.text_subcommands.specs.Refusals.{RefusesStart}
-use Rattle.dgt_replay.proofs.DoesLemmas.{checks_memory, does_check, does_follow, does_moves, does_pictures, does_positions, does_record, does_recover, does_refuse_positions, does_refuse_recover, does_refuse_setup, does_refuse_start, does_show, lacks_memory, lists_memory, plays_memory, prints_memory, records_memory, recovers_memory, refuses_memory, text_memory}
+use Rattle.dgt_replay.proofs.DoesLemmas.{checks_memory, does_check, does_follow, does_moves, does_pictures, does_positions, does_record, does_recover, does_refuse_positions, does_refuse_recover, does_refuse_setup, does_refuse_start, does_refuse_watch, does_show, does_watch, lacks_memory, lists_memory, plays_memory, prints_memory, records_memory, recovers_memory, refuses_memory, text_memory}
 use Rattle.dgt_replay.proofs.FaultLemmas.{mistaken_asks_nothing, mistaken_kind, one_fault, one_kind, text_out_of_memory}
-use Rattle.dgt_replay.proofs.SubcommandLemmas.{check_unrefused, follow_unrefused, moves_chosen, or_refused, pictures_unrefused, record_unrefused, recover_chosen, recover_unrefused, show_unrefused, unrefused}
+use Rattle.dgt_replay.proofs.SubcommandLemmas.{check_unrefused, follow_unrefused, moves_chosen, or_refused, pictures_unrefused, record_unrefused, recover_chosen, recover_unrefused, show_unrefused, unrefused, watch_unrefused}
 use Rattle.dgt_replay.proofs.program.run.Goals as goal
 
 pub returns-in-Err-clause-show : goal.returns-in-Err-clause-show
@@ -74,6 +74,26 @@ pub returns-in-Ok-clause-follow_refuses : goal.returns-in-Ok-clause-follow_refus
 returns-in-Ok-clause-follow_refuses g c rows asks none =
     let arguments = map string_bytes c.args.arguments.now in
     does_refuse_start arguments c.in-Ok.subcommand c.dispatch.result _ c.in-Ok.ensures.chooses c.dispatch.ensures.does rows asks none
+
+pub returns-in-Err-clause-watch : goal.returns-in-Err-clause-watch
+returns-in-Err-clause-watch g c setting asks =
+    let arguments = map string_bytes c.args.arguments.now in
+    lists_memory (Watched setting.start setting.first setting.rotated) _ _ (lacks_memory _ _ (Keeps-refl (g.R.Read.remaining (inner_of c.args.reader.now))) c.requires.reading (c.refused_arguments.ensures.memory (or_refused c.in-Err.ensures.refused (watch_unrefused arguments setting asks))))
+
+pub returns-in-Ok-clause-watch : goal.returns-in-Ok-clause-watch
+returns-in-Ok-clause-watch g c setting asks =
+    let arguments = map string_bytes c.args.arguments.now in
+    does_watch arguments c.in-Ok.subcommand c.dispatch.result _ c.in-Ok.ensures.chooses c.dispatch.ensures.does setting asks
+
+pub returns-in-Err-clause-watch_refuses : goal.returns-in-Err-clause-watch_refuses
+returns-in-Err-clause-watch_refuses g c rows asks none =
+    let arguments = map string_bytes c.args.arguments.now in
+    refuses_memory (RefusesStart (first_of (codes "fen") rows)) _ _ (lacks_memory _ _ (Keeps-refl (g.R.Read.remaining (inner_of c.args.reader.now))) c.requires.reading (c.refused_arguments.ensures.memory (or_refused c.in-Err.ensures.refused (unrefused arguments (codes "watch") rows asks))))
+
+pub returns-in-Ok-clause-watch_refuses : goal.returns-in-Ok-clause-watch_refuses
+returns-in-Ok-clause-watch_refuses g c rows asks none =
+    let arguments = map string_bytes c.args.arguments.now in
+    does_refuse_watch arguments c.in-Ok.subcommand c.dispatch.result _ c.in-Ok.ensures.chooses c.dispatch.ensures.does rows asks none
 
 pub returns-in-Err-clause-recover : goal.returns-in-Err-clause-recover
 returns-in-Err-clause-recover g c setting asks =

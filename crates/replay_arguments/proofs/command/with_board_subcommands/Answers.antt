@@ -1,5 +1,5 @@
 use Rattle.clap.specs.Simple.{with_subcommand}
-use Rattle.replay_arguments.specs.Command.{follow_app, pictures_app, record_app, recover_app, show_app}
+use Rattle.replay_arguments.specs.Command.{follow_app, pictures_app, record_app, recover_app, show_app, watch_app}
 use Rattle.replay_arguments.proofs.command.with_board_subcommands.Goals as goal
 
 pub returns : goal.returns
@@ -12,4 +12,6 @@ returns c = λ app is.
     let s2 = c.with_subcommand-command-2.ensures one pictures_app s1 c.pictures.ensures in
     let s3 = c.with_subcommand-command-3.ensures two record_app s2 c.record.ensures in
     let s4 = c.with_subcommand-command-4.ensures three follow_app s3 c.follow.ensures in
-    c.with_subcommand.ensures four recover_app s4 c.recover.ensures
+    let five = with_subcommand four watch_app.top in
+    let s5 = c.with_subcommand-command-5.ensures four watch_app s4 c.watch.ensures in
+    c.with_subcommand.ensures five recover_app s5 c.recover.ensures

@@ -1,4 +1,4 @@
-use Rattle.replay_arguments.proofs.ArgumentLemmas.{check_asks, follow_asks, moves_asks, pictures_asks, positions_asks, record_asks, recover_asks, show_asks}
+use Rattle.replay_arguments.proofs.ArgumentLemmas.{check_asks, follow_asks, moves_asks, pictures_asks, positions_asks, record_asks, recover_asks, show_asks, watch_asks}
 use Rattle.replay_arguments.proofs.laws.without_options.Goals as goal
 
 pub returns-clause-shows : goal.returns-clause-shows
@@ -12,6 +12,9 @@ returns-clause-records c = record_asks
 
 pub returns-clause-follows : goal.returns-clause-follows
 returns-clause-follows c = follow_asks
+
+pub returns-clause-watches : goal.returns-clause-watches
+returns-clause-watches c = watch_asks
 
 pub returns-clause-recovers : goal.returns-clause-recovers
 returns-clause-recovers c = recover_asks

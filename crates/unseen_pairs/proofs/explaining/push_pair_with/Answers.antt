@@ -19,7 +19,7 @@ returns-in_default c =
     let m = c.args.first.now in
     let e : c.play-middle.result ≡ after p m = c.play-middle.ensures.after ∙ ap (after p) c.copy.ensures in
     let N : Option Move → Type 0 = λ f. IfNone f ((n : Move) → ¬ Settles c.play-middle.result c.args.seen.now n) in
-    let never = subst N c.in_default.is c.settled_in.ensures.none in
+    let never = subst N c.in_default.is (c.settled_in.ensures.none c.picture-shown.ensures.shown) in
     let S : Parts → Type 0 = λ (q : Parts). (n : Move) → ¬ Settles q c.args.seen.now n in
     adds_no_reply p c.args.seen.now m c.args.pairs.now.items c.parts.ensures.valid c.requires.first (subst S e never)
 

@@ -12,7 +12,7 @@ pub returns-then-taken-clause-ok : goal.returns-then-taken-clause-ok
 returns-then-taken-clause-ok c setting past followed =
     let x : Timed = record { offset = c.args.offset; event = c.args.event.now } in
     added_fault c.args.self.now c.take_ref.new.self setting past x c.in-Ok.taken c.args.lines.now.items c.add_line.new.lines.items followed
-    (c.in-Ok.ensures.stands setting past followed.stands) (c.in-Ok.ensures.tells setting past followed.stands) c.if-taken.true c.add_line.ensures
+    (c.in-Ok.ensures.stands setting past followed.stands) (c.in-Ok.ensures.tells setting past followed.stands) c.if-taken.true c.add_line.ensures.items
 
 pub returns-in_default-clause-ok : goal.returns-in_default-clause-ok
 returns-in_default-clause-ok c setting past followed =

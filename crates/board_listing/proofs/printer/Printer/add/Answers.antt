@@ -1,5 +1,5 @@
 use Rattle.dgt_frame.specs.Streams.{Timed}
-use Rattle.board_listing.proofs.PrinterLemmas.{event_adds, game_adds, none_adds, square_adds}
+use Rattle.board_listing.proofs.PrinterLemmas.{event_adds, game_adds, none_adds, square_adds, watch_adds}
 use Rattle.board_listing.proofs.printer.Printer.add.Goals as goal
 
 pub returns-in-Game-clause-ok : goal.returns-in-Game-clause-ok
@@ -22,4 +22,9 @@ returns-in-Square-clause-ok c =
 pub returns-in-Events-clause-ok : goal.returns-in-Events-clause-ok
 returns-in-Events-clause-ok c =
     let x : Timed = record { offset = c.args.offset; event = c.args.event.now } in
-    event_adds c.args.self.now x c.args.lines.now.items c.add_line.new.lines.items c.in-Events.is c.add_line.ensures
+    event_adds c.args.self.now x c.args.lines.now.items c.add_line.new.lines.items c.in-Events.is c.add_line.ensures.items
+
+pub returns-in-Watched-clause-ok : goal.returns-in-Watched-clause-ok
+returns-in-Watched-clause-ok c =
+    let x : Timed = record { offset = c.args.offset; event = c.args.event.now } in
+    watch_adds c.add-in-Watched.result c.args.self.now c.in-Watched.watcher c.add-in-Watched.new.self x c.args.lines.now.items c.add-in-Watched.new.lines.items c.in-Watched.is c.add-in-Watched.ensures.ok

@@ -3,7 +3,10 @@ use Rattle.chess_clock.specs.declared.times.Reading.{Reading}
 use Rattle.chess_rules.specs.Valid.{Valid}
 use Rattle.chess_rules.specs.Picture.{picture}
 use Rattle.settle_core.specs.Entries.{Entry, entry_of}
-use Rattle.settle_core.specs.Settler.{StandsFor}
+use Rattle.chess_rules.specs.declared.parts.Parts.{Parts}
+use Rattle.settle_core.specs.Folding.{moves_of}
+use Rattle.settle_core.specs.Settling.{reached}
+use Rattle.settle_core.specs.Settler.{StandsFor, position_of}
 use Rattle.unseen_pairs.specs.declared.pair.Told.TheVariants.{Recovered}
 use Rattle.unseen_pairs.specs.Candidates.{IsOnlyOne}
 use Rattle.unseen_pairs.specs.Recoverer.{Desk, HasTold, IsWaiting}
@@ -20,7 +23,7 @@ returns c = λ start past written w only.
     let entry : Entry = entry_of seen clock in
     let old : Desk = record { settler = c.self.inside.settler; candidates = c.self.inside.candidates.items } in
     let new : Desk = record { settler = c.see-3.new.self; candidates = c.clear.new.self.items } in
-    let W : Desk → Type 0 = λ (d : Desk). IsWaiting d start past written entry × IsOnlyOne d.candidates seen one in
+    let W : Desk → Type 0 = λ (d : Desk). IsWaiting d start past written entry × IsOnlyOne (position_of d.settler) d.candidates seen one in
     let both : W old = subst W (sym c.self.view_is) (w, only) in
     let here : IsWaiting old start past written entry = both.0 in
     let valid : Valid start = subst Valid (c.start.ensures ∙ (here.settles).start_is) c.parts.ensures.valid in
@@ -35,4 +38,5 @@ returns c = λ start past written w only.
     let t4 = subst (λ y. A (picture found.middle) found.reading (picture found.after) y c.copy-3.result) c.copy-2.ensures t3 in
     let t5 = subst (λ z. A (picture found.middle) found.reading (picture found.after) found.reading z) c.copy-3.ensures t4 in
     let R : Option Reading → Type 0 = λ reading. HasTold new start past written entry (Recovered (record (recovery_of one) { reading = reading })) in
-    subst R (sym c.copy-4.ensures) (put_in_told old new start past written entry one valid here both.1 t5 c.clear.ensures.items)
+    let O : Parts → Type 0 = λ (q : Parts). IsOnlyOne (reached q (moves_of old.settler.score.plies)) old.candidates seen one in
+    subst R (sym c.copy-4.ensures) (put_in_told old new start past written entry one valid here (subst O (here.settles).start_is both.1) t5 c.clear.ensures.items)

@@ -9,4 +9,4 @@ returns-then-is_empty c = λ start past written w.
     let n : c.self.inside.candidates.len ≡ 0 = grind (arith, nat_tests) in
     let empty : c.self.inside.candidates.items ≡ [] = none_long c.self.inside.candidates.items (sym (c.self.inside.candidates.ok).0 ∙ n) in
     let here : c.args.self.now.candidates ≡ [] = ap (λ (d : Desk). d.candidates) (sym c.self.view_is) ∙ empty in
-    c.in_ok-keep.ensures start past written w (none_only c.args.self.now.candidates c.args.picture.now here)
+    c.in_ok-keep.ensures start past written w (none_only _ c.args.self.now.candidates c.args.picture.now here)
