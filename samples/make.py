@@ -1,6 +1,6 @@
 #!/usr/bin/env python3
 """Writes the samples: for each game what a board sends (.dgt), and what is due for it: the game (.pgn) and the lines of
-`show` (.show) and `follow` (.follow). They come from the lists below by the rules of docs/FORMATS.md, and not from the
+`show` (.show), `follow` (.follow) and `watch` (.watch). They come from the lists below by the rules of docs/FORMATS.md, and not from the
 program. A word names another folder to write into.
 
 A line of a list is a ply, or the result, and then in words what the board sends until it stands:
@@ -17,6 +17,7 @@ A line of a list is a ply, or the result, and then in words what the board sends
 """
 
 import pathlib
+import re
 import sys
 
 CUT_OFF, BEHEADED = "/", "!"
@@ -115,6 +116,7 @@ gxf4    0:49:38 g3- 0:49:37 f4P
 LETTERS = "-PRNBKQprnbkq"  # by their codes
 INITIAL = "rnbqkbnr" + "p" * 8 + "-" * 32 + "P" * 8 + "RNBQKBNR"
 SQUARES = [file + rank for rank in "87654321" for file in "abcdefgh"]
+HOMES = {"K": [("e1", "K"), ("h1", "R")], "Q": [("e1", "K"), ("a1", "R")], "k": [("e8", "k"), ("h8", "r")], "q": [("e8", "k"), ("a8", "r")]}
 RESULTS = ["1-0", "0-1", "1/2-1/2"]
 ROSTER = ["Event", "Site", "Date", "Round", "White", "Black"]
 
@@ -124,16 +126,52 @@ def frame(identifier, data):
     return bytes([identifier, size >> 7, size & 0x7F, *data])
 
 
+def placement(codes):
+    """The first field of a FEN."""
+    ranks = ["".join(LETTERS[code] for code in codes[row:row + 8]) for row in range(0, 64, 8)]
+    return "/".join(re.sub("-+", lambda empty: str(len(empty[0])), rank) for rank in ranks)
+
+
+class Position:
+    """What a FEN says, by the boards alone: no rule is needed where each ply is a legal one."""
+
+    def __init__(self, codes):
+        self.board = "".join(LETTERS[code] for code in codes)
+        self.white, self.rights, self.target, self.halfmove, self.fullmove = True, "KQkq", "-", 0, 1
+
+    def after(self, codes):
+        """The position after the ply that leads to this board."""
+        new = Position(codes)
+        pawn = "P" if self.white else "p"
+        left, come = ([place for place in range(64) if a[place] == pawn != b[place]]
+                      for a, b in ((self.board, new.board), (new.board, self.board)))
+        taken = new.board.count("-") > self.board.count("-")
+        new.white = not self.white
+        new.rights = "".join(right for right in self.rights if all(new.board[SQUARES.index(square)] == letter
+                             for square, letter in HOMES[right]))
+        if left and come and abs(left[0] - come[0]) == 16:
+            new.target = SQUARES[(left[0] + come[0]) // 2]
+        new.halfmove = 0 if left or taken else self.halfmove + 1
+        new.fullmove = self.fullmove + (not self.white)
+        return new
+
+    def fen(self):
+        codes = [LETTERS.index(letter) for letter in self.board]
+        return f"{placement(codes)} {'w' if self.white else 'b'} {self.rights or '-'} {self.target} {self.halfmove} {self.fullmove}"
+
+
 class Sample:
     def __init__(self, plies):
         self.codes = [LETTERS.index(letter) for letter in INITIAL]
-        self.position = list(self.codes)  # as the moves so far have it
+        self.before = self.position = Position(self.codes)  # before the last ply, and as the moves so far have it
         self.seen = None  # the picture that came last
         self.trusted = False
         self.clocks = ["1:30:00", "1:30:00"]
+        self.reading = None  # as it was told last
         self.sent = b""
         self.shown = []
         self.followed = []
+        self.watched = [f"0 position {self.position.fen()}"]
         self.tokens = []
         self.result = "*"
         self.dump(None)
@@ -185,6 +223,9 @@ class Sample:
     def time(self):
         digits = [f"{int(part):02}" for clock in self.clocks for part in clock.split(":")] + ["00"]
         self.message(0x8D, [int(two, 16) for two in digits], "time " + " ".join(digits))
+        if self.clocks != self.reading:
+            self.reading = list(self.clocks)
+            self.watched.append(f"{len(self.sent) - 1} clock {' '.join(self.clocks)}")
 
     def update(self, square, letter, damage, told):
         field, code = SQUARES.index(square), LETTERS.index(letter)
@@ -201,7 +242,7 @@ class Sample:
                 self.see(told)
 
     def fault(self, offset, kind):
-        for lines in (self.shown, self.followed):
+        for lines in (self.shown, self.followed, self.watched):
             lines.append(f"{offset} fault {kind}")
         self.trusted = False
 
@@ -210,12 +251,21 @@ class Sample:
         if self.codes == self.seen:
             return
         self.seen = list(self.codes)
+        offset = len(self.sent) - 1
+        self.watched.append(f"{offset} picture {placement(self.codes)}")
+        changes = told is not None
         if told is None:
-            differing = [square for square, a, b in zip(SQUARES, self.codes, self.position) if a != b]
+            stands = [LETTERS.index(letter) for letter in self.position.board]
+            differing = [square for square, a, b in zip(SQUARES, self.codes, stands) if a != b]
             told = " ".join(["differs", *differing]) if differing else "agrees"
         elif not told.startswith("result"):
-            self.position = list(self.codes)
-        self.followed.append(f"{len(self.sent) - 1} {told}")
+            if told.startswith("move"):
+                self.before = self.position
+            self.position = self.before.after(self.codes)
+        self.followed.append(f"{offset} {told}")
+        self.watched.append(f"{offset} {told}")
+        if changes:
+            self.watched.append(f"{offset} position {self.position.fen()}")
 
     def pgn(self):
         lines = [f'[{tag} "{"????.??.??" if tag == "Date" else "?"}"]' for tag in ROSTER]
@@ -233,6 +283,7 @@ class Sample:
         path.with_suffix(".pgn").write_text(self.pgn())
         path.with_suffix(".show").write_text("\n".join([*self.shown, "rest 0", ""]))
         path.with_suffix(".follow").write_text("\n".join([*self.followed, "rest 0", ""]))
+        path.with_suffix(".watch").write_text("\n".join([*self.watched, "rest 0", ""]))
 
 
 folder = pathlib.Path(sys.argv[1] if len(sys.argv) > 1 else __file__.rpartition("/")[0] or ".")

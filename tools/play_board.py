@@ -90,10 +90,10 @@ class Board:
             rook = origin + 3 if steps > 0 else origin - 4
             self.carry(rook, origin + steps // 2, self.codes[rook])
 
-    def clock(self, white: int, black: int) -> None:
-        """Both times in seconds."""
+    def clock(self, white: int, black: int, runs: bool = False) -> None:
+        """Both times in seconds, and whether the clock says that it runs."""
         groups = [f"{n:02}" for t in (white, black) for n in (t // 3600, t // 60 % 60, t % 60)]
-        self.send(frame(TIME, [*(int(digits, 16) for digits in groups), 0]))
+        self.send(frame(TIME, [*(int(digits, 16) for digits in groups), int(runs)]))
 
 
 def main() -> None:
