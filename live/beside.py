@@ -7,7 +7,7 @@ import signal
 import threading
 from typing import Callable, Optional, TypeVar
 
-from live.loop import ENDING, Loop
+from live.loop import ENDING, Turns
 
 Result = TypeVar("Result")
 
@@ -15,7 +15,7 @@ Result = TypeVar("Result")
 class Worker:
     """Does one job after the other. A job has what it needs by value, and changes nothing that the loop knows of."""
 
-    def __init__(self, loop: Loop) -> None:
+    def __init__(self, loop: Turns) -> None:
         self._loop = loop
         self._jobs: queue.SimpleQueue[Optional[Callable[[], None]]] = queue.SimpleQueue()
         self._closed = False
@@ -23,13 +23,13 @@ class Worker:
         self._thread.start()
 
     def do(self, job: Callable[[], Result], done: Callable[[Result], None]) -> None:
-        """Does this, and calls `done` in the loop. What the job raises is raised there."""
+        """Does this, and calls `done` in the loop. What the job raises is raised there, closed or not."""
 
         def work() -> None:
             try:
                 result = job()
             except Exception as error:
-                self._loop.soon(lambda: self._raise(error))
+                self._loop.raised(error)
             else:
                 self._loop.soon(lambda: None if self._closed else done(result))
 
@@ -44,12 +44,11 @@ class Worker:
         """After `close`: waits for the job that is under way."""
         self._thread.join()
 
-    def _raise(self, error: Exception) -> None:
-        if not self._closed:
-            raise error
-
     def _work(self) -> None:
-        signal.pthread_sigmask(signal.SIG_BLOCK, ENDING)  # the loop hears them
+        try:
+            signal.pthread_sigmask(signal.SIG_BLOCK, ENDING)  # the loop hears them
+        except Exception as error:
+            self._loop.raised(error)
         for job in iter(self._jobs.get, None):
             if not self._closed:
                 job()

@@ -12,7 +12,7 @@ import signal
 import socket
 import time
 from dataclasses import dataclass, field
-from typing import Callable, Deque, List, Optional, Tuple
+from typing import Callable, Deque, List, Optional, Protocol, Tuple
 
 Callback = Callable[[], None]
 ENDING = (signal.SIGINT, signal.SIGTERM, signal.SIGHUP)
@@ -40,6 +40,28 @@ class Timer:
 
     def cancel(self) -> None:
         self.cancelled = True
+
+
+class Turns(Protocol):
+    """What a part of the recorder asks of the loop."""
+
+    def now(self) -> float:
+        """The time of all timers, which never goes back."""
+
+    def watch(self, number: int, readable: Optional[Callback] = None, writable: Optional[Callback] = None) -> None:
+        """From here on this is what is called for the file descriptor; nothing where both are None."""
+
+    def forget(self, number: int) -> None:
+        """To be called before the file descriptor is closed."""
+
+    def after(self, seconds: float, callback: Callback) -> Timer:
+        """Calls it once, so many seconds from now."""
+
+    def soon(self, callback: Callback) -> None:
+        """Calls it once, in the next turn. Any thread may ask for that."""
+
+    def raised(self, error: Exception) -> None:
+        """A thread has raised this: it is raised in the next turn."""
 
 
 class Loop:
@@ -85,8 +107,16 @@ class Loop:
     def soon(self, callback: Callback) -> None:
         """Calls it once, in the next turn. Any thread may ask for that."""
         self._soon.append(callback)
-        with contextlib.suppress(BlockingIOError):  # where it is full the loop is woken all the same
+        with contextlib.suppress(Exception):  # where it is full the loop is woken all the same
             self._wakes.send(b"\0")
+
+    def raised(self, error: Exception) -> None:
+        """A thread has raised this: it is raised in the next turn."""
+
+        def again() -> None:
+            raise error
+
+        self.soon(again)
 
     def _call_soon(self) -> None:
         with contextlib.suppress(BlockingIOError):
@@ -110,6 +140,8 @@ class Loop:
                     if events & event and callback and key is not None and key.data is watch and not self._stopped:
                         callback()
             self._call_timers()
+            if self._soon:  # and the loop couldn't be woken for it
+                self._call_soon()
 
     def _ready(self) -> List[Tuple[Watch, int, int]]:
         while self._timers and self._timers[0].cancelled:

@@ -24,6 +24,6 @@ class Refused(Exception):
         self.status = status
         self.lines = (message, *more)
 
-    def text(self) -> str:
-        """As it is printed."""
-        return "".join(("  " if number else "dgt_live: ") + line + "\n" for number, line in enumerate(self.lines))
+    def text(self, command: str) -> str:
+        """As a command prints it."""
+        return "".join(("  " if number else f"{command}: ") + line + "\n" for number, line in enumerate(self.lines))

@@ -1,0 +1,357 @@
+"""One board, whatever goes wrong on it: it is recorded, or it is said why not, and it is tried again."""
+
+from __future__ import annotations
+
+import contextlib
+import dataclasses
+import math
+from dataclasses import dataclass
+from typing import Callable, List, Optional, Protocol, Tuple
+
+from live.beside import Worker
+from live.board.cable import Heard
+from live.board.plan import Plan
+from live.board.recorder import Recorder
+from live.board.state import State
+from live.board.whose import Owner
+from live.game import files
+from live.game.adding import Answer, add_by_name, reason_of, refusal
+from live.game.alarms import kept_looks
+from live.game.course import Course
+from live.game.files import Paths
+from live.game.game import kept_serial, result_of
+from live.game.looks import Looks
+from live.game.names import today
+from live.game.opening import Opened, Opening
+from live.game.options import Options
+from live.game.program import Program
+from live.game.reading import new_course
+from live.game.report import Clock, Move
+from live.guard import Guard, traced
+from live.loop import Timer, Turns
+from live.refused import DONE, Refused
+from live.terminal.screen import Screen
+
+PAUSES = (2.0, 5.0, 10.0, 20.0, 40.0, 60.0)  # seconds between tries to record a board
+ENDED = "its recording has ended"
+
+
+@dataclass(frozen=True)
+class Wanted:
+    """What is to be recorded, and how its game is opened."""
+
+    plan: Plan
+    opening: Callable[[], Opening]
+
+
+class HearsBoard(Protocol):
+    """Whoever wants to know what happens on a board."""
+
+    def wanted(self) -> Wanted:
+        """What is to be recorded, as it is begun or begun again."""
+
+    def changed(self) -> None:
+        """What it shows is another."""
+
+    def remade(self) -> None:
+        """The text of its game is another."""
+
+    def ended(self, why: Optional[Exception]) -> bool:
+        """Its recording has ended, or couldn't be begun. Whether it is to be tried again."""
+
+    def owner(self, number: str) -> Optional["Board"]:
+        """The other board that has this serial number."""
+
+
+class Board:
+    """One board. Its calls raise nothing: an error ends what is recorded here, and it is tried again."""
+
+    def __init__(self, loop: Turns, program: Program, screen: Screen, paths: Paths, hears: HearsBoard) -> None:
+        self._loop, self._program, self._screen, self._hears = loop, program, screen, hears
+        self._paths = paths
+        self.options = Options()
+        self.course: Course = new_course(self.options)
+        self.trouble = ""  # why it isn't recorded
+        self.refused: Optional[Refused] = None  # why its recording has ended, where that is no good
+        self.is_over = False
+        self.is_new = True  # nothing is known of it yet
+        self.pgn = b""
+        self._looks = Looks()  # what somebody is to look at in a game that isn't recorded
+        self._guard: Optional[Guard] = None  # of what is opened or recorded
+        self._recorder: Optional[Recorder] = None
+        self.called = ""  # beside other boards
+        self._number = ""  # the serial number of its board, while it isn't recorded
+        self._done: Optional[Callable[[], None]] = None  # what is to be called when it has ended
+        self._again: Optional[Timer] = None
+        self._tries = 0
+        self._begun_at = math.inf  # when it was recorded last
+        self.cable = ""  # the name that its cable keeps, whatever becomes of its device
+        self._read_pgn()
+
+    # It is recorded, if it can be.
+
+    def begin(self) -> None:
+        """Records it, now or as soon as it can."""
+        if self._again:
+            self._again.cancel()
+            self._again = None
+        if self._guard is None:
+            self._guard = guard = Guard(self._loop, self._broke, self._note)
+            guard.call(lambda: self._open(guard))
+
+    def _open(self, guard: Guard) -> None:
+        wanted = self._hears.wanted()
+        self._paths = wanted.plan.paths
+        self._number = kept_serial(self._paths)
+        worker = Worker(guard)
+        guard.opened(worker.close)
+        opening = wanted.opening()
+        guard.opened(opening.drop)
+        now = self._loop.now()
+
+        def opened(found: Opened) -> None:
+            close = guard.opened(found.game.capture.close)
+            opening.take()
+            self._opened(guard, worker, wanted.plan, dataclasses.replace(found, close=close))
+
+        worker.do(lambda: opening.open(now, today()), opened)
+
+    def _opened(self, guard: Guard, worker: Worker, plan: Plan, opened: Opened) -> None:
+        """The game is open: it is recorded, where it isn't over."""
+        self.trouble, self.is_new, self._begun_at = "", False, self._loop.now()
+        self._paths, self.options, self.course = opened.game.paths, opened.game.options, opened.old.course
+        self._read_pgn()
+        guard.opened(lambda: self._screen.keep(None))
+        self._screen.keep(files.Log(self._paths.log))
+        for line in opened.told:
+            self._screen.say(line)
+        anew = (*opened.read_anew, *opened.results)
+        if anew:
+            self._screen.say(self._screen.anew(str(self._paths.pgn), "; ".join(anew)))
+        self.is_over = opened.is_over
+        if opened.is_over and plan.board:  # in a round it stays so
+            self._release(None)
+        else:
+            self._recorder = Recorder(guard, worker, self._screen, plan, opened, self)
+            self.course = self._recorder.course
+        self._hears.remade()
+        self._hears.changed()
+
+    def _broke(self, error: Exception) -> None:
+        """Something was raised: all that was open is closed."""
+        self._note(error)
+        self._leave()
+        self._put_off(reason_of(error) if isinstance(error, (Refused, OSError)) else f"{type(error).__name__}: {error}", error)
+
+    def _leave(self) -> None:
+        """Nothing is recorded from here on."""
+        if self._recorder:
+            self.course, self._paths, self.cable = self._recorder.course, self._recorder.game.paths, self._recorder.cable
+            self._number = self._recorder.number
+        self._guard = self._recorder = None
+
+    def _put_off(self, why: str, error: Optional[Exception]) -> None:
+        """It isn't recorded: this is why. It is tried again later, where it isn't to end."""
+        if self.is_new:
+            self.is_new = False
+            self._hears.remade()
+        if self._done:
+            self.trouble = why if error else ""
+            done, self._done = self._done, None
+            done()
+        elif self._hears.ended(error):
+            before, self.trouble = self.trouble, why
+            if self._loop.now() - self._begun_at > PAUSES[-1]:
+                self._tries = 0
+            self._begun_at = math.inf
+            self._again = self._loop.after(PAUSES[min(self._tries, len(PAUSES) - 1)], self.begin)
+            self._tries += 1
+            if why != before:
+                self._screen.say(f"isn't recorded: {why}")
+        self._hears.changed()
+
+    def placed(self) -> None:
+        """The text of the game was made anew."""
+        self._read_pgn()
+        self._hears.remade()
+        self._hears.changed()
+
+    def over(self) -> None:
+        """The game is over, and the board is listened to."""
+        self.is_over = True
+        self.placed()
+
+    def reopened(self) -> None:
+        """The game goes on, which was over."""
+        self.is_over = False
+        self.placed()
+
+    def stopped(self, refused: Optional[Refused]) -> None:
+        """All that was recorded has ended."""
+        if self._guard:
+            self._guard.after(0, lambda: self._release(refused))
+
+    def _release(self, refused: Optional[Refused]) -> None:
+        guard, self.refused = self._guard, refused
+        self._leave()
+        if guard:
+            guard.end()
+        self._read_pgn()
+        if refused is None and not self._done:
+            self.is_over = self.is_over or self.result != "*" or files.size_of(self.paths.end) > 0
+        self._hears.remade()
+        if self._done or refused or not self.is_over:
+            self._put_off(refused.lines[0] if refused else ENDED, refused)
+        else:
+            self._hears.ended(None)
+        self._hears.changed()
+
+    def owner(self, number: str) -> Optional[Owner]:
+        """The other game that is recorded from the board of this serial number."""
+        board = self._hears.owner(number)
+        return Owner(board.called, bool(board.plies)) if board else None
+
+    def lends(self, number: str, heard: Heard) -> bool:
+        """The board of this number, which is on the cable of this one, has sent this: whether its game takes it."""
+        board = self._hears.owner(number)
+        return board is not None and board.takes(heard)
+
+    def takes(self, heard: Heard) -> bool:
+        """Its board has sent this on another's cable: whether it is recorded. An error there is this board's."""
+        if self._guard is None or self._recorder is None:
+            return False
+        hears = self._recorder.heard
+        self._guard.call(lambda: hears(heard))
+        return True
+
+    def end(self, done: Callable[[], None]) -> None:
+        """Ends its recording in order, and calls this then."""
+        if self._again:
+            self._again.cancel()
+            self._again = None
+        self._done = done
+        if self._guard and self._recorder:
+            self._guard.call(self._recorder.end)
+        elif self._guard:
+            self._release(None)
+        else:
+            self._loop.after(0, self._ended)
+
+    def _ended(self) -> None:
+        done, self._done = self._done, None
+        if done:
+            done()
+
+    def try_at_once(self) -> None:
+        """Where it isn't recorded it is tried now, and soon again."""
+        self._tries = 0
+        self.begin()
+
+    # What is typed.
+
+    def typed(self, text: str) -> Answer:
+        """A line of the terminal of a single board."""
+        return self._answered(text, self._recorder.typed) if self._recorder else self.add(text)
+
+    def add(self, text: str) -> Answer:
+        """Adds a result or moves. An answer."""
+        answer = self._answered(text, self._recorder.add if self._recorder else self._add_to_closed)
+        self._hears.changed()
+        return answer
+
+    def _answered(self, text: str, call: Callable[[str], Answer]) -> Answer:
+        """What a call answers. What it raises is answered too: a typed line ends nothing."""
+        try:
+            return call(text)
+        except Exception as error:
+            self._note(error)
+            return refusal(text, error)
+
+    def _add_to_closed(self, text: str) -> Answer:
+        """To a game that isn't recorded now; what it is then is read."""
+        answer = add_by_name(self._program, self.paths, text, 0)
+        if answer[0] == DONE:
+            self._read_pgn()
+            self.is_over = self.is_over or self.result != "*"
+            self.try_at_once()
+            self._hears.remade()
+        return answer
+
+    def _note(self, error: Exception) -> None:
+        """Where it was raised, in NAME.log; or what it is, where that can't be written. A refusal says all in its own words."""
+        if isinstance(error, Refused):
+            return
+        try:
+            files.log_once(self.paths, *traced(error).split("\n"))
+        except Exception as another:
+            for one in (error, another):
+                self._screen.say(f"{type(one).__name__}: {one}")
+
+    # What others see.
+
+    @property
+    def is_recorded(self) -> bool:
+        """Whether it is just now."""
+        return self._recorder is not None
+
+    @property
+    def number(self) -> str:
+        """The serial number of its board; nothing where none is known."""
+        return self._recorder.number if self._recorder else self._number
+
+    @property
+    def paths(self) -> Paths:
+        """The files of the game."""
+        return self._recorder.game.paths if self._recorder else self._paths
+
+    @property
+    def result(self) -> str:
+        """That of its text."""
+        return result_of(self.pgn)
+
+    @property
+    def plies(self) -> List[Move]:
+        """The moves of the game; those of the last one while none is recorded."""
+        return self._course.plies
+
+    @property
+    def fens(self) -> List[str]:
+        """The positions at the start and after each ply."""
+        return self._course.fens
+
+    @property
+    def clock(self) -> Optional[Clock]:
+        """What the clocks showed last."""
+        return self._course.clock
+
+    @property
+    def recovered(self) -> List[str]:
+        """The pairs of its moves that two hands hid."""
+        return self._course.recovered
+
+    @property
+    def looks(self) -> Looks:
+        """What somebody is to look at in the game."""
+        return self._recorder.looks if self._recorder else self._looks
+
+    @property
+    def _course(self) -> Course:
+        return self._recorder.course if self._recorder else self.course
+
+    @property
+    def state(self) -> Optional[State]:
+        """How the board stands; None where nothing is recorded."""
+        standing = self._recorder.standing if self._recorder else None
+        return standing.board.state(self._loop.now()) if standing else None
+
+    @property
+    def differing(self) -> Tuple[str, ...]:
+        """The squares that a page marks."""
+        state = self.state
+        return state.differing if state else ()
+
+    def _read_pgn(self) -> None:
+        if self._recorder is None:
+            self._looks = kept_looks(self.paths)
+        with contextlib.suppress(OSError):
+            self.pgn = files.existing(self.paths.pgn)

@@ -1,0 +1,197 @@
+"""The cable of a board: what is printed when it goes and comes, how the board's state follows, and whose board is on it."""
+
+from __future__ import annotations
+
+from typing import List, Optional, Protocol, Tuple
+
+from live.board.standing import Standing
+from live.board.whose import Whose
+from live.device.asking import Came
+from live.device.connection import Connection
+from live.game.files import MEMORY
+from live.guard import Guard
+from live.refused import ANOTHER_CALL
+from live.terminal.screen import Screen
+
+
+Heard = Tuple[bytes, Came]  # what a board has sent, and what has ended in it
+
+
+class HearsCable(Protocol):
+    """Who hears the board."""
+
+    @property
+    def standing(self) -> Optional[Standing]:
+        """How it stands."""
+
+    def heard(self, heard: Heard) -> None:
+        """It has sent this."""
+
+    def numbered(self, number: str) -> None:
+        """This is its serial number from here on."""
+
+    def another(self, number: str) -> None:
+        """The board of this number is on the cable, and not the game's own."""
+
+    def back(self, other: str) -> None:
+        """Its own board is on the cable again, and not the one of this number."""
+
+    def lends(self, number: str, heard: Heard) -> bool:
+        """The board of this number has sent this: whether another game takes it."""
+
+    def gone(self, message: str, is_busy: bool) -> None:
+        """It has gone away and isn't waited for, or another process has its line."""
+
+
+class Cable:
+    """Tells how the line of a board is. One that is to be heard `once` isn't waited for where it goes away. What another board
+    than that of the game's number sends is lent to the game that has it, and else kept back."""
+
+    def __init__(self, guard: Guard, screen: Screen, device: str, once: bool, number: str, hears: HearsCable) -> None:
+        self._guard, self._screen, self._device, self._once, self._hears = guard, screen, device, once, hears
+        self._unplugged = self._silent = self._was_plugged = False
+        self._whose = Whose(number)
+        self._other = ""  # the other board that was named last, while it is on the cable
+        self._unsure: List[Heard] = []  # what came since the board was asked whose it is
+        self._foreign: List[Heard] = []  # what another board has sent, which nobody has taken
+        self._connection = Connection(guard, device, self)
+        if number:
+            self._connection.has_number()
+
+    @property
+    def name(self) -> str:
+        """The name under which the device is opened again."""
+        return self._connection.cable
+
+    @property
+    def number(self) -> str:
+        """The serial number of the game's board; nothing where none is known."""
+        return self._whose.own
+
+    @property
+    def other(self) -> str:
+        """That of the board on the cable, where it is another one."""
+        return self._whose.shown if self._whose.is_other else ""
+
+    def begin(self) -> None:
+        """Opens the line, or waits for it."""
+        self._connection.begin()
+
+    def added(self, put: bytes) -> None:
+        """This was added by hand: it may have cut a frame, so the board is asked how it stands."""
+        self._connection.added(put)
+
+    def last_words(self) -> None:
+        """Takes what has come so far, and closes the line for good."""
+        self._connection.last_words()
+
+    def tell(self, standing: Standing) -> None:
+        """One that is new hears how the line is."""
+        if self._unplugged:
+            standing.unplugged()
+        if self._silent:
+            standing.silence(True)
+
+    # What the line does.
+
+    def asked_whose(self) -> None:
+        """The board is asked for its number: another may be on the line."""
+        self._whose.asked(self._guard.now())
+
+    def came(self, sent: bytes, ended: Came) -> None:
+        """The board has sent this, and that has ended in it."""
+        if ended.dumped:
+            self._whose.dumped()
+        if ended.serial:
+            self._told(ended.serial)
+        keep(self._unsure, (sent, ended))
+        if not self._whose.is_unsure(self._guard.now()):
+            heard, self._unsure = self._unsure, []
+            self._pass_on(heard)
+
+    def _told(self, number: str) -> None:
+        """The board has given its number."""
+        self._whose.told(number)
+        if not self._whose.own:
+            self._is_own(number)
+        elif self.other != self._other:
+            before, self._other = self._other, self.other
+            self._foreign.clear()
+            if self._other:
+                self._hears.another(self._other)
+            else:
+                self._hears.back(before)
+
+    def _is_own(self, number: str) -> None:
+        """From here on the board of this number is the game's."""
+        self._whose.own = number
+        self._connection.has_number()
+        self._hears.numbered(number)
+
+    def _pass_on(self, heard: List[Heard]) -> None:
+        """To the game whose board this is. What nobody takes is kept back."""
+        if not self._whose.is_other:
+            for one in heard:
+                self._hears.heard(one)
+            return
+        for one in heard:
+            keep(self._foreign, one)
+        while self._foreign and self._hears.lends(self._whose.shown, self._foreign[0]):
+            self._foreign.pop(0)
+
+    def take(self) -> None:
+        """The board on the cable is the game's from here on, and so is what it has sent."""
+        if self._whose.is_other:
+            self._is_own(self._whose.shown)
+            self._other = ""
+            heard, self._foreign = self._foreign, []
+            self._pass_on(heard)
+
+    def plugged(self) -> None:
+        """The line is open."""
+        self._whose.connected(self._guard.now())
+        if self._unplugged:
+            self._screen.say(f"{self.name} is there")
+        elif self.name != self._device:
+            self._screen.say(f"{self._device} has the cable {self.name}: under that name it is waited for")
+        self._unplugged, self._was_plugged = False, True
+        if self._hears.standing:
+            self._hears.standing.plugged()
+
+    def unplugged(self) -> None:
+        """The line has gone away, or isn't there."""
+        self._unplugged, self._silent = True, False
+        self._unsure.clear()
+        if not self._once and self._hears.standing:  # a game that is over goes on without it
+            again = "plug it in again; the recording then goes on"
+            what = again if self._was_plugged else f"plug it in. Is it another device? {self._screen.other_device()}"
+            self._screen.say(f"{self.name} isn't there: {what}")
+        if self._hears.standing:
+            self._hears.standing.unplugged()
+        if self._once:
+            self._hears.gone(f"{self._device} has gone away", False)
+
+    def silence(self, silent: bool) -> None:
+        """The board gives no dump, or gives them again."""
+        self._silent = silent
+        if silent:
+            self._screen.say(
+                f"no board answers on {self.name}; it is asked again and again. Look at the cable,",
+                "the board's power, whether it is the right device, and whether another program has it open",
+            )
+        else:
+            self._screen.say(f"the board on {self.name} answers again")
+        if self._hears.standing:
+            self._hears.standing.silence(silent)
+
+    def busy(self) -> None:
+        """Another process has the line."""
+        self._hears.gone(f"{self._device} {ANOTHER_CALL}", True)
+
+
+def keep(kept: List[Heard], heard: Heard) -> None:
+    """Keeps this too, and of all that came before it no more than there is memory for."""
+    kept.append(heard)
+    size = sum(len(sent) for sent, _ in kept)
+    while size > MEMORY:
+        size -= len(kept.pop(0)[0])

@@ -1,0 +1,77 @@
+"""What can't be written, and that it ends nothing."""
+
+from __future__ import annotations
+
+import os
+from typing import Protocol
+
+from live.board.standing import Standing
+from live.board.state import DISK_FULL
+from live.game.files import Capture, text_of
+from live.terminal.screen import Screen
+
+
+class HearsDisk(Protocol):
+    """Who knows of the other files of a game, and is told of its capture."""
+
+    def text_trouble(self) -> str:
+        """What keeps the text from being written, as a state tells it; nothing where nothing does."""
+
+    def restored(self) -> None:
+        """The capture was removed, and is written anew."""
+
+
+class Disk:
+    """Appends to a capture, tries again what couldn't be written, and says so once."""
+
+    def __init__(self, screen: Screen, standing: Standing, capture: Capture, hears: HearsDisk) -> None:
+        self._screen, self._standing, self._capture, self._hears = screen, standing, capture, hears
+        self._not_restored = ""
+
+    def append(self, sent: bytes) -> None:
+        """The board has sent this, or somebody has added it."""
+        lost = self._capture.lost
+        self._capture.append(sent)
+        self.look()
+        if self._capture.lost and not lost and not self._capture.at_limit:
+            self._screen.say("the disk has been full for too long: what comes now is lost, up to a dump after there is room")
+
+    def try_again(self) -> None:
+        """To be called each second."""
+        self.restore()
+        if self._capture.full:
+            self._capture.write()
+        self.look()
+
+    def look(self) -> None:
+        """Says what has changed."""
+        before = self._standing.trouble
+        trouble = DISK_FULL if self._capture.full else self._hears.text_trouble()
+        if trouble == before:
+            return
+        if self._capture.full:
+            self._screen.say(
+                f"DISK FULL: {self._capture.path} can't be written ({self._capture.trouble}). Make room:",
+                "what comes is kept in memory, and is tried again each second",
+            )
+        elif not trouble:
+            self._capture.lost = 0
+            self._screen.say(f"{'there is room again, and all' if before == DISK_FULL else 'all'} is written")
+        self._standing.disk(trouble)
+
+    def restore(self) -> bool:
+        """Where the capture was removed it is written anew, whole: it is open still, and has its bytes. Whether that was so."""
+        path = self._capture.path
+        if os.path.lexists(path) or not path.parent.is_dir():
+            return False
+        try:
+            self._capture.renew(self._capture.bytes())
+        except OSError as error:
+            if text_of(error) != self._not_restored:
+                self._screen.say(f"{path} was removed, and can't be written anew ({text_of(error)}): it is tried each second")
+            self._not_restored = text_of(error)
+            return False
+        self._not_restored = ""
+        self._screen.say(f"{path} was removed: it is written anew, whole")
+        self._hears.restored()
+        return True

@@ -1,0 +1,126 @@
+"""A board whose game is over by a typed result: it is listened to until its pieces are set up, since the result may have been
+meant for another board. What comes is kept behind the game."""
+
+from __future__ import annotations
+
+from typing import Protocol
+
+from live.game.after_the_end import AfterTheEnd
+from live.game.alarms import keep_looks, kept_looks
+from live.game.course import Course
+from live.game.files import text_of
+from live.game.game import Game
+from live.game.options import Options
+from live.game.program import Listing, Task
+from live.game.report import Picture, line_of
+from live.guard import Guard
+from live.terminal.screen import Screen
+
+TICK = 1.0  # seconds between two looks at what waits
+MOST = 4 * 1024 * 1024  # bytes that are listened to, some fifteen hours
+
+
+class HearsListening(Protocol):
+    """Who is told of such a board."""
+
+    def set_up(self) -> None:
+        """Its pieces stand at the start."""
+
+    def looked(self) -> None:
+        """Somebody is to look at it."""
+
+    def broken(self, what: str) -> None:
+        """A part of it fails again and again."""
+
+
+class Heard:
+    """What a board has sent since its game is over."""
+
+    def __init__(self) -> None:
+        self._content = bytearray()
+
+    @property
+    def size(self) -> int:
+        """How many bytes there are."""
+        return len(self._content)
+
+    def read(self, offset: int, count: int) -> bytes:
+        """So many of them, or fewer, from an offset on."""
+        return bytes(self._content[offset : offset + count])
+
+    def append(self, sent: bytes) -> None:
+        """The board has sent this."""
+        self._content += sent
+
+
+class Listening:
+    """Says where moves are made after the end of a game."""
+
+    def __init__(self, guard: Guard, screen: Screen, game: Game, course: Course, hears: HearsListening) -> None:
+        self._guard, self._screen, self._game, self._hears = guard, screen, game, hears
+        self.looks = kept_looks(game.paths)
+        last = course.plies[-1].short if course.plies else "the start"
+        self._after = AfterTheEnd(course.start, last, course.result)
+        words = Options(game.options.rotated, fen=course.fens[-1] if course.fens else game.options.fen).of_board()
+        self._source = Heard()
+        task = Task(game.program, ("watch", *words), self._source)
+        self._watch = Listing(guard, task, self._heard, self)
+        self._tick = guard.after(TICK, self._each_second)
+
+    def came(self, sent: bytes) -> None:
+        """The board has sent this."""
+        self._game.capture.append(sent)
+        self._source.append(sent)
+        self._watch.feed()
+        if self._source.size > MOST:
+            self._hears.set_up()
+
+    def dumped(self) -> None:
+        """What came ends a whole dump."""
+
+    def _each_second(self) -> None:
+        self._tick = self._guard.after(TICK, self._each_second)
+        self._game.capture.write()
+        self._watch.wake()
+        self._watch.feed()
+
+    def _heard(self, text: str) -> None:
+        line = line_of(text)
+        if line is None:
+            return
+        look = self._after.take(line.event)
+        if look:
+            self.looks = self.looks.with_one_more(look)
+            self._screen.say(
+                f"{look.text}. Look at it, and type {self._screen.ok()};",
+                f"if the result was meant for another board, type {self._screen.reopens()}: the game goes on",
+            )
+            try:
+                keep_looks(self._game.paths, self.looks)
+            except OSError as error:
+                self._screen.say(f"{self._game.paths.look} can't be written ({text_of(error)})")
+            self._hears.looked()
+        if isinstance(line.event, Picture) and self._after.is_set_up:
+            self._watch.close()
+            self._hears.set_up()
+
+    def ends_with(self, result: str) -> None:
+        """Another result was typed."""
+        self._after.result = result
+
+    def acknowledged(self) -> None:
+        """Somebody has looked."""
+        self.looks = kept_looks(self._game.paths)
+
+    def says(self, text: str) -> None:
+        """A child has ended, and is started again."""
+        self._screen.say(text)
+
+    def broken(self, what: str) -> None:
+        """A child has ended again and again."""
+        self._hears.broken(what)
+
+    def close(self) -> None:
+        """Nothing is heard from here on."""
+        self._tick.cancel()
+        self._watch.close()

@@ -1,0 +1,475 @@
+"""The games of one board while it is recorded: a single one, or one after the other."""
+
+from __future__ import annotations
+
+import contextlib
+import dataclasses
+import os
+from typing import Optional, Union
+
+from live.beside import Worker
+from live.board.cable import Cable, Heard
+from live.board.game_over import Listening
+from live.board.plan import HearsRecorder, Plan, numbered
+from live.board.recording import Reason, Recording
+from live.board.setting_up import SettingUp
+from live.board.standing import Standing
+from live.board.taking_off import TakesOff
+from live.board.whose import another, back, may_take
+from live.game import added
+from live.game.adding import Answer, add_by_name, add_to_closed, reason_of, refusal
+from live.game.alarms import acknowledge, carry_over, keep_looks, kept_looks
+from live.game.control import Control
+from live.game.files import Capture, Log, Paths, put_in_place, text_of
+from live.game.game import Game, end_mark, keep_options, keep_serial, kept_serial, mark_end
+from live.game.looks import Look, Looks
+from live.game.making_pgn import Text
+from live.game.names import today
+from live.game.opening import Opened
+from live.game.options import Options
+from live.game.reading import game_of, nothing_old
+from live.guard import Guard
+from live.loop import Callback
+from live.refused import DONE, FAILED, Refused
+from live.terminal.screen import Screen
+
+
+class Recorder(TakesOff):
+    """Records the games of one board, one after the other, until it has ended them."""
+
+    def __init__(
+        self, guard: Guard, worker: Worker, screen: Screen, plan: Plan, opened: Opened, hears: HearsRecorder
+    ) -> None:
+        self._guard, self._worker, self._screen, self._plan, self._hears = guard, worker, screen, plan, hears
+        self._refused: Optional[Refused] = None
+        self._before: Optional[Paths] = None  # the game before this one, of this call
+        self._reason: Optional[Reason] = None  # why the game is over
+        self._ending = self._closing = False
+        self._begins_anew = False  # whether this game begins when the start stands, and not the next one
+        number = plan.serial or kept_serial(opened.game.paths)
+        self._cable = Cable(guard, screen, plan.device, plan.once, number, self)
+        self._now: Union[Recording, SettingUp, Listening, None] = None  # what hears the board
+        self._take(opened.game, opened.close)
+        if plan.serial:
+            self._keep_number(plan.serial)
+        self.course = opened.old.course
+        if plan.rules.series and opened.is_over:
+            self._await_start(None)
+        else:
+            self._record(opened)
+        self._cable.begin()
+
+    def _take(self, game: Game, close: Optional[Callback] = None) -> None:
+        """This is the game from here on: its log is kept, and others may ask for it."""
+        self.game = game
+        self._close_capture = close or self._guard.opened(game.capture.close)
+        self._screen.keep(Log(game.paths.log))
+        self._listen()
+
+    def _listen(self) -> None:
+        control = Control(self._guard, self.game.capture.number, self._asked, self._plan.board)
+        self._close_control = self._guard.opened(control.close)
+
+    def restored(self) -> None:
+        """The capture is another file."""
+        self._close_control()
+        self._listen()
+
+    def _leave(self) -> None:
+        """The game is another one from here on."""
+        self._close_control()
+        self._close_capture()
+
+    # Its games.
+
+    def _record(self, opened: Opened, says: bool = True) -> None:
+        self._reason = None
+        ends = "" if self._plan.board else "; Ctrl-C ends it"  # there it would end all boards
+        paths = self.game.paths
+        if says:
+            self._screen.say(f"records {self._plan.device} in {paths.capture} and {paths.pgn}{ends}")
+        recording = Recording(self._guard, self._worker, self._screen, opened, self._plan.rules, self)
+        self.course = recording.course
+        self._look_at(recording)
+
+    def over(self, reason: Reason) -> None:
+        """The game has ended."""
+        self._reason = reason
+        if reason is Reason.LIMIT and not self._plan.rules.series:
+            capture = self.game.paths.capture
+            why = f"{capture} has 64 MiB, and none may have more: go on under another name, with --fen"
+            self._refused = Refused(FAILED, why)
+        self._guard.after(0, self._close_game)
+
+    def _close_game(self) -> None:
+        if self._ending or self._closing or not isinstance(self._now, Recording):
+            return
+        self._closing = True
+        listens = self._plan.board and self._reason is Reason.TYPED
+        if not self._plan.rules.series and not listens:
+            self._ending = True
+            self._cable.last_words()
+        self._now.finish(self._game_closed)
+
+    def _game_closed(self, written: bool) -> None:
+        assert isinstance(self._now, Recording)
+        end = self._now.end
+        if self._reason:
+            self._screen.say(f"{self.game.paths.name} is over: {self._reason.value}")
+        self._closing = False
+        self._now.close()
+        self._now = None
+        if self._ending:
+            self._all_closed(written)
+        elif self._plan.rules.series:
+            self._await_start(end)
+        elif written:
+            self._await_moves()
+            self._hears.over()
+        else:
+            self._end_with(written)
+
+    def _await_moves(self) -> None:
+        """The game is over: it is said where moves are made all the same."""
+        self._now = Listening(self._guard, self._screen, self.game, self.course, self)
+
+    def set_up(self) -> None:
+        """The pieces of a game that is over were set up."""
+        self._guard.after(0, self.end)
+
+    def looked(self) -> None:
+        """Somebody is to look at a game that is over."""
+        self._hears.placed()
+
+    def _end_with(self, written: bool) -> None:
+        self._ending = True
+        self._cable.last_words()
+        self._all_closed(written)
+
+    def _await_start(self, end: Optional[int]) -> None:
+        """The game is over, and the next one begins when the pieces stand at the start."""
+        paths = self.game.paths
+        mark = end_mark(paths)
+        if end is None:
+            end = self.game.capture.size if mark is None else mark
+        if mark is None:
+            try:
+                mark_end(paths, end)
+            except OSError as error:
+                self._screen.say(f"{paths.end} can't be written ({text_of(error)})")
+        self._screen.say(f"{self._next().name} begins when the pieces stand at the start")
+        self._look_for_start(end)
+
+    def _look_for_start(self, end: int) -> None:
+        self._look_at(SettingUp(self._guard, self._screen, self.game, end, self))
+
+    def _next(self) -> Paths:
+        return numbered(self._plan.name, int(self.game.paths.name.rpartition("-")[2]) + 1)
+
+    def anew(self) -> None:
+        """What was taken for the first move of this game was a part of its set-up."""
+        self._guard.after(0, self._look_for_this_start)
+
+    def _look_for_this_start(self) -> None:
+        if isinstance(self._now, Recording) and not self._ending and not self._closing:
+            self._now.close()
+            self._begins_anew = True
+            self._look_for_start(0)
+
+    def ready(self, content: bytes) -> bool:
+        """The start stands: a capture begins with it. Whether it could be begun."""
+        game = self._begin_this(content) if self._begins_anew else self._begin_next(content)
+        if game is None:
+            return False
+        if self._now:
+            self._now.close()
+        self._leave()
+        self._take(game)
+        if self.number:
+            self._keep_number(self.number)
+        self._begins_anew = False
+        self._record(Opened(game, nothing_old(game.options, game.capture.size)))
+        if isinstance(self._now, Recording):
+            self._now.remake()  # what is under way of the game before may come late
+        return True
+
+    def _begin_next(self, content: bytes) -> Optional[Game]:
+        """The next game."""
+        paths = self._next()
+        try:
+            if paths.pgn.exists():
+                self._fail(f"{paths.pgn} is there without {paths.capture}: choose another name, or move it away")
+                return None
+            options = self.game.options.begun(today())
+            keep_options(paths, options)
+            game = self._begun(paths, content, options)
+            carry_over(self.game.paths, paths)
+        except (OSError, Refused) as error:
+            if isinstance(self._now, SettingUp) and not self._now.standing.trouble:
+                self._screen.say(f"DISK FULL: {paths.name} can't be begun ({reason_of(error)}). Make room: it is tried again")
+            return None
+        self._before = self.game.paths
+        return game
+
+    def _begin_this(self, content: bytes) -> Optional[Game]:
+        """The capture begins with the start; what came before it is kept beside."""
+        paths = self.game.paths
+        try:
+            put_in_place(paths.before, self.game.capture.bytes())
+            game = self._begun(paths, content, self.game.options)
+        except OSError:
+            return None
+        with contextlib.suppress(OSError):
+            keep_looks(paths, Looks())  # what there was to look at was the set-up
+        self._screen.say(f"the pieces have been set up: {paths.name} begins now")
+        return game
+
+    def _begun(self, paths: Paths, content: bytes, options: Options) -> Game:
+        """A game whose capture has this, and whose text was made. An OSError comes where it can't be."""
+        game = dataclasses.replace(self.game, paths=paths, capture=Capture.begin(paths.capture, content), options=options)
+        made = Text(game).make(None)
+        if made.trouble:
+            game.capture.close()
+            raise OSError(made.trouble)
+        return game
+
+    def placed(self) -> None:
+        """The text of the game was made anew."""
+        self._hears.placed()
+
+    # What others see of it.
+
+    @property
+    def cable(self) -> str:
+        """The name under which its device is opened again."""
+        return self._cable.name
+
+    @property
+    def number(self) -> str:
+        """The serial number of its board; nothing where none is known."""
+        return self._cable.number
+
+    @property
+    def standing(self) -> Optional[Standing]:
+        """How the board stands; None where its game is over."""
+        return self._now.standing if isinstance(self._now, (Recording, SettingUp)) else None
+
+    @property
+    def looks(self) -> Looks:
+        """What somebody is to look at in the game."""
+        return self._now.looks if isinstance(self._now, (Recording, Listening)) else kept_looks(self.game.paths)
+
+    # What its cable brings.
+
+    def heard(self, heard: Heard) -> None:
+        """The board has sent this, on its own cable or on another's."""
+        sent, ended = heard
+        if self._now:
+            self._now.came(sent)
+        if self._now and ended.dumped:
+            self._now.dumped()
+        if isinstance(self._now, Recording) and ended.time:
+            self._now.timed(ended.time)
+
+    def lends(self, number: str, heard: Heard) -> bool:
+        """The board of this number has sent this: whether another game takes it."""
+        return self._hears.lends(number, heard)
+
+    def numbered(self, number: str) -> None:
+        """This is the serial number of its board from here on."""
+        self._keep_number(number)
+
+    def _keep_number(self, number: str) -> None:
+        if number == kept_serial(self.game.paths):
+            return
+        try:
+            keep_serial(self.game.paths, number)
+        except OSError as error:
+            self._screen.say(f"{self.game.paths.serial} can't be written ({text_of(error)})")
+
+    def another(self, number: str) -> None:
+        """The board of this number is on its cable, and not its own. Where it was said which board is which, both are found."""
+        owner = self._hears.owner(number)
+        if owner and self._plan.serial:
+            self._screen.say(f"{self.cable} has the board of {owner.name}, serial number {number}: it goes to that game")
+        else:
+            self._look(another(self.number, number, owner, bool(self.course.plies)))
+
+    def back(self, other: str) -> None:
+        """Its own board is on its cable again."""
+        if not (self._plan.serial and self._hears.owner(other)):
+            self._look(back(self.number, other))
+
+    def _look(self, look: Look) -> None:
+        """Somebody is to look at this."""
+        if isinstance(self._now, Recording):
+            self._now.look_at(look)
+            return
+        with contextlib.suppress(OSError):
+            keep_looks(self.game.paths, kept_looks(self.game.paths).with_one_more(look))
+        self._screen.say(f"{look.text}. Look at it, and type {self._screen.ok()}")
+        if self.standing:
+            self.standing.look(self.looks.short)
+        elif isinstance(self._now, Listening):
+            self._now.acknowledged()
+
+    def _may_take(self) -> bool:
+        """Whether the board on the cable is another one, and `ok` gives it to this game."""
+        other = self._cable.other
+        owner = self._hears.owner(other) if other else None
+        is_found = bool(owner and self._plan.serial)
+        return bool(other) and not is_found and may_take(owner, bool(self.course.plies))
+
+    def gone(self, message: str, is_busy: bool) -> None:
+        """The board has gone away and isn't waited for, or another process has its line."""
+        self._fail(message if is_busy else f"{message}; what was played is in {self.game.paths.pgn}")
+
+    def _look_at(self, now: Union[Recording, SettingUp]) -> None:
+        """This hears the board from here on, and how its cable is."""
+        self._now = now
+        now.standing.look(self.looks.short)
+        self._cable.tell(now.standing)
+
+    def asks(self, put: bytes) -> None:
+        """This was added by hand, and the board is asked how it stands."""
+        self._cable.added(put)
+
+    def broken(self, what: str) -> None:
+        """A part of the program has ended again and again."""
+        pgn = self.game.paths.pgn
+        self._fail(f"a part of the program failed again and again ({what}); what was played is in {pgn}")
+
+    def _fail(self, message: str) -> None:
+        if self._refused is None:
+            self._refused = Refused(FAILED, message, "Start again with the same NAME")
+        self._guard.after(0, self.end)
+
+    # What is typed.
+
+    def typed(self, text: str) -> Answer:
+        """A line of the terminal. The name of the game before, or of this one, may stand behind it."""
+        words, _, name = text.rpartition(" ")
+        named = self._before is not None and name in (self._before.name, self.game.paths.name)
+        before = self._before if self._before and name == self._before.name else None
+        status, answer = self._add(words if named else text, before, sure=named, may_quit=True)
+        return status, answer + added.QUIT_TOO if answer.endswith((added.WAYS, added.ALL_WAYS)) else answer
+
+    def add(self, text: str) -> Answer:
+        """Adds what was typed; an answer, and the status that goes with it."""
+        return self._add(text, None, sure=True, may_quit=False)
+
+    def _asked(self, text: str) -> Answer:
+        """What another call asks for."""
+        try:
+            status, answer = self.add(text)
+        except Exception as error:  # a typed line ends nothing
+            status, answer = refusal(text, error)
+        if status != DONE:
+            self._screen.note(answer)
+        return status, answer
+
+    def _add(self, text: str, before: Optional[Paths], sure: bool, may_quit: bool) -> Answer:
+        try:
+            typed = added.read_words(text, os.path.basename(self.game.paths.name))
+            if isinstance(typed, added.Nothing):
+                return DONE, ""
+            if isinstance(typed, added.Quit) and may_quit:
+                self.end()
+                return DONE, "it ends"
+            if isinstance(typed, added.Acknowledged):
+                return self._acknowledge(before)
+            if before:
+                return self._add_before(before, text)
+            if isinstance(typed, added.Reopened):
+                return self._reopen()
+            if isinstance(typed, added.Back):
+                return self._go_back(typed)
+            if not isinstance(self._now, Recording):
+                return self._add_last(typed)
+            if isinstance(typed, added.Result) and self._before and not sure and not self.course.plies:
+                name, outcome = self.game.paths.name, typed.outcome
+                raise added.Refused(f"{name} has no move yet. Type {outcome} {self._before.name}, or {outcome} {name}")
+            return self._now.add(typed)
+        except (added.Refused, OSError, Refused) as error:
+            return refusal(text, error)
+
+    def _acknowledge(self, before: Optional[Paths]) -> Answer:
+        """Somebody has looked at what he was to look at, in this game or in the one before it."""
+        takes = before is None and self._may_take()
+        if before is None and isinstance(self._now, Recording):
+            seen = self._now.acknowledge()
+        else:
+            seen = acknowledge(before or self.game.paths)
+            self._screen.say(seen)
+            if self.standing and before is None:
+                self.standing.look("")
+            elif isinstance(self._now, Listening):
+                self._now.acknowledged()
+        if takes:
+            self._cable.take()
+            seen = f"{seen}; the board with serial number {self.number} is recorded here"
+        return DONE, seen
+
+    def _add_before(self, paths: Paths, text: str) -> Answer:
+        """To the game before this one."""
+        status, answer = add_by_name(self.game.program, paths, text, 0)
+        if status == DONE:
+            self._screen.say(answer.replace("added to", "added by hand to", 1))
+        return status, answer
+
+    def _add_last(self, typed: added.Typed) -> Answer:
+        """To the game that is over, while the pieces are set up."""
+        if isinstance(self._now, Listening) and not self.game.capture.full:
+            return self._add_after(self._now, typed)
+        if not isinstance(self._now, SettingUp) or self._begins_anew or self.game.capture.full:
+            raise added.Refused("nothing can be added just now. Type it again")
+        name = self.game.paths.name
+        try:
+            what = add_to_closed(self.game, typed)
+        finally:  # the capture may be another file, whatever came of it
+            self._now.close()
+            self.restored()
+            self._look_for_start(self._end())
+        self._screen.say(f"added by hand to {name}: {what}")
+        return DONE, f"added to {name}: {what}"
+
+    def _add_after(self, listening: Listening, typed: added.Typed) -> Answer:
+        """To the game that is over, whose board is listened to."""
+        name = self.game.paths.name
+        try:
+            what = add_to_closed(self.game, typed)
+        finally:  # the capture may be another file, whatever came of it
+            self.restored()
+        self._screen.say(f"added by hand to {name}: {what}")
+        self._hears.placed()
+        if isinstance(typed, added.Result):
+            listening.ends_with(typed.outcome)
+        else:
+            listening.close()
+            self.course = game_of(self.game.program, self.game.options, self.game.capture.bytes(0, self._end()))
+            self._await_moves()
+        return DONE, f"added to {name}: {what}"
+
+    # How it ends.
+
+    def end(self) -> None:
+        """Ends it all in order. A second call changes nothing."""
+        if self._ending:
+            return
+        self._ending = True
+        self._cable.last_words()
+        if self._closing:
+            return  # the game is being closed, and then all is
+        if isinstance(self._now, Recording):
+            self._now.finish(self._game_closed)
+        else:
+            if self._now:
+                self._now.close()
+                self._now = None
+            self._all_closed(not self.game.capture.full)
+
+    def _all_closed(self, written: bool) -> None:
+        if not written and self._refused is None:
+            pgn, again = self.game.paths.pgn, "Make room, and start again with the same NAME"
+            self._refused = Refused(FAILED, f"{pgn} can't be written: is the disk full?", again)
+        self._hears.stopped(self._refused)

@@ -1,0 +1,434 @@
+"""The recording of one game: what came is kept first, then told, and NAME.pgn is made anew where the game has changed."""
+
+from __future__ import annotations
+
+import enum
+import pathlib
+from dataclasses import dataclass
+from typing import Callable, List, Optional, Protocol
+
+from live.beside import Worker
+from live.board.disk import Disk
+from live.board.standing import Standing
+from live.board.state import DISK_FULL, NOT_WRITTEN
+from live.game import added, ending
+from live.game.adding import Addition, Answer
+from live.game.alarms import Alarms, acknowledged
+from live.game.edited import told_of_edit
+from live.game.files import LARGEST, text_of
+from live.game.game import mark_end
+from live.game.looks import Look, Looks
+from live.game.making_pgn import Made, Maker
+from live.game.opening import Opened
+from live.game.report import Agrees, Change, Differs, Fault, Line, Move, Picture, Recovered, Result
+from live.game.watching import Watching
+from live.guard import Guard
+from live.loop import Timer
+from live.refused import DONE
+from live.terminal.screen import Screen
+
+TICK = 1.0  # seconds between two looks at what waits
+PATIENCE = 5.0  # seconds that the last lines may take
+LATE = 1.0  # seconds behind its time: this process was stopped meanwhile
+SETTLES = 0.2  # seconds after which all lines of a byte have been heard
+SURELY_SETTLES = 1.0  # and those where one that comes late would be taken for another
+ROOM = 1024 * 1024  # bytes for what `recover` puts in, some 5,000 pairs: none reads more than LARGEST
+
+
+class Reason(enum.Enum):
+    """Why a game is over."""
+
+    RESULT = "it has a result"
+    TYPED = "its result was typed"
+    SET_UP = "the pieces stand at the start again"
+    LIMIT = "its capture has 64 MiB, and none may have more"
+
+
+@dataclass(frozen=True)
+class Rules:
+    """How long a result stands before it ends a game, and whether another game follows on the same board."""
+
+    linger: int
+    series: bool = False
+
+
+class HearsRecording(Protocol):
+    """Who is told of a recording."""
+
+    def over(self, reason: Reason) -> None:
+        """The game has ended. It is told once."""
+
+    def anew(self) -> None:
+        """The game begins only now: what was told was a set-up."""
+
+    def broken(self, what: str) -> None:
+        """A part of it fails again and again."""
+
+    def asks(self, put: bytes) -> None:
+        """This was added by hand, and the board is to be asked how it stands."""
+
+    def placed(self) -> None:
+        """NAME.pgn was made anew."""
+
+    def restored(self) -> None:
+        """The capture was removed, and is written anew."""
+
+
+class Lingering:
+    """Whether a result has stood so long that it ends the game."""
+
+    def __init__(self, guard: Guard, seconds: float, ends: Callable[[], None]) -> None:
+        self._guard, self._seconds, self._ends = guard, seconds, ends
+        self._timer: Optional[Timer] = None
+
+    def begin(self) -> None:
+        """There is a result now, or another one."""
+        self.cancel()
+        self._wait(self._seconds)
+
+    def _wait(self, seconds: float) -> None:
+        due = self._guard.now() + seconds
+
+        def comes() -> None:
+            if self._guard.now() - due > LATE:
+                self._wait(LATE)  # this process was stopped: what came meanwhile is told first
+            else:
+                self._ends()
+
+        self._timer = self._guard.after(seconds, comes)
+
+    def cancel(self) -> None:
+        """The result is gone, or somebody else ends the game."""
+        if self._timer:
+            self._timer.cancel()
+            self._timer = None
+
+
+class Recording:
+    """A game on a board, from its first byte to its text. What came before this call was told then."""
+
+    def __init__(
+        self, guard: Guard, worker: Worker, screen: Screen, opened: Opened, rules: Rules, hears: HearsRecording
+    ) -> None:
+        self._guard, self._screen, self._hears, self._rules = guard, screen, hears, rules
+        self.game, self.course = opened.game, opened.old.course
+        self._old = opened.old.size  # bytes from before this call
+        self.end: Optional[int] = None  # how many bytes are the game's, where not all are
+        self._typed = ""  # the result that an arbiter has typed
+        self._faults: List[str] = []
+        self._is_over = self._marks = False  # and whether NAME.end is to say how many bytes are the game's
+        self._done: Callable[[bool], None] = lambda written: None
+        self._watchdog: Optional[Timer] = None
+        self._lingering = Lingering(guard, rules.linger, lambda: self._end(Reason.RESULT))
+        self.standing = Standing(guard, screen, self.course.start, self.game.options.rotated)
+        self.standing.was_away = bool(opened.old.lines)  # what it showed before this call is long ago
+        self._shows_itself = not opened.old.lines  # whether the board has, of which nothing else was told before
+        self._maker = Maker(guard, worker, self.game, self)
+        self._alarms = Alarms(self.game.paths, self.course)
+        self._heard_at = guard.now()  # when the board was heard last
+        self._gap = opened.old.gap  # for how long it had not been heard before this call
+        self._was_away = False  # and no dump has come since
+        self._by_hand = range(0)  # the bytes that were added last
+        self.standing.board.look = self.looks.short
+        self._disk = Disk(screen, self.standing, self.game.capture, self)
+        if self.game.options.recover:
+            self.game.capture.limit = LARGEST - ROOM
+        self._tick = guard.after(TICK, self._each_second)
+        if opened.old.lines:
+            self._tell_old()
+        self._watching = Watching(guard, self.game, self, opened.old.lines)
+
+    def _tell_old(self) -> None:
+        """What was played before this call, and how the board stood then, until it shows itself."""
+        self.standing.board.goes_on()
+        for news in self.course.news:
+            self._screen.told(news.shown, True)
+        self.course.news.clear()
+        if self.course.board:
+            self.standing.board.shows(self.course.board)
+        for event in self.course.standing():
+            self.standing.board.told(self._guard.now(), event)
+        self._hear_result(self.course.result)
+        if self.course.stood_again and self._rules.series:
+            self._guard.after(SETTLES, self._look_at_start)
+        self.standing.show()
+
+    # What the board sends.
+
+    def came(self, sent: bytes) -> None:
+        """The board has sent this."""
+        now = self._guard.now()
+        silence, self._heard_at = now - self._heard_at + self._gap, now
+        if self.standing.was_away:
+            self._alarms.away(silence, self._gap > 0)
+            self._was_away = True
+        self.standing.was_away, self._gap = False, 0.0
+        self._append(sent)
+
+    def timed(self, data: bytes) -> None:
+        """What came last ends a time message, of which these are the seven bytes."""
+        self._alarms.time(self._guard.now(), data)
+
+    def _append(self, sent: bytes) -> None:
+        """The board has sent this, or somebody has added it."""
+        self._disk.append(sent)
+        self._watching.feed()
+        if self.game.capture.at_limit:
+            self._end(Reason.LIMIT)
+
+    def dumped(self) -> None:
+        """What came ends a whole dump: the board has shown how it stands. What the program makes of it is heard soon."""
+        if not self._shows_itself:
+            self._shows_itself = True
+            self._guard.after(SETTLES, self._has_shown_itself)
+        if self._was_away:
+            self._was_away = False
+            self._guard.after(SURELY_SETTLES, self._stands)
+
+    def _stands(self) -> None:
+        """All is told of the first dump after the board was away."""
+        self._tell_look(self._alarms.stands(self._guard.now()))
+
+    def _has_shown_itself(self) -> None:
+        if self._watching.caught_up:
+            self.standing.board.shows_itself()
+            self.standing.show()
+        else:
+            self._guard.after(SETTLES, self._has_shown_itself)
+
+    def remake(self) -> None:
+        """The text is made anew, whatever is there."""
+        self._maker.want()
+
+    def _each_second(self) -> None:
+        self._tick = self._guard.after(TICK, self._each_second)
+        self._disk.try_again()
+        if self._alarms.trouble:
+            self._keep_looks()
+        self._watching.feed()
+        self._watching.wake()
+        self._maker.wake()
+        if self._faults:
+            more = len(self._faults) - 1
+            self._screen.note(self._faults[0] + (f", and {more} more" if more else ""))
+            self._faults.clear()
+        self.standing.show()
+
+    # What the program tells.
+
+    def heard(self, line: Line) -> None:
+        """The next line of its report."""
+        if self.end is not None and line.offset >= self.end and not line.is_picture:
+            return  # the game is over
+        is_old = line.offset < self._old
+        event = line.event
+        if isinstance(event, Fault):
+            if not is_old:
+                self._faults.append(f"{event.words} at {line.offset}")
+            return
+        now = self._guard.now()
+        self.course.take(line, now)
+        look = None if is_old else self._alarms.take(now, line, line.offset in self._by_hand)
+        if isinstance(event, Picture):
+            self._see(event, is_old)
+        elif isinstance(event, Recovered):
+            self._screen.told(event.shown, is_old)
+        elif isinstance(event, (Move, Result, Differs, Agrees)):
+            if not is_old:
+                self.standing.board.shows_itself()
+            self.standing.board.told(now, event)
+            if isinstance(event, (Move, Result)):
+                self._hear_change(event, line.offset)
+        else:
+            return
+        self.course.news.clear()
+        self._tell_look(look)
+        self.standing.show()
+
+    def _tell_look(self, look: Optional[Look]) -> None:
+        """This is to be looked at, if anything is."""
+        if look:
+            self._screen.say(f"{look.text}. Look at it, and type {self._screen.ok()}")
+            self._tell_looks()
+
+    def look_at(self, look: Look) -> None:
+        """Somebody is to look at this."""
+        self._tell_look(self._alarms.add(look))
+
+    @property
+    def looks(self) -> Looks:
+        """What somebody is to look at."""
+        return self._alarms.looks
+
+    def _tell_looks(self) -> None:
+        self.standing.look(self.looks.short)
+        if self._alarms.trouble:
+            self._screen.say(f"{self.game.paths.look} can't be written ({text_of(self._alarms.trouble)}): it is tried again")
+
+    def _keep_looks(self) -> None:
+        """What somebody is to look at couldn't be kept beside the game: it is tried again."""
+        self._alarms.keep()
+        if not self._alarms.trouble:
+            self._screen.say(f"{self.game.paths.look} is written")
+
+    def acknowledge(self) -> str:
+        """Somebody has looked at what he was to look at: the answer."""
+        seen = acknowledged(self._alarms.acknowledge())
+        self._screen.say(seen)
+        self._tell_looks()
+        return seen
+
+    def _hear_change(self, change: Change, offset: int) -> None:
+        self._screen.told(change.shown, offset < self._old)
+        if offset >= self._maker.made_of:
+            self._maker.want()
+        if isinstance(change, Result):
+            self._hear_result(change.outcome)
+
+    def _see(self, picture: Picture, is_old: bool) -> None:
+        """What the board shows now."""
+        self.standing.board.shows(picture.codes)
+        # A single game that somebody goes on with has not ended where it seemed to.
+        if self.course.stands_again and (self._rules.series or not is_old):
+            self._guard.after(SETTLES, self._look_at_start)
+
+    def _hear_result(self, result: str) -> None:
+        self._lingering.cancel()
+        if result != "*" and not self._is_over:
+            self._screen.say(f"ends in {self._rules.linger} seconds, unless the result changes")
+            self._lingering.begin()
+
+    def _look_at_start(self) -> None:
+        """The start stands after a set-up, and the program has told what it makes of that. It ends a game that doesn't stand
+        there; but where the board has never stood as the game says, a move that was told was a part of the set-up."""
+        if self._is_over or self.course.stands_at_start:
+            return
+        if self.course.has_agreed or len(self.course.plies) > 1:
+            self._end(Reason.RESULT if self.course.result != "*" else Reason.SET_UP)
+        else:
+            self._hears.anew()
+
+    def says(self, text: str) -> None:
+        """A child has ended, and is started again."""
+        self._screen.say(text)
+
+    def broken(self, what: str) -> None:
+        """A child has ended again and again."""
+        self._hears.broken(what)
+
+    # Its text.
+
+    def placed(self) -> None:
+        """NAME.pgn was made anew."""
+        self._disk.look()
+        self._hears.placed()
+
+    def edited(self, kept: pathlib.Path) -> None:
+        """Somebody had edited NAME.pgn by hand."""
+        self._screen.say(told_of_edit(self.game.paths.pgn, kept))
+
+    def unmade(self, made: Made) -> None:
+        """NAME.pgn can't be made."""
+        if self._disk.restore():
+            return  # since the capture was gone
+        what = "Make room:" if made.full else "Put that right:"
+        self._screen.say(
+            f"{self.game.paths.pgn} can't be written ({made.trouble}); {self.game.paths.capture} is. {what}",
+            "it is tried again and again",
+        )
+        self._disk.look()
+
+    def text_trouble(self) -> str:
+        """What keeps the text from being written, as its state is told."""
+        made = self._maker.last
+        return "" if not made.trouble else DISK_FULL if made.full else NOT_WRITTEN
+
+    def restored(self) -> None:
+        """The capture was removed, and is written anew."""
+        self._hears.restored()
+
+    # What an arbiter adds.
+
+    def add(self, typed: added.Typed) -> Answer:
+        """Adds a result, which ends the game, or moves. Refused where that can't be."""
+        if self._is_over:
+            raise added.Refused("the game is just being ended. Type it again")
+        if self.game.capture.full:
+            raise added.Refused("the disk is full, and nothing can be added. Make room, and type it again")
+        put, what = Addition(self.game, self.game.capture.bytes()).of(typed)
+        self._screen.say(f"added by hand: {what}")
+        self._by_hand = range(self.game.capture.size, self.game.capture.size + len(put))
+        self._append(put)
+        self._hears.asks(put)
+        if isinstance(typed, added.Result) and not self._is_over:
+            self._typed = typed.outcome
+            self.end = self.game.capture.size
+            self._end(Reason.TYPED)
+        return DONE, f"added to {self.game.paths.name}: {what}"
+
+    # How it ends.
+
+    def _end(self, reason: Reason) -> None:
+        if self._is_over:
+            return
+        if reason is Reason.RESULT:
+            self.end = self.course.changed_at + 1
+        elif reason is Reason.SET_UP:
+            self._end_before_set_up()
+        self._marks = self._rules.series or reason in (Reason.TYPED, Reason.SET_UP)
+        self._is_over = True
+        self._hears.over(reason)
+
+    def _end_before_set_up(self) -> None:
+        lines = self.course.lines()
+        found = ending.game_end(lines, self.course.start)
+        self.end = ending.ending_with_sign(lines, found.size)
+        self._alarms.end(self.end)
+        self.standing.look(self.looks.short)
+        if found.dropped:
+            self._screen.say(f"taken for setting up, and not for moves: {'; '.join(found.dropped)}")
+        if not found.sure:
+            self._screen.say(f"LOOK at the last moves of {self.game.paths.pgn}: where the game ended isn't sure")
+
+    def finish(self, done: Callable[[bool], None]) -> None:
+        """Hears the last lines, makes the game a last time, and tells whether it could be written."""
+        self._is_over, self._done = True, done
+        self._lingering.cancel()
+        self.game.capture.write()
+        if self._marks:
+            self._mark()
+        self._watchdog = self._guard.after(PATIENCE, self._all_is_heard)
+        self._watching.finish(self._all_is_heard)
+
+    def _mark(self) -> None:
+        paths = self.game.paths
+        try:
+            mark_end(paths, self.game.capture.size if self.end is None else self.end)
+        except OSError as error:
+            self._screen.say(f"{paths.end} can't be written ({text_of(error)})")
+
+    def _all_is_heard(self) -> None:
+        if self._watchdog:
+            self._watchdog.cancel()
+            self._watchdog = None
+        self._watching.close()
+        pgn, course = self.game.paths.pgn, self.course
+        if course.recovered:
+            pairs = "; ".join(pair.replace("recovered ", "") for pair in course.recovered)
+            self._screen.say(f"recovered in {pgn}, look whether they were played: {pairs}")
+        if self.looks.open:
+            self._screen.say(f"in {pgn}: {self.looks.all}")
+        if self._typed not in ("", course.result):
+            self._screen.say(f"LOOK at {pgn}: its result should be {self._typed}, and isn't")
+        self._maker.limit = self.end
+        self._maker.finish(lambda written: self._done(written and not self.game.capture.full))
+
+    def close(self) -> None:
+        """Ends all that is under way. The capture stays open."""
+        self._tick.cancel()
+        self._lingering.cancel()
+        if self._watchdog:
+            self._watchdog.cancel()
+        self.standing.close()
+        self._watching.close()
+        self._maker.close()

@@ -1,0 +1,123 @@
+"""Between two games of a series: what comes is kept behind the game that is over, until the start stands again."""
+
+from __future__ import annotations
+
+from typing import Optional, Protocol
+
+from live.board.disk import Disk
+from live.board.standing import Standing
+from live.device import protocol
+from live.game.files import LARGEST
+from live.game.game import Game
+from live.game.program import Listing, Task
+from live.game.reading import DUMP_BEGINS
+from live.game.report import Picture, line_of
+from live.guard import Guard
+from live.loop import Timer
+from live.terminal.screen import Screen
+
+TICK = 1.0  # seconds between two looks at what waits
+LOOKED_BACK = 65536  # bytes before the end in which the last dump is looked for
+
+
+class HearsSettingUp(Protocol):
+    """Who is told that the start stands."""
+
+    def ready(self, content: bytes) -> bool:
+        """It does: the next game's capture may begin with this. Whether it could be begun; else it is asked again."""
+
+    def broken(self, what: str) -> None:
+        """A part of it fails again and again."""
+
+    def restored(self) -> None:
+        """The capture was removed, and is written anew."""
+
+
+class SettingUp:
+    """Looks for the first picture of the start behind an offset of a capture.
+
+    What the next game's capture begins with is a dump of the start, and all that came after the byte with which the start
+    stood. So a first move that is made at once is in it.
+    """
+
+    def __init__(self, guard: Guard, screen: Screen, game: Game, end: int, hears: HearsSettingUp) -> None:
+        self._guard, self._screen, self._game, self._hears = guard, screen, game, hears
+        self._start = protocol.picture_of_placement(game.options.start)
+        self.standing = Standing(guard, screen, self._start, game.options.rotated, played=False)
+        self._disk = Disk(screen, self.standing, game.capture, self)
+        game.capture.limit = None  # the game is over: what comes now may go past what a game may have
+        self._tick = guard.after(TICK, self._each_second)
+        self._tries: Optional[Timer] = None
+        self._begin(end)
+
+    def _begin(self, end: int) -> None:
+        """Looks behind this offset. It is read from the last dump before it on: without one no update would count."""
+        self._end = self._from = end
+        looks_at = max(0, end - LOOKED_BACK)
+        before = self._game.capture.bytes(looks_at, end)
+        dump = before.rfind(DUMP_BEGINS)
+        words = self._game.options.of_pictures()
+        if dump >= 0:
+            # A picture is reported where it is another one than before: the start, where it doesn't stand already.
+            shown = self._game.program.lines("pictures", *words, given=before[dump:])
+            if shown[-1:] != [self._game.options.start]:
+                self._from = looks_at + dump
+        task = Task(self._game.program, ("watch", *words), self._game.capture, self._from)
+        self._watch = Listing(self._guard, task, self._heard, self)
+
+    def came(self, sent: bytes) -> None:
+        """The board has sent this."""
+        self._disk.append(sent)
+        self._feed()
+
+    def dumped(self) -> None:
+        """What came ends a whole dump."""
+
+    def _feed(self) -> None:
+        self._watch.feed()
+        if self._game.capture.size - self._from > LARGEST // 2:
+            self._watch.close()  # the program reads no more than twice that
+            self._begin(self._game.capture.size)
+
+    def _each_second(self) -> None:
+        self._tick = self._guard.after(TICK, self._each_second)
+        self._disk.try_again()
+        self._watch.wake()
+        self._feed()
+        self.standing.show()
+
+    def _heard(self, text: str) -> None:
+        line = line_of(text)
+        if line is None or not isinstance(line.event, Picture) or self._from + line.offset < self._end:
+            return
+        if line.event.placement == self._game.options.start:
+            self._watch.close()
+            after = self._game.capture.bytes(self._from + line.offset + 1)
+            if not self._hears.ready(protocol.dump(self._start, self._game.options.rotated) + after):
+                self._tries = self._guard.after(TICK, lambda: self._begin(self._end))
+        else:
+            self.standing.board.differs(self._guard.now(), protocol.differing(line.event.codes, self._start))
+            self.standing.show()
+
+    def says(self, text: str) -> None:
+        """A child has ended, and is started again."""
+        self._screen.say(text)
+
+    def broken(self, what: str) -> None:
+        """A child has ended again and again."""
+        self._hears.broken(what)
+
+    def text_trouble(self) -> str:
+        """No text is written now."""
+        return ""
+
+    def restored(self) -> None:
+        """The capture was removed, and is written anew."""
+        self._hears.restored()
+
+    def close(self) -> None:
+        self._tick.cancel()
+        if self._tries:
+            self._tries.cancel()
+        self.standing.close()
+        self._watch.close()

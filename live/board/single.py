@@ -1,0 +1,171 @@
+"""The board of a call of dgt_live: a single one, whose call ends with its recording."""
+
+from __future__ import annotations
+
+import dataclasses
+import os
+from dataclasses import dataclass
+from typing import Callable, Optional, Tuple
+
+from live.board.board import Board, Wanted
+from live.board.plan import Plan
+from live.board.state import Kind
+from live.device import serial_line
+from live.game.adding import reason_of, refusal
+from live.game.files import LARGEST, Paths, size_of
+from live.game.game import end_mark
+from live.game.opening import Chooses, Chosen, Opening, strictly
+from live.game.options import Options
+from live.game.program import Program
+from live.game.tags import Tags
+from live.guard import traced
+from live.loop import Loop
+from live.refused import FAILED, REFUSED, Refused
+from live.terminal.screen import Screen
+
+
+@dataclass(frozen=True)
+class Choice:
+    """The options that were given, and what is told of those that were turned into what PGN takes."""
+
+    given: Options
+    told: Tuple[str, ...] = ()
+
+
+class Single:
+    """The only board. What it can't be begun with ends the call; an error later doesn't: it is tried again."""
+
+    number = 1
+
+    def __init__(self, loop: Loop, program: Program, screen: Screen, plan: Plan, choice: Choice) -> None:
+        self._loop, self._program, self._screen, self._plan, self._choice = loop, program, screen, plan, choice
+        screen.on_change = self.changed
+        self.board = Board(loop, program, self._screen, plan.paths, self)
+        self.refused: Optional[Refused] = None
+        self.on_change: Callable[[], None] = lambda: None
+        self.leaves: Callable[[], None] = loop.stop  # what is called when its recording has ended
+        self.greeting: Tuple[str, ...] = ()  # what is said once it is recorded
+        self._begun = False  # whether it has been recorded
+        self._is_faulty = False  # whether an error has ended that
+
+    def begin(self) -> None:
+        """Records it."""
+        self.board.begin()
+
+    def end(self) -> None:
+        """Ends it in order."""
+        self.board.end(self._stop)
+
+    def _stop(self) -> None:
+        self.refused = self.board.refused
+        self.leaves()
+
+    def wanted(self) -> Wanted:
+        """What the call says."""
+        plan, choice = self._plan, self._choice
+        paths = plan.paths
+
+        def prepares() -> Chooses:
+            serial_line.check(plan.device, may_wait=size_of(paths.capture) > 0)
+            serial_line.check_free(plan.device)
+            strict = strictly(choice.given, paths.name, choice.told)
+
+            def chooses(kept: Optional[Options], has_moves: Callable[[], bool]) -> Chosen:
+                if not plan.rules.series:
+                    refuse_over(paths, choice.given)
+                return strict(kept, has_moves)
+
+            return chooses
+
+        return Wanted(plan, lambda: Opening(self._program, paths, prepares))
+
+    def changed(self) -> None:
+        """What it shows is another."""
+        if self.board.is_recorded:
+            self._begun, self._is_faulty = True, False
+            greeting, self.greeting = self.greeting, ()
+            for line in greeting:
+                self._screen.say(line)
+        self.on_change()
+
+    def remade(self) -> None:
+        """The text of its game is another."""
+        self.on_change()
+
+    def ended(self, why: Optional[Exception]) -> bool:
+        """Its recording has ended, or couldn't be begun. Whether it is to be tried again."""
+        if why and self._begun and (self._is_faulty or not isinstance(why, Refused)):
+            self._is_faulty = True
+            self._screen.state("NOT RECORDED", why)
+            return True
+        self.refused = why if isinstance(why, Refused) or why is None else Refused(FAILED, reason_of(why))
+        self.leaves()
+        return False
+
+    def owner(self, number: str) -> Optional[Board]:
+        """There is no other board."""
+
+    def typed(self, text: str) -> None:
+        """A line of the terminal."""
+        if text in ("q", "quit") and not self.board.is_recorded:
+            self.end()
+            return
+        status, answer = self.board.typed(text)
+        if status:
+            self._screen.say(answer)
+
+    def refuses(self, text: str, error: Exception) -> None:
+        """A line of the terminal raised an error."""
+        self._screen.say(refusal(text, error)[1])
+        self._screen.note(traced(error))
+
+    def trouble(self, text: str) -> None:
+        """What should never happen, and where: for the log."""
+        self._screen.note(text)
+
+    def say(self, text: str) -> None:
+        """A line for whoever looks at the screen."""
+        self._screen.say(text)
+
+    # What the page asks for.
+
+    @property
+    def name(self) -> str:
+        """What the files of its game are called."""
+        return os.path.basename(self.board.paths.name)
+
+    in_front = ""
+
+    def standing(self) -> Tuple[str, Optional[float], bool]:
+        """How it stands in words, since when, and whether somebody must look at it."""
+        state, now = self.board.state, self._loop.now()
+        if self.board.trouble:
+            return f"NOT RECORDED: {self.board.trouble}", None, True
+        if state is None:
+            return "over", None, False
+        since = None if state.kind is Kind.WAITS else state.since
+        return dataclasses.replace(state, since=now).text(now), since, state.is_alarm
+
+    def player_name(self, option: str) -> str:
+        """The name behind `--white` or `--black`."""
+        return self.board.options.value(option) or ""
+
+    @property
+    def tags(self) -> Tags:
+        """Those that are published and not recorded, or that are published in other letters; none where the two texts are one."""
+        return dict(self.board.options.tags)
+
+
+def refuse_over(paths: Paths, given: Options) -> None:
+    """Refused where the game is over, or has all bytes that one may have."""
+    if end_mark(paths) is not None:
+        what = [
+            f"{paths.name} is over: choose another name. To add to it: dgt_live --add 1-0 {paths.name}.",
+            f"To go on with it all the same, remove {paths.end}",
+        ]
+        reading = " ".join(given.reading().words())
+        if reading:
+            what.append(f"For --first, --recover and --strict leave the device out: dgt_live {reading} {paths.name}")
+        raise Refused(REFUSED, *what)
+    if size_of(paths.capture) >= LARGEST:
+        raise Refused(REFUSED, f"{paths.capture} has 64 MiB, and none may have more: choose another name")

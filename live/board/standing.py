@@ -1,0 +1,80 @@
+"""How a board stands, shown when it changes, and when the time makes another state of it."""
+
+from __future__ import annotations
+
+import dataclasses
+import math
+from typing import Optional
+
+from live.board.state import TURNED_ROUND, BoardState, Kind
+from live.device.protocol import Picture
+from live.loop import Timer, Turns
+from live.terminal.screen import Screen
+
+LATER = 0.001  # seconds after the time makes another state of it
+
+
+class Standing:
+    """The state of a board, which is told to a screen; where no game is `played`, a piece in a hand is being set up."""
+
+    def __init__(self, loop: Turns, screen: Screen, start: Picture, rotated: bool, played: bool = True) -> None:
+        self._loop, self._screen, self._played = loop, screen, played
+        self.board = BoardState(start, f"{TURNED_ROUND} {screen.turn(rotated)}")
+        self.trouble = ""
+        self.was_away = False  # unplugged or silent, since it was heard last
+        self._hint = ""
+        self._timer: Optional[Timer] = None
+        self._closed = False
+
+    def show(self) -> None:
+        """To be called after each change, and now and then: the time is a part of what is shown."""
+        if self._closed:
+            return
+        now = self._loop.now()
+        state = self.board.state(now)
+        if not self._played and state.kind in (Kind.WAITS, Kind.IN_HAND):
+            state = dataclasses.replace(state, kind=Kind.SETTING_UP, squares=())
+        self._screen.state(state.text(now), state.news)
+        if state.hint and state.hint != self._hint:
+            self._screen.hint(state.hint)
+        self._hint = state.hint
+        due = self.board.due(now) + LATER
+        if self._timer and self._timer.when > due:
+            self._timer.cancel()
+            self._timer = None
+        if self._timer is None and due < math.inf:  # one that comes too soon shows nothing new, and is followed by another
+            self._timer = self._loop.after(max(0.0, due - now), self._due)
+
+    def _due(self) -> None:
+        self._timer = None
+        self.show()
+
+    def plugged(self) -> None:
+        self.board.plugged()
+        self.show()
+
+    def unplugged(self) -> None:
+        self.was_away = True
+        self.board.unplugged(self._loop.now())
+        self.show()
+
+    def silence(self, silent: bool) -> None:
+        self.was_away = self.was_away or silent
+        self.board.silent(self._loop.now(), silent)
+        self.show()
+
+    def look(self, text: str) -> None:
+        """What somebody is to look at, in few words; nothing where there is nothing."""
+        self.board.look = text
+        self.show()
+
+    def disk(self, trouble: str) -> None:
+        """What keeps something from being written, if anything does."""
+        self.trouble = trouble
+        self.board.disk(trouble)
+        self.show()
+
+    def close(self) -> None:
+        self._closed = True
+        if self._timer:
+            self._timer.cancel()

@@ -1,0 +1,248 @@
+"""The state of a board, as an arbiter reads it: from what the program reports, what the line and the disk do, and the time.
+
+- `agrees`: the board shows the game's position. `result 1-0`: it has shown the result; wherever the pieces are put then.
+- `in hand g1 f3`: a few squares differ, none of them for 10 s. `WRONG since 40 s: e2 d5`: those that have differed so long.
+- `setting up`: more squares differ than hands change in a move, and pieces are still moved, or no move has been played. When a
+  few are left they are `WRONG` once nothing has moved for 10 s. A game that hasn't agreed for 15 s is `WRONG`, whatever moves.
+- `NO START`: pieces are moved, the board has never stood at the start, and hasn't come nearer to it for 15 s.
+- `LOOK at 4... Qg4+`, before or behind any other: somebody is to look at that, and to acknowledge it.
+- `waits for the board`: it has shown nothing yet. Where a game goes on, what it showed before this call is not how it stands.
+- `SILENT`, `UNPLUGGED`: the board answers no more, or its line is gone; whatever was shown before. `DISK FULL`, `NOT WRITTEN`
+  beside any.
+"""
+
+from __future__ import annotations
+
+import enum
+import math
+from dataclasses import dataclass, field
+from typing import Dict, Iterable, Optional, Tuple
+
+from live.board.agreement import Agreement
+from live.device.protocol import Picture, differing
+from live.game.report import Agrees, Differs, Event, Move, Result
+
+HAND = 10.0  # seconds that a hand may take
+MOST_IN_HAND = 6  # squares: castling changes four, and a neighbour or two may be straightened
+MOST_LISTED = 8
+ONE_MOVE = 4  # squares that a move changes, at most
+TURNED_ROUND = "is the board turned round?"
+OTHER_BOARD = "another board may be on this cable"
+DISK_FULL, NOT_WRITTEN = "DISK FULL", "NOT WRITTEN"  # the disk has no room, or a file can't be written for another reason
+
+
+class Kind(enum.Enum):
+    """What an arbiter is told first."""
+
+    WAITS = "waits for the board"
+    AGREES = "agrees"
+    RESULT = "result"
+    IN_HAND = "in hand"
+    WRONG = "WRONG"
+    NO_START = "NO START"
+    SETTING_UP = "setting up"
+    SILENT = "SILENT"
+    UNPLUGGED = "UNPLUGGED"
+
+
+ALARMS = (Kind.WRONG, Kind.NO_START, Kind.SILENT, Kind.UNPLUGGED)
+
+
+@dataclass(frozen=True)
+class State:
+    """The state at a moment."""
+
+    kind: Kind
+    since: float
+    squares: Tuple[str, ...] = ()
+    result: str = ""
+    hint: str = ""
+    disk: str = ""  # what keeps something from being written
+    look: str = ""  # what somebody is to look at
+
+    @property
+    def is_alarm(self) -> bool:
+        """Whether somebody must go to the board, or to the disk."""
+        return bool(self.disk or self.hint or self.look) or self.kind in ALARMS
+
+    @property
+    def differing(self) -> Tuple[str, ...]:
+        """The squares that a page marks."""
+        return self.squares if self.kind in (Kind.WRONG, Kind.NO_START, Kind.IN_HAND) else ()
+
+    @property
+    def news(self) -> Tuple[object, ...]:
+        """What makes a state another one: a line is told when this changes, and not when it only lasts."""
+        return (self.kind, self.result, self.hint, self.disk, self.look, self.squares if self.kind is Kind.WRONG else ())
+
+    def parts(self, most_listed: int = MOST_LISTED) -> Tuple[str, str]:
+        """The state in words: those before how long it has lasted, and those after. More squares than so many are counted."""
+        words = " ".join(self.squares) if len(self.squares) <= most_listed else f"{len(self.squares)} squares"
+        front, rest = self.kind.value, ""
+        if self.kind is Kind.RESULT:
+            front += f" {self.result}"
+        elif words:
+            rest = f" {words}" if self.kind is Kind.IN_HAND else f": {words}"
+        if self.hint.startswith(TURNED_ROUND):
+            front, rest = self.hint, ""  # that says why it is being set up, and has no room beside it
+        elif self.hint:
+            rest += f"; {self.hint}"
+        if self.look and (self.kind in ALARMS or self.hint):
+            rest += f"; {self.look}"
+        elif self.look:
+            front, rest = self.look, f"; {front}{rest}"
+        return (f"{self.disk}, {front}" if self.disk else front), rest
+
+    def text(self, now: float, most_listed: int = MOST_LISTED) -> str:
+        """The state in a line."""
+        front, rest = self.parts(most_listed)
+        lasts = f" since {lasting(now - self.since)}" if self.kind in ALARMS and now >= self.since + 1 else ""
+        return front + lasts + rest
+
+
+def lasting(seconds: float) -> str:
+    """So long, in words: `40 s`, `3 min`, `2 h 05 min`."""
+    whole = max(0, math.floor(seconds))
+    if whole < 120:
+        return f"{whole} s"
+    if whole < 7200:
+        return f"{whole // 60} min"
+    return f"{whole // 3600} h {whole // 60 % 60:02} min"
+
+
+@dataclass
+class BoardState:
+    """Takes what happens at a board, and says its state at any time."""
+
+    start: Optional[Picture] = None  # of the game, for the hint on a board that lies the other way round
+    turned_hint: str = TURNED_ROUND
+    look: str = ""  # what somebody is to look at
+    _since: float = 0.0  # of what was seen first, agreeing, or the first square that differs
+    _seen: bool = False
+    _squares: Dict[str, float] = field(default_factory=dict)  # those that differ, and since when each has
+    _changed_at: float = 0.0
+    _setting_up: bool = False
+    _played: bool = False
+    _result: str = ""
+    _silent_since: Optional[float] = None
+    _unplugged_since: Optional[float] = None
+    _disk: str = ""
+    _picture: Optional[Picture] = None
+    _replugged: bool = False
+    _hint: str = ""
+    _goes_on: bool = False  # and the board has shown nothing since
+    _agreement: Agreement = field(default_factory=Agreement)
+
+    def told(self, now: float, event: Optional[Event]) -> None:
+        """What the program makes of a picture."""
+        if isinstance(event, Move):
+            self._played = True
+            self.differs(now, ())
+        elif isinstance(event, Result):
+            self._result = ""
+            self.differs(now, ())
+            self._result = event.outcome.replace("*", "")
+        elif isinstance(event, Agrees):
+            self.differs(now, ())
+        elif isinstance(event, Differs):
+            self.differs(now, event.squares)
+
+    def differs(self, now: float, squares: Iterable[str]) -> None:
+        """The picture differs from the game's position on these squares; on none, it agrees."""
+        before = self._squares
+        self._squares = {square: before.get(square, now) for square in squares}
+        if len(self._squares) <= MOST_IN_HAND < len(before):  # what is left of a set-up
+            self._squares = dict.fromkeys(self._squares, now)
+        self._changed_at = now
+        if self._squares:
+            self._agreement.differs(now, len(self._squares))
+        else:
+            self._agreement.agrees()
+        if not self._squares:
+            self._setting_up, self._hint = False, ""
+        elif len(self._squares) > MOST_IN_HAND:
+            self._setting_up = True
+        if not self._result and not (self._seen and before and self._squares):
+            self._since = now
+        self._seen = True
+
+    def shows(self, picture: Picture) -> None:
+        """A dump has shown this picture."""
+        if self._replugged and self._picture and len(differing(self._picture, picture)) > ONE_MOVE:
+            self._hint = OTHER_BOARD
+        elif self._hint != OTHER_BOARD:
+            turned = self.start and not self._played and turned_round(picture, self.start)
+            self._hint = self.turned_hint if turned else ""
+        self._picture, self._replugged = picture, False
+
+    def goes_on(self) -> None:
+        """What is told next is from before this call, until the board shows itself."""
+        self._goes_on = True
+
+    def shows_itself(self) -> None:
+        """From here on what was told is how it stands."""
+        self._goes_on = False
+
+    def unplugged(self, now: float) -> None:
+        """The line has gone away."""
+        if self._unplugged_since is None:
+            self._unplugged_since = now
+        self._silent_since = None
+
+    def plugged(self) -> None:
+        """The line is open, or open again. Its next picture is compared with the last one."""
+        self._replugged, self._unplugged_since = True, None
+
+    def silent(self, now: float, silent: bool) -> None:
+        """Whether the board answers."""
+        if not silent:
+            self._silent_since = None
+        elif self._silent_since is None:
+            self._silent_since = now
+
+    def disk(self, trouble: str) -> None:
+        """What keeps something from being written, if anything does."""
+        self._disk = trouble
+
+    def state(self, now: float) -> State:
+        """The state at this time."""
+        if self._unplugged_since is not None:
+            return State(Kind.UNPLUGGED, self._unplugged_since, disk=self._disk, look=self.look)
+        if self._silent_since is not None:
+            return State(Kind.SILENT, self._silent_since, disk=self._disk, look=self.look)
+        if self._goes_on:
+            return State(Kind.WAITS, self._since, disk=self._disk, look=self.look)
+        kind, squares = self._shown(now)
+        since = min((self._squares[square] for square in squares), default=self._since)
+        if squares and self._agreement.is_overdue(now):
+            since = self._agreement.since
+        return State(kind, since, squares, self._result, self._hint, self._disk, self.look)
+
+    def _shown(self, now: float) -> Tuple[Kind, Tuple[str, ...]]:
+        """What the pictures say, and the squares that are told with it."""
+        if not self._seen:
+            return Kind.WAITS, ()
+        if self._result:
+            return Kind.RESULT, ()
+        if not self._squares:
+            return Kind.AGREES, ()
+        moving = now < self._changed_at + HAND
+        many = len(self._squares) > MOST_IN_HAND
+        old = tuple(square for square, since in self._squares.items() if now >= since + HAND)
+        if self._agreement.is_overdue(now):
+            is_wrong = self._played or self._agreement.has_agreed
+            return (Kind.WRONG if is_wrong else Kind.NO_START), old or tuple(self._squares)
+        if self._setting_up and (moving or (many and not self._played)):
+            return Kind.SETTING_UP, ()
+        return (Kind.WRONG, old) if old else (Kind.IN_HAND, tuple(self._squares))
+
+    def due(self, now: float) -> float:
+        """When the state becomes another one though nothing happens."""
+        times = [since + HAND for since in self._squares.values()] + [self._changed_at + HAND, self._agreement.due()]
+        return min((time for time in times if time > now), default=math.inf) if self._squares else math.inf
+
+
+def turned_round(picture: Picture, start: Picture) -> bool:
+    """Whether a board that lies the other way round shows the start, but for a piece or two that are still to come."""
+    turned = len(differing(picture[::-1], start))
+    return turned <= ONE_MOVE < 16 <= len(differing(picture, start))

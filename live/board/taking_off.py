@@ -1,0 +1,134 @@
+"""Plies and results that an arbiter takes off the game of a board, while it is recorded or listened to."""
+
+from __future__ import annotations
+
+from typing import Callable, Optional, TypeVar, Union
+
+from live.board.cable import Cable
+from live.board.game_over import Listening
+from live.board.plan import HearsRecorder
+from live.board.recording import Reason, Recording
+from live.board.setting_up import SettingUp
+from live.game import added
+from live.game.added import STRAY
+from live.game.adding import Answer, reopen
+from live.game.game import Game, end_mark
+from live.game.going_back import Way, go_back_closed, put_way, way_back, without_result
+from live.game.opening import Opened
+from live.game.reading import read_game
+from live.guard import Guard
+from live.refused import DONE
+from live.terminal.screen import Screen
+
+Changed = TypeVar("Changed")
+
+
+class TakesOff:
+    """What a recorder does with `back` and `*`."""
+
+    game: Game
+    _guard: Guard
+    _screen: Screen
+    _cable: Cable
+    _hears: HearsRecorder
+    _now: Union[Recording, SettingUp, Listening, None]
+    _reason: Optional[Reason]
+    _closing: bool
+    _begins_anew: bool
+
+    def restored(self) -> None:
+        """The capture is another file."""
+        raise NotImplementedError
+
+    def _record(self, opened: Opened, says: bool = True) -> None:
+        raise NotImplementedError
+
+    def _await_moves(self) -> None:
+        raise NotImplementedError
+
+    def _look_for_start(self, end: int) -> None:
+        raise NotImplementedError
+
+    def _reopen(self) -> Answer:
+        """The result is taken off: the game goes on."""
+        if isinstance(self._now, Recording):
+            sent = self._sent()
+            return DONE, self._put(without_result(self.game, sent, sent))
+        said = self._change_closed(lambda: reopen(self.game))
+        self._go_on(said)
+        return DONE, said
+
+    def _go_back(self, typed: added.Back) -> Answer:
+        """Plies are taken off. A game that was over by a typed result goes on; between two games of a series it stays over."""
+        if isinstance(self._now, Recording):
+            sent = self._sent()
+            return DONE, self._put(way_back(self.game, typed, sent, sent))
+        is_over = isinstance(self._now, SettingUp)
+        done = self._change_closed(lambda: go_back_closed(self.game, typed, is_over, listens=not is_over))
+        if is_over:
+            self._screen.say(done)
+            self._look_for_start(self._end())
+        else:
+            self._go_on(done)
+        return DONE, f"{self.game.paths.name}: {done}"
+
+    def _sent(self) -> bytes:
+        """What the board has sent. Refused where the capture of a game that is recorded can't be made anew."""
+        if self._closing or self._reason is not None:
+            raise added.Refused("the game is just being ended. Type it again")
+        if self.game.capture.full:
+            raise added.Refused("the disk is full, and nothing can be taken off. Make room, and type it again")
+        return self.game.capture.bytes()
+
+    def _put(self, way: Way) -> str:
+        """The game that is recorded has this capture from here on. What was done."""
+        assert self._now
+        self._now.close()
+        try:
+            done = put_way(self.game, way)
+        finally:  # it goes on, whatever came of it
+            self.restored()
+            self._begin_anew()
+        self._screen.say(done)
+        self._cable.added(STRAY)
+        self._hears.placed()
+        return f"{self.game.paths.name}: {done}"
+
+    def _change_closed(self, change: Callable[[], Changed]) -> Changed:
+        """Changes a game that is over. Refused where that can't be: then all is as it was."""
+        now = self._now
+        if not isinstance(now, (Listening, SettingUp)) or self._begins_anew or self.game.capture.full:
+            raise added.Refused("nothing can be taken off just now. Type it again")
+        try:
+            changed = change()
+        except OSError:  # its capture may have lost what stood behind its end
+            now.close()
+            self.restored()
+            if isinstance(now, Listening):
+                self._await_moves()
+            else:
+                self._look_for_start(self._end())
+            raise
+        now.close()
+        self.restored()
+        return changed
+
+    def _end(self) -> int:
+        """How many bytes are the game's."""
+        mark = end_mark(self.game.paths)
+        return self.game.capture.size if mark is None else mark
+
+    def _go_on(self, said: str) -> None:
+        """The game isn't over any more."""
+        self._screen.say(said)
+        self._begin_anew()
+        self._cable.added(STRAY)
+        self._hears.reopened()
+
+    def _begin_anew(self) -> None:
+        """Records the game, of which all was told, from its capture as it is now."""
+        opened = Opened(self.game, read_game(self.game, None, self._guard.now()))
+        opened.old.course.news.clear()
+        self._record(opened, says=False)
+        if isinstance(self._now, Recording):
+            self._now.remake()  # what was under way may come late

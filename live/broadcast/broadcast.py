@@ -1,0 +1,244 @@
+"""What goes out of a round or of a single board: the text that is published, the command that carries it away, and what the
+spectators' page shows. All of it is as late as is wanted; nothing else that spectators are served knows the games as they are.
+"""
+
+from __future__ import annotations
+
+import pathlib
+from typing import Callable, Dict, Iterable, List, Optional, Protocol, Tuple
+
+from live.broadcast.games import Game, Shots, written_name
+from live.broadcast.going_out import GoingOut
+from live.broadcast.late import Late
+from live.broadcast.publishing import Publisher
+from live.broadcast.view import Player, SpectatorBoard
+from live.game.files import Paths
+from live.game.tags import published
+from live.guard import Guard, traced
+from live.loop import Loop, Timer
+from live.round.published import Published
+from live.web.view import round_pgn
+
+GATHERED = 0.05  # seconds in which changes are taken at once
+TICK = 1.0  # seconds between two looks at the clocks
+AGAIN = 1.0  # seconds after which it is begun again where an error has ended it
+NOT_PUBLISHED = "NOT PUBLISHED"
+SIDES = ("White", "Black")
+
+
+class HearsBroadcast(Protocol):
+    """Who is told of what goes out."""
+
+    def say(self, text: str) -> None:
+        """A line for whoever looks at the screen."""
+
+    def changed(self) -> None:
+        """Whether it goes out is another thing than before."""
+
+    def trouble(self, text: str) -> None:
+        """What should never happen, and where."""
+
+
+class OneGame:
+    """A game as it goes out."""
+
+    def __init__(self, name: str, late: Late) -> None:
+        self.name, self.late = name, late
+        self._shots = Shots()
+        self.board: Optional[SpectatorBoard] = None  # as it is shown
+        self._text: Tuple[object, bytes] = ((), b"")  # what was published last, and of what it was made
+        self._shown: Tuple[object, ...] = ()  # of what the board was made that is shown
+        self._shot = late.shot
+
+    def take(self, game: Game, now: float) -> None:
+        """Looks at the game as it is, where that is known."""
+        board = game.board
+        if not (board.is_new or board.trouble):
+            self.late.take(now, self._shots.take(board, now))
+        else:
+            self.late.look(now)
+
+    def show(self, game: Game) -> bool:
+        """What is shown is made of what is due. Whether it is another than before."""
+        tags, shot = game.tags, self.late.shot
+        shown_of = (id(shot), game.number, tuple(tags.items()), *(written_name(game, side) for side in SIDES))
+        if shown_of == self._shown:
+            return False
+        self._shown, self._shot = shown_of, shot  # kept, so that no other has its place in memory
+        of = (tuple(tags.items()), shot.text)
+        if of != self._text[0]:
+            self._text = of, published(shot.text, tags)
+        white, black = (Player.of_tags(tags, side, written_name(game, side)) for side in SIDES)
+        before = self.board
+        shown = SpectatorBoard(game.number, white, black, shot, self._text[1], self.late.history.delay)
+        if shown != before:
+            self.board = shown
+        return shown != before
+
+
+class Broadcast:
+    """What goes out of some games, in their order. Where there is no `place` for a file, no text is published."""
+
+    def __init__(
+        self,
+        loop: Loop,
+        out: GoingOut,
+        place: Optional[pathlib.Path],
+        games: Callable[[], Iterable[Game]],
+        folder: Callable[[Game], Paths],
+        hears: HearsBroadcast,
+    ) -> None:
+        self._loop, self._out, self._place, self._games, self._paths, self._hears = loop, out, place, games, folder, hears
+        self.on_news: Optional[Callable[[], None]] = None  # what spectators are shown is another, where they are shown anything
+        self._of: Dict[int, OneGame] = {}
+        self.boards: Tuple[SpectatorBoard, ...] = ()
+        self._is_known = False  # whether the games have been looked at
+        self.alarm = ""  # why the text can't be carried away
+        self.alarm_since = 0.0
+        self._closed = False
+        self._begin()
+
+    def _begin(self) -> None:
+        self._timer: Optional[Timer] = None
+        self._due: Optional[Timer] = None
+        self._guard = guard = Guard(self._loop, self._broke, lambda error: self._hears.trouble(traced(error)))
+        self._file: Optional[Published] = None
+        self._publisher: Optional[Publisher] = None
+        if self._place:
+            self._file = Published(guard, self._place, self.text, self._hears.say)
+            guard.opened(self._file.stop)
+        if self._place and self._out.command:
+            self._publisher = Publisher(guard, self._out.command, self._place, self)
+            guard.opened(self._publisher.close)
+            if self._file:
+                self._file.on_written = self._publisher.changed
+        guard.after(TICK, self._each_second)
+
+    def _broke(self, error: Exception) -> None:
+        """An error has ended it: it is begun again."""
+        self._hears.trouble(traced(error))
+        self._loop.after(AGAIN, self._begin_again)
+
+    def _begin_again(self) -> None:
+        if self._closed:
+            return
+        try:
+            self._begin()
+            self._guard.call(self._look)
+        except Exception as error:
+            self._guard.end()
+            self._broke(error)
+
+    # What goes out.
+
+    def changed(self) -> None:
+        """A game is another, or another is among them."""
+        self._is_known = self._place is not None or self.on_news is not None
+        if self._is_known and self._timer is None:
+            self._timer = self._guard.after(GATHERED, self._take)
+
+    def _take(self) -> None:
+        self._timer = None
+        self._look()
+
+    def _each_second(self) -> None:
+        self._guard.after(TICK, self._each_second)
+        if self._is_known:
+            self._look()
+
+    def _look(self) -> None:
+        """Looks at all games, and shows what is due."""
+        now = self._loop.now()
+        of: Dict[int, OneGame] = {}
+        is_news = False
+        for game in self._games():
+            of[game.number] = one = self._one(game, now)
+            try:
+                one.take(game, now)
+                is_news = one.show(game) or is_news
+            except Exception as error:  # it stays as it was, and the others go on
+                self._hears.trouble(traced(error))
+        for number in set(self._of) - set(of):
+            self._of[number].late.close()
+        boards = tuple(one.board for one in of.values() if one.board)
+        self._of = of
+        if is_news or [board.number for board in boards] != [board.number for board in self.boards]:
+            self.boards = boards
+            if self.on_news:
+                self.on_news()
+            if self._file:
+                self._file.changed()
+        self._wait()
+
+    def _one(self, game: Game, now: float) -> OneGame:
+        """The game as it goes out; from its beginning where it has got another name."""
+        one = self._of.get(game.number)
+        paths = self._paths(game)
+        if one is None or one.name != paths.name:
+            if one:
+                one.late.close()
+            one = OneGame(paths.name, Late(paths, self._out.delay, now))
+        return one
+
+    def _wait(self) -> None:
+        """It is looked at again when the next thing is due."""
+        times = [at for at in (one.late.history.next_at for one in self._of.values()) if at is not None]
+        if self._due:
+            self._due.cancel()
+            self._due = None
+        if times:
+            self._due = self._guard.after(max(0.0, min(times) - self._loop.now()), self._look)
+
+    def text(self) -> bytes:
+        """What is published."""
+        return round_pgn(board.pgn for board in self.boards)
+
+    @property
+    def hidden_for(self) -> Optional[float]:
+        """For how many seconds something of the games is still hidden; None where nothing is."""
+        if not self._out.delay:
+            return None
+        times = [one.late.history.ends_at for one in self._of.values()]
+        last = max((at for at in times if at is not None), default=None)
+        return None if last is None else max(0.0, last - self._loop.now())
+
+    # How it is carried away.
+
+    def published(self, trouble: str) -> None:
+        """A run of the command has ended: what went wrong, or nothing."""
+        before, self.alarm = self.alarm, trouble
+        if trouble and not before:
+            self.alarm_since = self._loop.now()
+        if trouble and trouble != before:
+            self._hears.say(f"{NOT_PUBLISHED}: {trouble}; it is tried again")
+        elif before and not trouble:
+            self._hears.say(f"{self._place} is published again")
+        if trouble != before:
+            self._hears.changed()
+
+    # How it ends.
+
+    def finish(self, done: Callable[[], None]) -> None:
+        """Writes and publishes what is shown a last time, and calls this then."""
+        ends: List[Publisher] = []
+
+        def finishes() -> None:
+            if self._is_known:
+                self._look()
+            if self._file and self.boards:  # a text without a game is none
+                self._file.close()
+            if self._publisher:
+                ends.append(self._publisher)
+                self._publisher.finish(done)
+
+        self._guard.call(finishes)
+        if not ends:
+            self._loop.after(0, done)
+
+    def close(self) -> List[str]:
+        """Nothing goes out from here on. What was wrong at the end."""
+        self._closed = True
+        self._guard.end()
+        for one in self._of.values():
+            one.late.close()
+        return [f"{self._place} isn't published: {self.alarm}"] if self.alarm else []

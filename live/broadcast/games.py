@@ -1,0 +1,78 @@
+"""What goes out of a game, and under which names."""
+
+from __future__ import annotations
+
+from dataclasses import dataclass
+from typing import Optional, Protocol, Tuple
+
+from live.board.board import Board
+from live.broadcast.history import Shot
+from live.broadcast.running import STANDING, Clocks, Running
+from live.game.course import clocks_of
+from live.game.report import Move
+from live.game.tags import Tags
+from live.web.view import Ply
+
+
+class Game(Protocol):
+    """What is asked of a board and its game."""
+
+    board: Board
+
+    @property
+    def number(self) -> int:
+        """That of its board."""
+
+    @property
+    def name(self) -> str:
+        """What its files are called."""
+
+    @property
+    def tags(self) -> Tags:
+        """Those that are published and not recorded, or that are published in other letters."""
+
+    def player_name(self, option: str) -> str:
+        """The name behind `--white` or `--black`."""
+
+
+def written_name(game: Game, side: str) -> str:
+    """A player as he is published: in the letters of the table where those are other ones."""
+    return game.tags.get(side) or game.player_name(f"--{side.lower()}")
+
+
+@dataclass(frozen=True)
+class Seen:
+    """What tells whether a game is another than when it was seen last: its lists only grow at their ends, or are others."""
+
+    lists: Tuple[int, int]
+    sizes: Tuple[int, int]
+    last: Tuple[Optional[Move], str]
+    text: bytes
+
+    @staticmethod
+    def of(board: Board) -> "Seen":
+        plies, fens = board.plies, board.fens
+        last = (plies[-1] if plies else None, fens[-1] if fens else "")
+        return Seen((id(plies), id(fens)), (len(plies), len(fens)), last, board.pgn)
+
+
+class Shots:
+    """Takes shots of one game."""
+
+    def __init__(self) -> None:
+        self._seen: Optional[Seen] = None
+        self._shot = Shot()
+        self._running = Running()
+        self._clocks = STANDING
+
+    def take(self, board: Board, now: float) -> Shot:
+        """The game as it is now. The same shot as before where nothing is new."""
+        seen = Seen.of(board)
+        clocks = self._running.look(now, board.clock, self._shot.result == "*")
+        if seen != self._seen or clocks is not self._clocks:
+            self._seen, self._clocks = seen, clocks
+            plies = board.plies[: max(0, len(board.fens) - 1)]
+            moves = tuple(Ply(ply.san, ply.clock) for ply in plies)
+            shown = Clocks(*clocks_of(plies)) if clocks is STANDING else clocks
+            self._shot = Shot(board.result, moves, tuple(board.fens), board.pgn, shown)
+        return self._shot

@@ -1,0 +1,107 @@
+"""What spectators are shown of a game, and when: moves, clocks and results go out some minutes late. Pure: times are passed in.
+
+All times are those of a clock that never goes back and that all processes have together until the computer is started again.
+"""
+
+from __future__ import annotations
+
+import math
+from dataclasses import dataclass, field
+from typing import List, Optional, Sequence, Tuple
+
+from live.broadcast.running import STANDING, Clocks
+from live.web.view import Ply
+
+ALWAYS = -math.inf  # when something came that was never hidden
+
+
+@dataclass(frozen=True)
+class Shot:
+    """A game at a moment. `positions` are FENs, of the start and after each ply; `text` is that of NAME.pgn."""
+
+    result: str = "*"
+    moves: Tuple[Ply, ...] = ()
+    positions: Tuple[str, ...] = ()
+    text: bytes = b""
+    clocks: Clocks = STANDING
+
+    @property
+    def says_nothing(self) -> bool:
+        """Whether the game has neither a move nor a result."""
+        return not self.moves and self.result == "*"
+
+
+NOTHING = Shot()
+
+
+@dataclass(frozen=True)
+class Entry:
+    """What a game was from a time on."""
+
+    came: float
+    shot: Shot
+
+
+def due(came: Sequence[float], now: float, delay: float, shown: int = 0) -> int:
+    """How many of these, which came at these times in their order, are shown: each that came a delay ago, and those that were
+    shown before."""
+    count = max(0, min(shown, len(came)))
+    while count < len(came) and came[count] <= now - delay:
+        count += 1
+    return count
+
+
+@dataclass
+class History:
+    """What a game was, from the newest that is shown on. `shown` is how many of the entries are; as many were `dropped`."""
+
+    delay: float
+    entries: List[Entry] = field(default_factory=list)
+    shown: int = 0
+    dropped: int = 0
+
+    def take(self, now: float, shot: Shot) -> bool:
+        """The game is this now. Whether that is news. A game that has had no move yet is shown at once, but for its clocks: its
+        players are no secret."""
+        if shot.says_nothing and all(entry.shot.says_nothing for entry in self.entries):
+            entry = Entry(ALWAYS, Shot(positions=shot.positions, text=shot.text))
+        else:
+            entry = Entry(now, shot)
+        if self.entries and self.entries[-1].shot == entry.shot:
+            return False
+        self.entries.append(entry)
+        return True
+
+    def look(self, now: float) -> bool:
+        """The time has come so far. Whether another shot is shown than before."""
+        before, self.shown = self.shown, due([entry.came for entry in self.entries], now, self.delay, self.shown)
+        is_news, gone = self.shown > before, max(0, self.shown - 1)
+        del self.entries[:gone]
+        self.shown -= gone
+        self.dropped += gone
+        return is_news
+
+    @property
+    def shot(self) -> Shot:
+        """What is shown."""
+        return self.entries[self.shown - 1].shot if self.shown else NOTHING
+
+    @property
+    def shown_since(self) -> float:
+        """When what is shown was so on the board."""
+        return self.entries[self.shown - 1].came if self.shown else ALWAYS
+
+    @property
+    def is_hidden(self) -> bool:
+        """Whether something isn't shown yet."""
+        return self.shown < len(self.entries)
+
+    @property
+    def next_at(self) -> Optional[float]:
+        """When the next one is shown."""
+        return self.entries[self.shown].came + self.delay if self.is_hidden else None
+
+    @property
+    def ends_at(self) -> Optional[float]:
+        """When the last one is shown."""
+        return self.entries[-1].came + self.delay if self.is_hidden else None

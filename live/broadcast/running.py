@@ -1,0 +1,94 @@
+"""The clocks of a game as spectators see them run. Pure: times are passed in.
+
+A clock that runs is told once, with the time at which it stood so, and a browser counts on from there. It is told anew where
+that would be wrong: a move, a clock that was stopped, set or started.
+"""
+
+from __future__ import annotations
+
+import functools
+from dataclasses import dataclass
+from typing import List, Optional
+
+from live.game.report import Clock
+
+WRONG = 2  # seconds by which a clock may differ from what a browser counts
+STANDS = 3.0  # seconds without another reading, after which a clock stands
+WHITE, BLACK = "w", "b"
+OTHER = {WHITE: BLACK, BLACK: WHITE, "": ""}
+
+
+@dataclass(frozen=True)
+class Clocks:
+    """Both clocks, whose runs (`w`, `b` or nobody's), and since when it has run from what is said."""
+
+    white: str = ""
+    black: str = ""
+    runs: str = ""
+    at: float = 0.0
+
+
+STANDING = Clocks()
+
+
+@functools.lru_cache(maxsize=1024)
+def seconds_of(text: str) -> Optional[int]:
+    """`1:29:55` in seconds; None where it is no time."""
+    parts = text.split(":")
+    if not all(part.isascii() and part.isdigit() and len(part) < 6 for part in parts):
+        return None
+    seconds = 0
+    for part in parts:
+        seconds = 60 * seconds + int(part)
+    return seconds
+
+
+@dataclass
+class Running:
+    """Follows the clocks of one game. `told` are those from which a browser counts."""
+
+    told: Clocks = STANDING
+    _read: Optional[Clock] = None
+    _read_at: float = 0.0
+    _side: str = ""  # whose clock ran last
+
+    def look(self, now: float, read: Optional[Clock], goes_on: bool) -> Clocks:
+        """The clocks show this now, and the game goes on or is over: the clocks from which a browser counts."""
+        if read is None:
+            return self.told
+        if self._read is None or read != self._read:
+            self._side = side_between(self._read, read) or self._side
+            self._read, self._read_at = read, now
+        runs = self._side if goes_on and now < self._read_at + STANDS else ""
+        if not counts_to(self.told, now, read, runs):
+            self.told = Clocks(read.white, read.black, runs, self._read_at if runs else 0.0)
+        return self.told
+
+
+def side_between(before: Optional[Clock], now: Clock) -> str:
+    """Whose clock runs, by two readings: the one that alone went down; or the other's, where one was given time for its move."""
+    if before is None:
+        return ""
+    down: List[str] = []
+    up: List[str] = []
+    for side, one, other in ((WHITE, before.white, now.white), (BLACK, before.black, now.black)):
+        first, second = seconds_of(one), seconds_of(other)
+        if first is not None and second is not None and first != second:
+            (down if second < first else up).append(side)
+    if len(down) == 1:
+        return down[0]
+    return OTHER[up[0]] if len(up) == 1 and not down else ""
+
+
+def counts_to(told: Clocks, now: float, read: Clock, runs: str) -> bool:
+    """Whether a browser that was told this shows now what was read, or nearly."""
+    if told.runs != runs:
+        return False
+    for side, text, before in ((WHITE, read.white, told.white), (BLACK, read.black, told.black)):
+        is_seconds, was_seconds = seconds_of(text), seconds_of(before)
+        if is_seconds is None or was_seconds is None or side != runs:
+            if text != before:
+                return False
+        elif abs(max(0.0, was_seconds - (now - told.at)) - is_seconds) > WRONG:
+            return False
+    return True

@@ -1,0 +1,63 @@
+"""What the spectators' page shows of a board, as a value, and its text in JSON. It has no word of the recorder's."""
+
+from __future__ import annotations
+
+from dataclasses import dataclass
+from typing import Dict, Optional
+
+from live.broadcast.history import Shot
+from live.game.tags import Tags
+from live.web.view import json_text, pgn_path, same_front
+
+
+@dataclass(frozen=True)
+class Player:
+    """A player as the table has him."""
+
+    name: str = ""
+    title: str = ""
+    rating: str = ""
+    team: str = ""
+
+    @staticmethod
+    def of_tags(tags: Tags, side: str, name: str) -> Player:
+        """`side` is `White` or `Black`."""
+        title, rating, team = (tags.get(f"{side}{what}", "") for what in ("Title", "Elo", "Team"))
+        return Player("" if name == "?" else name, title, rating, team)
+
+
+@dataclass(frozen=True)
+class SpectatorBoard:
+    """A board as spectators see it. `pgn` is the text that goes out; what is in `shot` was so `delay` seconds ago."""
+
+    number: int
+    white: Player
+    black: Player
+    shot: Shot
+    pgn: bytes = b""
+    delay: float = 0.0
+
+    def text(self, offset: float, before: Optional[SpectatorBoard]) -> bytes:
+        """In JSON; `kept` counts the moves and positions that are left out, since the page has them."""
+        shot, had = self.shot, before.shot if before else None
+        moves = same_front(had.moves, shot.moves) if had else 0
+        positions = same_front(had.positions, shot.positions) if had else 0
+        clocks = shot.clocks
+        values: Dict[str, object] = {
+            "number": self.number,
+            "white": self.white.name,
+            "black": self.black.name,
+            "titles": (self.white.title, self.black.title),
+            "ratings": (self.white.rating, self.black.rating),
+            "teams": (self.white.team, self.black.team),
+            "result": shot.result,
+            "clocks": (clocks.white, clocks.black),
+            "runs": clocks.runs,
+            "at": round(clocks.at + self.delay + offset, 1) if clocks.runs else None,
+            "pgn": pgn_path(self.number),
+            "moves": [{"san": ply.san, "clock": ply.clock} for ply in shot.moves[moves:]],
+            "positions": shot.positions[positions:],
+        }
+        if before:
+            values["kept"] = {"moves": moves, "positions": positions}
+        return json_text(values)

@@ -1,0 +1,153 @@
+"""The board's protocol, as far as a live recorder needs it: where frames end, three requests, the dump of a picture, and the
+board's serial number.
+
+What the frames mean is the program's to say; here a frame is only known to be whole, and of which kind.
+"""
+
+from __future__ import annotations
+
+import enum
+from typing import Dict, List, Optional, Tuple
+
+DUMP_REQUEST = b"B"  # 42: a board dump
+START_REQUEST = b"BK"  # 42 4B: a board dump, then field updates, and times where they change
+
+SERIAL_REQUEST = b"E"  # 45: the board's serial number
+
+DUMP_ID, UPDATE_ID, TIME_ID, SERIAL_ID = 0x86, 0x8E, 0x8D, 0x91
+SIZES = {DUMP_ID: 67, UPDATE_ID: 5, TIME_ID: 10}
+HEADER = 3  # bytes of a frame before its data
+HIGHEST_CODE, HIGHEST_FIELD = 15, 63
+SERIAL_LENGTH = 5  # characters of a serial number
+
+Picture = Tuple[int, ...]  # 64 piece codes by square number: a8 is 0, h8 is 7, h1 is 63
+LETTERS = ".PRNBKQprnbkq*"  # by piece code; `*` is one of the codes 13 to 15, which no position has
+SQUARES = tuple(file + rank for rank in "87654321" for file in "abcdefgh")
+
+
+class FrameKind(enum.Enum):
+    """What has ended at a byte: a whole frame, of a kind, or a fault."""
+
+    DUMP = "dump"
+    UPDATE = "update"
+    TIME = "time"
+    OTHER = "other"
+    FAULT = "fault"
+
+
+KINDS: Dict[int, FrameKind] = {
+    DUMP_ID: FrameKind.DUMP,
+    UPDATE_ID: FrameKind.UPDATE,
+    TIME_ID: FrameKind.TIME,
+}
+
+
+class Frames:
+    """The frames of a stream, byte by byte.
+
+    A frame is an identifier with its top bit set, two bytes with its size, and data; each byte after the first has its top
+    bit clear. A fault stands at the first byte with which the bytes since the frame's first can be no frame. A byte with its
+    top bit set begins the next one; any other byte is dropped, with those of its kind that follow, and they are one fault.
+    """
+
+    def __init__(self) -> None:
+        self.whole = b""  # the last whole frame
+        self._frame = bytearray()
+        self._dropping = False
+
+    @property
+    def unfinished(self) -> bool:
+        """Whether the bytes so far end inside a frame."""
+        return bool(self._frame)
+
+    def take(self, byte: int) -> Optional[FrameKind]:
+        """What ends with this byte, if anything does."""
+        frame = self._frame
+        if byte >= 0x80:
+            cut = bool(frame)
+            self._frame = bytearray((byte,))
+            self._dropping = False
+            return FrameKind.FAULT if cut else None
+        if not frame:
+            first, self._dropping = not self._dropping, True
+            return FrameKind.FAULT if first else None
+        frame.append(byte)
+        if not _begins(frame):
+            frame.clear()
+            self._dropping = True
+            return FrameKind.FAULT
+        if len(frame) < HEADER or len(frame) < _size(frame):
+            return None
+        self.whole = bytes(frame)
+        frame.clear()
+        return KINDS.get(self.whole[0], FrameKind.OTHER)
+
+    def take_squares(self, sent: bytes) -> int:
+        """Takes those of these bytes at once that are squares of the dump under way, but for its last one, with which it ends.
+        How many they are: none where one of them is no piece."""
+        frame = self._frame
+        if len(frame) < HEADER or frame[0] != DUMP_ID:
+            return 0
+        squares = sent[: SIZES[DUMP_ID] - 1 - len(frame)]
+        if not squares or max(squares) > HIGHEST_CODE:
+            return 0
+        frame += squares
+        return len(squares)
+
+
+def _size(frame: bytearray) -> int:
+    """The size that a header says."""
+    return frame[1] * 128 + frame[2]
+
+
+def _begins(frame: bytearray) -> bool:
+    """Whether the bytes are a frame or begin one, where all but the last are known to."""
+    identifier, last, length = frame[0], frame[-1], len(frame)
+    if length < HEADER:
+        return last == 0 or identifier not in SIZES
+    if length == HEADER:
+        return _size(frame) == SIZES[identifier] if identifier in SIZES else _size(frame) >= HEADER
+    if identifier == DUMP_ID or (identifier == UPDATE_ID and length == SIZES[UPDATE_ID]):
+        return last <= HIGHEST_CODE
+    return identifier != UPDATE_ID or last <= HIGHEST_FIELD
+
+
+def dump(picture: Picture, rotated: bool) -> bytes:
+    """The frame that a board which shows this picture sends: by field, and field n of a rotated board is square 63 - n."""
+    size = SIZES[DUMP_ID]
+    return bytes((DUMP_ID, size // 128, size % 128)) + bytes(reversed(picture) if rotated else picture)
+
+
+def picture_of_dump(frame: bytes, rotated: bool) -> Picture:
+    """The picture that a whole dump shows."""
+    return tuple(reversed(frame[HEADER:]) if rotated else frame[HEADER:])
+
+
+def picture_of_placement(text: str) -> Picture:
+    """The picture of a FEN, of its first field, or of a line of `pictures`. ValueError where the text is none of them."""
+    codes: List[int] = []
+    ranks = text.split(" ")[0].split("/")
+    for rank in ranks:
+        before = len(codes)
+        for letter in rank:
+            if letter in "12345678":
+                codes.extend([0] * int(letter))
+            else:
+                codes.append(LETTERS.index(letter, 1))
+        if len(codes) - before != 8:
+            raise ValueError(f"not eight squares in a rank: {text}")
+    if len(ranks) != 8:
+        raise ValueError(f"not eight ranks: {text}")
+    return tuple(codes)
+
+
+def serial_of(frame: bytes) -> str:
+    """The serial number that a whole frame gives: five characters of ASCII that can be seen. Nothing where it gives none."""
+    number = frame[HEADER:]
+    is_one = frame[:1] == bytes((SERIAL_ID,)) and len(number) == SERIAL_LENGTH and all(0x21 <= byte <= 0x7E for byte in number)
+    return number.decode("ascii") if is_one else ""
+
+
+def differing(one: Picture, other: Picture) -> List[str]:
+    """The squares on which two pictures differ, in the order a8, b8, .. h1."""
+    return [square for square, here, there in zip(SQUARES, one, other) if here != there]

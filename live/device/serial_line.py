@@ -1,0 +1,198 @@
+"""The serial line of a board: its device by the cable's own name, how it is opened, read, asked and closed."""
+
+from __future__ import annotations
+
+import contextlib
+import fcntl
+import os
+import pathlib
+import pwd
+import stat
+import termios
+from typing import List, Mapping, Optional, Sequence, Tuple
+
+from live.lock import locked
+from live.refused import ANOTHER_CALL, FAILED, Refused
+
+SEE_DEVICES = "see which devices there are with dgt_live --devices"
+PLUGGED = ("ttyUSB*", "ttyACM*")
+CONTROLLING_TERMINAL = os.makedev(5, 0)  # the number of /dev/tty, by whatever name
+BUSY_PATIENCE = 3.0  # seconds: a call that was just killed may still hold the lock
+
+
+def serial_folders() -> List[pathlib.Path]:
+    """Where the system keeps the names of cables: by the cable itself, then by where it is plugged in."""
+    top = pathlib.Path(os.environ.get("DGT_LIVE_SERIAL", "/dev/serial"))
+    return [top / "by-id", top / "by-path"]
+
+
+def cable_name(device: str) -> str:
+    """The name that the cable of a device keeps, whatever number it is plugged in as; the device itself where it has none."""
+    if any(pathlib.Path(device).parent == folder for folder in serial_folders()):
+        return device
+    wanted = os.path.realpath(device)
+    for folder in serial_folders():
+        if folder.is_dir():
+            for name in sorted(folder.iterdir()):
+                if os.path.realpath(name) == wanted and os.path.exists(name):
+                    return str(name)
+    return device
+
+
+def devices() -> List[Tuple[str, str]]:
+    """Each device that may be a board, with the name that its cable keeps, or an empty one."""
+    found = [str(path) for pattern in PLUGGED for path in pathlib.Path("/dev").glob(pattern)]
+    for folder in serial_folders():
+        if folder.is_dir():
+            found.extend(os.path.realpath(path) for path in folder.iterdir() if os.path.exists(path))
+    named = {device: cable_name(device) for device in found}
+    return sorted((device, "" if name == device else name) for device, name in named.items())
+
+
+def listing(found: Sequence[Tuple[str, str]], numbers: Mapping[str, str]) -> List[str]:
+    """What is printed of the devices: each with the name that its cable keeps and its board's serial number, as far as it has
+    them, or what to do where there is none."""
+    if not found:
+        return ["dgt_live: no board is plugged in: there is no /dev/ttyUSB* and no /dev/ttyACM*. Plug it in, and try again"]
+    return ["  ".join(filter(None, (device, name, numbers.get(device)))) for device, name in found]
+
+
+def login_name() -> str:
+    """That of the one who runs this."""
+    try:
+        return pwd.getpwuid(os.getuid()).pw_name
+    except KeyError:
+        return "NAME"
+
+
+def may_not_open(device: str, user: str) -> str:
+    """What is told where the system doesn't let this user have it."""
+    return f"{device} may not be opened: let an administrator type 'sudo adduser {user} dialout', and then log in again"
+
+
+def is_terminal(device: str) -> str:
+    """What is told where a device is the terminal of this call."""
+    return f"{device} is this terminal, and no board: {SEE_DEVICES}"
+
+
+def is_own_terminal(line: int) -> bool:
+    """Whether an open device is the terminal of this call: the one whose Ctrl-C it hears, or one of its standard streams."""
+    with contextlib.suppress(OSError):
+        os.tcgetpgrp(line)  # nothing but the controlling terminal has an answer
+        return True
+    for stream in (0, 1, 2):
+        with contextlib.suppress(OSError):
+            if os.isatty(stream) and os.path.samestat(os.fstat(line), os.fstat(stream)):
+                return True
+    return False
+
+
+def check(device: str, may_wait: bool) -> None:
+    """Refused where it is no serial line that may be opened; one that isn't there may be waited for."""
+    try:
+        found = os.stat(device)
+    except FileNotFoundError:
+        if may_wait:
+            return
+        raise Refused(FAILED, f"there is no {device}: plug the board in, and {SEE_DEVICES}") from None
+    except OSError as error:
+        raise Refused(FAILED, f"{device} can't be looked at ({error.strerror}): {SEE_DEVICES}") from None
+    if not stat.S_ISCHR(found.st_mode):
+        raise Refused(FAILED, f"{device} is no device: see dgt_live --devices")
+    if found.st_rdev == CONTROLLING_TERMINAL:
+        raise Refused(FAILED, is_terminal(device))
+    try:
+        line = os.open(device, os.O_RDWR | os.O_NOCTTY | os.O_NONBLOCK)
+    except PermissionError:
+        raise Refused(FAILED, may_not_open(device, login_name())) from None
+    except OSError:
+        if may_wait:
+            return
+        raise Refused(FAILED, f"{device} can't be opened: plug the board in again, and {SEE_DEVICES}") from None
+    try:
+        if not os.isatty(line):
+            raise Refused(FAILED, f"{device} is no serial line: {SEE_DEVICES}")
+        if is_own_terminal(line):
+            raise Refused(FAILED, is_terminal(device))
+    finally:
+        os.close(line)
+
+
+def check_free(device: str) -> None:
+    """Refused where another process records it, and goes on doing so; one that can't be opened may be waited for."""
+    try:
+        line = os.open(device, os.O_RDWR | os.O_NOCTTY | os.O_NONBLOCK)
+    except OSError:
+        return
+    try:
+        if not locked(line, BUSY_PATIENCE):
+            raise Refused(FAILED, f"{device} {ANOTHER_CALL}")
+    finally:
+        os.close(line)
+
+
+class Busy(Exception):
+    """Another process records this device."""
+
+
+class SerialLine:
+    """A device while it is open: 9,600 baud, eight bits, no parity, one stop bit, raw, and nobody else's."""
+
+    def __init__(self, device: str) -> None:
+        self.device = device
+        self.number: Optional[int] = None
+
+    def open(self) -> bool:
+        """Whether it is there, and open now. Busy where another process has it."""
+        try:
+            number = os.open(self.device, os.O_RDWR | os.O_NOCTTY | os.O_NONBLOCK)
+        except OSError:
+            return False
+        try:
+            if not is_own_terminal(number):
+                fcntl.flock(number, fcntl.LOCK_EX | fcntl.LOCK_NB)
+                _set_up(number)
+                self.number = number
+        except BlockingIOError:
+            raise Busy(self.device) from None
+        except (OSError, termios.error):
+            pass
+        finally:
+            if self.number is None:
+                os.close(number)
+        return self.number is not None
+
+    def read(self) -> Optional[bytes]:
+        """What has come, or None where the device has gone away."""
+        assert self.number is not None
+        try:
+            return os.read(self.number, 4096) or None
+        except BlockingIOError:
+            return b""
+        except OSError:
+            return None
+
+    def ask(self, request: bytes) -> None:
+        """Sends it. Where that fails the next read tells, or the board's silence."""
+        if self.number is not None and request:
+            try:
+                os.write(self.number, request)
+            except OSError:
+                pass
+
+    def close(self) -> None:
+        number, self.number = self.number, None
+        if number is None:
+            return
+        try:
+            fcntl.flock(number, fcntl.LOCK_UN)  # whatever becomes of the close, no lock of this process stays
+        finally:
+            os.close(number)
+
+
+def _set_up(number: int) -> None:
+    mode = termios.tcgetattr(number)
+    mode[0:4] = [0, 0, termios.CS8 | termios.CREAD | termios.CLOCAL, 0]
+    mode[4] = mode[5] = termios.B9600
+    mode[6][termios.VMIN], mode[6][termios.VTIME] = 1, 0
+    termios.tcsetattr(number, termios.TCSANOW, mode)

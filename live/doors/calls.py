@@ -1,0 +1,114 @@
+"""The command line of dgt_live: what is asked."""
+
+from __future__ import annotations
+
+from dataclasses import dataclass
+from typing import Dict, List, Optional, Sequence, Tuple
+
+from live.broadcast.going_out import read_command, read_delay
+from live.game.added import BACK
+from live.game.options import PLAIN, RECOVER, SEE_HELP, STRICT, TAG, VALUED, Options, typed_tag, value_of
+from live.refused import ARGUMENTS, Refused
+from live.web.doors import Pages, read_pages
+
+RECORDING = ("--linger", "--page", "--arbiter-page", "--delay", "--publish")  # options of a recording that have a value
+QUOTES = "is one argument too many. A text with blanks stands in quotes, as 'Anna Kern'"
+LINGER = 10  # seconds that a result stands before it ends a game
+LONGEST_LINGER = 10**6
+
+
+@dataclass(frozen=True)
+class Call:
+    """A command line. Without a device nothing is recorded."""
+
+    device: str = ""
+    name: str = ""
+    options: Options = Options()  # of the game, as they were typed
+    series: bool = False
+    once: bool = False
+    linger: int = LINGER
+    help: bool = False
+    devices: bool = False
+    typed: Tuple[str, ...] = ()  # lines for a game that there is
+    pages: Pages = Pages()
+    delay: Optional[float] = None  # seconds; None as it was
+    publish: Tuple[str, ...] = ()  # a command
+
+
+def parse(arguments: Sequence[str]) -> Call:
+    """What the arguments ask for. Refused with status 2 where they ask for nothing that there is."""
+    left = list(arguments)
+    plain: List[str] = []
+    words: List[str] = []
+    flags = {"--series": False, "--once": False, "--devices": False}
+    values: Dict[str, str] = {}
+    typed: List[str] = []
+    hosts: List[str] = []
+    while left:
+        word = left.pop(0)
+        option, equals, value = word.partition("=")
+        if word in ("--help", "-h"):
+            return Call(help=True)
+        if word in flags:
+            flags[word] = True
+        elif word in PLAIN:
+            words.append(word)
+        elif option in VALUED:
+            words += [option, value if equals else value_of(word, left)]
+        elif option == TAG:
+            words += [TAG, typed_tag(value if equals else value_of(word, left))]
+        elif option in RECORDING:
+            values[option] = value if equals else value_of(word, left)
+        elif option == "--page-host":
+            hosts.append(value if equals else value_of(word, left))
+        elif option in ("--add", "--back"):
+            line = value if equals else value_of(word, left)
+            typed.append(line if option == "--add" else f"{BACK} {line}")
+        elif word.startswith("-") and len(word) > 1:
+            raise Refused(ARGUMENTS, f"there is no option {word}: {SEE_HELP}")
+        else:
+            plain.append(word)
+    refuse_both(words)
+    page, arbiter_page, delay, publish = (values.get(option) for option in RECORDING[1:])
+    refuse_hosts(page or arbiter_page, hosts)
+    seconds = linger_of(values.get("--linger", str(LINGER)))
+    pages = read_pages(page, arbiter_page, hosts)
+    late, command = None if delay is None else read_delay(delay), () if publish is None else read_command(publish)
+    if flags["--devices"]:
+        if len(arguments) > 1:
+            raise Refused(ARGUMENTS, f"--devices stands alone: {SEE_HELP}")
+        return Call(devices=True)
+    options = Options.of_words(words)
+    remakes = not typed and len(plain) == 1 and not flags["--series"] and bool(words) and options.fixed() == Options()
+    wanted = 1 if typed or remakes else 2
+    if len(plain) > wanted:
+        raise Refused(ARGUMENTS, f"{plain[wanted]} {QUOTES}: {SEE_HELP}")
+    if len(plain) < wanted or not plain[-1]:
+        what = "a DEVICE and a NAME are wanted, as dgt_live /dev/ttyUSB0 game"
+        if typed:
+            what = "the NAME of a game is wanted after --add and --back"
+        raise Refused(ARGUMENTS, f"{what}: {SEE_HELP}")
+    if typed and (words or flags["--series"]):
+        raise Refused(ARGUMENTS, f"--add and --back take no other option: {SEE_HELP}")
+    device = plain[0] if wanted == 2 else ""
+    return Call(device, plain[-1], options, flags["--series"], flags["--once"], seconds, typed=tuple(typed), pages=pages,
+                delay=late, publish=command)  # fmt: skip
+
+
+def refuse_both(words: Sequence[str], see_help: str = SEE_HELP) -> None:
+    """Pairs are recovered, or they aren't."""
+    if RECOVER in words and STRICT in words:
+        raise Refused(ARGUMENTS, f"{RECOVER} and {STRICT}: only one of them can be: {see_help}")
+
+
+def refuse_hosts(page: Optional[str], hosts: Sequence[str], see_help: str = SEE_HELP) -> None:
+    """A page that isn't shown has no names."""
+    if hosts and page is None:
+        raise Refused(ARGUMENTS, f"--page-host names a page, and there is none without --page PORT: {see_help}")
+
+
+def linger_of(text: str) -> int:
+    """The seconds that a result stands."""
+    if not (text.isascii() and text.isdigit()):
+        raise Refused(ARGUMENTS, f"--linger wants a number of seconds, and not '{text}'")
+    return min(int(text), LONGEST_LINGER) if len(text) < 8 else LONGEST_LINGER

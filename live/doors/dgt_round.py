@@ -1,0 +1,246 @@
+"""The door of dgt_round: what a command line asks for."""
+
+from __future__ import annotations
+
+import os
+import pathlib
+import shlex
+from dataclasses import dataclass, replace
+from typing import Dict, List, Optional, Sequence, Tuple
+
+from live.broadcast.going_out import GoingOut, delay_of, minutes, read_command, read_delay
+from live.doors.calls import LINGER, QUOTES, linger_of, refuse_both, refuse_hosts
+from live.doors.door import Outcome, through
+from live.game.files import LOCK_PATIENCE, Paths, text_of
+from live.game.game import keep_options, kept_options
+from live.game.opening import recordable, turned, unknown
+from live.game.options import RECOVER, STRICT, TAG, UNKNOWN, Options, typed_tag
+from live.game.program import Program
+from live.lock import locked
+from live.loop import Loop, Signals
+from live.refused import ARGUMENTS, DONE, FAILED, REFUSED, Refused
+from live.round.display import terminal_of_lines
+from live.round.pairings import ROUND
+from live.round.round import Round, first_pairings
+from live.round.row import Hall
+from live.round.sources import Source
+from live.round.tournament import Tournament, made, tournament_of
+from live.round.tournament_files import RESULTS, TournamentFiles, all_text, results_text
+from live.web.doors import Pages, Title, TwoPages, read_pages
+from live.web.round_page import ArbiterView
+
+SEE_HELP = "see dgt_round --help"
+TAGS = ("--event", "--site", "--date", "--round")
+NEW = "--new"
+VALUED = (*TAGS, TAG, "--linger", "--page", "--page-host", "--arbiter-page", "--delay", "--publish")
+HELP = """\
+usage: dgt_round FILE [FOLDER] [OPTION..]     a round of its own
+       dgt_round CUP ROUND [OPTION..]         a round of a tournament
+       dgt_round --new CUP                    its folder, with files to fill in
+Records all boards of a round, shows them in a table, and keeps in FOLDER (or
+where FILE is) each game, as 01.dgt and 01.pgn, and all games in round.pgn.
+The same command goes on with all games. FILE is a table, saved as CSV:
+  board,device,white,black
+  1,/dev/ttyUSB0,Anna,Ben
+and if needed rotated (yes), first (white or black), fen, name (of files),
+result, recover (yes or no), serial (the board's number), WhiteElo and so on. A
+line that is wrong stops no other. dgt_live --devices lists devices, numbers.
+While it records, type
+  3 1-0       the result of board 3: 1-0, 0-1 or 1/2-1/2
+  3 Nf3 Nc6   moves that board 3 has missed; 3 back takes one off, 3 * a result
+  3, 3 ok     the state of board 3; you have looked at its LOOK
+  r, q        read FILE again (HUP does so too); end, as Ctrl-C does
+OPTION, kept: --event, --site, --date, --round with TEXT; --tag NAME=VALUE
+  --page [ADDRESS:]PORT     a page for spectators, as --page 8000
+  --page-host NAME, --arbiter-page [ADDRESS:]PORT   its names; the arbiter's
+  --delay MINUTES           how late spectators and broadcast.pgn have it
+  --publish COMMAND         run with broadcast.pgn whenever that has changed
+  --linger SECONDS, --recover, --strict   see man dgt_round
+"""
+
+
+@dataclass(frozen=True)
+class Asked:
+    """What a command line asks for."""
+
+    file: str = ""
+    folder: str = ""
+    options: Options = Options()  # of all games
+    linger: int = LINGER
+    pages: Pages = Pages()
+    delay: Optional[float] = None  # seconds; None as it was
+    publish: Tuple[str, ...] = ()  # a command
+    tournament: Optional[Tournament] = None  # whose round is played
+    new: bool = False  # the files of a tournament are to be made
+    help: bool = False
+
+
+def parse(arguments: Sequence[str]) -> Asked:
+    """Refused with status 2 where it asks for nothing that there is."""
+    left = list(arguments)
+    plain: List[str] = []
+    words: List[str] = []
+    values: Dict[str, str] = {}
+    hosts: List[str] = []
+    is_new = False
+    while left:
+        word = left.pop(0)
+        option, equals, value = word.partition("=")
+        if word in ("--help", "-h"):
+            return Asked(help=True)
+        if word in (RECOVER, STRICT):
+            words.append(word)
+        elif word == NEW:
+            is_new = True
+        elif option in VALUED:
+            if not equals and not left:
+                raise Refused(ARGUMENTS, f"{option} wants a value: {SEE_HELP}")
+            value = value if equals else left.pop(0)
+            if option == "--page-host":
+                hosts.append(value)
+            elif option == TAG:
+                words += [TAG, typed_tag(value, SEE_HELP)]
+            else:
+                values[option] = value
+        elif word.startswith("-") and len(word) > 1:
+            raise Refused(ARGUMENTS, f"there is no option {word}: {SEE_HELP}")
+        else:
+            plain.append(word)
+    refuse_both(words, SEE_HELP)
+    if not plain or not plain[0]:
+        raise Refused(ARGUMENTS, f"a FILE with the pairings is wanted: {SEE_HELP}")
+    if len(plain) > 2:
+        raise Refused(ARGUMENTS, f"{plain[2]} {QUOTES}: {SEE_HELP}")
+    linger = linger_of(values.pop("--linger", str(LINGER)))
+    page, arbiter_page = (values.pop(option, None) for option in ("--page", "--arbiter-page"))
+    refuse_hosts(page or arbiter_page, hosts, SEE_HELP)
+    delay, publish = (values.pop(option, None) for option in ("--delay", "--publish"))
+    for option, value in values.items():
+        words += [option, value]
+    return Asked(
+        plain[0],
+        "".join(plain[1:]),
+        Options.of_words(words),
+        linger,
+        read_pages(page, arbiter_page, hosts),
+        None if delay is None else read_delay(delay),
+        () if publish is None else read_command(publish),
+        new=is_new,
+    )
+
+
+def of_tournament(arguments: Sequence[str], tournament: Tournament) -> Asked:
+    """The round of a tournament: what its settings say, and what is typed beside that."""
+    table = tournament.table()
+    words = tournament.words(table, VALUED)
+    if RECOVER in arguments or STRICT in arguments:
+        words = [word for word in words if word not in (RECOVER, STRICT)]
+    try:
+        parse([*words, str(table)])
+    except Refused as refused:
+        raise Refused(REFUSED, f"{tournament.settings}: {refused.lines[0].replace(f': {SEE_HELP}', '')}") from None
+    asked = parse(["--round", str(tournament.number), *words, *arguments])
+    return replace(asked, file=str(table), folder=tournament.games, tournament=tournament)
+
+
+def folder_of(asked: Asked) -> Tuple[pathlib.Path, int]:
+    """The folder, made where it isn't there, and locked."""
+    folder = pathlib.Path(asked.folder) if asked.folder else pathlib.Path(asked.file).parent
+    try:
+        folder.mkdir(exist_ok=True)
+        lock = os.open(folder, os.O_RDONLY | os.O_DIRECTORY)
+    except OSError as error:
+        why = f"the folder {folder} can't be made or opened ({text_of(error)}): choose another FOLDER"
+        raise Refused(FAILED, why) from None
+    if not locked(lock, LOCK_PATIENCE):
+        raise Refused(REFUSED, f"{folder} is another dgt_round's: end that one, or choose another FOLDER")
+    return folder, lock
+
+
+def round_of(text: Optional[str]) -> Optional[int]:
+    """The number of the round, as far as it has one."""
+    return int(text) if text and text.isascii() and text.isdigit() and len(text) < 4 else None
+
+
+def told_of_kept(given: Options, kept: Options) -> str:
+    """What is told where a round goes on with options that it was begun with; nothing where it doesn't."""
+    filled, tags = given.filled(kept, TAGS), dict(given.tags)
+    left = filled.only([option for option in TAGS if given.value(option) is None])
+    words = left.tagged({name: value for name, value in filled.tags if name not in tags}).words()
+    return f"the round goes on with {shlex.join(words)}; give others to change that" if words else ""
+
+
+def play(asked: Asked, program: Program, signals: Signals) -> Outcome:
+    """Records the round."""
+    asked.options.refuse_breaks()
+    given = turned(recordable(asked.options, unknown))
+    file = pathlib.Path(asked.file)
+    source = Source(file, round_of(asked.options.round))
+    source.in_tournament = asked.tournament is not None
+    read = first_pairings(source)
+    folder, _ = folder_of(asked)
+    files = Paths(str(folder / ROUND))
+    kept = Options() if asked.tournament else (kept_options(files) or Options()).only(TAGS)
+    told, given = told_of_kept(given, kept), given.filled(kept, TAGS)
+    delay = delay_of(files, asked.delay)
+    late = minutes(delay) if delay else ""
+    loop = Loop()
+    shown = given.written("--event") or file.stem
+    pages = TwoPages(loop, asked.pages, Title(shown, given.round or "", late))
+    event = "" if given.event == UNKNOWN else given.event
+    title = ", ".join(filter(None, (event, given.round and f"round {given.round}"))) or file.stem
+    out = GoingOut(delay, asked.publish)
+    games = Round(loop, source, read, title, Hall(program, str(folder), given, asked.linger, terminal_of_lines(loop), out))
+    if told:
+        games.say(told)
+    if late:
+        stays = " as before; --delay 0 ends that" if asked.delay is None else ""
+        games.say(f"spectators see the round {late} late{stays}")
+    try:
+        if given.only(TAGS) != kept:
+            keep_options(files, given.only(TAGS))
+    except Refused as refused:  # the boards are recorded all the same
+        games.say(refused.lines[0])
+    arbiter = ArbiterView(shown, games.boards, games.trouble)
+    arbiter.is_unpublished = lambda: bool(games.broadcast.alarm)
+    pages.trouble = games.trouble
+    pages.show(arbiter, games.broadcast)
+    games.on_change = pages.changed
+    for line in pages.told("the round"):
+        games.say(line)
+    signals.tell(loop, games.end, games.hung_up)
+    more = files_of(asked.tournament, loop, games) if asked.tournament else None
+    loop.run()
+    pages.close()
+    complaints = more.close() if more else []
+    status, others = games.close()
+    return (FAILED if complaints else status), [*complaints, *others]
+
+
+def files_of(tournament: Tournament, loop: Loop, games: Round) -> TournamentFiles:
+    """The files that a tournament's folder gets of a round."""
+    others = tournament.other_rounds()
+    texts = (
+        (tournament.all_games, lambda: all_text(others, tournament.number, games.broadcast.text())),
+        (pathlib.Path(tournament.games) / RESULTS, lambda: results_text(games.results())),
+    )
+    return TournamentFiles(loop, texts, games.say, games.trouble)
+
+
+def main(arguments: Sequence[str], here: pathlib.Path) -> int:
+    """What the arguments ask for; the status."""
+
+    def answered(signals: Signals) -> Outcome:
+        asked = parse(arguments)
+        if asked.help:
+            print(HELP, end="")
+            return DONE, ()
+        if asked.new:
+            print("\n".join(made(pathlib.Path(asked.file))))
+            return DONE, ()
+        tournament = tournament_of(asked.file, asked.folder)
+        if tournament:
+            asked = of_tournament(arguments, tournament)
+        return play(asked, Program.find(here), signals)
+
+    return through("dgt_round", answered)

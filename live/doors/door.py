@@ -1,0 +1,36 @@
+"""The door of both commands: signals, the standard streams, and how a call ends."""
+
+from __future__ import annotations
+
+import os
+import sys
+from typing import Callable, Sequence, Tuple
+
+from live import descriptors
+from live.loop import Signals
+from live.refused import DONE, FAILED, Refused
+from live.terminal.terminal import open_standard_streams
+
+Outcome = Tuple[int, Sequence[str]]  # a status, and complaints
+
+
+def through(command: str, call: Callable[[Signals], Outcome]) -> int:
+    """Does what was called for; the status. All that was said is printed then."""
+    open_standard_streams()
+    descriptors.raise_limit()
+    signals = Signals()
+    status, complaint = DONE, ""
+    try:
+        status, complaints = call(signals)
+        complaint = "".join(f"{command}: {line}\n" for line in complaints)
+    except Refused as refused:
+        status, complaint = refused.status, refused.text(command)
+    except OSError as error:
+        status, complaint = FAILED, f"{command}: {error}\n"
+    try:
+        if sys.stdout:
+            sys.stdout.flush()
+        os.write(2, complaint.encode("utf-8", "backslashreplace"))
+    except OSError:
+        pass  # nobody reads it any more
+    return status

@@ -1,0 +1,266 @@
+"""What an arbiter adds to a game: a result, or moves that no picture showed.
+
+Both become bytes in the capture, as if the board had shown them: dumps, and then one stray byte. So the game is still what the
+program makes of the capture. The stray byte is a fault, after which no update counts up to the next dump: what was added may
+have cut a frame of the board's, and need not be what stands on the board. A dump is to be asked for at once.
+"""
+
+from __future__ import annotations
+
+import re
+from dataclasses import dataclass
+from typing import Dict, List, Optional, Sequence, Tuple, Union
+
+from live.device.protocol import DUMP_ID, LETTERS, SIZES, SQUARES, Picture, dump, picture_of_dump, picture_of_placement
+
+WHITE_WINS, BLACK_WINS, DRAW = "1-0", "0-1", "1/2-1/2"
+WAYS = "Type 1-0, 0-1, 1/2-1/2, moves as Nf3 Nc6, back, *, ok or help"
+ALL_WAYS = "Type 1-0, 0-1, 1/2-1/2, moves (Nf3 Nc6), back (a ply off), back 14. Bxf6, * (no result) or ok"
+HELPS = ("help", "?", "undo")
+BACK = "back"
+OK = "ok"  # acknowledges what somebody was to look at
+REOPENS = "*"  # takes a typed result back
+ALONE = "type {} alone, in a line of its own"
+NOUGHTS = "0-0"  # a result, or castling that is typed with noughts
+BOTH_LOSE = f"{NOUGHTS}: do both lose? PGN has no such result: leave the game without one, and note it. Castling is O-O"
+QUIT_TOO = ", or q to end the recording"
+
+EMPTY = 0
+WHITE_KING, BLACK_KING = LETTERS.index("K"), LETTERS.index("k")
+KINGS = (WHITE_KING, BLACK_KING)
+D4, E4, D5, E5 = (SQUARES.index(square) for square in ("d4", "e4", "d5", "e5"))
+CENTRE = (D4, E4, D5, E5)
+LIGHT = (E4, D5)
+SHOWN_ON = {WHITE_WINS: (E4, D5), BLACK_WINS: (D4, E5), DRAW: (E4, E5)}  # White's king, Black's king
+STRAY = b"\x00"
+
+SPELT: Dict[str, str] = {"1/2": DRAW, "½-½": DRAW, "½": DRAW, "=": DRAW, "1/2-½": DRAW, "½-1/2": DRAW}
+MOVE = re.compile(r"(?:[KQRBN]?[a-h]?[1-8]?x?[a-h][1-8](?:=[QRBN])?|O-O(?:-O)?)[+#]?", re.ASCII)
+NUMBER = re.compile(r"\d{1,4}\.+", re.ASCII)
+PLY = re.compile(r"(\d{1,4})(\.+)(.+)", re.ASCII)
+LONGEST = 7  # characters of a move in SAN, as exd8=Q+
+
+
+class Refused(Exception):
+    """What was typed isn't done. Its text says why, and what to type."""
+
+
+class Asked(Refused):
+    """What was typed takes much away: it is done where it is typed again."""
+
+
+class Helped(Refused):
+    """Somebody wants to know what can be typed."""
+
+
+@dataclass(frozen=True)
+class Result:
+    """The game ends with this result."""
+
+    outcome: str
+
+
+@dataclass(frozen=True)
+class Moves:
+    """Moves in SAN, in their order. That they are legal is for the program to say."""
+
+    words: Tuple[str, ...]
+
+
+@dataclass(frozen=True)
+class Quit:
+    """The recording is to end."""
+
+
+@dataclass(frozen=True)
+class Acknowledged:
+    """Somebody has looked at what he was to look at."""
+
+
+@dataclass(frozen=True)
+class Reopened:
+    """The result was typed for the wrong board: the game goes on."""
+
+
+@dataclass(frozen=True)
+class Back:
+    """The game is to end with this ply, named as `14.` or `14...` and a move in SAN; without a number its last ply is taken
+    off, and with `all` each one."""
+
+    number: str = ""
+    san: str = ""
+    all: bool = False
+
+
+@dataclass(frozen=True)
+class Nothing:
+    """An empty line."""
+
+
+Typed = Union[Result, Moves, Acknowledged, Reopened, Back, Quit, Nothing]
+
+
+def read_words(text: str, name: str = "") -> Typed:
+    """What was typed in one line. Refused where it is none of these, and where it is two of them, or where the game's own name
+    stands behind a result: that may be spelt as a move is."""
+    words = text.replace("–", "-").replace("—", "-").split()
+    if not words:
+        return Nothing()
+    if words in (["q"], ["quit"]):
+        return Quit()
+    if [word.lower() for word in words] == [OK]:
+        return Acknowledged()
+    if words == [REOPENS]:
+        return Reopened()
+    if words[0].lower() == BACK:
+        return _back(words[1:])
+    if words[0].lower() in HELPS:
+        raise Helped(ALL_WAYS)
+    outcome = _outcome("".join(words))
+    if outcome:
+        return Result(outcome)
+    if NOUGHTS in (word.replace(":", "-") for word in (*words, "".join(words))):
+        raise Refused(BOTH_LOSE)
+    named = _outcome("".join(words[: -len(name.split())])) if name and text.strip().endswith(f" {name}") else None
+    if named:
+        raise Refused(ALONE.format(named))
+    results = [word for word in words if _outcome(word) and (word != "=" or word is words[-1])]
+    if results:
+        raise Refused(_two_in_one(results, [word for word in words if word not in results]))
+    if len(words) > 1 and words[0].isascii() and words[0].isdigit():  # as in a round
+        raise Refused(f"leave out the number in front. {WAYS}")
+    moves = [_move(word) for word in words]
+    if not any(moves):
+        raise Refused(f"{_shown(text)}: no move. {WAYS}")
+    return Moves(tuple(move for move in moves if move))
+
+
+def _back(words: Sequence[str]) -> Back:
+    """What stands behind `back`: nothing, 0, or a ply with its number, as the screen prints it."""
+    if not words:
+        return Back()
+    text = "".join(words).replace("…", "...")
+    if text == "0":
+        return Back(all=True)
+    named = PLY.fullmatch(text)
+    if named is None:
+        raise Refused("which ply? Type it as the screen printed it, as back 14. Bxf6 or back 14... Qd7; or back alone, or back 0")
+    return Back(f"{int(named[1])}{'.' if len(named[2]) == 1 else '...'}", _move(named[3]))
+
+
+def is_result(text: str) -> bool:
+    """Whether the text is a result and nothing else."""
+    return _outcome("".join(text.replace("–", "-").replace("—", "-").split())) is not None
+
+
+def _two_in_one(results: Sequence[str], others: Sequence[str]) -> str:
+    """What is told of a line with results in it, and with other words."""
+    outcome = _outcome(results[0])
+    try:
+        are_moves = any([_move(word) for word in others])
+    except Refused:
+        are_moves = False
+    if are_moves and len(results) == 1:
+        return f"moves and a result in one line. Type the moves, and then {outcome} in a line of its own"
+    return ALONE.format(outcome) if len(set(map(_outcome, results))) == 1 else "two results in one line. Type one of them"
+
+
+def _outcome(word: str) -> Optional[str]:
+    """The result that is spelt so: 1-0, 1:0, 1/2, ½ .."""
+    word = SPELT.get(word.replace(":", "-"), word.replace(":", "-"))
+    return word if word in SHOWN_ON else None
+
+
+def _move(word: str) -> str:
+    """The move of a word; nothing where the word is only its number."""
+    numbered = NUMBER.match(word)
+    move = (word[numbered.end() :] if numbered else word).rstrip("!?")
+    if numbered and not move:
+        return ""
+    if move.startswith("0-0"):
+        move = move.replace("0", "O")
+    promoted = re.fullmatch(r"(.*[18])([QRBN][+#]?)", move, re.ASCII)
+    if promoted:
+        move = "=".join(promoted.groups())
+    if len(move) > LONGEST or not MOVE.fullmatch(move):
+        raise Refused(f"{_shown(word)}: neither a move nor a result. {WAYS}")
+    return move
+
+
+def _shown(text: str) -> str:
+    """The beginning of a text, where it can be printed."""
+    shown = "".join(letter if letter.isprintable() else "?" for letter in text.strip())
+    return shown if len(shown) <= 20 else shown[:20] + ".."
+
+
+def spellings(move: str) -> Tuple[str, ...]:
+    """The move as it was typed, and with another mark at its end: a check may be left out, or be seen where none is."""
+    bare = move.rstrip("+#")
+    return (move, *(spelt for spelt in (bare, bare + "+", bare + "#") if spelt != move))
+
+
+def check_result(legal_moves: Sequence[str]) -> None:
+    """Refused where the game's position has no legal move: mate or stalemate is its result, whatever is shown."""
+    if not legal_moves:
+        raise Refused("the game has ended on the board, by mate or stalemate: that is its result. Nothing was added")
+
+
+def dumps_of_moves(fens: Sequence[str], rotated: bool) -> bytes:
+    """Shows the positions after the moves, one after the other; the stray byte comes behind what is put behind them.
+
+    Each is one legal move from the one before it, and the first from the game's position; so each is settled as that move.
+    What the board shows then, where it stands as before, changes nothing after one move or two. Three or more may lead pieces
+    back to where the board still has them, and then its picture may be another move's: the pieces are to be set as the game
+    stands.
+    """
+    return b"".join(dump(picture_of_placement(fen), rotated) for fen in fens)
+
+
+def dumps_of_result(outcome: str, game_fen: str, board: Optional[Picture], rotated: bool) -> bytes:
+    """Shows the kings in the centre over the game's position, and then the board as it stood last, where that is known.
+
+    The sign stands then: the board's last picture settles no move of the game's position, else it would have been played.
+    """
+    pictures: List[Picture] = [sign_of_result(outcome, picture_of_placement(game_fen))]
+    if board is not None:
+        pictures.append(board)
+    return b"".join(dump(picture, rotated) for picture in pictures) + STRAY
+
+
+def sign_of_result(outcome: str, position: Picture) -> Picture:
+    """The position with its kings taken off and set into the centre; what stands under them is covered.
+
+    Both on light squares for 1-0, both on dark ones for 0-1, one on each for a draw.
+    """
+    shown = [EMPTY if code in KINGS else code for code in position]
+    for code, square in zip(KINGS, SHOWN_ON[outcome]):
+        shown[square] = code
+    return tuple(shown)
+
+
+def outcome_of_sign(picture: Picture, position: Picture) -> Optional[str]:
+    """The result that a picture shows over a position, if it is a sign over it.
+
+    It is one where each king stands once in the centre and nowhere else, and each square outside the centre shows what the
+    position has, or nothing where the position has a king.
+    """
+    kings = [square for square in CENTRE if picture[square] in KINGS]
+    if sorted(picture[square] for square in kings) != list(KINGS):
+        return None
+    for square, (shown, has) in enumerate(zip(picture, position)):
+        if square not in CENTRE and shown != (EMPTY if has in KINGS else has):
+            return None
+    light = sum(square in LIGHT for square in kings)
+    return (BLACK_WINS, DRAW, WHITE_WINS)[light]
+
+
+def without_typed_result(sent: bytes, position: Picture, rotated: bool) -> bytes:
+    """What a board has sent, without the bytes of a result that was added last, if one was: over this position of the game."""
+    size = SIZES[DUMP_ID]
+    for dumps in (1, 2):
+        put = sent[-dumps * size - len(STRAY) :]
+        is_put = len(put) == dumps * size + len(STRAY) and put.endswith(STRAY)
+        if is_put and all(put[at * size] == DUMP_ID for at in range(dumps)):
+            if outcome_of_sign(picture_of_dump(put[:size], rotated), position):
+                return sent[: -len(put)]
+    return sent

@@ -1,0 +1,203 @@
+"""What an arbiter adds, with the program's help: the bytes for a capture, and what is refused."""
+
+from __future__ import annotations
+
+import os
+from typing import List, Sequence, Tuple
+
+from live.device import protocol
+from live.game import added
+from live.game.alarms import acknowledge
+from live.game.clocks import Reading, without_clock
+from live.game.edited import told_of_edit
+from live.game.files import Paths, log_once, open_game, text_of
+from live.game.game import Game, end_mark, kept_options, mark_end
+from live.game.going_back import go_back_closed, take_result_off
+from live.game.making_pgn import Made, Text
+from live.game.options import Options
+from live.game.program import Program
+from live.game.reading import game_of
+from live.game.report import Move
+from live.refused import DONE, FAILED, REFUSED, Refused
+
+MOST = 100  # moves that may be added in one line
+Answer = Tuple[int, str]  # a status, and what is said with it
+
+
+def printable(text: str) -> str:
+    """The beginning of what was typed, where it can be printed."""
+    return "".join(letter if letter.isprintable() else "?" for letter in text[:60])
+
+
+def reason_of(error: Exception) -> str:
+    """What is told of an error."""
+    if isinstance(error, OSError):
+        name = f"{os.fsdecode(error.filename)}: " if isinstance(error.filename, (str, bytes)) else ""
+        return name + text_of(error)
+    return error.lines[0] if isinstance(error, Refused) else str(error)
+
+
+def refusal(text: str, error: Exception) -> Answer:
+    """The answer to what was typed, where that isn't done, or not yet."""
+    if isinstance(error, (added.Asked, added.Helped)):
+        return REFUSED, str(error)
+    reason = reason_of(error)
+    return REFUSED, f"refused: {reason}" if text in reason else f"refused: {printable(text)}: {reason}"
+
+
+def sans_of(plies: Sequence[Move]) -> List[str]:
+    """The moves in SAN."""
+    return [ply.san for ply in plies]
+
+
+class Addition:
+    """Additions to the game of these bytes of its capture, which somebody has typed."""
+
+    def __init__(self, game: Game, sent: bytes) -> None:
+        self._program, self._options, self._sent = game.program, game.options, sent
+        course = game_of(game.program, game.options, sent)
+        self._moves, self._result, self._board = sans_of(course.plies), course.result, course.board
+        self._present = Reading.of_clock(course.clock)
+
+    def of(self, typed: added.Typed) -> Tuple[bytes, str]:
+        """The bytes to add, and what they are in words. Refused where the game would be another one than is meant."""
+        if isinstance(typed, added.Result):
+            return self._of_result(typed.outcome), f"the result {typed.outcome}"
+        if isinstance(typed, added.Moves):
+            put, moves = self._of_moves(typed.words)
+            gone = "" if self._result == "*" else f"; the result {self._result} is gone: add it again"
+            return put, " ".join(moves) + gone
+        raise added.Refused(added.WAYS)
+
+    def _of_result(self, outcome: str) -> bytes:
+        fens, wrong = self._positions([])
+        if wrong:
+            raise added.Refused(f"the game's position isn't known ({wrong})")
+        answer = self._program.run("moves", "--fen", fens[-1])
+        added.check_result(answer.stdout.decode("ascii", "replace").split())
+        put = added.dumps_of_result(outcome, fens[-1], self._board, self._options.rotated)
+        after = game_of(self._program, self._options, self._sent + put)
+        if (sans_of(after.plies), after.result) != (self._moves, outcome):
+            raise added.Refused("with the board as it stands the game would be another one. Nothing was added")
+        return put
+
+    def _of_moves(self, words: Sequence[str]) -> Tuple[bytes, List[str]]:
+        """The bytes that play these moves, and the moves as they are spelt."""
+        if len(words) > MOST:
+            raise added.Refused(f"more than {MOST} moves in one line")
+        spelt: List[str] = []
+        fens: List[str] = []
+        for word in words:
+            for spelling in added.spellings(word):
+                fens, wrong = self._positions([*spelt, spelling])
+                if not wrong:
+                    spelt.append(spelling)
+                    break
+            else:
+                whose = _whose_move([*self._moves, *spelt], fens)
+                raise added.Refused(f"{word} is no legal move: {whose}. Nothing was added")
+        dumps = added.dumps_of_moves(fens[-len(spelt) :], self._options.rotated)
+        put = without_clock(dumps, self._present, self._options.side == "black") + added.STRAY
+        shown = protocol.dump(self._board, self._options.rotated) if self._board else b""
+        after = game_of(self._program, self._options, self._sent + put + shown)
+        if sans_of(after.plies) != self._moves + spelt:
+            raise added.Refused(
+                "with the board as it stands these moves would become others. Put it as it is after them, and type them again"
+            )
+        return put, spelt
+
+    def _positions(self, more: Sequence[str]) -> Tuple[List[str], str]:
+        moves = [*self._moves, *more]
+        fens, wrong = self._program.positions(self._options.fen, moves)
+        if not wrong and len(fens) != len(moves) + 1:
+            wrong = "dgt_replay positions doesn't answer as it should"
+        return fens, wrong
+
+
+def _whose_move(moves: Sequence[str], fens: Sequence[str]) -> str:
+    """Who is to move after these moves, by the FENs of the start and of all positions up to there."""
+    if not fens:
+        return "the position isn't known"
+    side, _, _, _, number = fens[-1].split()[1:]
+    whose = f"{'White' if side == 'w' else 'Black'} is to move"
+    if not moves:
+        return whose
+    return f"{whose}, after {int(number) - 1}... {moves[-1]}" if side == "w" else f"{whose}, after {number}. {moves[-1]}"
+
+
+def add_to_closed(game: Game, typed: added.Typed) -> str:
+    """Adds to a game that nobody records now, behind its last byte; what came after that stays behind it. What was added, in
+    words. Refused where it can't be; OSError where a file can't be written."""
+    mark = end_mark(game.paths)
+    end = game.capture.size if mark is None else mark
+    sent = game.capture.bytes(0, end)
+    put, what = Addition(game, sent).of(typed)
+    text = Text(game)
+    text.look(mark)
+    game.capture.renew(sent + put + game.capture.bytes(end))
+    if mark is not None or isinstance(typed, added.Result):
+        mark_end(game.paths, end + len(put))
+    return what + _made(game, text.make(end + len(put)))
+
+
+def _made(game: Game, made: Made) -> str:
+    """What is told behind something else of a text that was made. An OSError comes where it couldn't be."""
+    if made.trouble:
+        raise OSError(made.trouble)
+    return f"; {told_of_edit(game.paths.pgn, made.edited)}" if made.edited else ""
+
+
+def reopen(game: Game) -> str:
+    """Takes the result off a game; where it is over by a typed one, what came after it is the game's from here on. What is told
+    of that. Refused where it has none, or one by mate; OSError where a file can't be written."""
+    mark = end_mark(game.paths)
+    sent = game.capture.bytes(0, mark)
+    course = game_of(game.program, game.options, sent)
+    front = sent
+    while True:
+        shorter = added.without_typed_result(front, course.position, game.options.rotated)
+        if shorter == front:
+            break
+        front = shorter
+    if mark is None or front == sent:
+        return f"{game.paths.name} goes on: {take_result_off(game)}"
+    text = Text(game)
+    text.look(mark)
+    game.capture.renew(front + game.capture.bytes(mark))
+    os.unlink(game.paths.end)
+    return f"{game.paths.name} goes on, without the result" + _made(game, text.make(None))
+
+
+def add_by_name(program: Program, paths: Paths, text: str, patience: float) -> Answer:
+    """Adds what was typed to the game of this name, which nobody records now, and keeps that in its log. Refused where its
+    capture can't be opened."""
+    capture = open_game(paths, patience)
+    try:
+        typed = added.read_words(text, os.path.basename(paths.name))
+        if isinstance(typed, added.Acknowledged):
+            seen = acknowledge(paths)
+            log_once(paths, seen)
+            return DONE, seen
+        game = Game(program, paths, capture, kept_options(paths) or Options())
+        if isinstance(typed, added.Reopened):
+            told = reopen(game)
+            log_once(paths, told)
+            return DONE, told
+        if isinstance(typed, added.Back):
+            done = go_back_closed(game, typed)
+            log_once(paths, done)
+            return DONE, f"{paths.name}: {done}"
+        what = add_to_closed(game, typed)
+    except added.Refused as refused:
+        return refusal(text, refused)
+    except OSError as error:
+        return FAILED, cannot_be_written(paths, text_of(error))
+    finally:
+        capture.close()
+    log_once(paths, f"added by hand: {what}")
+    return DONE, f"added to {paths.name}: {what}"
+
+
+def cannot_be_written(paths: Paths, why: str) -> str:
+    """What is told of a file of a game."""
+    return f"{paths.name} can't be written ({why}): is the disk full?"

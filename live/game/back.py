@@ -1,0 +1,132 @@
+"""The way back: with which ply a game ends, and the capture that is made anew of the plies that stay.
+
+No rule of settling is changed for that, and nothing is cut out of a capture. The new one shows the positions of the game one
+after the other, each one legal move from the one before it, as a board would; then the board as it stands.
+"""
+
+from __future__ import annotations
+
+from dataclasses import dataclass
+from typing import List, Optional, Sequence
+
+from live.device.protocol import Picture, dump, picture_of_placement
+from live.game.added import STRAY, Back, Refused
+from live.game.clocks import Reading, time_message
+from live.game.report import Move
+
+WITHOUT_A_QUESTION = 2  # plies that may go at once
+SAME_MOVE = 4  # plies by which the same move counts as nearer
+
+
+def readings(plies: Sequence[Move]) -> List[Optional[Reading]]:
+    """A reading for each ply in which its player has the ply's clock; None where it has none. Of the other player's time only
+    his own plies speak."""
+    found: List[Optional[Reading]] = []
+    last: List[str] = ["", ""]
+    for ply in plies:
+        side = int(ply.number.endswith("..."))
+        last[side] = ply.clock or last[side]
+        other = last[1 - side] or ply.clock
+        times = (ply.clock, other) if side == 0 else (other, ply.clock)
+        found.append(Reading(*times) if ply.clock else None)
+    return found
+
+
+@dataclass(frozen=True)
+class Stays:
+    """What a game keeps: its plies, the positions at its start and after each, what the clocks show now, and what the board
+    shows, where that is known."""
+
+    plies: Sequence[Move]
+    fens: Sequence[str]
+    present: Optional[Reading]
+    board: Optional[Picture]
+
+
+def capture_of(stays: Stays, rotated: bool, black_first: bool) -> bytes:
+    """The bytes of a board that shows it. The stray byte is a fault: a frame of the board's may be under way."""
+    pictures = [dump(picture_of_placement(fen), rotated) for fen in stays.fens]
+    times = [time_message(reading, black_first) for reading in readings(stays.plies)]
+    game = b"".join(time + picture for time, picture in zip(times, pictures[1:]))
+    board = b"" if stays.board is None else dump(stays.board, rotated)
+    return pictures[0] + game + time_message(stays.present, black_first) + board + STRAY
+
+
+def plies_that_stay(plies: Sequence[Move], typed: Back) -> int:
+    """How many stay. Refused where there is nothing to take off, or where the game has no such ply: with the nearest one."""
+    if typed.all:
+        return 0
+    if not plies:
+        raise Refused("the game has no ply that could be taken off")
+    if not typed.number:
+        return len(plies) - 1
+    for at, ply in enumerate(plies):
+        if (ply.number, _bare(ply.san)) == (typed.number, _bare(typed.san)):
+            return at + 1
+    nearest = min(plies, key=lambda ply: _distance(ply, typed))
+    named = f"{typed.number} {typed.san}".strip()
+    raise Refused(f"{named} is no ply of the game. The nearest is {nearest.short}: type back {nearest.short}")
+
+
+def _bare(san: str) -> str:
+    """Without the mark of a check."""
+    return san.rstrip("+#")
+
+
+def _half_moves(number: str) -> int:
+    """The place of a ply, by its number: 14. or 14..."""
+    return 2 * int(number.rstrip(".")) + number.endswith("...")
+
+
+def _distance(ply: Move, typed: Back) -> int:
+    """How far a ply is from the one that was typed, in plies. A number is mistyped sooner than a move."""
+    far = abs(_half_moves(ply.number) - _half_moves(typed.number))
+    return far - SAME_MOVE if _bare(ply.san) == _bare(typed.san) else far
+
+
+def question(gone: Sequence[Move]) -> str:
+    """What is asked before so many go; nothing where they may go at once."""
+    return f"takes off {len(gone)} plies, from {gone[0].short}: type it again" if len(gone) > WITHOUT_A_QUESTION else ""
+
+
+def moves_of(plies: Sequence[Move]) -> str:
+    """`14... Qd7 15. Rd1 Rae8`."""
+    words = []
+    for at, ply in enumerate(plies):
+        words.append(ply.san if at and ply.number.endswith("...") else ply.short)
+    return " ".join(words)
+
+
+def reached(plies: Sequence[Move]) -> str:
+    """The ply with which a game ends, or its start."""
+    return plies[-1].short if plies else "the start"
+
+
+def settled(plies: Sequence[Move], stays: int) -> List[str]:
+    """What nobody need look at any more where only so many plies stay: those that are gone, and the moves since the last one."""
+    gone = [ply.short for ply in plies[stays:]]
+    if not gone:
+        return []
+    return [f"at {ply}" for ply in gone] + [f"since {ply}" for ply in (reached(plies[:stays]), *gone)]
+
+
+def words_of(plies: Sequence[Move], stays: int, result: str) -> str:
+    """What was done: `back to 14. Bxf6; taken off: 14... Qd7 15. Rd1`. The result was the one of before."""
+    gone = plies[stays:]
+    parts = [f"back to {reached(plies[:stays])}", f"taken off: {moves_of(gone)}" if gone else "no ply is taken off"]
+    if result != "*":
+        parts.append(f"the result {result} is gone")
+    return "; ".join(parts)
+
+
+def not_so(plies: Sequence[Move], stays: int, after: Sequence[Move], result: str) -> str:
+    """Why it can't be: with the board as it stands the game would have these plies and this result."""
+    wanted = reached(plies[:stays])
+    hint = f"Set the pieces as after {wanted}, or keep a king in your hand, and type it again"
+    if stays == 0:
+        hint = "Set the pieces as at the start, or keep a king in your hand, and type it again"
+    if result != "*" and len(after) == stays:
+        return f"the result stays {result} with the board as it stands. {hint}"
+    if len(after) > stays:
+        return f"the board still shows {after[stays].short}. {hint}"
+    return f"with the board as it stands the game would be another one. {hint}"

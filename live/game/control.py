@@ -1,0 +1,133 @@
+"""How one call of dgt_live speaks to the one that records a game: a socket whose name is the capture's place on the disk.
+
+It has no file, so nothing of it is left by a power cut. Anybody on the machine may take such a name first, so each end looks
+whose process the other one is. The recorder hears only the same user and the administrator; an answer counts only where it
+comes from one of them or from the owner of the capture.
+"""
+
+from __future__ import annotations
+
+import contextlib
+import os
+import pathlib
+import socket
+import struct
+from typing import Callable, Dict, Optional, Tuple
+
+from live.game.files import open_regular
+from live.loop import Turns
+from live.refused import DONE
+
+LONGEST = 4096  # bytes of what is asked, and of an answer
+WHO = "\0"  # asks who records the game: no argument has such a byte
+PATIENCE = 10.0  # seconds that an answer may take
+MOST_CALLS = 8  # at once
+
+CREDENTIALS = struct.Struct("3i")  # of a process: its number, its user, its group
+ADMINISTRATOR = 0
+
+Answer = Tuple[int, str]  # a status, and what is said with it
+
+
+def address(capture: int) -> bytes:
+    """The name of the socket for an open capture."""
+    at = os.fstat(capture)
+    return f"\0dgt_live-{at.st_dev:x}-{at.st_ino:x}".encode()
+
+
+def user_of(call: socket.socket) -> int:
+    """Whose process the other end is, as the system knows it."""
+    _, user, _ = CREDENTIALS.unpack(call.getsockopt(socket.SOL_SOCKET, socket.SO_PEERCRED, CREDENTIALS.size))
+    return int(user)
+
+
+def printable(text: str) -> str:
+    """Without what a terminal would take for a command."""
+    return "".join(letter if letter.isprintable() else "?" for letter in text)
+
+
+class Control:
+    """Listens for what is to be added to a game that is being recorded, on this `board` of a round, or on none."""
+
+    def __init__(self, loop: Turns, capture: int, asked: Callable[[str], Answer], board: str) -> None:
+        self._loop, self._asked, self._board = loop, asked, board
+        self._calls: Dict[int, socket.socket] = {}
+        self._answering: Optional[int] = None  # the call that is just being answered: what it asks may close this
+        self._socket: Optional[socket.socket] = socket.socket(socket.AF_UNIX, socket.SOCK_SEQPACKET)
+        self._socket.setblocking(False)
+        try:
+            self._socket.bind(address(capture))
+            self._socket.listen(MOST_CALLS)
+        except OSError:
+            # No such sockets here: what is typed in the terminal is heard all the same.
+            self._socket.close()
+            self._socket = None
+            return
+        loop.watch(self._socket.fileno(), self._called)
+
+    def _called(self) -> None:
+        assert self._socket
+        try:
+            call, _ = self._socket.accept()
+        except OSError:
+            return
+        if user_of(call) not in (ADMINISTRATOR, os.getuid()) or len(self._calls) >= MOST_CALLS:
+            call.close()
+            return
+        call.setblocking(False)
+        number = call.fileno()
+        self._calls[number] = call
+        self._loop.watch(number, lambda: self._hear(number))
+        self._loop.after(PATIENCE, lambda: self._hang_up(number, call))
+
+    def _hear(self, number: int) -> None:
+        call, self._answering = self._calls[number], number
+        try:
+            words = call.recv(LONGEST).decode("utf-8", "replace")
+            if words:
+                status, text = (DONE, self._board) if words == WHO else self._asked(words)
+                call.send(bytes([status]) + text.encode("utf-8", "replace")[:LONGEST])
+        except BlockingIOError:
+            return
+        except OSError:
+            pass
+        finally:
+            self._answering = None
+        self._hang_up(number, call)
+
+    def _hang_up(self, number: int, call: socket.socket) -> None:
+        if self._calls.get(number) is call:
+            self._loop.forget(number)
+            del self._calls[number]
+            call.close()
+
+    def close(self) -> None:
+        for number, call in list(self._calls.items()):
+            if number != self._answering:
+                self._hang_up(number, call)
+        if self._socket:
+            self._loop.forget(self._socket.fileno())
+            self._socket.close()
+            self._socket = None
+
+
+def ask(capture: pathlib.Path, words: str) -> Optional[Answer]:
+    """What the call that records this game answers, or None where none does, or another user's process would."""
+    with contextlib.suppress(OSError), open(open_regular(capture, os.O_RDONLY), "rb") as file:
+        believed = (ADMINISTRATOR, os.getuid(), os.fstat(file.fileno()).st_uid)
+        with socket.socket(socket.AF_UNIX, socket.SOCK_SEQPACKET) as call:
+            call.settimeout(PATIENCE)
+            call.connect(address(file.fileno()))
+            if user_of(call) not in believed:
+                return None
+            call.send(words.encode("utf-8", "replace")[: LONGEST - 1])
+            answer = call.recv(LONGEST + 1)
+            if answer:
+                return answer[0], printable(answer[1:].decode("utf-8", "replace"))
+    return None
+
+
+def board_of(capture: pathlib.Path) -> Optional[str]:
+    """The board of a round on which this game is recorded; nothing where a dgt_live records it, None where nobody says so."""
+    answer = ask(capture, WHO)
+    return answer[1] if answer and answer[0] == DONE else None

@@ -1,0 +1,106 @@
+"""The course of a game: what the program's report of it comes to. Pure: lines and times are passed in."""
+
+from __future__ import annotations
+
+import collections
+from typing import Deque, List, Optional, Sequence, Tuple
+
+from live.device import protocol
+from live.game import ending
+from live.game.doubts import PACE_OF
+from live.game.ending import StartAgain
+from live.game.report import Agrees, Change, Clock, Differs, Event, Line, Move, News, Picture, Position, Recovered, Result
+
+NO_PICTURE: protocol.Picture = ()
+
+
+class Course:
+    """The moves of a game with their positions, its result, what the board shows, and what the end of the game may ask for."""
+
+    def __init__(self, start: protocol.Picture) -> None:
+        self.start = start
+        self.plies: List[Move] = []
+        self.fens: List[str] = []  # of the start and after each ply, as far as they were reported
+        self.result = "*"
+        self.recovered: List[str] = []  # the pairs that were put in
+        self.placement = ""  # what the board shows
+        self.clock: Optional[Clock] = None  # what the clocks show, as far as it was reported
+        self.changed_at = -1  # the offset of the last line that changed the game
+        self.has_agreed = False  # whether the board has stood as the game says
+        self.stands_again = False  # whether the start has come to stand again with the last picture
+        self.stood_again = False  # whether it has before, since there are moves
+        self.moved_at: Deque[float] = collections.deque(maxlen=PACE_OF + 1)  # when the last moves came
+        self.news: List[News] = []  # what was told of the game: its changes, and the pairs before them
+        self._stands: Optional[Event] = None  # how the board stood last
+        self._lines = ending.Lines()
+        self._start_again = StartAgain(start)
+
+    def take(self, line: Line, at: float) -> None:
+        """The next line, which came at this time."""
+        event = line.event
+        if isinstance(event, Picture):
+            self.placement = event.placement
+            self.stands_again = self._start_again.takes(event.codes, NO_PICTURE)
+            self.stood_again = self.stood_again or bool(self.stands_again and self.plies)
+        elif isinstance(event, Position):
+            del self.fens[len(self.plies) :]
+            self.fens.append(event.fen)
+        elif isinstance(event, Clock):
+            self.clock = event
+        elif isinstance(event, Recovered):
+            self.recovered.append(event.text)
+            self.news.append(event)
+        elif isinstance(event, (Move, Result, Differs, Agrees)):
+            self._lines.take(ending.Line(line.offset, at, event))
+            self._stands = event
+            self.has_agreed = self.has_agreed or isinstance(event, Agrees)
+            if isinstance(event, Move) and not event.corrects:
+                self.moved_at.append(at)
+            if isinstance(event, (Move, Result)):
+                self._take_change(event)
+                self.changed_at = line.offset
+
+    def _take_change(self, change: Change) -> None:
+        self.news.append(change)
+        if isinstance(change, Result):
+            self.result = change.outcome
+            return
+        if change.corrects and self.plies:
+            self.plies.pop()
+            del self.fens[len(self.plies) + 1 :]
+        self.plies.append(change)
+
+    @property
+    def board(self) -> Optional[protocol.Picture]:
+        """What the board shows, where that is known."""
+        return Picture(self.placement).codes if self.placement else None
+
+    @property
+    def position(self) -> protocol.Picture:
+        """That of the game."""
+        return Picture(self.fens[-1].split(" ")[0]).codes if self.fens else self.start
+
+    @property
+    def stands_at_start(self) -> bool:
+        """Whether the game's position is the one at its start."""
+        return not self.plies or (len(self.fens) > len(self.plies) and Picture(self.fens[-1]).codes == self.start)
+
+    def standing(self) -> Sequence[Event]:
+        """As few lines as say how the board stands."""
+        last: List[Event] = [*self.plies[-1:]]
+        if self.result != "*":
+            last.append(Result(self.result))
+        if self._stands and self._stands not in last:
+            last.append(self._stands)
+        return last
+
+    def lines(self) -> Sequence[ending.Line]:
+        """The lines of the game, as far as its end may ask for them."""
+        return self._lines.all()
+
+
+def clocks_of(plies: Sequence[Move]) -> Tuple[str, str]:
+    """White's and Black's, each after its last move."""
+    white = next((ply.clock for ply in reversed(plies) if ply.clock and not ply.number.endswith("...")), "")
+    black = next((ply.clock for ply in reversed(plies) if ply.clock and ply.number.endswith("...")), "")
+    return white, black

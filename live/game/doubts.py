@@ -1,0 +1,265 @@
+"""Whether what the program reports of a game may hide moves that nobody saw: then somebody is to look at it.
+
+A picture that settles a move, corrects the last one or agrees with the game may also be that of a later position, where no
+picture showed the plies on the way to it whole. No picture can tell the two apart. The time can, and the other side's pieces:
+
+- A correction that comes late. An honest hand corrects its move within seconds.
+- Pieces that stood elsewhere in between. A player who makes or corrects a move lets the other side's pieces stand. Where these
+  have stood on other squares, both sides may have moved.
+- The first news after a gap, in which nothing was heard of the board. A correction is doubtful after any gap, a move after one
+  that is as long as a ply, and the position as it was after one that is as long as two: four plies may lead back to it. After
+  a restart of the recorder a move and that position are doubtful only where the players have just repeated a position.
+
+`bench/doubts.py` says how often honest hands are doubted, and that no hidden ply stays without a doubt.
+"""
+
+from __future__ import annotations
+
+import math
+from collections import deque
+from dataclasses import dataclass, field
+from typing import Deque, Dict, FrozenSet, Optional, Sequence, Set
+
+from live.game.looks import Look
+from live.device.protocol import Picture
+from live.game import report
+from live.game.report import codes_of
+
+LATE = 10.0  # seconds after its move, for a correction
+STANDS = 0.1  # seconds after which a piece stands on a square: before that it may be drawn over it
+PASSES = 0.15  # seconds in which a piece that is drawn over a square leaves it
+STANDS_AGAIN = 1.0  # seconds for a piece that is moved on: one that is straightened may show beside its square
+PACE_OF = 8  # plies of which the pace is taken, and among which a position is looked for again
+PACE = 3.0  # seconds that a ply takes where nobody knows it
+QUICKEST = 1.0  # seconds that one takes at least
+SIDES = (range(1, 7), range(7, 13))  # the piece codes of White and of Black
+
+IS_LATE = "it corrects the move before it so late that moves may be missing"
+ELSEWHERE = "the other side's pieces stood elsewhere before it: moves may be missing"
+BOTH_ELSEWHERE = "both sides' pieces have stood elsewhere since: moves may be missing"
+AFTER_GAP = "it is the first news after a time in which the board wasn't heard: moves may be missing"
+
+
+def is_late(seconds: float) -> bool:
+    """Whether a correction comes so long after its move that a hand would hardly have corrected it."""
+    return seconds > LATE
+
+
+@dataclass(frozen=True)
+class Gap:
+    """So many seconds in which the board wasn't heard, or in which the recorder was away."""
+
+    seconds: float
+    is_restart: bool = False
+
+    def is_long(self, plies: int, pace: Optional[float]) -> bool:
+        """Whether the players take as long for so many plies; with no pace known, for as many at three seconds each."""
+        return self.seconds >= plies * max(QUICKEST, PACE if pace is None else pace)
+
+    def may_hide(self, is_move: bool, pace: Optional[float], has_repeated: bool) -> bool:
+        """Whether hurried players may have made as many plies in it as look like one move, or lead back to where they were."""
+        return self.is_long(1 if is_move or has_repeated else 2, pace) and (has_repeated or not self.is_restart)
+
+
+def elsewhere(position: Picture, picture: Picture, side: range) -> FrozenSet[int]:
+    """The squares on which the picture shows a piece of this side that the position doesn't have there."""
+    return frozenset(at for at, (has, shown) in enumerate(zip(position, picture)) if shown in side and shown != has)
+
+
+@dataclass
+class Stood:
+    """The squares on which pieces have stood since the last news."""
+
+    seconds: float = STANDS
+    squares: Set[int] = field(default_factory=set)
+    left: Set[int] = field(default_factory=set)  # those of them that were left again
+    _since: Dict[int, float] = field(default_factory=dict)
+
+    def shows(self, now: float, squares: FrozenSet[int], stand: bool) -> None:
+        """From here on pieces are on these squares; they `stand` there already, or come there."""
+        stood = {square for square, since in self._since.items() if now - since >= self.seconds}
+        self.squares |= stood
+        self.left |= stood - squares
+        self._since = {square: -math.inf if stand else self._since.get(square, now) for square in squares}
+
+
+@dataclass
+class Since:
+    """What has stood elsewhere since the last news, before the last picture."""
+
+    own: Stood = field(default_factory=Stood)  # of the side to move
+    others: Stood = field(default_factory=Stood)  # of the side that moved last
+    again: Stood = field(default_factory=lambda: Stood(STANDS_AGAIN))  # of that side, where the piece that moved last was off
+    drawn: Stood = field(default_factory=Stood)  # the same, for a shorter time
+    last: FrozenSet[int] = frozenset()  # where the piece that moved last belongs
+
+    @property
+    def by_both(self) -> bool:
+        """Whether both sides have moved: the side to move has stood elsewhere and left it, or its opponent moved on."""
+        return bool(self.others.squares and self.own.left or self.again.squares and self.own.squares)
+
+    @property
+    def perhaps(self) -> bool:
+        """Whether they have, if the piece that moved last doesn't stay where it belongs."""
+        return bool(self.drawn.squares and self.own.squares)
+
+    @property
+    def by_one(self) -> bool:
+        return bool(self.own.squares or self.others.squares)
+
+
+@dataclass(frozen=True)
+class Passing:
+    """A move that is doubtful if the piece that moved before it leaves these squares at once."""
+
+    at: float
+    squares: FrozenSet[int]
+    look: Look
+
+
+@dataclass
+class Doubts:
+    """Takes the events of a game in their order, and says which of them somebody is to look at. `away` is called where the
+    board is heard again: after an unplugged cable, a silence, or a restart of the recorder."""
+
+    _position: Optional[Picture] = None
+    _before: Optional[Picture] = None  # the position before the last move
+    _side: int = 0  # that is to move, of SIDES
+    _reached: Deque[str] = field(default_factory=lambda: deque(maxlen=PACE_OF + 1))  # the last positions
+    _shown: Optional[Picture] = None  # the last picture
+    _last: str = ""  # the last move, as `4... Qg4+`
+    _is_new: bool = False  # the position after a move is still to come
+    _is_over: bool = False  # the kings have shown a result, or the last move has given one
+    _has_begun: bool = False  # the board has stood as the game says; before that the pieces are set up
+    _moved_at: float = 0.0  # without the time in which the move was taken back
+    _taken_back_at: Optional[float] = None
+    _intervals: Deque[float] = field(default_factory=lambda: deque(maxlen=PACE_OF))
+    _since: Since = field(default_factory=Since)
+    _passing: Optional[Passing] = None
+    _gap: Optional[Gap] = None  # since the last news
+    _touched: bool = False  # a piece of the side that moved last was in a hand since the gap
+    _comes_first: bool = False  # the next picture is the first after it
+
+    @staticmethod
+    def going_on(fens: Sequence[str], last: Optional[report.Move], moved_at: Sequence[float]) -> Doubts:
+        """Of a game that goes on: by its positions, its last move, and when its last moves came."""
+        doubts = Doubts()
+        for fen in fens[-PACE_OF - 1 :]:
+            doubts._is_new = True
+            doubts._reaches(fen)
+        doubts._shown, doubts._has_begun = doubts._position, bool(last)
+        if last and moved_at:
+            doubts._last, doubts._moved_at = last.short, moved_at[-1]
+            doubts._intervals.extend(then - before for before, then in zip(moved_at, moved_at[1:]))
+        return doubts
+
+    @property
+    def pace(self) -> Optional[float]:
+        """The seconds that a ply takes: the median of the last ones, None where there is none."""
+        last = sorted(self._intervals)
+        middle = len(last) // 2
+        return (last[middle] + last[-1 - middle]) / 2 if last else None
+
+    def away(self, seconds: float, is_restart: bool = False) -> None:
+        """Nothing was heard of the board for so long, and now it is heard again."""
+        before = self._gap.seconds if self._gap else 0.0
+        self._gap, self._comes_first = Gap(before + seconds, is_restart), True
+
+    def stands(self, now: float) -> Optional[Look]:
+        """All is told of the board's first dump after it was away. Where that told nothing, it stands as before."""
+        if not self._comes_first or self._shown != self._position:
+            return None
+        self._comes_first = False
+        return self._hear(now, None)
+
+    def take(self, now: float, event: report.Event) -> Optional[Look]:
+        """The next event: what is to be looked at, if anything."""
+        if isinstance(event, report.Picture):
+            look = self._passes(now, event.codes)
+            self._shows(now, event.codes)
+            return look
+        elif isinstance(event, report.Position):
+            self._reaches(event.fen)
+        elif isinstance(event, (report.Result, report.Recovered)):
+            self._is_over = isinstance(event, report.Result) and event.outcome != "*"
+            self._begin_anew()
+        elif isinstance(event, (report.Move, report.Agrees)):
+            return self._hear(now, event if isinstance(event, report.Move) else None)
+        return None
+
+    def _passes(self, now: float, picture: Picture) -> Optional[Look]:
+        """Whether a move was told only since a piece of the other side was drawn over the square where it belongs."""
+        passing, self._passing = self._passing, None
+        if passing and self._position and now - passing.at < PASSES:
+            if any(picture[square] != self._position[square] for square in passing.squares):
+                return passing.look
+        return None
+
+    def _shows(self, now: float, picture: Picture) -> None:
+        self._shown = picture
+        if self._position is None:
+            return
+        if self._taken_back_at is not None:
+            self._moved_at += now - self._taken_back_at
+        self._taken_back_at = now if picture == self._before else None
+        own, others = (elsewhere(self._position, picture, SIDES[side]) for side in (self._side, 1 - self._side))
+        is_off = False
+        reached: FrozenSet[int] = frozenset()
+        if self._before is not None:
+            own &= elsewhere(self._before, picture, SIDES[self._side])  # a piece that was taken may be put back
+            reached = elsewhere(self._before, self._position, SIDES[1 - self._side])
+            is_off = any(picture[square] != self._position[square] for square in reached)
+        if self._gap is not None:
+            theirs = SIDES[1 - self._side]
+            self._touched |= any(has in theirs and shown == 0 for has, shown in zip(self._position, picture))
+        since = self._since
+        since.own.shows(now, own, self._comes_first)
+        since.others.shows(now, others, self._comes_first)
+        for stood in (since.again, since.drawn):
+            stood.shows(now, others if is_off else frozenset(), self._comes_first)
+        since.last = reached
+        self._comes_first = False
+
+    def _reaches(self, fen: str) -> None:
+        placement, side = fen.split(" ")[:2]
+        if self._is_new:
+            self._before, self._is_new = self._position, False
+        elif self._reached:
+            self._reached.pop()
+        self._reached.append(f"{placement} {side}")
+        self._position, self._side = codes_of(placement), "wb".index(side)
+
+    def _hear(self, now: float, move: Optional[report.Move]) -> Optional[Look]:
+        """A move or a correction; without one, the picture agrees with the game."""
+        why = self._why(now, move) if self._has_begun and not self._is_over and (move or self._last) else ""
+        self._has_begun = True
+        if move is not None and not move.corrects and not why and self._has_begun and self._since.perhaps:
+            self._passing = Passing(now, self._since.last, Look(f"at {move.short}", BOTH_ELSEWHERE))
+        if move is not None:
+            if self._last and not move.corrects:
+                self._intervals.append(now - self._moved_at)
+            self._last, self._moved_at, self._is_new, self._is_over = move.short, now, not move.corrects, False
+            self._taken_back_at = None
+        self._begin_anew()
+        return Look(f"{'at' if move else 'after'} {self._last}", why) if why else None
+
+    def _begin_anew(self) -> None:
+        """There is news: what was seen before it counts no more."""
+        self._gap, self._touched, self._since = None, False, Since()
+
+    def _why(self, now: float, move: Optional[report.Move]) -> str:
+        """Why the news is doubtful, if it is."""
+        since = self._since
+        if move is not None and move.corrects:
+            if self._gap is not None:
+                return AFTER_GAP
+            if since.own.squares:
+                return ELSEWHERE
+            return IS_LATE if is_late(now - self._moved_at) else ""
+        if since.by_both or (self._gap is not None and since.by_one):
+            return BOTH_ELSEWHERE
+        if self._gap is None or not self._last:
+            return ""
+        has_repeated = bool(self._reached) and self._reached.count(self._reached[-1]) > 1
+        may_hide = self._gap.may_hide(move is not None, self.pace, has_repeated)
+        return AFTER_GAP if may_hide or (move is None and self._touched) else ""

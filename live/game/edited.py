@@ -1,0 +1,53 @@
+"""NAME.pgn where somebody has edited it by hand: that text is kept beside the game before a new one takes its place."""
+
+from __future__ import annotations
+
+import contextlib
+import itertools
+import os
+import pathlib
+from typing import Iterator
+
+from live.game.files import Paths, existing, put_in_place
+from live.game.options import Options
+from live.game.program import Program
+from live.game.report import Move, Result, line_of
+
+CHANGES = 16  # of a game, after which its text may have been made last
+LARGEST = 4 * 1024 * 1024  # bytes of a capture that is looked at so closely
+
+
+def told_of_edit(pgn: pathlib.Path, kept: pathlib.Path) -> str:
+    """What is told where a text was edited."""
+    return f"{pgn} was edited by hand: that text is kept in {kept}, and a new one takes its place"
+
+
+def keep(paths: Paths, text: bytes) -> pathlib.Path:
+    """Keeps a text under the first name that is free, unless it is kept already. The name under which it is. An OSError comes
+    where it can't be written."""
+    for number in itertools.count(1):
+        place = paths.edited(number)
+        if not os.path.lexists(place):
+            put_in_place(place, text)
+            break
+        with contextlib.suppress(OSError):
+            if existing(place) == text:
+                break
+    return place
+
+
+def is_recorded(program: Program, options: Options, sent: bytes, text: bytes) -> bool:
+    """Whether `record` gives this text of what a board has sent, or gave it after one of the last changes of the game: who was
+    killed may have left that. An OSError comes where the program fails."""
+    return any(recorded == text for recorded in _texts(program, options, sent))
+
+
+def _texts(program: Program, options: Options, sent: bytes) -> Iterator[bytes]:
+    whole = program.whole(options, sent)
+    yield program.run("record", *options.of_record(), given=whole).stdout
+    if len(sent) > LARGEST:
+        return
+    lines = map(line_of, program.lines("watch", *options.of_board(), given=whole))
+    changes = [line.offset for line in lines if line and isinstance(line.event, (Move, Result))]
+    for size in (*(offset + 1 for offset in reversed(changes[-CHANGES:])), 0):
+        yield program.run("record", *options.of_record(), given=whole[:size]).stdout

@@ -1,0 +1,427 @@
+"""The files of a game: the capture that only grows, the log; and what is put in place whole."""
+
+from __future__ import annotations
+
+import contextlib
+import datetime
+import errno
+import fcntl
+import os
+import pathlib
+import stat
+from dataclasses import dataclass
+from typing import Dict, Optional
+
+from live.lock import locked
+from live.refused import ANOTHER_CALL, ARGUMENTS, FAILED, REFUSED, Refused
+
+LARGEST = 64 * 1024 * 1024  # bytes of a capture: the program reads no more
+MEMORY = 1024 * 1024  # bytes that a full disk leaves in memory
+LOGGED = "%Y-%m-%d %H:%M:%S"  # when a line of a log was written
+MOST_TROUBLES = 8  # that are told of a log
+NO_SUCH_FILE = (errno.ENOENT, errno.ENOTDIR, errno.ENAMETOOLONG)  # nothing is kept under a name that no file can have
+LOCK_PATIENCE = 3.0  # seconds: a call that was just killed may still hold the lock
+# The last is what a shell completes to.
+ENDINGS = (
+    ".before.dgt", ".dgt", ".edited.pgn", ".broadcast.pgn", ".pgn", ".options", ".log", ".look", ".back", ".serial", ".end",
+    ".delayed", ".delay", ".",
+)  # fmt: skip
+
+
+@dataclass(frozen=True)
+class Paths:
+    """Where the files of a game are."""
+
+    name: str
+
+    def _with(self, ending: str) -> pathlib.Path:
+        return pathlib.Path(f"{self.name}.{ending}")
+
+    @property
+    def capture(self) -> pathlib.Path:
+        return self._with("dgt")
+
+    @property
+    def pgn(self) -> pathlib.Path:
+        return self._with("pgn")
+
+    def edited(self, number: int) -> pathlib.Path:
+        """A text that was edited by hand: the first one, the second .."""
+        return self._with("edited.pgn" if number == 1 else f"edited-{number}.pgn")
+
+    @property
+    def options(self) -> pathlib.Path:
+        return self._with("options")
+
+    @property
+    def log(self) -> pathlib.Path:
+        return self._with("log")
+
+    @property
+    def look(self) -> pathlib.Path:
+        """What somebody is still to look at."""
+        return self._with("look")
+
+    @property
+    def delayed(self) -> pathlib.Path:
+        """What spectators haven't seen yet."""
+        return self._with("delayed")
+
+    @property
+    def delay(self) -> pathlib.Path:
+        """How late they see it."""
+        return self._with("delay")
+
+    @property
+    def broadcast(self) -> pathlib.Path:
+        """The text that goes out."""
+        return self._with("broadcast.pgn")
+
+    @property
+    def serial(self) -> pathlib.Path:
+        """The serial number of its board."""
+        return self._with("serial")
+
+    @property
+    def end(self) -> pathlib.Path:
+        return self._with("end")
+
+    @property
+    def before(self) -> pathlib.Path:
+        """What the board sent before the game, where some of it looked like a move."""
+        return self._with("before.dgt")
+
+    def before_back(self, number: int) -> pathlib.Path:
+        """The capture of before an arbiter took plies off."""
+        return self._with(f"before-{number}.dgt")
+
+    @property
+    def last_before_back(self) -> Optional[pathlib.Path]:
+        """The last one that is there."""
+        number = 1
+        while os.path.lexists(self.before_back(number)):
+            number += 1
+        return self.before_back(number - 1) if number > 1 else None
+
+    @property
+    def question(self) -> pathlib.Path:
+        """What was asked before many plies would go."""
+        return self._with("back")
+
+    @property
+    def folder(self) -> pathlib.Path:
+        return self.capture.parent
+
+
+def new_of(path: pathlib.Path) -> pathlib.Path:
+    """Where a file is made before it is put in place."""
+    return path.with_name(path.name + ".new")
+
+
+def sync_folder(folder: pathlib.Path) -> None:
+    """What was put in place in it is on the disk from here on."""
+    number = os.open(folder, os.O_RDONLY | os.O_DIRECTORY)
+    try:
+        os.fsync(number)
+    finally:
+        os.close(number)
+
+
+def open_regular(path: pathlib.Path, flags: int) -> int:
+    """Opens a file without waiting. An OSError comes where it is no regular file: a pipe might keep all boards waiting."""
+    number = os.open(path, flags | os.O_NONBLOCK | os.O_NOCTTY, 0o666)
+    try:
+        if not stat.S_ISREG(os.fstat(number).st_mode):
+            raise OSError(errno.EINVAL, f"{path.name} is no regular file", str(path))
+    except BaseException:
+        os.close(number)
+        raise
+    return number
+
+
+def open_new(path: pathlib.Path, flags: int = os.O_WRONLY) -> int:
+    """Makes a file anew. What a call that was killed has left under its name is removed; nothing is written through a link."""
+    with contextlib.suppress(FileNotFoundError):
+        os.unlink(path)
+    return os.open(path, flags | os.O_CREAT | os.O_EXCL | os.O_NOFOLLOW, 0o666)
+
+
+def write_all(number: int, content: bytes) -> None:
+    """Writes all of it, and has it on the disk. An OSError comes where that can't be."""
+    left = memoryview(content)
+    while left:
+        left = left[os.write(number, left) :]
+    os.fsync(number)
+
+
+def put_in_place(path: pathlib.Path, content: bytes) -> None:
+    """The file has this content, at once and on the disk, or it is as it was and an OSError comes."""
+    new = new_of(path)
+    try:
+        number = open_new(new)
+        try:
+            write_all(number, content)
+        finally:
+            os.close(number)
+        new.replace(path)
+        sync_folder(path.parent)
+    except BaseException:
+        new.unlink(missing_ok=True)
+        raise
+
+
+def text_of(error: OSError) -> str:
+    """What went wrong, in the system's words."""
+    return error.strerror or str(error)
+
+
+class Recorded(Refused):
+    """Another process records this game."""
+
+
+class Capture:
+    """NAME.dgt, open and locked. What can't be written is kept in memory, and tried again."""
+
+    def __init__(self, path: pathlib.Path, number: int) -> None:
+        self.path = path
+        self.number = number
+        self.size = os.fstat(number).st_size
+        self.pending = bytearray()
+        self.lost = 0  # bytes for which there was no memory left
+        self.limit: Optional[int] = LARGEST
+        self.trouble = ""
+
+    @staticmethod
+    def open(path: pathlib.Path, patience: float = LOCK_PATIENCE) -> Capture:
+        """Refused where it can't be written, or where another process records it."""
+        try:
+            while True:
+                number = open_regular(path, os.O_RDWR | os.O_APPEND | os.O_CREAT)
+                try:
+                    if not locked(number, patience):
+                        raise Recorded(REFUSED, f"{path} {ANOTHER_CALL}, or choose another name")
+                    if _has_name(number, path):
+                        return Capture(path, number)
+                except BaseException:
+                    os.close(number)
+                    raise
+                os.close(number)  # whoever had the lock has put a new file in its place
+        except OSError as error:
+            raise Refused(FAILED, f"{path} can't be written ({text_of(error)}): choose another name") from None
+
+    @staticmethod
+    def begin(path: pathlib.Path, content: bytes) -> Capture:
+        """A new one with this content, put in place at once: so there is none without it."""
+        new = new_of(path)
+        number = open_new(new, os.O_RDWR | os.O_APPEND)
+        try:
+            fcntl.flock(number, fcntl.LOCK_EX | fcntl.LOCK_NB)
+            write_all(number, content)
+            capture = Capture(path, number)
+            new.replace(path)
+            with contextlib.suppress(OSError):  # it is in its place, whatever becomes of this
+                sync_folder(path.parent)
+            return capture
+        except BaseException:
+            os.close(number)
+            new.unlink(missing_ok=True)
+            raise
+
+    def renew(self, content: bytes) -> None:
+        """The file has this content from here on, put in place at once. Where an OSError comes it is as it was."""
+        new = Capture.begin(self.path, content)
+        os.close(self.number)
+        self.number, self.size = new.number, new.size
+
+    @property
+    def full(self) -> bool:
+        """Whether something waits in memory."""
+        return bool(self.pending)
+
+    @property
+    def at_limit(self) -> bool:
+        return self.limit is not None and self.size >= self.limit
+
+    def append(self, sent: bytes) -> None:
+        """Appended to the file, or kept for the next try where that fails. What is past the limit is dropped."""
+        room = MEMORY - len(self.pending)
+        if self.limit is not None:
+            room = min(room, self.limit - self.size - len(self.pending))
+        room = max(0, room)
+        self.lost += max(0, len(sent) - room)
+        self.pending += sent[:room]
+        self.write()
+
+    def write(self) -> None:
+        """Writes what waits, as far as that succeeds."""
+        try:
+            while self.pending:
+                count = os.write(self.number, self.pending)
+                self.size += count
+                del self.pending[:count]
+            self.trouble = ""
+        except OSError as error:
+            self.trouble = text_of(error)
+
+    def read(self, offset: int, count: int) -> bytes:
+        return os.pread(self.number, count, offset)
+
+    def bytes(self, start: int = 0, end: Optional[int] = None) -> bytes:
+        """What stands in the file from one offset to another."""
+        parts = []
+        end = self.size if end is None else end
+        while start < end:
+            part = self.read(start, end - start)
+            if not part:
+                break
+            parts.append(part)
+            start += len(part)
+        return b"".join(parts)
+
+    def sync(self) -> None:
+        os.fsync(self.number)
+
+    def close(self) -> None:
+        try:
+            fcntl.flock(self.number, fcntl.LOCK_UN)  # whatever becomes of the close, no lock of this process stays
+        finally:
+            os.close(self.number)
+
+
+def _has_name(number: int, path: pathlib.Path) -> bool:
+    """Whether this open file is still the one of that name."""
+    try:
+        return os.path.samestat(os.fstat(number), os.stat(path))
+    except FileNotFoundError:
+        return False
+
+
+def check_name(name: str) -> None:
+    """Refused where it is a device's, or a file's of a game: a shell completes to those. A game of that name goes on."""
+    try:
+        is_device = "\0" not in name and stat.S_ISCHR(os.stat(name).st_mode)
+    except OSError:
+        is_device = False
+    if is_device:
+        raise Refused(ARGUMENTS, f"{name} is a device: type the DEVICE first, and then the NAME")
+    if size_of(Paths(name).capture):
+        return
+    for ending in ENDINGS:
+        game = name[: -len(ending)]
+        if name.endswith(ending) and game.strip("./"):
+            raise Refused(REFUSED, f"{name} would be a file of the game: type its NAME alone, {game}")
+
+
+def beginning(path: pathlib.Path, most: int) -> bytes:
+    """What the file has, up to so many bytes. An OSError comes where it can't be read, or is no regular file."""
+    with open(open_regular(path, os.O_RDONLY), "rb") as file:
+        return file.read(min(most, os.fstat(file.fileno()).st_size))
+
+
+def existing(path: pathlib.Path) -> bytes:
+    """What the file has; nothing where there is none."""
+    try:
+        return beginning(path, LARGEST)
+    except FileNotFoundError:
+        return b""
+
+
+def size_of(path: pathlib.Path) -> int:
+    """The bytes of a file; none where it isn't there, or can't be."""
+    try:
+        return path.stat().st_size if path.is_file() else 0
+    except OSError:
+        return 0
+
+
+def open_game(paths: Paths, patience: float = LOCK_PATIENCE) -> Capture:
+    """The capture of a game, new or old."""
+    if not paths.folder.is_dir():
+        raise Refused(FAILED, f"there is no folder {paths.folder}: make it, or choose another name")
+    try:
+        if paths.pgn.exists() and not paths.capture.exists():
+            raise Refused(REFUSED, f"{paths.pgn} is there without {paths.capture}: choose another name, or move it away")
+    except OSError as error:
+        raise Refused(FAILED, f"{paths.capture} can't be written ({text_of(error)}): choose another name") from None
+    return Capture.open(paths.capture, patience)
+
+
+class Log:
+    """NAME.log: a line for all that was told, with date and time of day. Where it can't be written the game goes on, and what
+    kept it from being written stands in it before the next line."""
+
+    def __init__(self, path: pathlib.Path) -> None:
+        self._path = path
+        self._number: Optional[int] = None
+        self._missing = 0
+        self._troubles: Dict[str, None] = {}  # since the last line that was written, each once
+        self._unexpected: Optional[Exception] = None  # the last of them that is no error of the system
+        self._open()
+
+    def _open(self) -> None:
+        """Opens it, where that succeeds: else it is tried again at the next line."""
+        try:
+            self._number = open_regular(self._path, os.O_WRONLY | os.O_APPEND | os.O_CREAT)
+        except Exception as error:
+            self._fails(error)
+
+    def _fails(self, error: Exception) -> None:
+        if isinstance(error, OSError):
+            text = text_of(error)
+        else:
+            text, self._unexpected = f"{type(error).__name__}: {error}", error
+        if len(self._troubles) < MOST_TROUBLES:
+            self._troubles[text] = None
+
+    def write(self, when: str, text: str) -> None:
+        if self._number is None:
+            self._open()
+        if self._number is None:
+            self._missing += 1
+            return
+        if self._troubles:
+            text = f"{self._gap()}\n{when}  {text}"
+        try:
+            self._put(self._number, f"{when}  {text}")
+        except Exception as error:
+            self._missing += 1
+            self._fails(error)
+
+    def _put(self, number: int, line: str) -> None:
+        os.write(number, f"{line}\n".encode("utf-8", "backslashreplace"))
+        self._missing, self._unexpected = 0, None
+        self._troubles.clear()
+
+    def _gap(self) -> str:
+        why = "; ".join(self._troubles)
+        if self._missing == 0:
+            return f"(the log couldn't be opened at first: {why})"
+        lines = "1 line is" if self._missing == 1 else f"{self._missing} lines are"
+        return f"({lines} missing here: the log couldn't be written: {why})"
+
+    def close(self) -> None:
+        """Nothing is written from here on. An error that nobody reckons with is raised where the log doesn't tell of it."""
+        if self._number is None and self._unexpected:
+            self._open()
+        number, self._number = self._number, None
+        if number is None:
+            if self._unexpected:
+                raise self._unexpected
+            return
+        try:
+            if self._troubles:
+                self._put(number, self._gap())
+        except Exception as error:
+            if self._unexpected:
+                raise self._unexpected from error
+            raise
+        finally:
+            os.close(number)
+
+
+def log_once(paths: Paths, *lines: str) -> None:
+    """Lines for the log of a game that nobody records now."""
+    log = Log(paths.log)
+    for line in lines:
+        log.write(f"{datetime.datetime.now():{LOGGED}}", line)
+    log.close()

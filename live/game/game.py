@@ -1,0 +1,102 @@
+"""A game that is open, and what is kept beside its capture: its options, its board's number, and the mark of its end."""
+
+from __future__ import annotations
+
+import re
+from dataclasses import dataclass, field
+from typing import Optional
+
+from live.game.files import NO_SUCH_FILE, LARGEST, Capture, Paths, beginning, existing, put_in_place, text_of
+from live.game.options import Options
+from live.game.program import Program
+from live.refused import FAILED, REFUSED, Refused
+
+RESULT = re.compile(rb'^\[Result "([^"]*)"\]$', re.MULTILINE)
+SERIAL = re.compile(rb"([!-~]{5})\s*")
+LONGEST_SERIAL = 80  # bytes of the file with the number of a board, whoever has written it
+LONGEST_MARK = 18  # digits of the mark of an end
+
+
+@dataclass
+class Written:
+    """The text that was put in the place of NAME.pgn last; None where that isn't known."""
+
+    text: Optional[bytes] = None
+
+
+@dataclass(frozen=True)
+class Game:
+    """A game whose capture is open and locked, and the program that reads it."""
+
+    program: Program
+    paths: Paths
+    capture: Capture
+    options: Options
+    written: Written = field(default_factory=Written, compare=False)
+
+
+def result_of(pgn: bytes) -> str:
+    """The result that a PGN text has."""
+    found = RESULT.search(pgn)
+    return found.group(1).decode("ascii", "replace") if found else "*"
+
+
+def result_in(paths: Paths) -> str:
+    """The result that NAME.pgn has, as far as it can be read."""
+    try:
+        return result_of(existing(paths.pgn))
+    except OSError:
+        return "*"
+
+
+def end_mark(paths: Paths) -> Optional[int]:
+    """How many bytes of the capture are the game's, where its end was marked."""
+    words = existing(paths.end).split()
+    return int(words[0]) if words and words[0].isdigit() and len(words[0]) <= LONGEST_MARK else None
+
+
+def mark_end(paths: Paths, size: int) -> None:
+    """Marks it. An OSError comes where that can't be."""
+    put_in_place(paths.end, b"%d\n" % size)
+
+
+def kept_serial(paths: Paths) -> str:
+    """The serial number of its board; nothing where none was kept that can be read."""
+    try:
+        found = SERIAL.fullmatch(beginning(paths.serial, LONGEST_SERIAL))
+    except OSError:
+        return ""
+    return found.group(1).decode("ascii") if found else ""
+
+
+def keep_serial(paths: Paths, number: str) -> None:
+    """Keeps it. An OSError comes where that can't be."""
+    put_in_place(paths.serial, f"{number}\n".encode("ascii"))
+
+
+def is_over(game: Game) -> bool:
+    """Whether it has ended: its end is marked, its text has a result, or its capture may have no more."""
+    text = existing(game.paths.pgn)
+    return end_mark(game.paths) is not None or (bool(text) and result_of(text) != "*") or game.capture.at_limit
+
+
+def kept_options(paths: Paths) -> Optional[Options]:
+    """The options that were kept beside a game. Refused where they can't be read."""
+    try:
+        text = beginning(paths.options, LARGEST).decode("utf-8", "surrogateescape")
+    except OSError as error:
+        if error.errno in NO_SUCH_FILE:
+            return None
+        raise Refused(FAILED, f"{paths.options} can't be read ({text_of(error)}): move it away") from None
+    try:
+        return Options.of_text(text)
+    except Refused as refused:
+        raise Refused(REFUSED, f"{paths.options} can't be read ({refused.lines[0]}): put it right, or move it away") from None
+
+
+def keep_options(paths: Paths, options: Options) -> None:
+    """Keeps them. Refused where they can't be written."""
+    try:
+        put_in_place(paths.options, options.text().encode("utf-8", "surrogateescape"))
+    except OSError as error:
+        raise Refused(FAILED, f"{paths.options} can't be written ({text_of(error)}): is the disk full?") from None

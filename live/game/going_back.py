@@ -1,0 +1,191 @@
+"""Takes plies, or a result, off a game, with the program's help. Its capture is made anew; the old one is kept whole beside.
+
+Whenever this process is killed, the game is the one of before or the one of after: first the old capture has a second name,
+then the new one is shown to give the front of the game, and then it is put in place at once.
+"""
+
+from __future__ import annotations
+
+import contextlib
+import errno
+import os
+import pathlib
+from dataclasses import dataclass
+from typing import List, Sequence
+
+from live.game import added, back
+from live.game.alarms import keep_looks, kept_looks
+from live.game.back import Stays
+from live.game.clocks import Reading
+from live.game.course import Course
+from live.game.edited import told_of_edit
+from live.game.files import Capture, Paths, existing, put_in_place, sync_folder
+from live.game.game import Game, end_mark, mark_end
+from live.game.making_pgn import Text
+from live.game.reading import game_of
+from live.game.report import Move
+
+NO_LINKS = (errno.EPERM, errno.EOPNOTSUPP, errno.EMLINK)  # a file system that has no second names
+
+
+def movetext(pgn: bytes) -> List[str]:
+    """The words between the two empty lines of a PGN text."""
+    return pgn.decode("ascii", "replace").partition("\n\n")[2].split()
+
+
+@dataclass(frozen=True)
+class Way:
+    """A game as its capture has it, and the capture that leaves so many of its plies, without a result."""
+
+    course: Course
+    stays: int
+    content: bytes
+
+    @property
+    def words(self) -> str:
+        """What was done."""
+        return back.words_of(self.course.plies, self.stays, self.course.result)
+
+    @property
+    def settled(self) -> List[str]:
+        """What nobody need look at any more."""
+        return back.settled(self.course.plies, self.stays)
+
+
+def way_back(game: Game, typed: added.Back, sent: bytes, shown: bytes = b"") -> Way:
+    """Back to the ply that was typed, of the game of the bytes `sent`; it goes on with a board that has sent `shown`, or with
+    none. Refused with what is to be typed; with a question, where many plies would go and that wasn't asked just before."""
+    course = game_of(game.program, game.options, sent)
+    stays = back.plies_that_stay(course.plies, typed)
+    if stays == len(course.plies) and course.result == "*":
+        raise added.Refused(f"the game ends with {back.reached(course.plies)} already" if stays else "the game has no move")
+    way = _checked(game, course, stays, sent, shown)
+    asked = back.question(course.plies[stays:])
+    if asked and _is_new(game.paths, asked):
+        raise added.Asked(asked)
+    return way
+
+
+def without_result(game: Game, sent: bytes, shown: bytes = b"") -> Way:
+    """All plies, without the result. Refused where there is none."""
+    course = game_of(game.program, game.options, sent)
+    if course.result == "*":
+        raise added.Refused("the game has no result")
+    return _checked(game, course, len(course.plies), sent, shown)
+
+
+def _checked(game: Game, course: Course, stays: int, sent: bytes, shown: bytes) -> Way:
+    """Refused where the new capture doesn't give the front of the game."""
+    now = game_of(game.program, game.options, shown or sent)
+    present, board = Reading.of_clock(now.clock), now.board if shown else None
+    plies, fens = course.plies[:stays], course.fens[: stays + 1]
+    content = _capture_of(game, Stays(plies, fens, present, board))
+    after = game_of(game.program, game.options, content)
+    if (_sans(after.plies), after.result) != (_sans(plies), "*"):
+        without_board = game_of(game.program, game.options, _capture_of(game, Stays(plies, fens, present, None)))
+        if without_board.result != "*":
+            raise added.Refused(f"the game ends with {back.reached(plies)} on the board: that is its result")
+        raise added.Refused(back.not_so(course.plies, stays, after.plies, after.result))
+    front = movetext(_recorded(game, content))[:-1]
+    if front != movetext(_recorded(game, sent))[: len(front)]:
+        raise added.Refused("the game made anew would have other clocks. Nothing was changed")
+    return Way(course, stays, content)
+
+
+def _capture_of(game: Game, stays: Stays) -> bytes:
+    return back.capture_of(stays, game.options.rotated, game.options.side == "black")
+
+
+def _sans(plies: Sequence[Move]) -> List[str]:
+    return [ply.san for ply in plies]
+
+
+def _recorded(game: Game, sent: bytes) -> bytes:
+    """The text of a game of these bytes. An OSError comes where it can't be made."""
+    whole = game.program.whole(game.options, sent)
+    return "\n".join(game.program.lines("record", *game.options.of_record(), given=whole)).encode()
+
+
+def keep_before(capture: Capture, paths: Paths) -> pathlib.Path:
+    """A second name for the capture as it is, on the disk from here on. An OSError comes where it can't have one."""
+    capture.sync()
+    number = 1
+    while True:
+        kept = paths.before_back(number)
+        try:
+            os.link(paths.capture, kept)
+        except FileExistsError:
+            if os.path.samefile(kept, paths.capture):
+                return kept  # of a call that was killed just then
+            number += 1
+            continue
+        except OSError as error:
+            if error.errno not in NO_LINKS:
+                raise
+            put_in_place(kept, capture.bytes())
+        sync_folder(paths.folder)
+        return kept
+
+
+def put_way(game: Game, way: Way, is_over: bool = False) -> str:
+    """The game is the new one from here on, and goes on where its end was marked, but for one that stays over. What is told of
+    that. An OSError comes where a file can't be written."""
+    kept = keep_before(game.capture, game.paths)
+    mark = end_mark(game.paths)
+    if mark is not None:
+        # What came behind the end goes first, and then the mark lets the longer one through: each time it is a whole game.
+        game.capture.renew(game.capture.bytes(0, mark))
+        mark_end(game.paths, max(mark, len(way.content)))
+    game.capture.renew(way.content)
+    if mark is not None and is_over:
+        mark_end(game.paths, len(way.content))
+    elif mark is not None:
+        os.unlink(game.paths.end)
+    return f"{way.words}. {_settle(game.paths, way)}What the board had sent is kept in {kept}"
+
+
+def _settle(paths: Paths, way: Way) -> str:
+    """Nobody need look any more at what was taken off. What is told of that; nothing where there was no alarm."""
+    before = kept_looks(paths)
+    left = before.without(way.settled)
+    if left == before:
+        return ""
+    try:
+        keep_looks(paths, left)
+    except OSError:
+        return ""  # it stays, and is to be acknowledged
+    return f"Settled: {', '.join(look.short for look in before.open if look not in left.open)}. "
+
+
+def go_back_closed(game: Game, typed: added.Back, is_over: bool = False, listens: bool = False) -> str:
+    """Takes plies off a game that nobody records now, and makes its text. One that was over by a result goes on, unless it is
+    to stay over: with the board as it stands, where that is listened to. What was done."""
+    sent = game.capture.bytes(0, end_mark(game.paths))
+    way = way_back(game, typed, sent, game.capture.bytes() if listens else b"")
+    return _put_closed(game, way, is_over or way.course.result == "*")
+
+
+def take_result_off(game: Game) -> str:
+    """Takes off a result that was not typed, of a game that nobody records now; it goes on. What was done."""
+    sent = game.capture.bytes(0, end_mark(game.paths))
+    return _put_closed(game, without_result(game, sent), False)
+
+
+def _put_closed(game: Game, way: Way, is_over: bool) -> str:
+    text = Text(game)
+    text.look(end_mark(game.paths))
+    told = put_way(game, way, is_over)
+    made = text.make(None)
+    if made.trouble:
+        raise OSError(made.trouble)
+    return told + (f"; {told_of_edit(game.paths.pgn, made.edited)}" if made.edited else "")
+
+
+def _is_new(paths: Paths, asked: str) -> bool:
+    """Whether this is another question than the last one, which NAME.back keeps; then it is the last one from here on."""
+    if existing(paths.question) != asked.encode():
+        put_in_place(paths.question, asked.encode())
+        return True
+    with contextlib.suppress(FileNotFoundError):
+        os.unlink(paths.question)
+    return False

@@ -1,0 +1,74 @@
+"""What somebody is to look at: alarms that stay until they are acknowledged, whatever the board shows then."""
+
+from __future__ import annotations
+
+from dataclasses import dataclass
+from typing import Container, Iterable, List, Tuple
+
+
+@dataclass(frozen=True)
+class Look:
+    """An alarm. A row has room for `LOOK` and `what`: `at 4... Qg4+`. Another one about the same thing takes its place."""
+
+    what: str
+    why: str
+    about: str = ""
+
+    @property
+    def short(self) -> str:
+        """`LOOK at 4... Qg4+`."""
+        return f"LOOK {self.what}"
+
+    @property
+    def text(self) -> str:
+        """In full."""
+        return f"{self.short}: {self.why}"
+
+
+@dataclass(frozen=True)
+class Looks:
+    """The alarms of a game that nobody has acknowledged yet, the newest last."""
+
+    open: Tuple[Look, ...] = ()
+
+    def with_one_more(self, look: Look) -> "Looks":
+        """With this one too."""
+        same = [one for one in self.open if one.what == look.what or (look.about and one.about == look.about)]
+        return Looks((*(one for one in self.open if one not in same), look))
+
+    def without(self, settled: Container[str]) -> "Looks":
+        """Without those about something that was settled."""
+        return Looks(tuple(look for look in self.open if look.what not in settled))
+
+    @property
+    def short(self) -> str:
+        """The first one in a few words, and how many more there are; nothing where there is none."""
+        if not self.open:
+            return ""
+        more = len(self.open) - 1
+        return self.open[0].short + (f" and {more} more" if more else "")
+
+    @property
+    def all(self) -> str:
+        """All of them in full."""
+        return "; ".join(look.text for look in self.open)
+
+    def content(self) -> bytes:
+        """As they are kept beside the game: a line for each."""
+        return "".join("\t".join((look.what, look.why, look.about)) + "\n" for look in self.open).encode("utf-8", "replace")
+
+    @staticmethod
+    def of_content(content: bytes) -> "Looks":
+        """What was kept. A line that can't be read is an alarm all the same."""
+        return Looks(tuple(_read(content.decode("utf-8", "replace").splitlines())))
+
+
+def _read(lines: Iterable[str]) -> List[Look]:
+    looks: List[Look] = []
+    for line in lines:
+        parts = line.split("\t")
+        if len(parts) == 3:
+            looks.append(Look(*parts))
+        elif line.strip():
+            looks.append(Look("at the game", line.strip()))
+    return looks

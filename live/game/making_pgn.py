@@ -1,0 +1,308 @@
+"""NAME.pgn, made anew by `record` beside the loop: one call at a time, and the newest state again after it."""
+
+from __future__ import annotations
+
+import contextlib
+import errno
+import os
+import pathlib
+import signal
+import subprocess
+from dataclasses import dataclass
+from typing import Callable, List, Optional, Protocol, Sequence, Tuple
+
+from live.beside import Worker
+from live.game.edited import is_recorded, keep
+from live.game.files import existing, new_of, open_new, open_regular, sync_folder, text_of
+from live.game.game import Game
+from live.game.options import Options
+from live.game.program import ending_of, wake
+from live.guard import Guard
+from live.loop import Timer
+
+AGAIN = 1.0  # seconds after a try that failed
+WRITE_FAULT = 3  # of the program, whose streams failed
+SLOWEST = 60.0  # seconds that a call may take before it is ended and begun anew
+NO_ROOM = (errno.ENOSPC, errno.EDQUOT, errno.EFBIG)
+
+
+def told_of_reading(before: Options, now: Options, pairs: Sequence[str]) -> List[str]:
+    """What is told where a game is made anew since its capture is read otherwise; `pairs` are those that are recovered now."""
+    told = [f"{now.side.capitalize()}'s time comes first"] if now.side != before.side else []
+    if bool(now.recover) != bool(before.recover):
+        told += list(pairs) or ["nothing recovered"]
+    return told
+
+
+def told_of_result(before: str, now: str) -> List[str]:
+    """What is told where a game has another result, since it was made anew."""
+    if before == now:
+        return []
+    if now == "*":
+        return [f"the result {before} is gone: add it again"]
+    return [f"the result is {now}" if before == "*" else f"the result is {now}, and was {before}"]
+
+
+@dataclass(frozen=True)
+class Made:
+    """What came of a call: what went wrong, if anything did, and whether the disk has no room."""
+
+    trouble: str = ""
+    full: bool = False
+    edited: Optional[pathlib.Path] = None  # where a text is kept that somebody had edited by hand
+
+    @staticmethod
+    def of_error(error: OSError) -> Made:
+        """What went wrong, in the system's words."""
+        return Made(text_of(error), error.errno in NO_ROOM)
+
+
+class Text:
+    """NAME.pgn, as it is made once. The capture and the text are on the disk before it is put in place, so that a power cut
+    leaves no game that is longer than its capture. Where it waits for that is its caller's to choose."""
+
+    def __init__(self, game: Game) -> None:
+        self._game = game
+        self._new = new_of(game.paths.pgn)
+        self._children: Tuple[subprocess.Popen[bytes], ...] = ()  # `record`, and `recover` that it reads
+        self._closed = False
+
+    def kill(self) -> None:
+        """Ends the call that is under way: it fails."""
+        for child in self._children:
+            child.kill()
+
+    def wake(self) -> None:
+        """To be called now and then: a call that was stopped from outside goes on."""
+        for child in self._children:
+            wake(child)
+
+    def close(self) -> None:
+        """Nothing is put in place from here on."""
+        self._closed = True
+        self.kill()
+
+    def look(self, limit: Optional[int]) -> None:
+        """Finds out whether the text that another call left is what `record` gives of all that the capture has, or of so many
+        bytes, or of the capture from before plies were taken off; else somebody has edited it. To be called before the capture
+        or the options change."""
+        game, text = self._game, self._standing()
+        if text and game.written.text is None:
+            with contextlib.suppress(OSError):
+                before = game.paths.last_before_back
+                if is_recorded(game.program, game.options, game.capture.bytes(0, limit), text) or (
+                    before and is_recorded(game.program, game.options, existing(before), text)
+                ):
+                    game.written.text = text
+
+    def make(self, limit: Optional[int]) -> Made:
+        """Makes it of all that the capture has, or of so many bytes, and waits for that. What came of it."""
+        if self._closed:
+            return Made()
+        try:
+            made = self._record(limit)
+            if not made.trouble and not self._closed:
+                return Made(edited=self._put_in_place())
+        except OSError as error:
+            made = Made.of_error(error)
+        with contextlib.suppress(OSError):
+            self._new.unlink()
+        return made
+
+    def _record(self, limit: Optional[int]) -> Made:
+        """A call of `record`, whose text stands beside NAME.pgn then. What it asks a board, and its report, are dropped; where
+        this process dies it can't tell them, and ends."""
+        with contextlib.ExitStack() as ends:
+            target = open_new(self._new)
+            ends.callback(os.close, target)
+            ends.callback(self._forget_children)
+            report = self._start_children(limit, target)
+            with open(report, "rb", buffering=0) as reports:
+                if self._closed:
+                    self.kill()
+                while reports.read(65536):
+                    pass
+            child, *before = self._children
+            status = child.wait()
+            if status in (WRITE_FAULT, -signal.SIGXFSZ):
+                os.write(target, b"\n")  # what stops it stops this too, and says why
+                return Made("no room" if status < 0 else f"record {ending_of(status)}", status < 0)
+            if status != 0:
+                return Made(f"record {ending_of(status)}")
+            for recover in before:
+                if recover.wait() != 0:
+                    return Made(f"recover {ending_of(recover.returncode)}")
+        return Made()
+
+    def _start_children(self, limit: Optional[int], target: int) -> int:
+        """Starts them. Where the report of `record` is read."""
+        program, options = self._game.program, self._game.options
+        with contextlib.ExitStack() as opened:
+            source = source_of(self._game, limit)
+            opened.callback(os.close, source)
+            if options.recover:
+                result, into = os.pipe()
+                opened.callback(os.close, result)
+                opened.callback(os.close, into)
+                self._children = (program.start(("recover", *options.of_board()), source, into, subprocess.DEVNULL),)
+                source = result
+            report, told = os.pipe()
+            opened.callback(os.close, told)
+            try:
+                self._children = (program.start(("record", *options.of_record()), source, target, told), *self._children)
+            except OSError:
+                os.close(report)
+                raise
+        return report
+
+    def _forget_children(self) -> None:
+        """Ends what is left of them."""
+        children, self._children = self._children, ()
+        for child in children:
+            child.kill()
+            child.wait()
+
+    def _put_in_place(self) -> Optional[pathlib.Path]:
+        """Where the text is kept that was there, if somebody had edited it."""
+        text, edited = existing(self._new), None
+        before = self._standing()
+        if before and before not in (text, self._game.written.text):
+            edited = keep(self._game.paths, before)
+        for path in (self._game.paths.capture, self._new):
+            number = os.open(path, os.O_RDONLY)
+            try:
+                os.fsync(number)
+            finally:
+                os.close(number)
+        self._new.replace(self._game.paths.pgn)
+        self._game.written.text = text
+        sync_folder(self._game.paths.folder)
+        return edited
+
+    def _standing(self) -> bytes:
+        """What is there; nothing where that can't be read."""
+        with contextlib.suppress(OSError):
+            return existing(self._game.paths.pgn)
+        return b""
+
+
+class HearsMaker(Protocol):
+    """Who is told of NAME.pgn."""
+
+    def placed(self) -> None:
+        """It was made anew."""
+
+    def edited(self, kept: pathlib.Path) -> None:
+        """Somebody had edited it by hand: what it was is kept there."""
+
+    def unmade(self, made: Made) -> None:
+        """It can't be, and that is news."""
+
+
+class Maker:
+    """Makes NAME.pgn of the capture, or of its first `limit` bytes, again and again. The loop waits for none of this: a worker
+    does it."""
+
+    def __init__(self, guard: Guard, worker: Worker, game: Game, hears: HearsMaker) -> None:
+        self._guard, self._worker, self._capture, self._hears = guard, worker, game.capture, hears
+        self._text = Text(game)
+        self._running = self._closed = False
+        self._covers = 0
+        self._wanted = False
+        self._idle: Optional[Callable[[bool], None]] = None
+        self._tries = 0
+        self._timer: Optional[Timer] = None
+        self.limit: Optional[int] = None
+        self.made_of = game.capture.size  # bytes of the capture that NAME.pgn surely has: it was made as this began
+        self.last = Made()  # what came of the last call
+        self._stop = guard.opened(self._text.close)
+
+    def want(self) -> None:
+        """The game has changed: it is to be made anew, now or after the call that is under way."""
+        self._wanted = True
+        if not self._running and self._timer is None:
+            self._start()
+
+    def finish(self, done: Callable[[bool], None], tries: int = 3) -> None:
+        """Makes it a last time, and tells whether that succeeded after so many tries."""
+        self._idle, self._tries = done, tries
+        if self._timer and not self._running:
+            self._timer.cancel()
+            self._timer = None
+        self.want()
+
+    def _start(self) -> None:
+        self._wanted, self._running = False, True
+        size = self._capture.size
+        self._covers = size if self.limit is None else min(self.limit, size)
+        self._timer = self._guard.after(SLOWEST, self._text.kill)
+        limit = self.limit
+        self._worker.do(lambda: self._text.make(limit), self._ended)
+
+    def _ended(self, made: Made) -> None:
+        if self._closed:
+            return
+        self._running = False
+        if self._timer:
+            self._timer.cancel()
+            self._timer = None
+        before, self.last = self.last, made
+        if not made.trouble:
+            self.made_of = self._covers
+            if made.edited:
+                self._hears.edited(made.edited)
+            self._hears.placed()
+            if self._wanted:
+                self._start()
+            elif self._idle:
+                self._idle(True)
+            return
+        if made != before:
+            self._hears.unmade(made)
+        if self._idle:
+            self._tries -= 1
+            if self._tries <= 0:
+                self._idle(False)
+                return
+        self._timer = self._guard.after(0.2 if self._idle else AGAIN, self._again)
+
+    def _again(self) -> None:
+        self._timer = None
+        self._start()
+
+    def wake(self) -> None:
+        """To be called now and then: a call that was stopped from outside goes on."""
+        self._text.wake()
+
+    def close(self) -> None:
+        """Ends what is under way."""
+        if self._timer:
+            self._timer.cancel()
+        self._closed = True
+        self._stop()
+
+
+def source_of(game: Game, limit: Optional[int]) -> int:
+    """The bytes of a game's capture, to be read from the first one on: all that come, or so many. It is opened by its path, for
+    a worker: the number of an open file may be another file's where the loop has closed it meanwhile."""
+    number = open_regular(game.paths.capture, os.O_RDONLY)
+    if limit is None:
+        return number
+    try:
+        front = os.memfd_create("game")
+        try:
+            left = limit
+            while left > 0:
+                part = os.read(number, min(left, 1 << 20))
+                if not part:
+                    break
+                left -= len(part)
+                while part:
+                    part = part[os.write(front, part) :]
+            os.lseek(front, 0, os.SEEK_SET)
+        except OSError:
+            os.close(front)
+            raise
+        return front
+    finally:
+        os.close(number)

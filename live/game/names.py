@@ -1,0 +1,111 @@
+"""Names and dates as they are typed, turned into what a PGN text takes.
+
+A tag's value has at most 100 characters, each a printable one of ASCII. A date is `2024.05.31`, with `?` for each digit that
+isn't known.
+"""
+
+from __future__ import annotations
+
+import datetime
+import re
+import unicodedata
+from typing import Dict, List, Match, Optional
+
+LONGEST = 100  # characters of a tag's value
+
+# What passports write for the letters that aren't a basic letter with a mark (the tables for Latin letters of ICAO Doc 9303),
+# and for those marked ones that they write as two letters.
+LETTERS: Dict[str, str] = {
+    "ä": "ae", "å": "aa", "æ": "ae", "ð": "d", "đ": "d", "ħ": "h", "ı": "i", "ĳ": "ij", "ĸ": "q", "ł": "l", "ŀ": "l",
+    "ŉ": "n", "ŋ": "n", "ö": "oe", "ø": "oe", "œ": "oe", "ß": "ss", "þ": "th", "ŧ": "t", "ü": "ue",
+}  # fmt: skip
+SIGNS: Dict[str, str] = {
+    "‘": "'", "’": "'", "‚": "'", "ʼ": "'", "′": "'", "´": "'", "“": '"', "”": '"', "„": '"', "«": '"', "»": '"', "″": '"',
+    "‐": "-", "‑": "-", "‒": "-", "–": "-", "—": "-", "−": "-", "×": "x", "·": ".",
+}  # fmt: skip
+
+PARTS = {
+    "year first": re.compile(r"(?P<year>[\d?]{4})[.\-/](?P<month>[\d?]{1,2})[.\-/](?P<day>[\d?]{1,2})", re.ASCII),
+    "day first": re.compile(r"(?P<day>[\d?]{1,2})\. ?(?P<month>[\d?]{1,2})\. ?(?P<year>[\d?]{4})", re.ASCII),
+    "no day": re.compile(r"(?P<year>[\d?]{4})[.\-/](?P<month>[\d?]{1,2})", re.ASCII),
+    "month first": re.compile(r"(?P<month>[\d?]{1,2})\.(?P<year>[\d?]{4})", re.ASCII),
+    "no month": re.compile(r"(?P<year>[\d?]{4})", re.ASCII),
+}
+
+
+class Unreadable(Exception):
+    """What was typed can't be turned. Its text says why, behind what it is, and what to write."""
+
+
+def ascii_name(text: str) -> str:
+    """A name in printable ASCII: `Jörg Müller` is `Joerg Mueller`, `José` is `Jose`; one that is in ASCII stays as it is."""
+    composed = unicodedata.normalize("NFC", text)
+    turned: List[str] = []
+    for at, letter in enumerate(composed):
+        written = _written(letter, composed[at - 1 : at], composed[at + 1 : at + 2])
+        if written is None:
+            raise Unreadable("has letters that PGN can't take: write it with the letters A to Z")
+        turned.append(written)
+    name = "".join(turned)
+    if len(name) > LONGEST:
+        raise Unreadable(f"has {len(name)} letters: write at most {LONGEST}")
+    return name
+
+
+def _written(letter: str, before: str, after: str) -> Optional[str]:
+    """What is written for one character, or None where nothing is known for it."""
+    if " " <= letter <= "~":
+        return letter
+    if letter == "\t" or unicodedata.category(letter) == "Zs":
+        return " "
+    if unicodedata.category(letter) == "Cf":  # it isn't seen: a soft hyphen, a mark of the direction
+        return ""
+    if letter in SIGNS:
+        return SIGNS[letter]
+    if letter.lower() in LETTERS:
+        pair = LETTERS[letter.lower()]
+        if not letter.isupper():
+            return pair
+        return pair.upper() if (after if after.isalpha() else before).isupper() else pair.capitalize()
+    parts = [part for part in unicodedata.normalize("NFKD", letter) if unicodedata.category(part) != "Mn"]
+    written = "".join(LETTERS.get(part, part) for part in parts)
+    return written if written.isascii() and written.isprintable() else None
+
+
+def _shown(text: str) -> str:
+    """The text, where it can be printed."""
+    return "".join(letter if letter.isprintable() else "?" for letter in text)
+
+
+def pgn_date(text: str) -> str:
+    """A date as PGN has it. `31.05.2024`, `2024-05-31`, `2024/5/31` are `2024.05.31`; `2024` is `2024.??.??`."""
+    for pattern in PARTS.values():
+        match = pattern.fullmatch(text.strip())
+        if match:
+            return _date(text, match)
+    raise Unreadable(f"{_shown(text)!r} can't be read: write it as 2024.05.31, with ? for what isn't known")
+
+
+def today() -> str:
+    """The day that it is here, as PGN has it."""
+    return f"{datetime.date.today():%Y.%m.%d}"
+
+
+def _date(text: str, match: Match[str]) -> str:
+    """The date of its parts, where there is such a day."""
+    given = match.groupdict()
+    year, month, day = given["year"], _padded(given.get("month")), _padded(given.get("day"))
+    # A leap year and a long month stand for those that aren't known.
+    numbers = [int(part) if part.isdigit() else known for part, known in ((year, 2000), (month, 1), (day, 1))]
+    try:
+        datetime.date(*numbers)
+    except ValueError:
+        raise Unreadable(f"{_shown(text)!r} isn't in the calendar: write it as 2024.05.31, year, month and day") from None
+    return f"{year}.{month}.{day}"
+
+
+def _padded(part: Optional[str]) -> str:
+    """A month or a day in two characters."""
+    if part is None or part == "?":
+        return "??"
+    return part.zfill(2)

@@ -1,0 +1,246 @@
+"""How a game is opened, to be recorded or to be made anew: the one place. It waits for the program and the disk."""
+
+from __future__ import annotations
+
+import dataclasses
+import threading
+from dataclasses import dataclass
+from typing import Callable, Dict, List, Optional, Protocol, Sequence, Tuple
+
+from live.game import names, refusal, tags
+from live.game.edited import told_of_edit
+from live.game.files import LOCK_PATIENCE, Capture, Paths, open_game
+from live.game.game import Game, end_mark, is_over, keep_options, kept_options, result_in
+from live.game.making_pgn import Text, told_of_reading, told_of_result
+from live.game.options import PUBLISHED, UNKNOWN, Options
+from live.game.program import Program
+from live.game.reading import Old, nothing_old, read_game
+from live.loop import Callback
+from live.refused import FAILED, REFUSED, Refused
+
+# What each tag is turned into, and what it is called where that can't be.
+TURNS: Dict[str, Callable[[str], str]] = {
+    "--event": names.ascii_name,
+    "--site": names.ascii_name,
+    "--round": names.ascii_name,
+    "--white": names.ascii_name,
+    "--black": names.ascii_name,
+    "--date": names.pgn_date,
+}
+CALLED: Dict[str, str] = {
+    "--event": "the name of the event",
+    "--site": "the name of the site",
+    "--round": "the round",
+    "--white": "the white player's name",
+    "--black": "the black player's name",
+    "--date": "the date",
+}
+
+
+def unknown(option: str) -> str:
+    """What is recorded for a text that can't be written in ASCII, where nothing is known that stands for it."""
+    return UNKNOWN
+
+
+def recordable(typed: Options, instead: Optional[Callable[[str], str]] = None) -> Options:
+    """With something instead of each text that can't be written in ASCII, where there is something; the tags of what is
+    published have all texts as they were typed."""
+    values: Dict[str, str] = {}
+    written: Dict[str, str] = {}
+    for option, name in PUBLISHED.items():
+        text = typed.value(option)
+        if text is None:
+            continue
+        try:
+            recorded = names.ascii_name(text)
+        except names.Unreadable:
+            if instead is None or not tags.is_seen(tags.cleaned(text)) or len(text) > tags.LONGEST:
+                continue  # it is refused
+            recorded = values[option] = instead(option)
+        if tags.cleaned(text) != recorded.strip():
+            written[name] = tags.cleaned(text)
+    changed: Dict[str, object] = {option[2:]: value for option, value in values.items()}
+    return dataclasses.replace(typed, **changed).tagged({**written, **dict(typed.tags)})
+
+
+def turned(given: Options) -> Options:
+    """With names and dates as PGN takes them."""
+
+    def turn(option: str) -> Callable[[str], str]:
+        def of_value(value: str) -> str:
+            try:
+                return TURNS[option](value)
+            except names.Unreadable as error:
+                raise Refused(REFUSED, f"{CALLED[option]} {error}") from None
+
+        return of_value
+
+    return given.turned({option: turn(option) for option in TURNS})
+
+
+def checked(program: Program, typed: Options) -> Options:
+    """With names and dates as PGN takes them. Refused where the program refuses them."""
+    typed.refuse_breaks()
+    given = turned(recordable(typed))
+    answer = program.run("record", *given.of_record())
+    if answer.returncode != 0:
+        raise Refused(answer.returncode, refusal.reason(answer.stderr.decode("utf-8", "replace")))
+    return given
+
+
+@dataclass(frozen=True)
+class Chosen:
+    """The options with which a game goes on, and what is told of that."""
+
+    options: Options
+    told: Tuple[str, ...] = ()
+
+
+class Chooses(Protocol):
+    """Which options a game goes on with, by those that were kept beside it, and by whether it has a move. Refused where it
+    can't go on."""
+
+    def __call__(self, kept: Optional[Options], has_moves: Callable[[], bool]) -> Chosen:
+        """Nothing was kept beside a new game."""
+
+
+@dataclass(frozen=True)
+class Opened:
+    """A game whose text was just made: what it had, and what is told of that."""
+
+    game: Game
+    old: Old
+    is_over: bool = False
+    told: Tuple[str, ...] = ()  # of its options
+    read_anew: Tuple[str, ...] = ()  # where its capture is read otherwise than before
+    results: Tuple[str, ...] = ()  # where its result is another one
+    close: Optional[Callback] = None  # closes its capture, where somebody sees to that already
+
+
+class Opening:
+    """The opening of a game, which a worker does: what `prepares` does first, and then what its options choose. Where nobody
+    wants it any more its capture is closed."""
+
+    def __init__(
+        self, program: Program, paths: Paths, prepares: Callable[[], Chooses], patience: float = LOCK_PATIENCE
+    ) -> None:
+        self._program, self._paths, self._prepares, self._patience = program, paths, prepares, patience
+        self._lock = threading.Lock()
+        self._capture: Optional[Capture] = None
+        self._dropped = False
+
+    def open(self, now: float, today: str) -> Opened:
+        """Opens it at this time of the loop, and on this day. Refused where that can't be."""
+        chooses = self._prepares()
+        capture = open_game(self._paths, self._patience)
+        with self._lock:
+            if self._dropped:
+                capture.close()
+                raise Refused(FAILED, "nobody wants it any more")
+            self._capture = capture
+        try:
+            return self._read(capture, chooses, now, today)
+        except BaseException:
+            self.drop()
+            raise
+
+    def take(self) -> None:
+        """From here on the capture is its caller's."""
+        with self._lock:
+            self._capture = None
+
+    def drop(self) -> None:
+        """Closes the capture, and what comes of the opening is of no use."""
+        with self._lock:
+            self._dropped = True
+            capture, self._capture = self._capture, None
+            if capture:
+                capture.close()
+
+    def _read(self, capture: Capture, chooses: Chooses, now: float, today: str) -> Opened:
+        paths = self._paths
+        before = kept_options(paths) if capture.size else None
+
+        def has_moves() -> bool:
+            return self._has_moves(capture, before, now)
+
+        chosen = chooses(before, has_moves)
+        options = chosen.options.begun(before.day(today, has_moves) if before else None if capture.size else today)
+        kept = kept_options(paths)
+        game = Game(self._program, paths, capture, kept or Options())
+        Text(game).look(end_mark(paths))
+        game = dataclasses.replace(game, options=options)
+        if options != kept:
+            keep_options(paths, options)
+        result, end = result_in(paths), end_mark(paths)
+        made = Text(game).make(end)
+        if made.trouble:
+            is_full = "is the disk full?" if made.full else "put that right"
+            raise Refused(FAILED, f"{paths.pgn} can't be written ({made.trouble}): {is_full}")
+        told = (*chosen.told, told_of_edit(paths.pgn, made.edited)) if made.edited else chosen.told
+        old = read_game(game, end, now) if capture.size else nothing_old(options, 0)
+        pairs = old.course.recovered if before and bool(before.recover) != bool(options.recover) else []
+        read_anew = told_of_reading(before or options, options, pairs)
+        results = told_of_result(result, result_in(paths))
+        old = dataclasses.replace(old, size=capture.size)
+        return Opened(game, old, is_over(game), told, tuple(read_anew), tuple(results))
+
+    def _has_moves(self, capture: Capture, before: Optional[Options], now: float) -> bool:
+        game = Game(self._program, self._paths, capture, before or Options())
+        return bool(capture.size and read_game(game, None, now).course.plies)
+
+
+def strictly(given: Options, name: str, told_first: Sequence[str] = ()) -> Chooses:
+    """For a game that is recorded by itself: what it was begun with, or the same again."""
+
+    def chooses(kept: Optional[Options], has_moves: Callable[[], bool]) -> Chosen:
+        wanted: Optional[Options] = given if kept is None else kept
+        if kept is not None and not kept.is_said_by(given):
+            wanted = kept.going_on(given, has_moves())
+        if wanted is None:
+            raise Refused(
+                REFUSED,
+                f"{name} was begun with other options: give none to go on, or choose another name. They were",
+                kept.said if kept else "none",
+            )
+        before = kept or Options()
+        tags_now = given if wanted == given else given.tagged_over(before)
+        chosen = wanted.tagged(dict(tags_now.tags)).recovering(before.recovers_with(given))
+        told = chosen.told_of_all(kept or chosen)
+        return Chosen(chosen, (*told_first, *filter(None, [told])))
+
+    return chooses
+
+
+def of_a_line(given: Options, name: str) -> Chooses:
+    """For a game of a round: the options of its line; but one that has moves keeps how the board lies and how it began."""
+
+    def chooses(kept: Optional[Options], has_moves: Callable[[], bool]) -> Chosen:
+        told: List[str] = []
+        try:
+            wanted = strictly(given, name)(kept, has_moves).options
+        except Refused as refused:
+            if kept is None or refused.status != REFUSED:
+                raise
+            stays, asked = kept.fixed().of_board(), given.fixed().of_board()
+            if stays != asked:
+                words = " ".join(stays) or "nothing in the columns rotated and fen"
+                told.append(f"the game has moves, and keeps what it was begun with: {words}")
+            wanted = kept.with_tags_of(given).recovering(kept.recovers_with(given))
+            told += filter(None, [wanted.told_of_tags(kept)])
+        return Chosen(wanted.tagged(dict(given.tags)).with_first(given.side), tuple(told))
+
+    return chooses
+
+
+def read_otherwise(given: Options) -> Chooses:
+    """For a game that is made anew: its own options, but for how its capture is read."""
+
+    def chooses(kept: Optional[Options], has_moves: Callable[[], bool]) -> Chosen:
+        before = kept or Options()
+        tagged = before.tagged(dict(given.tagged_over(before).tags))
+        return Chosen(tagged.with_first(given.first).recovering(before.recovers_with(given)))
+
+    return chooses
+
+

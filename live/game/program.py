@@ -1,0 +1,334 @@
+"""Calls of `dgt_replay`: at once, or as children that the loop hears. No child hears INT, TERM or HUP, and each meets the
+end of its input where this process ends, however it ends."""
+
+from __future__ import annotations
+
+import contextlib
+import functools
+import os
+import pathlib
+import signal
+import subprocess
+from dataclasses import dataclass
+from typing import Callable, Iterator, List, Optional, Protocol, Sequence, Tuple
+
+from live.game.options import FEN, Options
+from live.guard import Guard
+from live.loop import ENDING, Timer
+from live.refused import NO_PROGRAM, Refused
+
+CHUNK = 65536  # bytes that are read or written at once
+FAILURES = 5  # of one child in a row, with nothing told in between
+FRESH = 60.0  # seconds after which earlier failures count no more
+
+
+@contextlib.contextmanager
+def _deaf_children() -> Iterator[None]:
+    """A child that is started within keeps these signals blocked; one that comes meanwhile waits for this process."""
+    before = signal.pthread_sigmask(signal.SIG_BLOCK, ENDING)
+    try:
+        yield
+    finally:
+        signal.pthread_sigmask(signal.SIG_SETMASK, before)
+
+
+@dataclass(frozen=True)
+class Program:
+    """The proved program."""
+
+    path: str
+
+    @staticmethod
+    def find(beside: pathlib.Path) -> Program:
+        """The one in the folder of dgt_live. In the repository a script tells which one belongs to the sources; where it has
+        to build it, that is done here and not in the midst of a game."""
+        finder, path = beside / "program", beside / "dgt_replay"
+        if finder.exists():
+            with _deaf_children():
+                found = subprocess.run([finder], stdin=subprocess.DEVNULL, stdout=subprocess.PIPE)
+            if found.returncode != 0:
+                raise Refused(NO_PROGRAM, f"there is no program to record with. Type {finder}: it says what to do")
+            path = pathlib.Path(os.fsdecode(found.stdout.rstrip(b"\n")))
+        if not os.access(path, os.X_OK):
+            raise Refused(NO_PROGRAM, f"there is no dgt_replay in {beside}: it belongs beside dgt_live")
+        try:
+            with _deaf_children():
+                status = subprocess.run([path, "--help"], stdin=subprocess.DEVNULL, stdout=subprocess.DEVNULL).returncode
+        except OSError:
+            status = NO_PROGRAM
+        if status != 0:
+            needed = f"Linux with glibc 2.34 or later, and the archive for this processor, which is {os.uname().machine}"
+            raise Refused(NO_PROGRAM, f"{path} doesn't run: it needs {needed}")
+        return Program(str(path))
+
+    def run(self, *words: str, given: bytes = b"") -> subprocess.CompletedProcess[bytes]:
+        """Calls it and waits: for what takes a few milliseconds."""
+        with _deaf_children():
+            child = subprocess.Popen(
+                [self.path, *words], stdin=subprocess.PIPE, stdout=subprocess.PIPE, stderr=subprocess.PIPE
+            )
+        output, error = child.communicate(given)
+        return subprocess.CompletedProcess(list(words), child.returncode, output, error)
+
+    def lines(self, *words: str, given: bytes = b"") -> List[str]:
+        """The lines that it writes, once it has read all. An OSError comes where it fails."""
+        answer = self.run(*words, given=given)
+        if answer.returncode != 0:
+            raise OSError(f"{words[0]} {ending_of(answer.returncode)}")
+        return lines_of(answer.stdout)
+
+    def positions(self, fen: Optional[str], moves: Sequence[str]) -> Tuple[List[str], str]:
+        """The FENs of the start and after each move, and what is wrong with the first move that isn't legal."""
+        start = [FEN, fen] if fen else []
+        answer = self.run("positions", *start, given=" ".join(moves).encode())
+        return lines_of(answer.stdout), answer.stderr.decode("utf-8", "replace").strip() if answer.returncode else ""
+
+    def whole(self, options: Options, sent: bytes) -> bytes:
+        """What a game is read from: what the board sent, and the pairs that `recover` puts in, where that is asked for. An
+        OSError comes where it can't."""
+        if not options.recover:
+            return sent
+        answer = self.run("recover", *options.of_board(), given=sent)
+        if answer.returncode != 0:
+            raise OSError(f"recover {ending_of(answer.returncode)}")
+        return answer.stdout
+
+    def start(self, words: Sequence[str], stdin: int, stdout: int, stderr: int) -> subprocess.Popen[bytes]:
+        """Starts it and goes on."""
+        with _deaf_children():
+            return subprocess.Popen([self.path, *words], stdin=stdin, stdout=stdout, stderr=stderr, bufsize=0)
+
+
+class Source(Protocol):
+    """Bytes of which more and more come: a capture."""
+
+    @property
+    def size(self) -> int:
+        """How many there are."""
+
+    def read(self, offset: int, count: int) -> bytes:
+        """So many of them, or fewer, from an offset on."""
+
+
+@dataclass(frozen=True)
+class Task:
+    """What a child does: its words, and the source that it reads from an offset on."""
+
+    program: Program
+    words: Tuple[str, ...]
+    source: Source
+    start: int = 0
+    errors: int = subprocess.DEVNULL  # where its standard error goes
+
+
+class HearsChild(Protocol):
+    """Who is told of a child that has ended too soon."""
+
+    def says(self, text: str) -> None:
+        """It has, and is started again."""
+
+    def broken(self, what: str) -> None:
+        """It has again and again, and isn't started any more."""
+
+
+class Reader:
+    """A child that reads a source from an offset on.
+
+    It is given what is there, and no more, as fast as it takes it. Where it ends before its input has, another one is started
+    from the same offset, and what was taken of the first is taken once.
+    """
+
+    def __init__(self, guard: Guard, task: Task, hears: HearsChild) -> None:
+        self._guard, self._task, self._hears = guard, task, hears
+        self._failures = 0
+        self._failed_at = -FRESH
+        self._finished: Optional[Callable[[], None]] = None
+        self._timer: Optional[Timer] = None
+        self._child: Optional[subprocess.Popen[bytes]] = None
+        self._let_go: Callable[[], None] = lambda: None
+        self._begin()
+
+    def _begin(self) -> None:
+        self._given = self._task.start
+        self._begins_anew()
+        self._blocked = False
+        self._child = None
+        try:
+            self._child = self._task.program.start(self._task.words, subprocess.PIPE, subprocess.PIPE, self._task.errors)
+        except OSError as error:
+            self._fail(f"can't be started ({error.strerror})")
+            return
+        self._let_go = self._guard.opened(functools.partial(_end, self._child))
+        assert self._child.stdin and self._child.stdout
+        os.set_blocking(self._child.stdin.fileno(), False)
+        os.set_blocking(self._child.stdout.fileno(), False)
+        self._guard.watch(self._child.stdout.fileno(), self._readable)
+        self.feed()
+
+    def feed(self) -> None:
+        """To be called where more stands in the source."""
+        if self._child is None or self._child.stdin is None or self._child.stdin.closed or self._blocked:
+            return
+        number = self._child.stdin.fileno()
+        source = self._task.source
+        try:
+            while self._given < source.size:
+                part = source.read(self._given, min(CHUNK, source.size - self._given))
+                if not part:
+                    break
+                self._given += os.write(number, part)
+        except BlockingIOError:
+            self._blocked = True
+            self._guard.watch(number, None, self._writable)
+            return
+        except OSError:
+            return  # it has ended, as its output tells
+        if self._finished:
+            self._close_input()
+
+    def _writable(self) -> None:
+        assert self._child and self._child.stdin
+        self._guard.forget(self._child.stdin.fileno())
+        self._blocked = False
+        self.feed()
+
+    def _close_input(self) -> None:
+        assert self._child and self._child.stdin
+        if not self._child.stdin.closed:
+            self._guard.forget(self._child.stdin.fileno())
+            self._child.stdin.close()
+
+    def _readable(self) -> None:
+        assert self._child and self._child.stdout
+        try:
+            part = os.read(self._child.stdout.fileno(), CHUNK)
+        except BlockingIOError:
+            return
+        if part:
+            self._takes(part)
+        else:
+            self._ended()
+
+    def _begins_anew(self) -> None:
+        """A child is about to be started."""
+
+    def _takes(self, part: bytes) -> None:
+        """It has written this."""
+
+    def _ended(self) -> None:
+        status = self._reap()
+        if self._finished and status == 0:
+            done, self._finished = self._finished, None
+            done()
+        else:
+            self._fail(ending_of(status))
+
+    def _fail(self, how: str) -> None:
+        """Tries again, at once and then each half second; gives up where it fails again and again."""
+        now = self._guard.now()
+        self._failures = 1 if now - self._failed_at > FRESH else self._failures + 1
+        self._failed_at = now
+        what = f"{self._task.words[0]} {how}"
+        if self._failures > FAILURES:
+            self._hears.broken(what)
+        else:
+            self._hears.says(f"{what}; it is started again")
+            self._timer = self._guard.after(0 if self._failures == 1 else 0.5, self._begin)
+
+    def finish(self, done: Callable[[], None]) -> None:
+        """Ends its input where the source ends, and calls this when all that it writes has been heard."""
+        self._finished = done
+        self.feed()
+
+    def wake(self) -> None:
+        """To be called now and then: one that was stopped from outside goes on."""
+        if self._child is not None:
+            wake(self._child)
+
+    def close(self) -> None:
+        """Ends it; nothing is heard from here on."""
+        if self._timer:
+            self._timer.cancel()
+        self._finished = None
+        if self._child is not None:
+            self._child.kill()
+            self._reap()
+
+    def _reap(self) -> int:
+        """Its status. Its output has ended, so it ends now; or it is being ended."""
+        child, self._child = self._child, None
+        assert child and child.stdin and child.stdout
+        self._guard.forget(child.stdout.fileno())
+        if not child.stdin.closed:
+            self._guard.forget(child.stdin.fileno())
+        _let_go(child)
+        self._let_go()
+        return child.returncode
+
+
+class Listing(Reader):
+    """A child that reports what a source shows, line by line. The first `skipped` lines are known already."""
+
+    def __init__(self, guard: Guard, task: Task, heard: Callable[[str], None], hears: HearsChild, skipped: int = 0) -> None:
+        self._heard = heard
+        self._known = skipped  # lines that were heard
+        self._came = 0  # lines of this child
+        super().__init__(guard, task, hears)
+
+    @property
+    def caught_up(self) -> bool:
+        """Whether this child has come as far as those before it."""
+        return self._came >= self._known
+
+    def _begins_anew(self) -> None:
+        self._part = b""
+        self._came = 0
+
+    def _takes(self, part: bytes) -> None:
+        *lines, self._part = (self._part + part).split(b"\n")
+        child = self._child
+        new = max(0, min(len(lines), self._known - self._came))
+        self._came += new
+        for line in lines[new:]:
+            self._came += 1
+            self._known += 1
+            self._heard(line.decode("ascii", "replace"))
+            if self._child is not child:
+                return  # what was heard has ended this listing
+
+
+def _end(child: subprocess.Popen[bytes]) -> None:
+    """Ends it, whatever it does."""
+    child.kill()
+    _let_go(child)
+
+
+def _let_go(child: subprocess.Popen[bytes]) -> None:
+    """Closes what leads to it and from it, and waits for its end."""
+    for stream in (child.stdin, child.stdout, child.stderr):
+        if stream:
+            with contextlib.suppress(OSError):
+                stream.close()
+    if child.poll() is None:
+        try:
+            child.wait(1)
+        except subprocess.TimeoutExpired:
+            child.kill()
+            child.wait()
+
+
+def ending_of(status: int) -> str:
+    """How a child has ended that should not have."""
+    return "was killed" if status < 0 else f"ended with status {status}"
+
+
+def wake(child: subprocess.Popen[bytes]) -> None:
+    """A child that was stopped goes on."""
+    with contextlib.suppress(OSError):
+        if child.returncode is None and os.waitid(os.P_PID, child.pid, os.WSTOPPED | os.WNOHANG | os.WNOWAIT):
+            child.send_signal(signal.SIGCONT)
+
+
+def lines_of(output: bytes) -> List[str]:
+    """The lines that the program has written."""
+    return output.decode("ascii", "replace").splitlines()

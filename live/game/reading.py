@@ -1,0 +1,187 @@
+"""The course of a game as its capture stands: by one call of `watch`, for whom may wait for it."""
+
+from __future__ import annotations
+
+import array
+import contextlib
+import mmap
+import os
+import subprocess
+import time
+from dataclasses import dataclass
+from typing import Iterator, List, Optional, Sequence
+
+from live.device import protocol
+from live.game.course import Course
+from live.game.ending import ONE_MOVE
+from live.game.game import Game
+from live.game.making_pgn import source_of
+from live.game.options import Options
+from live.game.program import CHUNK, Program, ending_of
+from live.game.report import Agrees, Clock, Differs, Picture, event_of, line_of
+from live.game.whole import Pair, Places, pairs_in
+
+DUMP_BEGINS = b"\x86\x00\x43"  # such bytes begin a dump wherever they stand, since only a frame's first has its top bit set
+
+
+@dataclass(frozen=True)
+class Old:
+    """What a capture had when it was opened: so many bytes, whose report has so many lines, and the course of the game."""
+
+    size: int
+    lines: int
+    course: Course
+    gap: float = 0.0  # the seconds since its last byte came
+
+
+def new_course(options: Options) -> Course:
+    """That of a game of which nothing is reported yet."""
+    return Course(protocol.picture_of_placement(options.start))
+
+
+def nothing_old(options: Options, size: int) -> Old:
+    """A capture whose bytes are still to be reported."""
+    return Old(size, 0, new_course(options))
+
+
+def read_game(game: Game, limit: Optional[int], now: float) -> Old:
+    """What the capture has, or so many bytes of it, at this time. An OSError comes where it can't be read."""
+    with contextlib.ExitStack() as opened:
+        source = source_of(game, limit)
+        opened.callback(os.close, source)
+        times = Times(source, now)
+        gap = max(0.0, time.time() - os.fstat(source).st_mtime)
+        content: Sequence[int] = b""
+        pairs: List[Pair] = []
+        if game.options.recover:
+            source, pairs = _recovered(game, source, opened)
+            content = _mapped(source, opened)
+        course = new_course(game.options)
+        count = take_all(course, game.program, ("watch", *game.options.of_board()), source, Places(content, pairs), times)
+    return Old(times.size, count, course, gap)
+
+
+def game_of(program: Program, options: Options, sent: bytes) -> Course:
+    """The course of a game of these bytes."""
+    whole = program.whole(options, sent)
+    course = new_course(options)
+    for text in program.lines("watch", *options.of_board(), given=whole):
+        line = line_of(text)
+        if line:
+            course.take(line, 0.0)
+    return course
+
+
+class Times:
+    """When the bytes of a capture came, as far as that is known: there is a dump for each second, and the last was now."""
+
+    def __init__(self, source: int, now: float) -> None:
+        self.size = os.fstat(source).st_size
+        self._dumps = array.array("Q", dumps_in(source, self.size))
+        self._began, self._at = now - len(self._dumps), 0
+
+    def of(self, offset: int) -> float:
+        """Of one byte; they are asked for in their order."""
+        while self._at < len(self._dumps) and self._dumps[self._at] <= offset:
+            self._at += 1
+        return self._began + self._at
+
+
+def dumps_in(source: int, size: int) -> Iterator[int]:
+    """Where the dumps of a file begin."""
+    at, before = 0, b""
+    while at < size:
+        part = os.pread(source, 1 << 20, at)
+        if not part:
+            return
+        text = before + part
+        found = text.find(DUMP_BEGINS)
+        while found >= 0:
+            yield at - len(before) + found
+            found = text.find(DUMP_BEGINS, found + 1)
+        at += len(part)
+        before = text[1 - len(DUMP_BEGINS) :]
+
+
+def take_all(course: Course, program: Program, words: Sequence[str], source: int, places: Places, times: Times) -> int:
+    """Takes the lines of a child that reads a file. How many there were."""
+    into, out = os.pipe()
+    try:
+        child = program.start(words, source, out, subprocess.DEVNULL)
+    except OSError:
+        os.close(into)
+        raise
+    finally:
+        os.close(out)
+    count, game_has_pairs = 0, places.has_pairs
+    try:
+        for texts in _lines(into):
+            count += len(texts) - texts[-1].startswith("rest ")
+            for text in texts if game_has_pairs else wanted(texts, course.start):
+                line = line_of(text)
+                for one in places.of(line) if line else ():
+                    course.take(one, times.of(one.offset))
+    finally:
+        os.close(into)
+        status = child.wait()
+    if status != 0:
+        raise OSError(f"{words[0]} {ending_of(status)}")
+    return count
+
+
+def _lines(source: int) -> Iterator[List[str]]:
+    """The whole lines that come there, some at once."""
+    part = ""
+    while True:
+        more = os.read(source, CHUNK).decode("ascii", "replace")
+        if not more:
+            return
+        *lines, part = (part + more).split("\n")
+        if lines:
+            yield lines
+
+
+def wanted(texts: Sequence[str], start: protocol.Picture) -> Sequence[str]:
+    """Those of some lines in a row that a course asks for. Where nothing has changed the game, of a square that chatters, these
+    are the first lines that say how the board stands, the last that agrees with the one behind it, and the last; of the
+    pictures the first one of the start and the last, unless one of them was far from the start."""
+    words = [text.partition(" ")[2] for text in texts]
+    kinds = {word: event_of(word) for word in set(words)}
+    if not all(isinstance(event, (Picture, Differs, Agrees, Clock)) for event in kinds.values()):
+        return texts
+    pictures = [event for event in kinds.values() if isinstance(event, Picture)]
+    if any(len(protocol.differing(event.codes, start)) > ONE_MOVE for event in pictures):
+        return texts
+    stands = [at for at, word in enumerate(words) if word[0] in "ad"]
+    kept = {*stands[:3], *stands[-1:], *_last(words, "p"), *(words.index(f"picture {event.placement}") for event in pictures)}
+    for agrees in _last(words, "a"):
+        kept |= {agrees, *[at for at in stands if at > agrees][:1]}
+    return [texts[at] for at in sorted(kept)]
+
+
+def _last(words: Sequence[str], letter: str) -> Sequence[int]:
+    """The place of the last of the words that begins with this letter, if one does."""
+    return next(([at] for at in range(len(words) - 1, -1, -1) if words[at][0] == letter), [])
+
+
+def _recovered(game: Game, source: int, opened: contextlib.ExitStack) -> "tuple[int, List[Pair]]":
+    """A file with the pairs put in, and the pairs."""
+    files = [os.memfd_create(name) for name in ("whole", "pairs")]
+    for file in files:
+        opened.callback(os.close, file)
+    status = game.program.start(("recover", *game.options.of_board()), source, *files).wait()
+    if status != 0:
+        raise OSError(f"recover {ending_of(status)}")
+    os.lseek(files[0], 0, os.SEEK_SET)
+    return files[0], pairs_in(os.pread(files[1], os.fstat(files[1]).st_size, 0))
+
+
+def _mapped(source: int, opened: contextlib.ExitStack) -> Sequence[int]:
+    """The bytes of a file, as far as they are looked at."""
+    if not os.fstat(source).st_size:
+        return b""
+    content = mmap.mmap(source, 0, access=mmap.ACCESS_READ)
+    opened.callback(content.close)
+    view = memoryview(content)
+    opened.callback(view.release)
+    return view

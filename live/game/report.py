@@ -1,0 +1,170 @@
+"""What the program reports of a game: the lines of `watch`, and the pairs of `recover`, each read here and nowhere else."""
+
+from __future__ import annotations
+
+import functools
+from dataclasses import dataclass
+from typing import NamedTuple, Optional, Tuple, Union
+
+from live.device import protocol
+
+
+@dataclass(frozen=True)
+class Move:
+    """The picture settled a move: one more, or another one in the place of the last, which it corrects. `number` is `12.` or
+    `12...`; `clock` is its player's time after it, empty where none is known."""
+
+    number: str
+    san: str
+    clock: str = ""
+    corrects: bool = False
+
+    @property
+    def words(self) -> str:
+        return " ".join(filter(None, ("correction" if self.corrects else "move", self.number, self.san, self.clock)))
+
+    @property
+    def short(self) -> str:
+        """`12. Nf3`."""
+        return f"{self.number} {self.san}"
+
+    @property
+    def shown(self) -> str:
+        """`12. Nf3  1:12:07`, `correction 12. Nf3  1:12:07`."""
+        front = "correction " if self.corrects else ""
+        return front + "  ".join(filter(None, (self.short, self.clock)))
+
+
+@dataclass(frozen=True)
+class Result:
+    """The result of the game has become this one; `*` where there is none any more."""
+
+    outcome: str
+
+    @property
+    def words(self) -> str:
+        return f"result {self.outcome}"
+
+    @property
+    def shown(self) -> str:
+        return self.words
+
+
+@dataclass(frozen=True)
+class Differs:
+    """The picture waits, and differs from the position on these squares."""
+
+    squares: Tuple[str, ...]
+
+    @property
+    def words(self) -> str:
+        return " ".join(("differs", *self.squares))
+
+
+@dataclass(frozen=True)
+class Agrees:
+    """The picture is that of the position."""
+
+    words = "agrees"
+
+
+@dataclass(frozen=True)
+class Fault:
+    """Bytes that are no frame."""
+
+    what: str
+
+    @property
+    def words(self) -> str:
+        return f"fault {self.what}"
+
+
+@dataclass(frozen=True)
+class Picture:
+    """A trusted picture that differs from the one before."""
+
+    placement: str
+
+    @property
+    def codes(self) -> protocol.Picture:
+        return codes_of(self.placement)
+
+
+@dataclass(frozen=True)
+class Position:
+    """The position that the game has reached: at the start, and behind each move and result."""
+
+    fen: str
+
+
+@dataclass(frozen=True)
+class Clock:
+    """Both clocks show another time than before: White's, and Black's."""
+
+    white: str
+    black: str
+
+
+@dataclass(frozen=True)
+class Recovered:
+    """Two moves that no picture showed were put in: `recovered 3. Bc4 3... Nc6`."""
+
+    text: str
+
+    @property
+    def shown(self) -> str:
+        return self.text
+
+
+Change = Union[Move, Result]
+News = Union[Move, Result, Recovered]
+Event = Union[Move, Result, Differs, Agrees, Fault, Picture, Position, Clock, Recovered]
+
+
+class Line(NamedTuple):
+    """An event, and the offset of the byte at which it came."""
+
+    offset: int
+    event: Event
+
+    @property
+    def is_picture(self) -> bool:
+        """Whether it says what the board shows, and not what the game makes of that."""
+        return isinstance(self.event, Picture)
+
+
+def line_of(text: str) -> Optional[Line]:
+    """A line of `watch`, `follow` or `recover`; None for its last one, `rest N`, and for whatever else a program may say."""
+    offset, _, words = text.partition(" ")
+    event = event_of(words) if offset.isascii() and offset.isdigit() and len(offset) < 16 else None
+    return Line(int(offset), event) if event else None
+
+
+@functools.lru_cache(maxsize=4096)
+def event_of(words: str) -> Optional[Event]:
+    """The event of a line, of its words behind the offset. The same words are the same event."""
+    kind, _, rest = words.partition(" ")
+    parts = rest.split(" ")
+    if kind in ("move", "correction") and len(parts) in (2, 3):
+        return Move(parts[0], parts[1], "".join(parts[2:]), kind == "correction")
+    if kind == "result" and rest:
+        return Result(rest)
+    if kind == "differs" and rest:
+        return Differs(tuple(parts))
+    if kind == "agrees":
+        return Agrees()
+    if kind == "fault":
+        return Fault(rest)
+    if kind == "picture" and rest:
+        return Picture(rest)
+    if kind == "position" and rest:
+        return Position(rest)
+    if kind == "clock" and len(parts) == 2:
+        return Clock(parts[0], parts[1])
+    return Recovered(words) if kind == "recovered" else None
+
+
+@functools.lru_cache(maxsize=4096)
+def codes_of(placement: str) -> protocol.Picture:
+    """The picture of a placement."""
+    return protocol.picture_of_placement(placement)

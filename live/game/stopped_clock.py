@@ -1,0 +1,76 @@
+"""Moves that were made while the clock stood: players try moves after they have agreed on a draw, or the clock was forgotten.
+
+The seventh byte of a time message says whether the clock runs (bit 0), and whether one is there (bit 5). An acknowledgement of
+a command to the clock, which has 10 in the low four bits of its first or fourth byte, says nothing of either.
+"""
+
+from __future__ import annotations
+
+import math
+from dataclasses import dataclass
+from typing import Optional, Sequence
+
+from live.game.looks import Look
+from live.game.report import Move
+
+RUNS, NO_CLOCK = 0x01, 0x20  # bits of the status
+ACKNOWLEDGES = 10
+STANDS = 3.0  # seconds: a move that a player made before he stopped the clock may be seen after it, by the next dump
+ABOUT = "clock"
+
+
+def runs(data: bytes) -> Optional[bool]:
+    """Whether the clock runs, by the seven bytes of a time message; None where they don't say so."""
+    if ACKNOWLEDGES in (data[0] & 0x0F, data[3] & 0x0F) or data[6] & NO_CLOCK:
+        return None
+    return bool(data[6] & RUNS)
+
+
+def has_run(plies: Sequence[Move]) -> bool:
+    """Whether the clock has run while these moves were made: some player had two different times after his moves."""
+    for is_black in (False, True):
+        if len({ply.clock for ply in plies if ply.clock and ply.number.endswith("...") == is_black}) > 1:
+            return True
+    return False
+
+
+@dataclass
+class StoppedClock:
+    """Counts the moves of a game that are made one after the other while its clock stands, once it has run in this game."""
+
+    has_run: bool = False
+    count: int = 0
+    _stands_since: float = math.inf
+    _last: str = ""  # the last move
+    _first: str = ""  # the last one before those that are counted
+
+    def time(self, now: float, data: bytes) -> None:
+        """A time message has come, with these seven bytes."""
+        state = runs(data)
+        if state:
+            self.has_run, self._stands_since = True, math.inf
+        elif state is False:
+            self._stands_since = min(self._stands_since, now)
+
+    def gone(self) -> None:
+        """The board isn't heard: nobody knows whether the clock runs."""
+        self._stands_since = math.inf
+
+    def acknowledged(self) -> None:
+        """Somebody has looked at what was counted: later moves are counted anew."""
+        self.count = 0
+
+    def moved(self, now: float, move: Move) -> Optional[Look]:
+        """A move or a correction was reported: what is to be looked at, if anything."""
+        stands = self.has_run and now >= self._stands_since + STANDS
+        before, self._last = self._last, move.short
+        if move.corrects:
+            return None
+        if not stands:
+            self.count = 0
+            return None
+        if not self.count:
+            self._first = before or "the start"
+        self.count += 1
+        moves = "a move was" if self.count == 1 else f"{self.count} moves were"
+        return Look(f"since {self._first}", f"{moves} made while the clock stood", f"{ABOUT} {self._first}")

@@ -1,0 +1,160 @@
+"""The tags of a game as it is published, in UTF-8: which there are, what their values may be, and the text with them.
+Pure.
+
+`record` writes seven tags in ASCII, and that text stays as it is. What is published has its movetext, byte for byte,
+under tag pairs that are written anew.
+"""
+
+from __future__ import annotations
+
+import re
+import unicodedata
+from typing import Callable, Dict, List, Mapping, Optional, Tuple
+
+Tags = Mapping[str, str]
+
+ROSTER = ("Event", "Site", "Date", "Round", "White", "Black", "Result")  # the first ones of a PGN text, in their order
+OF_PLAYER = ("Title", "Elo", "FideId", "Team", "Fed", "USCF", "NA", "Type")  # behind White and Black
+SIDES = ("White", "Black")
+# The others of the PGN standard and those that broadcasts have added; those that the game itself says are not among them.
+OTHERS = (
+    *(side + name for side in SIDES for name in OF_PLAYER),
+    *("Board", "TimeControl", "EventDate", "EventSponsor", "EventType", "EventRounds", "EventCountry", "Section", "Stage"),
+    *("Time", "UTCTime", "UTCDate", "Mode", "Annotator", "Source", "ECO", "NIC", "Opening", "Variation", "SubVariation"),
+    *("GameId", "BroadcastName", "BroadcastURL", "StudyName", "ChapterName", "WhiteClub", "BlackClub"),
+)
+BY_NAME = {name.lower(): name for name in (*ROSTER[:-1], *OTHERS)}
+GAME_SAYS = ("Result", "FEN", "SetUp", "PlyCount", "Termination", "Variant")
+LONGEST = 255  # characters of a value, as PGN has it
+TITLES = ("GM", "IM", "FM", "CM", "WGM", "WIM", "WFM", "WCM", "AGM", "AIM", "AFM", "ACM", "NM", "WNM", "LM")
+NONE = ("", "-", "0")  # what pairing programs write for a player without a rating, a title or a FIDE id
+HIGHEST_RATING = 3999
+JOINERS = "\u200c\u200d"  # they aren't seen, and Persian and Indian scripts need them
+PAIR = re.compile(r'\[(\w+) "((?:[^"\\]|\\.)*)"\]')
+TIME_CONTROL = re.compile(r"(?:\d+/)?\d+(?:\+\d+)?(?::(?:\d+/)?\d+(?:\+\d+)?)*|\*\d+|[?-]", re.ASCII)
+MINUTES = re.compile(
+    r"(\d{1,3}) ?(?:'|′|m|min|minutes|Min\.?)? ?\+ ?(\d{1,2}) ?(?:\"|″|s|sec|seconds|Sek\.?)?(?: ?/ ?(?:move|Zug))?", re.ASCII
+)
+MOST_MINUTES = 150  # a base with an increment that is no more than this was written in minutes
+
+
+class Malformed(Exception):
+    """A value that its tag can't have. The text says what to type, behind what it is."""
+
+
+def cleaned(text: str) -> str:
+    """As it is seen: a blank for each kind of blank, and without marks that aren't seen."""
+    letters = []
+    for letter in text:
+        kind = unicodedata.category(letter)
+        if kind == "Zs":
+            letters.append(" ")
+        elif kind != "Cf" or letter in JOINERS:
+            letters.append(letter)
+    return "".join(letters).strip()
+
+
+def is_seen(text: str) -> bool:
+    """Whether each character can be printed, but for those that join letters."""
+    return all(letter.isprintable() or letter in JOINERS for letter in text)
+
+
+def known_name(text: str) -> Optional[str]:
+    """The tag of this name, however its letters are written; None where there is none that may be given."""
+    return BY_NAME.get(text.strip().lower())
+
+
+def value_of(name: str, text: str) -> str:
+    """The value of a tag as it is published; nothing where there is none. Raises Malformed."""
+    value = cleaned(text)
+    if not is_seen(value):
+        raise Malformed("has a character that can't be seen: type it anew")
+    if len(value) > LONGEST:
+        raise Malformed(f"has {len(value)} characters: type at most {LONGEST}")
+    checks = [check for ending, check in CHECKS.items() if name.endswith(ending)]
+    return checks[0](value) if checks else value
+
+
+def _rating(text: str) -> str:
+    if text in NONE:
+        return ""
+    if not re.fullmatch("[0-9]{1,4}", text) or not 0 < int(text) <= HIGHEST_RATING:
+        raise Malformed(f"{text!r} is no rating: type up to four digits, as 2050, or nothing")
+    return str(int(text))
+
+
+def _title(text: str) -> str:
+    if text in NONE:
+        return ""
+    if text.upper() not in TITLES:
+        raise Malformed(f"{text!r} is no title: type one of {', '.join(TITLES[:8])}, or nothing")
+    return text.upper()
+
+
+def _fide_id(text: str) -> str:
+    if text.strip("0-") == "":
+        return ""
+    if not re.fullmatch("[0-9]{3,10}", text):
+        raise Malformed(f"{text!r} is no FIDE id: type its digits alone, as 1503014, or nothing")
+    return text
+
+
+def _time_control(text: str) -> str:
+    """In seconds, as PGN has it; `90+30` is 90 minutes and 30 seconds for each move."""
+    minutes = MINUTES.fullmatch(text)
+    if minutes and 0 < int(minutes.group(1)) <= MOST_MINUTES:
+        return f"{int(minutes.group(1)) * 60}+{int(minutes.group(2))}"
+    if text and not TIME_CONTROL.fullmatch(text):
+        how = "type 90+30 (minutes and seconds a move), or as PGN has it, 40/5400+30:1800+30"
+        raise Malformed(f"{text!r} is no time control: {how}")
+    return text
+
+
+CHECKS: Dict[str, Callable[[str], str]] = {
+    "Elo": _rating, "USCF": _rating, "Title": _title, "FideId": _fide_id, "TimeControl": _time_control,
+}  # fmt: skip
+
+
+def escaped(value: str) -> str:
+    """As it stands between the quotes of a tag pair."""
+    return value.replace("\\", "\\\\").replace('"', '\\"')
+
+
+def pairs_of(head: str) -> Dict[str, str]:
+    """The tags of a text that `record` has made."""
+    return {name: re.sub(r"\\(.)", r"\1", value) for name, value in PAIR.findall(head)}
+
+
+def published(recorded: bytes, tags: Tags) -> bytes:
+    """The text of a game with these tags, as it is published: the roster first, the others in the order of their
+    names. What the game itself says, its result among it, comes from the text that was recorded."""
+    if not recorded:
+        return b""
+    head, gap, movetext = recorded.partition(b"\n\n")
+    values = pairs_of(head.decode("utf-8", "replace"))
+    values.update({name: value for name, value in tags.items() if value and name not in GAME_SAYS})
+    others = sorted(name for name in values if name not in ROSTER)
+    lines = [f'[{name} "{escaped(values.get(name, "?"))}"]' for name in (*ROSTER, *others)]
+    return "\n".join(lines).encode("utf-8", "replace") + gap + movetext
+
+
+def pair_of(text: str) -> Tuple[str, str]:
+    """The name and the value of `NAME=VALUE`, as somebody types a tag. Raises Malformed."""
+    name, equals, value = text.partition("=")
+    if not equals:
+        raise Malformed(f"{text!r} has no =: type NAME=VALUE, as WhiteElo=2050")
+    known = known_name(name)
+    if known is None:
+        if name.strip().lower() in [other.lower() for other in GAME_SAYS]:
+            raise Malformed(f"{name.strip()} is what the game says, and can't be given")
+        which = "type one that PGN knows, as WhiteElo, WhiteTitle, WhiteFideId, TimeControl"
+        raise Malformed(f"there is no tag {name.strip()!r}: {which}")
+    try:
+        return known, value_of(known, value)
+    except Malformed as error:
+        raise Malformed(f"{known}: {error}") from None
+
+
+def in_order(tags: Tags) -> List[Tuple[str, str]]:
+    """In the order in which they are published."""
+    return sorted(tags.items(), key=lambda one: (ROSTER.index(one[0]) if one[0] in ROSTER else len(ROSTER), one[0]))

@@ -1,0 +1,79 @@
+"""The program's report of a game while its capture grows: one child tells everything, with `recover` in front of it where pairs
+of moves are put in."""
+
+from __future__ import annotations
+
+import functools
+import subprocess
+from typing import Callable, List, Optional, Protocol
+
+from live.game.game import Game
+from live.game.program import HearsChild, Listing, Reader, Task
+from live.game.report import Line, line_of
+from live.game.whole import Places, Whole
+from live.guard import Guard
+
+
+class HearsReport(HearsChild, Protocol):
+    """Who is told what the program reports."""
+
+    def heard(self, line: Line) -> None:
+        """The next line. Its offset is that of the capture."""
+
+
+class Watching:
+    """Reports a game from the first byte on; the first `known` lines were reported before."""
+
+    def __init__(self, guard: Guard, game: Game, hears: HearsReport, known: int) -> None:
+        self._hears = hears
+        options, capture = game.options, game.capture
+        self._whole: Optional[Whole] = None
+        self._places: Optional[Places] = None
+        if options.recover:
+            recover = Task(game.program, ("recover", *options.of_board()), capture, errors=subprocess.PIPE)
+            self._whole = Whole(guard, recover, self._feed_watch, hears)
+            self._places = self._whole.places()
+        watch = Task(game.program, ("watch", *options.of_board()), self._whole or capture)
+        self._watch: Optional[Listing] = None
+        self._watch = Listing(guard, watch, self._heard, hears, known)
+
+    def _feed_watch(self) -> None:
+        if self._watch:
+            self._watch.feed()
+
+    def _heard(self, text: str) -> None:
+        line = line_of(text)
+        for one in (self._places.of(line) if self._places else [line]) if line else ():
+            self._hears.heard(one)
+
+    @property
+    def _children(self) -> List[Reader]:
+        return [child for child in (self._whole, self._watch) if child]
+
+    @property
+    def caught_up(self) -> bool:
+        """Whether all that was reported before has been reported again."""
+        return self._watch is not None and self._watch.caught_up
+
+    def feed(self) -> None:
+        """To be called where more stands in the capture."""
+        for child in self._children:
+            child.feed()
+
+    def wake(self) -> None:
+        """To be called now and then: what was stopped from outside goes on."""
+        for child in self._children:
+            child.wake()
+
+    def finish(self, done: Callable[[], None]) -> None:
+        """Calls this when all is reported that stands in the capture."""
+        assert self._watch
+        if self._whole:
+            self._whole.finish(functools.partial(self._watch.finish, done))
+        else:
+            self._watch.finish(done)
+
+    def close(self) -> None:
+        """Nothing is reported from here on."""
+        for child in self._children:
+            child.close()

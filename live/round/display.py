@@ -1,0 +1,93 @@
+"""What a round shows: a table that is redrawn on a terminal, lines elsewhere."""
+
+from __future__ import annotations
+
+import datetime
+import os
+from typing import Callable, List, Optional
+
+from live.guard import traced
+from live.loop import Loop, Timer
+from live.round.table import RowView, screen
+from live.terminal.painter import Painter
+from live.terminal.terminal import Terminal
+
+NARROWEST = 40  # columns of a terminal: in one with fewer the rows are broken
+KEPT = 20  # messages
+DRAWS_EACH = 0.1  # seconds
+TICK = 1.0
+PRINTED = 2.0  # seconds that a slow reader has for the last lines
+
+
+def terminal_of_lines(loop: Loop) -> Optional[Terminal]:
+    """Where lines are printed; None where a table can be drawn."""
+    if os.isatty(1) and os.environ.get("TERM", "dumb") != "dumb":
+        return None
+    return Terminal(loop)
+
+
+class Display:
+    """Shows the rows and the last messages; where there is no table, the messages alone, as lines."""
+
+    def __init__(
+        self,
+        loop: Loop,
+        title: str,
+        views: Callable[[], List[RowView]],
+        terminal: Optional[Terminal],
+        trouble: Callable[[str], None],
+    ) -> None:
+        self._loop, self._title, self._views, self._terminal, self._trouble = loop, title, views, terminal, trouble
+        self._told = ""  # what kept the table from being drawn, as it was told last
+        self._painter = None if terminal else Painter(loop)
+        self._messages: List[str] = []
+        self._draws: Optional[Timer] = None
+        self._tick = loop.after(TICK, self._each_second)
+
+    def say(self, text: str) -> None:
+        """A line for whoever looks at the screen."""
+        line = f"{datetime.datetime.now():%H:%M:%S}  {text}"
+        self._messages = [*self._messages[1 - KEPT :], line]
+        if self._terminal:
+            self._terminal.line(line)
+
+    def changed(self) -> None:
+        """What is shown is another: it is drawn soon."""
+        if self._painter and self._draws is None:
+            self._draws = self._loop.after(DRAWS_EACH, self._draw)
+
+    def forget(self) -> None:
+        """All is drawn anew: somebody has typed a line."""
+        if self._painter:
+            self._painter.forget()
+
+    def _draw(self) -> None:
+        self._draws = None
+        try:
+            self._draw_now()
+        except Exception as error:  # it is drawn again each second
+            text = traced(error)
+            if text != self._told:
+                self._told = text
+                self._trouble(text)
+
+    def _draw_now(self) -> None:
+        if self._painter:
+            columns, lines = self._painter.size()
+            title = f"{datetime.datetime.now():%H:%M:%S}  {self._title}"
+            now = self._loop.now()
+            self._painter.draw(screen(title, self._views(), self._messages, now, lines, max(NARROWEST, columns)))
+
+    def _each_second(self) -> None:
+        self._tick = self._loop.after(TICK, self._each_second)
+        if self._painter and self._draws is None:
+            self._draw()
+
+    def close(self, last: str) -> None:
+        """The last line."""
+        if self._painter:
+            self._painter.end([last])
+            self._painter.close()
+        elif self._terminal:
+            self._terminal.line(last)
+            self._terminal.end(PRINTED)

@@ -1,0 +1,138 @@
+"""What the columns of a table are, by their headings: as it is written by hand, and as pairing programs write it in
+English, German, French, Spanish and Italian. Pure."""
+
+from __future__ import annotations
+
+import unicodedata
+from dataclasses import dataclass
+from typing import Dict, List, Optional, Sequence, Tuple
+
+from live.game.tags import OTHERS, SIDES, known_name
+
+BOARD, WHITE, BLACK, RESULT = "board", "white", "black", "result"
+DEVICE, SERIAL, NAME = "device", "serial", "name"
+BY_HAND = (DEVICE, SERIAL, "rotated", "first", "fen", NAME, "recover")  # in English alone
+COLUMNS = (BOARD, DEVICE, WHITE, BLACK, "rotated", "first", "fen", NAME, RESULT, "recover", SERIAL)
+NOT_NEEDED = ""  # a column that is known, and has nothing that a recorder needs
+PERHAPS = "?"  # behind a tag: a column without a heading may have it
+
+# Words as `normal` makes them.
+WORDS: Dict[str, Tuple[str, ...]] = {
+    BOARD: (
+        *("board", "boardno", "boardnr", "bo", "bd", "brd", "table", "tbl", "tisch", "tischnr", "brett", "brettnr", "br"),
+        *("tavolo", "tav", "scacchiera", "tablero", "tabl", "mesa", "echiquier", "ech"),
+    ),
+    WHITE: ("white", "weiss", "blancs", "blanc", "blancas", "blanco", "bianco", "bianchi"),
+    BLACK: ("black", "schwarz", "noirs", "noir", "negras", "negro", "nero", "neri"),
+    RESULT: ("result", "results", "res", "ergebnis", "erg", "resultat", "resultats", "resultado", "risultato", "ris"),
+    NOT_NEEDED: (
+        *("no", "nr", "n", "num", "sno", "snr", "tnr", "startno", "startnr", "rk", "rg", "rank", "rang", "pos", "place"),
+        *("pts", "pt", "pkt", "pti", "points", "punkte", "punti", "puntos", "score", "at", "rtgn", "elon", "eloff"),
+    ),
+}  # fmt: skip
+PLAYER = ("name", "player", "teilnehmer", "spieler", "joueur", "jugador", "giocatore", "nom", "nombre", "nominativo")
+OF_SIDE: Dict[str, Tuple[str, ...]] = {
+    "Elo": ("elo", "rtg", "rating", "eloi", "rtgi", "irtg", "elofide", "fideelo", "eloint", "fiderating"),
+    "Title": ("title", "titel", "titre", "titulo", "titolo", "tit"),
+    "Fed": ("fed", "federation", "foderation", "federacion", "federazione", "verband", "land", "country", "pays", "pais", "nat"),
+    "Team": ("team", "mannschaft", "equipe", "equipo", "squadra", "club", "verein", "circolo", "clubcity", "vereinort", "clubort"),
+    "FideId": ("fideid", "fideno", "fidenr", "idfide", "codefide", "fidecode", "fidenumber"),
+}
+_ROLES = {word: role for role, words in WORDS.items() for word in words}
+_OF_SIDE = {word: name for name, words in OF_SIDE.items() for word in words}
+
+
+@dataclass(frozen=True)
+class Heading:
+    """What each column has: one of COLUMNS, a tag, or nothing that is needed; and the columns that aren't known."""
+
+    roles: Tuple[str, ...]
+    unknown: Tuple[str, ...] = ()
+    twice: str = ""  # the heading of a column that another one has too
+
+    @property
+    def has_devices(self) -> bool:
+        """Whether the table says where its boards are plugged in."""
+        return DEVICE in self.roles or SERIAL in self.roles
+
+
+def normal(text: str) -> str:
+    """Its letters and digits, small and without marks: `Échiquier` is `echiquier`, `Weiß` is `weiss`, `Bo.` is `bo`."""
+    parts = unicodedata.normalize("NFKD", text.casefold())
+    return "".join(letter for letter in parts if letter.isalnum())
+
+
+def heading_of(fields: Sequence[str]) -> Optional[Heading]:
+    """The heading that these fields are; None where they are none."""
+    words = [normal(field) for field in fields]
+    by_hand = [word if word in BY_HAND else None for word in words]
+    has_device = DEVICE in words or SERIAL in words
+    roles: List[Optional[str]] = [_role(word) if hand is None else hand for word, hand in zip(words, by_hand)]
+    if not has_device:
+        roles = _without_hands(words, roles)
+    if BOARD not in roles or not (has_device or (WHITE in roles and BLACK in roles)):
+        return None
+    roles = _of_sides(words, roles)
+    known = tuple(role or NOT_NEEDED for role in roles)
+    counts: Dict[str, int] = {}
+    twice = ""
+    for role, field in zip(known, fields):
+        counts[role] = counts.get(role, 0) + 1
+        if role != NOT_NEEDED and counts[role] == 2 and not twice:
+            twice = field.lower()
+    unknown = tuple(field.lower() for field, role in zip(fields, roles) if role is None and field)
+    return Heading(known, unknown, twice)
+
+
+def _role(word: str) -> Optional[str]:
+    """What a heading says by itself; None where it isn't known, or where it says it of a player and not of which one."""
+    if word in _ROLES:
+        return _ROLES[word]
+    sided = _sided(word)
+    if sided:
+        return sided
+    name = known_name(word)
+    return name if name in OTHERS else None
+
+
+def _sided(word: str) -> Optional[str]:
+    """`whiteelo`, `elowhite`, `weisstitel`: a tag of a player, or his name."""
+    for side, role in zip(SIDES, (WHITE, BLACK)):
+        for of_side in sorted(WORDS[role], key=len, reverse=True):
+            begins, ends = word.startswith(of_side), word.endswith(of_side)
+            rest = word[len(of_side) :] if begins else word[: -len(of_side)] if ends else ""
+            if rest in PLAYER:
+                return role
+            if rest in _OF_SIDE:
+                return side + _OF_SIDE[rest]
+    return None
+
+
+def _without_hands(words: Sequence[str], roles: Sequence[Optional[str]]) -> List[Optional[str]]:
+    """A table of a pairing program: a name is a player's, and no file's. Two names are White's and Black's."""
+    names = [at for at, word in enumerate(words) if word in PLAYER]
+    found = [NOT_NEEDED if at in names else role for at, role in enumerate(roles)]
+    if len(names) == 2 and WHITE not in found and BLACK not in found:
+        found[names[0]], found[names[1]] = WHITE, BLACK
+    return list(found)
+
+
+def _of_sides(words: Sequence[str], roles: Sequence[Optional[str]]) -> List[Optional[str]]:
+    """Two columns with a rating, a title .. are those of the players in the order in which these stand. A column
+    without a heading before a player may have his title."""
+    found = list(roles)
+    if WHITE not in found or BLACK not in found:
+        return found
+    players = [at for at, role in enumerate(found) if role in (WHITE, BLACK)]
+    sides = [SIDES[0] if found[at] == WHITE else SIDES[1] for at in players]
+    if len(players) != 2:
+        return found
+    for name in OF_SIDE:
+        places = [at for at, word in enumerate(words) if _OF_SIDE.get(word) == name and found[at] is None]
+        if len(places) == 2:
+            for at, side in zip(places, sides):
+                found[at] = side + name
+    for at, side in zip(players, sides):
+        if at and not words[at - 1] and side + "Title" not in found:
+            found[at - 1] = side + "Title" + PERHAPS
+    return found

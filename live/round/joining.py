@@ -1,0 +1,78 @@
+"""The table of a hall's boards, which is kept all season, and the pairs of a round: which board has which device and
+which game. Pure."""
+
+from __future__ import annotations
+
+import dataclasses
+from typing import Dict, List, Mapping, Sequence, Tuple
+
+from live.round.pairings import Pairing, Pairings, Wrong
+from live.round.table import boards_are
+
+
+def joined(hall: Pairings, hall_name: str, pairs: Pairings, pairs_name: str) -> Pairings:
+    """The pairs with the devices of their boards. What is said of each table names it."""
+    places = {place.board: place for place in hall.boards}
+    wrong = {line.board for line in hall.wrong}
+    boards = [_at(places[pair.board], pair) for pair in pairs.boards if pair.board in places]
+    lacking = [pair.board for pair in pairs.boards if pair.board not in places and pair.board not in wrong]
+    free = [place.board for place in hall.boards if place.board not in {pair.board for pair in pairs.boards}]
+    remarks = [*named(pairs_name, pairs.remarks), *named(hall_name, hall.remarks)]
+    if lacking:
+        is_one = len(lacking) == 1
+        has, are = ("has", "is") if is_one else ("have", "are")
+        remarks.append(f"{numbers(lacking)} {has} no device in {hall_name}, and {are}n't recorded")
+    if free:
+        remarks.append(f"{numbers(free)} {'has' if len(free) == 1 else 'have'} no game in {pairs_name}")
+    lines = (*of_file(pairs_name, pairs.wrong), *of_file(hall_name, hall.wrong))
+    return Pairings(tuple(boards), lines, tuple(remarks))
+
+
+def _at(place: Pairing, pair: Pairing) -> Pairing:
+    """A pair at its board."""
+    return dataclasses.replace(
+        pair,
+        device=place.device,
+        serial=place.serial,
+        rotated=place.rotated,
+        first=pair.first or place.first,
+        recover=place.recover if pair.recover is None else pair.recover,
+    )
+
+
+def named(name: str, remarks: Sequence[str]) -> List[str]:
+    """What is said of a table, with its name."""
+    return [f"{name}: {remark}" for remark in remarks]
+
+
+def of_file(name: str, wrong: Sequence[Wrong]) -> Tuple[Wrong, ...]:
+    """Lines that are wrong, with the name of their table."""
+    return tuple(dataclasses.replace(line, file=name) for line in wrong)
+
+
+def numbers(boards: Sequence[int]) -> str:
+    """`board 9`, `boards 9 to 60`."""
+    if len(boards) == 1:
+        return f"board {boards[0]}"
+    return boards_are(sorted(boards)).replace("the boards are", "boards")
+
+
+def serials_wanted(read: Pairings) -> List[str]:
+    """The boards that are named by their own numbers alone."""
+    return [pairing.serial for pairing in read.boards if not pairing.device]
+
+
+def placed(read: Pairings, plugged: Mapping[str, str]) -> Pairings:
+    """With the devices of boards that are named by their own numbers alone, of those that are plugged in. A board
+    that isn't is a line that is wrong."""
+    boards: List[Pairing] = []
+    wrong: List[Wrong] = list(read.wrong)
+    taken: Dict[str, int] = {pairing.device: pairing.board for pairing in read.boards if pairing.device}
+    for pairing in read.boards:
+        device = pairing.device or plugged.get(pairing.serial, "")
+        if device and taken.get(device, pairing.board) == pairing.board:
+            boards.append(dataclasses.replace(pairing, device=device))
+        else:
+            why = f"the board with the number {pairing.serial} isn't plugged in, or is switched off: put that right, and type r"
+            wrong.append(Wrong(pairing.line, pairing.board, why))
+    return dataclasses.replace(read, boards=tuple(boards), wrong=tuple(wrong))

@@ -1,0 +1,320 @@
+"""The table of a round: a board and a pairing a line, as a spreadsheet saves it."""
+
+from __future__ import annotations
+
+import re
+from dataclasses import dataclass, field
+from typing import Dict, List, Optional, Sequence, Tuple, Union
+
+from live.device.protocol import SERIAL_LENGTH
+from live.game.options import RECOVER, STRICT, TAG
+from live.game.tags import OTHERS, Malformed, cleaned, is_seen, value_of
+from live.round.headings import COLUMNS, PERHAPS, normal
+from live.round.sheets import Sheet, fields_of, read_sheet, told_of_above
+
+YES = ("yes", "y", "1", "x", "true", "rotated", "ja", "oui", "si")
+NO = ("", "no", "n", "0", "-", "false", "nein", "non")
+DRAW = "1/2-1/2"
+RESULTS = {
+    "1-0": "1-0", "0-1": "0-1", DRAW: DRAW, "1/2": DRAW, "½": DRAW, "½-½": DRAW, "0.5-0.5": DRAW, ".5-.5": DRAW, "=-=": DRAW,
+}  # fmt: skip
+NOT_YET = ("", "*", "-", "--", "---")
+UNPLAYED = ("+--", "--+", "+-", "-+", "1-0F", "0-1F", "1-0K", "0-1K", "1F-0F", "0F-1F")  # of those who haven't come
+BYES = (  # what pairing programs write instead of an opponent, as `normal` makes it
+    *("", "bye", "pairingallocatedbye", "notpaired", "unpaired", "absent", "spielfrei", "freilos", "nichtausgelost", "abwesend"),
+    *("exempt", "nonapparie", "libre", "descansa", "descanso", "ausente", "riposa", "riposo", "assente", "nonabbinato"),
+)
+HIGHEST = 999
+LONGEST = 1000  # characters of a value
+LONGEST_SHOWN = 40  # of one that is wrong
+MOST_UNKNOWN = 5  # columns that are told one by one
+SERIAL = re.compile(f"[!-~]{{{SERIAL_LENGTH}}}")
+NAME = re.compile(r"[\w][\w .+-]*")
+ROUND = "round"  # what the files of the round itself are called
+EXAMPLE = "1,/dev/ttyUSB0,Anna,Ben"
+
+
+@dataclass(frozen=True)
+class Pairing:
+    """A line that is right: a board, its device, and its game."""
+
+    line: int
+    board: int
+    device: str
+    white: str = ""
+    black: str = ""
+    rotated: bool = False
+    first: str = ""
+    fen: str = ""
+    name: str = ""
+    result: str = ""
+    recover: Optional[bool] = None  # as the call has it, where nothing is said
+    serial: str = ""  # the number of the board itself
+    tags: Tuple[Tuple[str, str], ...] = ()  # of what is published
+    remarks: Tuple[str, ...] = ()  # what is said of values that are left out
+
+    @property
+    def file_name(self) -> str:
+        """What the files of the game are called."""
+        return self.name or f"{self.board:02}"
+
+    def words(self, tags: Sequence[str]) -> Tuple[str, ...]:
+        """The options of the game, with those that all games have."""
+        words = ["--rotated"] if self.rotated else []
+        for option, value in (("--first", self.first), ("--fen", self.fen)):
+            words += [option, value] if value else []
+        words += tags
+        for option, value in (("--white", self.white), ("--black", self.black)):
+            words += [option, value] if value else []
+        for name, value in self.tags:
+            words += [TAG, f"{name}={value}"]
+        if self.recover is not None:
+            words.append(RECOVER if self.recover else STRICT)
+        return tuple(words)
+
+
+@dataclass(frozen=True)
+class Wrong:
+    """A line that is wrong, and why; its board where that could be read."""
+
+    line: int
+    board: Optional[int]
+    why: str
+    file: str = ""  # the name of its table, where there is more than one
+
+
+@dataclass(frozen=True)
+class Pairings:
+    """The table: the boards by their numbers, the lines that are wrong, and what else is to be said."""
+
+    boards: Tuple[Pairing, ...]
+    wrong: Tuple[Wrong, ...] = ()
+    remarks: Tuple[str, ...] = ()
+    has_devices: bool = True  # it says where its boards are plugged in
+
+
+@dataclass(frozen=True)
+class LeftOut:
+    """A line that is no board's, or has no game, and why."""
+
+    why: str
+
+
+@dataclass
+class Taken:
+    """The lines that are right, by what each has alone, and those that are wrong."""
+
+    boards: Dict[int, Pairing] = field(default_factory=dict)
+    devices: Dict[str, Pairing] = field(default_factory=dict)
+    names: Dict[str, Pairing] = field(default_factory=dict)
+    serials: Dict[str, Pairing] = field(default_factory=dict)
+    wrong: List[Wrong] = field(default_factory=list)
+
+    def take(self, read: Pairing) -> Tuple[str, ...]:
+        """Takes a line, unless another one has its board, device, number or name. What is said of its values."""
+        wrong = self._twice(read)
+        if wrong:
+            self.wrong.append(wrong)
+            return ()
+        self.boards[read.board] = self.names[read.file_name] = read
+        if read.device:
+            self.devices[read.device] = read
+        if read.serial:
+            self.serials[read.serial] = read
+        return read.remarks
+
+    def _twice(self, read: Pairing) -> Optional[Wrong]:
+        if read.board in self.boards:
+            line = self.boards[read.board].line
+            return Wrong(read.line, read.board, f"board {read.board} stands in line {line} already: type another")
+        if read.device in self.devices:
+            return device_twice(read, self.devices[read.device])
+        if read.serial in self.serials:
+            other = self.serials[read.serial]
+            why = f"{read.serial} is the serial number of board {other.board}: type another"
+            return Wrong(read.line, read.board, why)
+        if read.file_name in self.names:
+            other = self.names[read.file_name]
+            why = f"{read.file_name} is the name of the game of board {other.board}: type another"
+            return Wrong(read.line, read.board, why)
+        return None
+
+
+def read_pairings(content: bytes) -> Pairings:
+    """Reads the table. Refused where it has no line with headings that are known, and where it is too large."""
+    sheet = read_sheet(content)
+    has_devices = sheet.heading.has_devices
+    remarks = [*told_of_above(sheet.above), *unknown(sheet.heading.unknown)]
+    taken = Taken()
+    left_out: List[str] = []
+    for number, line in sheet.lines:
+        read = _read(number, line, sheet)
+        if isinstance(read, Pairing):
+            remarks += taken.take(read)
+        elif isinstance(read, Wrong):
+            taken.wrong.append(read)
+        else:
+            left_out.append(read.why)
+    remarks += [*left_out[:MOST_UNKNOWN], *more_lines(len(left_out) - MOST_UNKNOWN)]
+    in_order = tuple(taken.boards[board] for board in sorted(taken.boards))
+    lacking = nameless(in_order) if has_devices else []
+    return Pairings(in_order, tuple(taken.wrong), (*remarks, *lacking), has_devices)
+
+
+def _read(number: int, line: str, sheet: Sheet) -> Union[Pairing, Wrong, LeftOut]:
+    roles, has_devices = sheet.heading.roles, sheet.heading.has_devices
+    fields = fields_of(line, sheet.separator)
+    if fields is None:
+        board = _number(line.partition(sheet.separator)[0])
+        return Wrong(number, board, "a quote isn't closed, or stands in the midst of a field")
+    values = dict.fromkeys(COLUMNS, "")
+    values.update((role, cleaned(field)) for role, field in zip(roles, fields) if role)
+    board = _number(values["board"])
+    if board is None:
+        if not has_devices and not (values["white"] and values["black"]):
+            return LeftOut(f"line {number} has no board's number, and isn't used: {shown(' '.join(filter(None, fields)))}")
+        return Wrong(number, None, f"{shown(values['board'] or 'nothing')} is no number of a board: type 1 to {HIGHEST}")
+    if any(fields[len(roles) :]):
+        return Wrong(number, board, f"it has {len(fields)} fields, and the first line has {len(roles)}")
+    result, why_none = result_of(values["result"])
+    if has_devices and result in UNPLAYED:
+        why_none = no_result(values["result"])
+    if not has_devices:
+        no_game = without_a_game(board, values["white"], values["black"], result)
+        if no_game:
+            return LeftOut(f"line {number}: {no_game}")
+    why = _trouble({name: values[name] for name in COLUMNS}, has_devices)
+    if why:
+        return Wrong(number, board, why)
+    tags, remarks = _tags(number, values)
+    if why_none and has_devices:
+        return Wrong(number, board, why_none)
+    if why_none:
+        remarks = (*remarks, f"line {number}, column result: {why_none}; it isn't used")
+    return Pairing(
+        number,
+        board,
+        values["device"],
+        values["white"],
+        values["black"],
+        values["rotated"].lower() in YES,
+        values["first"].lower(),
+        values["fen"],
+        values["name"],
+        RESULTS.get(result, ""),
+        values["recover"].lower() in YES if values["recover"] else None,
+        serial_number(values["serial"]),
+        tags,
+        remarks,
+    )
+
+
+def result_of(text: str) -> Tuple[str, str]:
+    """The result that a table has, as a pairing program writes it, without blanks; and what is wrong with it, if
+    anything is."""
+    result = text.replace(" ", "").replace("–", "-").replace(":", "-").replace(",", ".")
+    if result in RESULTS or result in NOT_YET or result in UNPLAYED:
+        return result, ""
+    return "", no_result(text)
+
+
+def no_result(text: str) -> str:
+    """What is said of a result that isn't one."""
+    return f"result is {shown(text)}: type 1-0, 0-1 or 1/2-1/2"
+
+
+def without_a_game(board: int, white: str, black: str, result: str) -> str:
+    """Why a line of a pairing program has no game, and who has none; nothing where it has one."""
+    for player, other in ((white, black), (black, white)):
+        if normal(other) in BYES:
+            return f"board {board}: {player or 'nobody'} has no opponent ({other or 'nobody'}), and no game is recorded"
+    if result in UNPLAYED:
+        return f"board {board}: {white} - {black} isn't played ({result}), and no game is recorded"
+    return ""
+
+
+def tag_of(column: str) -> Optional[str]:
+    """The tag of a column that has one of what is published alone; None where it isn't. The board's number is the
+    table's own."""
+    name = column.rstrip(PERHAPS)
+    return name if name in OTHERS else None
+
+
+def _tags(line: int, values: Dict[str, str]) -> Tuple[Tuple[Tuple[str, str], ...], Tuple[str, ...]]:
+    """The tags of a line, and what is said of those that are left out."""
+    tags: Dict[str, str] = {}
+    remarks: List[str] = []
+    for column, text in values.items():
+        name = tag_of(column)
+        if name is None:
+            continue
+        try:
+            tags[name] = value_of(name, text)
+        except Malformed as error:
+            if not column.endswith(PERHAPS):
+                remarks.append(f"line {line}, column {name}: {error}; the board is recorded without it")
+    return tuple(sorted((name, value) for name, value in tags.items() if value)), tuple(remarks)
+
+
+def serial_number(text: str) -> str:
+    """A board's number as the board gives it: a spreadsheet drops the zeros in front."""
+    return text.zfill(SERIAL_LENGTH) if text.isascii() and text.isdigit() else text
+
+
+def shown(value: str) -> str:
+    """A value in quotes, and only the beginning of a long one."""
+    return repr(value if len(value) <= LONGEST_SHOWN else value[:LONGEST_SHOWN] + "..")
+
+
+def _number(text: str) -> Optional[int]:
+    text = text.strip().rstrip(".")
+    return int(text) if re.fullmatch("[0-9]{1,3}", text) and int(text) > 0 else None
+
+
+def _trouble(values: Dict[str, str], has_devices: bool) -> str:
+    """What is wrong with the values of a line, if anything is."""
+    if has_devices and not (values["device"] or values["serial"]):
+        return "it names no device: type /dev/ttyUSB0, or what dgt_live --devices lists"
+    odd = next((name for name, value in values.items() if not is_seen(value)), "")
+    if odd:
+        return f"{odd} has a character that can't be seen: type it anew"
+    long = next((name for name, value in values.items() if len(value) > LONGEST), "")
+    if long:
+        return f"{long} has more than {LONGEST} characters: type it anew"
+    for name in ("rotated", "recover"):
+        if values[name].lower() not in YES + NO:
+            return f"{name} is {shown(values[name])}: type yes or no"
+    if values["first"].lower() not in ("", "white", "black"):
+        return f"first is {shown(values['first'])}: type white or black"
+    if values["name"] == ROUND:
+        return f"name is {shown(ROUND)}: the files of the round itself are called so: type another"
+    if values["serial"] and not SERIAL.fullmatch(serial_number(values["serial"])):
+        return f"serial is {shown(values['serial'])}: type its {SERIAL_LENGTH} characters, as dgt_live --devices lists them"
+    if values["name"] and not NAME.fullmatch(values["name"]):
+        return f"name is {shown(values['name'])}: type letters, digits, blanks, . - +"
+    return ""
+
+
+def unknown(columns: Sequence[str]) -> List[str]:
+    """What is said of columns that aren't known."""
+    told = [f"the column {shown(name)} isn't known, and isn't used" for name in columns[:MOST_UNKNOWN]]
+    more = len(columns) - len(told)
+    return [*told, f"{more} more columns aren't known, and aren't used"] if more > 0 else told
+
+
+def more_lines(number: int) -> List[str]:
+    """What is said of so many lines that aren't told one by one."""
+    return [f"{number} more lines aren't used"] if number > 0 else []
+
+
+def device_twice(read: Pairing, other: Pairing) -> Wrong:
+    """A line whose device another line has."""
+    why = f"{read.device} is the device of board {other.board}, line {other.line}: each has its own"
+    return Wrong(read.line, read.board, why)
+
+
+def nameless(boards: Sequence[Pairing]) -> List[str]:
+    """What is said of lines that name one player and not the other."""
+    lacks = [(one, "white" if one.black else "black") for one in boards if bool(one.white) != bool(one.black)]
+    write = "type the name, save the table, and type r"
+    return [f"line {one.line}: board {one.board} has no {side}: {write}" for one, side in lacks]

@@ -1,0 +1,96 @@
+"""A file with the texts of all games one after the other, written beside the loop: round.pgn, and broadcast.pgn."""
+
+from __future__ import annotations
+
+import pathlib
+from typing import Callable, Optional
+
+from live.beside import Worker
+from live.game.files import put_in_place
+from live.game.making_pgn import Made
+from live.loop import Timer, Turns
+
+AGAIN = 1.0  # seconds, where it couldn't be written
+GATHERED = 0.02  # seconds in which changes go into one text
+SHARE = 10  # times as long as the last one took to be written: the disk is for the games first
+LONGEST = 1.0  # seconds
+
+
+class Published:
+    """Keeps a file with a text. Where it can't be written, that is said once, and it is tried again. `on_written` is called when
+    it has another one."""
+
+    def __init__(
+        self, loop: Turns, path: pathlib.Path, text: Callable[[], bytes], says: Callable[[str], None]
+    ) -> None:
+        self._loop, self.path, self._text, self._says = loop, path, text, says
+        self.on_written: Callable[[], None] = lambda: None
+        self._worker = Worker(loop)
+        self._timer: Optional[Timer] = None
+        self._writing = False
+        self._written: Optional[bytes] = None
+        self._gathered = GATHERED
+        self._trouble = ""
+
+    def changed(self) -> None:
+        """The text of a game is another."""
+        if self._timer is None and not self._writing:
+            self._timer = self._loop.after(self._gathered, self._write)
+
+    def _write(self) -> None:
+        """Has it written beside the loop."""
+        self._timer = None
+        text = self._text()
+        if text == self._written:
+            return
+        self._writing = True
+        begun = self._loop.now()
+
+        def done(made: Made) -> None:
+            self._writing = False
+            self._gathered = max(GATHERED, min(LONGEST, SHARE * (self._loop.now() - begun)))
+            self._put(text, made)
+            if made.trouble:
+                self._timer = self._loop.after(AGAIN, self._write)
+            else:
+                self.changed()
+
+        self._worker.do(lambda: written(self.path, text), done)
+
+    def _put(self, text: bytes, made: Made) -> None:
+        """What came of a writing."""
+        if not made.trouble:
+            is_news, self._written = text != self._written, text
+            if self._trouble:
+                self._says(f"{self.path} is written again")
+            if is_news:
+                self.on_written()
+        elif not self._trouble:
+            what = "DISK FULL" if made.full else "NOT WRITTEN"
+            self._says(f"{what}: {self.path} can't be written ({made.trouble}); it is tried again each second")
+        self._trouble = made.trouble
+
+    def stop(self) -> None:
+        """It is written no more."""
+        if self._timer:
+            self._timer.cancel()
+        self._worker.close()
+
+    def close(self) -> str:
+        """Writes it a last time. What keeps it from being written, if anything does."""
+        self.stop()
+        self._worker.wait()
+        text = self._text()
+        self._put(text, written(self.path, text))
+        return self._trouble
+
+
+def written(path: pathlib.Path, text: bytes) -> Made:
+    """Writes it, and tells what came of it."""
+    try:
+        put_in_place(path, text)
+        return Made()
+    except OSError as error:
+        return Made.of_error(error)
+    except Exception as error:  # it is one file of many
+        return Made(f"{type(error).__name__}: {error}")

@@ -1,0 +1,399 @@
+"""A round: all its boards, the file that names them, what is typed, and round.pgn."""
+
+from __future__ import annotations
+
+import datetime
+import os
+import pathlib
+import shlex
+from typing import Callable, Dict, List, Optional, Sequence, Set, Tuple, Union
+
+from live.beside import Worker
+from live.board.board import Board
+from live.broadcast.broadcast import NOT_PUBLISHED, Broadcast
+from live.broadcast.games import Game, written_name
+from live.broadcast.leaving import clock_in
+from live.game import added
+from live.game.adding import printable, refusal
+from live.game.files import LOGGED, Log, Paths, text_of
+from live.guard import traced
+from live.loop import Loop
+from live.refused import DONE, FAILED, REFUSED, Refused
+from live.round.display import Display
+from live.round.pairings import EXAMPLE, ROUND, Pairing, Pairings, Wrong, device_twice
+from live.round.published import Published
+from live.round.row import NOT_RECORDED, Hall, Row, game_of_others
+from live.round.sources import Source
+from live.round.table import RowView, boards_are, counted, lines_are_wrong
+from live.terminal.terminal import Typed
+from live.web.view import round_pgn
+
+OPENS = 5.0  # seconds that all games may take to be opened
+HIGHEST = 6  # digits of a number that may be a board's
+
+
+def first_pairings(source: Source) -> Pairings:
+    """The table with which a round begins; boards that it names by their own numbers are looked for. Refused where it
+    names none."""
+    file = source.file
+    try:
+        read = source.read()
+        if source.wants:
+            source.found(source.look())
+            read = source.read()
+    except FileNotFoundError:
+        raise Refused(FAILED, f"there is no {file}: save the table there as CSV, and see dgt_round --help") from None
+    except OSError as error:
+        why = f"{file} can't be read ({text_of(error)}): type the FILE of the table first, and then the FOLDER"
+        raise Refused(FAILED, why) from None
+    except Refused as refused:
+        raise Refused(REFUSED, f"{file}: {refused.lines[0]}") from None
+    if not read.boards and not read.wrong:
+        raise Refused(REFUSED, f"{file} names no board: each line after the first is one, as {EXAMPLE}")
+    return read
+
+
+def same_device(device: str) -> str:
+    """What a device is, by whatever name."""
+    return os.path.realpath(device)
+
+
+def another_folder(folder: str) -> str:
+    """A folder for another round: `round4` beside `round3`, `club-2` beside `club`."""
+    if not os.path.basename(folder).strip("."):
+        return "round2"  # beside what is here, or above
+    stem = folder.rstrip("0123456789")
+    number = folder[len(stem) :]
+    return stem + str(int(number) + 1).zfill(len(number)) if number else f"{stem}-2"
+
+
+def example(numbers: Sequence[int]) -> int:
+    """The number of a board, as --help has it where there is such a board."""
+    return 3 if 3 in numbers or not numbers else numbers[-1]
+
+
+def all_ways(numbers: Sequence[int]) -> str:
+    """What can be typed."""
+    number = example(numbers)
+    here = f"{number} 1-0, {number} Nf3 Nc6, {number} back, {number} help"
+    return f"type {here}, {number} (how board {number} stands), r (read the file again) or q (end)"
+
+
+def ways(text: str, numbers: Sequence[int]) -> str:
+    """What is to be typed, in the place of a text that begins with no board's number."""
+    number = example(numbers)
+    try:
+        typed = added.read_words(text)
+    except added.Refused:
+        typed = added.Nothing()
+    if isinstance(typed, added.Result):
+        return f"of which board? Type its number first, as {number} {typed.outcome}"
+    if isinstance(typed, added.Moves):
+        return f"of which board? Type its number first, as {number} {typed.words[0]}"
+    if isinstance(typed, (added.Back, added.Reopened, added.Acknowledged)):
+        return f"of which board? Type its number first, as {number} {' '.join(text.split())}"
+    return all_ways(numbers)
+
+
+class Round:
+    """All boards of a round in one loop, which is stopped when all have ended."""
+
+    def __init__(self, loop: Loop, source: Source, read: Pairings, title: str, hall: Hall) -> None:
+        self._loop, self._source, self._file, self._hall = loop, source, source.file, hall
+        self.rows: Dict[int, Row] = {}
+        self._wrong: List[Wrong] = []
+        self._right: Set[int] = set()  # the boards whose lines are right
+        folder = pathlib.Path(hall.folder)
+        self._log = Log(folder / "round.log")
+        self._published = Published(loop, folder / f"{ROUND}.pgn", self._text, self.say)
+        self.broadcast = Broadcast(loop, hall.out, folder / "broadcast.pgn", self.boards, self._paths_of, self)
+        self._display = Display(loop, title, self.views, hall.terminal, self.trouble)
+        self._opens_until = loop.now() + OPENS
+        loop.after(OPENS, self.remade)
+        self._looker: Optional[Worker] = None  # it looks which boards are plugged in
+        self._ending = self._was_asked = False
+        self._left = 0
+        self.on_change: Callable[[], None] = lambda: None
+        self._was_terminal = os.isatty(0)
+        self._refuse_another_round(read)
+        self._take(read)
+        self._typed = Typed(loop, self.typed, self.refuses)
+
+    def boards(self) -> List[Row]:
+        """In the order of their numbers."""
+        return [self.rows[number] for number in sorted(self.rows)]
+
+    # The file.
+
+    def _refuse_another_round(self, read: Pairings) -> None:
+        """A table that has other players for what was played is another round's: nothing is changed then."""
+        for pairing in self._without_twice(read)[0]:
+            kept = game_of_others(self._hall, pairing)
+            if kept:
+                game = pathlib.Path(self._hall.folder) / pairing.file_name
+                raise Refused(
+                    REFUSED,
+                    f"{game} has moves of {kept.players}: for another round {self._other_round()}",
+                    "To change both names of a game, start with the old table, change it, and type r",
+                )
+
+    def _other_round(self) -> str:
+        """What is to be done for another round than this one."""
+        if self._source.in_tournament:
+            return f"save its table under its own number, in {self._file.parent}"
+        folder = another_folder(self._hall.folder)
+        while os.path.lexists(folder):
+            folder = another_folder(folder)
+        return f"take another folder, as {shlex.join(['dgt_round', str(self._file), folder])}"
+
+    def read_again(self) -> str:
+        """Reads the file again. Where it can't be read nothing changes."""
+        try:
+            read = self._source.read()
+        except OSError as error:
+            return f"refused: {self._file} can't be read ({text_of(error)}): nothing is changed"
+        except Refused as refused:
+            return f"refused: {self._file}: {refused.lines[0]}: nothing is changed"
+        if not read.boards:
+            return f"refused: {self._file} has no line that is right: nothing is changed"
+        self._take(read)
+        self._look_for_boards()
+        return f"{self._file} is read again: {counted(len(self._right), 'board')}{lines_are_wrong(len(self._wrong))}"
+
+    def _look_for_boards(self) -> None:
+        """Looks which boards are plugged in, where some that are named by their own numbers alone weren't found. It takes a
+        while, and so is done beside the loop."""
+        if not self._source.wants or self._looker:
+            return
+        self._looker = Worker(self._loop)
+
+        def look() -> Union[Dict[str, str], Exception]:
+            try:
+                return self._source.look()
+            except Exception as error:
+                return error
+
+        def found(plugged: Union[Dict[str, str], Exception]) -> None:
+            if self._looker:
+                self._looker.close()
+                self._looker = None
+            if isinstance(plugged, Exception):
+                self.trouble(traced(plugged))
+            elif any(serial in plugged for serial in self._source.wants) and not self._ending:
+                self._source.found(plugged)
+                self.say(self.read_again())
+
+        self._looker.do(look, found)
+
+    def _take(self, read: Pairings) -> None:
+        for remark in read.remarks:
+            self.say(remark)
+        boards, self._wrong = self._without_twice(read)
+        self._right = {pairing.board for pairing in boards}
+        for wrong in self._wrong:
+            self.say(f"line {wrong.line} of {wrong.file or self._file.name} is wrong: {self._why(wrong)}")
+        named = {pairing.board for pairing in boards} | {wrong.board for wrong in self._wrong}
+        for number in sorted(set(self.rows) - {number for number in named if number}):
+            # A line whose number can't be read may be this one's.
+            if None in named:
+                self.say(f"{number}: no line names it; as a line without a number stands there, it goes on")
+            else:
+                pgn = self.rows[number].board.paths.pgn
+                self.say(f"{number}: no line names it any more: it ends, and its game stays in {pgn}")
+                self.rows.pop(number).end(self.changed)
+        for pairing in boards:
+            if pairing.board in self.rows:
+                self.rows[pairing.board].take(pairing)
+            else:
+                self.rows[pairing.board] = Row(self._loop, self._hall, pairing, self)
+                self.rows[pairing.board].begin()
+        self.remade()
+        self.changed()
+
+    def _without_twice(self, read: Pairings) -> Tuple[List[Pairing], List[Wrong]]:
+        """Without lines whose device is another line's under another name."""
+        found: Dict[str, Pairing] = {}
+        boards, wrong = [], list(read.wrong)
+        for pairing in read.boards:
+            other = found.setdefault(same_device(pairing.device), pairing)
+            if other is pairing:
+                boards.append(pairing)
+            else:
+                wrong.append(device_twice(pairing, other))
+        return boards, sorted(wrong, key=lambda line: line.line)
+
+    # What is shown.
+
+    def say(self, text: str) -> None:
+        """A line for whoever looks at the screen."""
+        self._display.say(text)
+        self.changed()
+
+    def views(self) -> List[RowView]:
+        """The rows, and behind them the lines that belong to none."""
+        rows = [self._view(row) for row in self.boards()]
+        for wrong in self._wrong:
+            state = f"line {wrong.line}{wrong.file and ' of '}{wrong.file} is wrong: {self._why(wrong)}"
+            rows.append(RowView(wrong.board, state=state, alarm=True, is_board=False))
+        if self.broadcast.alarm:
+            why = f"{NOT_PUBLISHED}: {self.broadcast.alarm}"
+            rows.append(RowView(None, state=why, alarm=True, is_of_all=True))
+        return rows
+
+    def _view(self, row: Row) -> RowView:
+        """What a row shows; where that can't be told, what went wrong."""
+        try:
+            return row.view()
+        except Exception as error:
+            self.trouble(traced(error))
+            return RowView(row.number, state=NOT_RECORDED, rest=f": {type(error).__name__}: {error}", alarm=True)
+
+    def _why(self, wrong: Wrong) -> str:
+        """What is wrong with a line, and what becomes of its board."""
+        goes_on = wrong.board in self.rows and wrong.board not in self._right
+        return f"{wrong.why}; board {wrong.board} goes on as it was begun" if goes_on else wrong.why
+
+    def changed(self) -> None:
+        """What a row shows is another."""
+        self.on_change()
+        if self._is_opened:
+            self.broadcast.changed()
+        if not self._ending:
+            self._display.changed()
+
+    @property
+    def _is_opened(self) -> bool:
+        """Whether all games are opened, unless the opening of one takes too long: a first text has all of them."""
+        return self._loop.now() >= self._opens_until or not any(row.board.is_new for row in self.rows.values())
+
+    def remade(self) -> None:
+        """The text of a game is another."""
+        if self._is_opened:
+            self._published.changed()
+            self.broadcast.changed()
+
+    def _text(self) -> bytes:
+        """round.pgn: what was recorded."""
+        return round_pgn(row.board.pgn for row in self.boards())
+
+    def results(self) -> List[Tuple[int, str, str, str]]:
+        """Each board with its players, as they are published, and its result: that of its game, or that of its line."""
+        found = []
+        for row in self.boards():
+            result = row.board.result if row.board.result != "*" else row.pairing.result
+            found.append((row.number, written_name(row, "White"), written_name(row, "Black"), result or "*"))
+        return found
+
+    def _paths_of(self, row: Game) -> Paths:
+        return Paths(f"{self._hall.folder}/{row.name}")
+
+    def owner(self, number: str) -> Optional[Board]:
+        """The board that has this serial number, unless its game is over."""
+        return next((row.board for row in self.boards() if row.serial == number and not row.board.is_over), None)
+
+    # What is typed.
+
+    def typed(self, text: str) -> None:
+        """A line of the terminal."""
+        self._display.forget()
+        words = text.split()
+        if not words:
+            pass
+        elif words[0].lower() in ("q", "quit", "exit"):
+            if self._may_end():
+                self.end()
+                return
+        elif words[0].lower() == "r" and len(words) == 1:
+            self.say(self.read_again())
+        elif words[0].lower() in added.HELPS:
+            self.say(all_ways(sorted(self.rows)).replace("type", "Type", 1))
+        elif words[0].isascii() and words[0].isdigit() and not added.is_result(text):
+            self.say(self._of_board(words[0], words[1:]))
+        else:
+            self.say(f"refused: {printable(text)}: {ways(text, sorted(self.rows))}")
+        self.changed()
+
+    def refuses(self, text: str, error: Exception) -> None:
+        """A line of the terminal raised an error."""
+        self.say(refusal(text, error)[1])
+        self.trouble(traced(error))
+
+    def _of_board(self, number: str, words: List[str]) -> str:
+        row = self.rows.get(int(number)) if len(number) <= HIGHEST else None
+        if row is None:
+            return f"refused: there is no board {printable(number)}: {boards_are(sorted(self.rows))}"
+        if not words:
+            board = row.board
+            looks = [look.text for look in board.looks.open]
+            places = ", ".join(filter(None, (row.pairing.device, row.serial, str(board.paths.capture))))
+            parts = [row.whole_standing(), *looks, *board.recovered, places]
+            return f"{row.number}: {'; '.join(parts)}"
+        _, answer = row.add(" ".join(words))
+        if answer == added.ALL_WAYS:
+            return f"{row.number}: behind the number, {added.ALL_WAYS.replace('Type', 'type', 1)}"
+        return f"{row.number} {answer}" if answer.startswith("refused") else f"{row.number}: {answer}"
+
+    def trouble(self, text: str) -> None:
+        """What should never happen, and where: for the log of the round."""
+        self._log.write(f"{datetime.datetime.now():{LOGGED}}", text)
+
+    # How it ends.
+
+    def hung_up(self) -> None:
+        """HUP: the file is read again; but where the terminal is gone, all ends."""
+        if self._was_terminal and not os.isatty(0):
+            self.end()
+            return
+        try:
+            self.say(self.read_again())
+        except Exception as error:
+            self.refuses("HUP", error)
+
+    def _may_end(self) -> bool:
+        """Whether nobody waits for what is still hidden, or whoever ends it has been told of that."""
+        left = None if self._was_asked else self.broadcast.hidden_for
+        if left is None:
+            return True
+        self._was_asked = True
+        self.say(f"spectators see the last moves at {clock_in(left)}: leave it running until then. To end it now, type q again")
+        return False
+
+    def end(self) -> None:
+        """Ends all boards in order. A second call waits no longer for what is being published."""
+        if self._ending:
+            if self._left == 0:
+                self._loop.stop()
+            return
+        self._ending = True
+        self._left = len(self.rows)
+        for row in self.boards():
+            row.end(self._one_ended)
+        if not self.rows:
+            self._loop.after(0, self._all_ended)
+
+    def _one_ended(self) -> None:
+        self._left -= 1
+        if self._left == 0:
+            self._loop.after(0, self._all_ended)
+
+    def _all_ended(self) -> None:
+        """The last text goes out."""
+        self.broadcast.finish(self._loop.stop)
+
+    def close(self) -> Tuple[int, List[str]]:
+        """When the loop has stopped: the last round.pgn, and the last lines. A status and complaints."""
+        self._typed.close()
+        complaints = [f"board {row.number}: {row.board.trouble}" for row in self.boards() if row.board.trouble]
+        trouble = self._published.close()
+        if trouble:
+            complaints.append(f"{self._published.path} can't be written ({trouble}): is the disk full?")
+        left = self.broadcast.hidden_for
+        if left is not None:
+            self.say(f"spectators haven't seen all moves. Start it again to show them, the last ones at {clock_in(left)}")
+        complaints += self.broadcast.close()
+        self._display.close(f"dgt_round: what was played is in {self._published.path}")
+        try:
+            self._log.close()
+        except Exception as error:
+            complaints.append(f"round.log couldn't be written ({type(error).__name__}: {error})")
+        return (FAILED if complaints else DONE), complaints

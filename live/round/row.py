@@ -1,0 +1,299 @@
+"""A board of a round, with its line of the table, and what its row shows."""
+
+from __future__ import annotations
+
+import dataclasses
+from dataclasses import dataclass
+from typing import Callable, Optional, Protocol, Tuple
+
+from live.board.board import Board, Wanted
+from live.board.plan import Plan
+from live.board.recording import Rules
+from live.board.state import OTHER_BOARD, Kind, State
+from live.broadcast.going_out import GoingOut
+from live.device import serial_line
+from live.device.protocol import SQUARES
+from live.game import files
+from live.game.adding import Answer
+from live.game.course import clocks_of
+from live.game.files import Paths
+from live.game.game import kept_options
+from live.game.opening import Chooses, Opening, checked, of_a_line, recordable, turned
+from live.game.options import UNKNOWN, Options
+from live.game.program import Program
+from live.game.reading import game_of
+from live.game.tags import Tags
+from live.loop import Turns
+from live.refused import Refused
+from live.round.pairings import Pairing
+from live.round.table import RowView
+from live.terminal.screen import Screen
+from live.terminal.terminal import Terminal
+
+UNSAID = ("records ", "added by hand", "acknowledged: ", " has the cable ")  # below a table: its rows and the answers show that
+NOT_RECORDED = "NOT RECORDED"
+BEGUN_ANEW = "is begun anew"  # where its line has changed
+TURNED, OTHER = "turned round?", "other board?"  # in a row, for a hint that has no room there
+
+
+@dataclass(frozen=True)
+class Hall:
+    """What all boards of a round have: the program, the folder of their games, the options of all games, how long a result
+    stands, where lines are printed, if they are, and how the games go out."""
+
+    program: Program
+    folder: str
+    options: Options
+    linger: int
+    terminal: Optional[Terminal]
+    out: GoingOut = GoingOut()
+
+
+class HearsRow(Protocol):
+    """Who is told of a board of a round."""
+
+    def changed(self) -> None:
+        """What its row shows is another."""
+
+    def remade(self) -> None:
+        """Its PGN is another."""
+
+    def owner(self, number: str) -> Optional[Board]:
+        """The board that has this serial number."""
+
+    def say(self, text: str) -> None:
+        """A line for whoever looks at the screen."""
+
+
+class RowScreen(Screen):
+    """What is told of one board: with its number to a pipe, and to whoever looks at its row."""
+
+    def __init__(self, number: int, terminal: Optional[Terminal], hears: HearsRow) -> None:
+        super().__init__(terminal)
+        self._number, self._hears = number, hears
+        self.on_change = hears.changed
+        self._has_table = terminal is None
+
+    def say(self, text: str, *more: str) -> None:
+        super().say(text, *more)
+        if self._has_table and not any(part in text for part in UNSAID):
+            self._hears.say(f"{self._number}: {' '.join([text, *more])}")
+
+    def _print(self, line: str) -> None:
+        super()._print(f"{line[:10]}{self._number:>3}  {line[10:]}")
+
+    def old(self, text: str) -> None:
+        """What was played before isn't told again: the table has the last move, and the log all."""
+
+    def move(self, text: str) -> None:
+        super().say(text)
+
+    def anew(self, pgn: str, text: str) -> str:
+        return text
+
+    def turn(self, rotated: bool) -> str:
+        return f"Write {'no' if rotated else 'yes'} in its column rotated, save the table, and type r; or turn the board"
+
+    def ok(self) -> str:
+        return f"{self._number} {super().ok()}"
+
+    def reopens(self) -> str:
+        return f"{self._number} {super().reopens()}"
+
+    def other_device(self) -> str:
+        return "Write it in its column device, save the table, and type r"
+
+    def hint(self, text: str) -> None:
+        if self._has_table:
+            self._hears.say(f"{self._number}: {text}")
+
+
+def typed_options(hall: Hall, pairing: Pairing) -> Options:
+    """Those of a line, with those of all games, and with the tags of what is published. A name that can't be written in
+    ASCII is recorded as that of the board's White or Black."""
+    options = Options.of_words(pairing.words(hall.options.words()))
+    tags = {"Board": str(pairing.board)}
+    if options.round not in (None, UNKNOWN) and "." not in (options.round or ""):
+        tags["Round"] = f"{options.round}.{pairing.board}"
+    numbered = options.tagged({**tags, **dict(options.tags)})
+    return recordable(numbered, lambda option: f"{option[2:].capitalize()} {pairing.board}")
+
+
+def same_but_for_result(one: Pairing, other: Pairing) -> bool:
+    """Whether two lines have the same game, wherever they stand in their tables."""
+    first, second = (dataclasses.replace(pairing, line=0, result="", remarks=()) for pairing in (one, other))
+    return first == second
+
+
+def game_of_others(hall: Hall, pairing: Pairing) -> Optional[Options]:
+    """The options of the game of a line, where it has moves and the line would give it to two other players."""
+    paths = Paths(f"{hall.folder}/{pairing.file_name}")
+    try:
+        given = turned(typed_options(hall, pairing))
+        kept = kept_options(paths)
+        if kept is None or kept.is_said_by(given) or not kept.with_tags_of(given).has_other_players_than(kept):
+            return None
+        return kept if game_of(hall.program, kept, files.existing(paths.capture)).plies else None
+    except (Refused, OSError):
+        return None  # that its row will say
+
+
+class Row:
+    """A board of the round."""
+
+    def __init__(self, loop: Turns, hall: Hall, pairing: Pairing, hears: HearsRow) -> None:
+        self._loop, self._hall, self._hears = loop, hall, hears
+        self.pairing = pairing
+        paths = Paths(f"{hall.folder}/{pairing.file_name}")
+        self.board = Board(loop, hall.program, RowScreen(pairing.board, hall.terminal, hears), paths, self)
+        self.board.called = f"board {pairing.board}"
+        self._device = ""  # as the line had it when the recording was begun
+        self._tags: Tuple[Optional[Pairing], Tags] = (None, {})  # of which line, and they
+        self._wants_result = True
+
+    @property
+    def number(self) -> int:
+        """That of its board."""
+        return self.pairing.board
+
+    @property
+    def name(self) -> str:
+        """What its files are called."""
+        return self.pairing.file_name
+
+    @property
+    def serial(self) -> str:
+        """The serial number of its board; nothing where none is known."""
+        return self.board.number or self.pairing.serial
+
+    # It is recorded, if it can be.
+
+    def begin(self) -> None:
+        """Records it, now or as soon as it can."""
+        self.board.begin()
+
+    def end(self, done: Callable[[], None]) -> None:
+        """Ends its recording in order, and calls this then."""
+        self.board.end(done)
+
+    def wanted(self) -> Wanted:
+        """What its line says."""
+        pairing, hall = self.pairing, self._hall
+        has_cable = self.board.cable and pairing.device == self._device
+        device = self.board.cable if has_cable else pairing.device
+        self._device = pairing.device
+        name = f"{hall.folder}/{pairing.file_name}"
+
+        def prepares() -> Chooses:
+            given = checked(hall.program, typed_options(hall, pairing))
+            serial_line.check(device, may_wait=True)
+            return of_a_line(given, name)
+
+        plan = Plan(device, name, Rules(hall.linger), board=str(pairing.board), serial=pairing.serial)
+        return Wanted(plan, lambda: Opening(hall.program, plan.paths, prepares, 0))
+
+    def changed(self) -> None:
+        """What it shows is another."""
+        if self._wants_result and self.board.is_recorded:
+            self._loop.after(0, self._apply_result)
+        self._hears.changed()
+
+    def remade(self) -> None:
+        """The text of its game is another."""
+        self._hears.remade()
+
+    def ended(self, why: Optional[Exception]) -> bool:
+        """Its recording has ended, or couldn't be begun: it is tried again, where the game isn't over."""
+        if why is None:
+            self._loop.after(0, self._apply_result)
+        return True
+
+    def owner(self, number: str) -> Optional[Board]:
+        """The other board that has this serial number."""
+        board = self._hears.owner(number)
+        return None if board is self.board else board
+
+    # Its line is read again.
+
+    def take(self, pairing: Pairing) -> None:
+        """The line as it is now. Where it is another one the recording is begun anew, and the game goes on."""
+        before, self.pairing = self.pairing, pairing
+        self._wants_result = True
+        if same_but_for_result(before, pairing):
+            self._loop.after(0, self._apply_result)
+            if not self.board.is_recorded and not self.board.is_over:
+                self.board.begin()
+        elif self.board.is_recorded:
+            self.board.end(self.board.begin)
+        else:
+            self.board.try_at_once()
+
+    def _apply_result(self) -> None:
+        """The result that the line has, where the game has none."""
+        if not self._wants_result:
+            return
+        self._wants_result = False
+        wanted = self.pairing.result
+        if wanted and wanted != self.board.result:
+            if self.board.result != "*":
+                self._hears.say(f"{self.number}: its line has {wanted}, and the game ended {self.board.result}: it stays so")
+            else:
+                self._hears.say(f"{self.number}: {self.add(wanted)[1]}")
+
+    def add(self, text: str) -> Answer:
+        """Adds a result or moves that were typed. An answer."""
+        return self.board.add(text)
+
+    # What others see.
+
+    def player_name(self, option: str) -> str:
+        """The name behind `--white` or `--black`."""
+        return self.board.options.value(option) or (self.pairing.white if option == "--white" else self.pairing.black)
+
+    @property
+    def tags(self) -> Tags:
+        """Those that are published and not recorded, or that are published in other letters, as its line has them."""
+        if self._tags[0] is not self.pairing:
+            self._tags = self.pairing, dict(typed_options(self._hall, self.pairing).tags)
+        return self._tags[1]
+
+    @property
+    def in_front(self) -> str:
+        """What stands in front of a line that is typed for it."""
+        return f"{self.number} "
+
+    def standing(self) -> Tuple[str, Optional[float], bool]:
+        """How it stands in words, since when, and whether somebody must look at it."""
+        front, rest, since, alarm = self._standing(self.board.state)
+        return front + rest, since, alarm
+
+    def whole_standing(self) -> str:
+        """How it stands in words, with all squares, and how long it has stood so where somebody must look at it."""
+        state = self.board.state
+        if state is None or self.board.trouble:
+            return self.standing()[0]
+        return state.text(self._loop.now(), len(SQUARES))
+
+    def _standing(self, state: Optional[State]) -> Tuple[str, str, Optional[float], bool]:
+        """The words before how long it has stood so, and those after."""
+        board = self.board
+        if board.trouble:
+            return NOT_RECORDED, f": {board.trouble}", None, True
+        if state is None:
+            if not board.is_over:
+                return BEGUN_ANEW, "", None, False
+            over = f"over {board.result}" if board.result != "*" else "over, no result"
+            look = board.looks.short
+            return look or over, f"; {over}" if look else "", None, bool(look) or board.result == "*"
+        return (*state.parts(), None if state.kind is Kind.WAITS else state.since, state.is_alarm)
+
+    def view(self) -> RowView:
+        """What its row shows. A hint was told in full as it came, and is two words here."""
+        state = self.board.state
+        front, rest, since, alarm = self._standing(state)
+        if state and state.hint and not (state.disk or self.board.trouble):
+            front, rest = OTHER if state.hint == OTHER_BOARD else TURNED, ""
+        plies = self.board.plies
+        last = plies[-1].short if plies else ""
+        white, black = self.player_name("--white"), self.player_name("--black")
+        return RowView(self.number, white, black, last, clocks_of(plies), front, rest, since, alarm)

@@ -1,0 +1,69 @@
+"""The settings of a tournament: lines of `NAME = VALUE`, each an option of dgt_round or a tag of what is published. Pure."""
+
+from __future__ import annotations
+
+import re
+from typing import Dict, List, Sequence
+
+from live.game.options import RECOVER, STRICT, TAG
+from live.game.tags import known_name
+from live.refused import REFUSED, Refused
+from live.round.headings import normal
+from live.round.pairings import NO, YES, shown
+from live.round.sheets import LARGEST, text_of
+
+ALSO = {"place": "site", "tournament": "event", "dates": "date"}  # what else arbiters call some
+FOR_A_ROUND = re.compile(r"(.*\D)\s+(\d{1,3})")  # `date 3`
+TEMPLATE = """\
+# The settings of the tournament, for all its rounds. A line is NAME = VALUE; one that begins with # isn't read.
+# With the number of a round behind the name a line is for that round alone: date 2 = 01.06.2024
+event =
+place =
+date 1 =
+date 2 =
+date 3 =
+# 90+30 is 90 minutes and 30 seconds a move
+time control =
+# Show the games to browsers: 8000 on this computer, 0.0.0.0:8000 in the whole network
+page =
+# Minutes by which what goes out is late, and the command that takes it there
+delay =
+publish =
+"""
+
+
+def words_of(content: bytes, round_number: int, options: Sequence[str]) -> List[str]:
+    """The settings of a round as the words of a command line that has these options with a value. Refused where a line
+    is none: a delay that isn't understood must not be passed over."""
+    if len(content) > LARGEST:
+        raise Refused(REFUSED, f"it has more than {LARGEST // 1024} kB")
+    known = {normal(option): option for option in options if option != TAG}
+    for_all: Dict[str, str] = {}
+    for_this: Dict[str, str] = {}
+    for number, line in enumerate(re.split("\r\n|\r|\n", text_of(content)), 1):
+        if not line.strip() or line.lstrip().startswith("#"):
+            continue
+        name, equals, value = (part.strip() for part in line.partition("="))
+        if not equals:
+            raise Refused(REFUSED, f"line {number} is {shown(line.strip())}: type NAME = VALUE, as event = Club cup")
+        of_round = FOR_A_ROUND.fullmatch(name)
+        word = normal(of_round.group(1) if of_round else name)
+        word = ALSO.get(word, word)
+        tag = known_name(word)
+        if word == normal(RECOVER):
+            if value.lower() not in YES + NO:
+                raise Refused(REFUSED, f"line {number}, {name}: {shown(value)}: type yes or no")
+            typed, value = (RECOVER if value.lower() in YES else STRICT), value and "yes"
+        elif word in known and known[word] != "--round":
+            typed = f"{known[word]}={value}"
+        elif tag and normal(tag) not in ("round", "board", "white", "black"):
+            typed = f"{TAG}={tag}={value}"
+        else:
+            names = ", ".join(sorted(option[2:].replace("-", " ") for option in known.values() if option != "--round"))
+            there = f"there are {names}, recover, and tags as TimeControl"
+            raise Refused(REFUSED, f"line {number}: there is no setting {shown(name)}: {there}")
+        if value and of_round and int(of_round.group(2)) == round_number:
+            for_this[word] = typed
+        elif value and not of_round:
+            for_all[word] = typed
+    return list({**for_all, **for_this}.values())

@@ -1,0 +1,99 @@
+"""A table as a spreadsheet or a pairing program saves it: its text, its separator, the line with its headings, and
+its fields. Pure."""
+
+from __future__ import annotations
+
+import csv
+import re
+from dataclasses import dataclass
+from typing import List, Optional, Sequence, Tuple
+
+from live.refused import REFUSED, Refused
+from live.round.headings import Heading, heading_of
+
+SEPARATORS = (",", ";", "\t")
+LARGEST = 256 * 1024  # bytes
+MOST_LINES = 1000  # the first one, and one for each board that there may be
+MOST_ABOVE = 30  # lines that may stand above the headings
+BINARY = (b"PK\x03\x04", b"\xd0\xcf\x11\xe0")  # what a spreadsheet's own files begin with
+HEADER = "board,device,white,black"
+
+
+@dataclass(frozen=True)
+class Sheet:
+    """A table: its headings, the lines below them, and the numbers of those above."""
+
+    heading: Heading
+    separator: str
+    lines: Tuple[Tuple[int, str], ...]
+    above: Tuple[int, ...] = ()
+
+
+def text_of(content: bytes) -> str:
+    """As spreadsheets save it: UTF-8 or UTF-16, with or without a mark in front, else Latin-1 as Windows has it."""
+    if content[:2] in (b"\xff\xfe", b"\xfe\xff"):
+        return content.decode("utf-16", "replace")
+    if b"\0" in content[:2]:  # half of a letter of UTF-16
+        return content.decode("utf-16-be" if content[:1] == b"\0" else "utf-16-le", "replace")
+    for encoding in ("utf-8-sig", "cp1252"):
+        try:
+            return content.decode(encoding)
+        except UnicodeDecodeError:
+            pass
+    return content.decode("latin-1")
+
+
+def refuse_others(content: bytes) -> None:
+    """Refused where it is too large, or no text."""
+    if len(content) > LARGEST:
+        raise Refused(REFUSED, f"it has more than {LARGEST // 1024} kB, and a table has a line for each board: save it as CSV")
+    if content.startswith(BINARY):
+        raise Refused(REFUSED, "it is no text: let the spreadsheet save the table as CSV")
+
+
+def lines_of(content: bytes) -> List[Tuple[int, str]]:
+    """The lines that have something, with their numbers."""
+    lines = enumerate(re.split("\r\n|\r|\n", text_of(content)), 1)
+    return [(number, line) for number, line in lines if line.strip(" \t,;\"")]
+
+
+def read_sheet(content: bytes) -> Sheet:
+    """Reads a table. Refused where none of its first lines has headings that are known, and where it is too large."""
+    refuse_others(content)
+    lines = lines_of(content)
+    if lines and re.fullmatch("sep=.?", lines[0][1].strip().lower()):  # what a spreadsheet says to itself
+        lines.pop(0)
+    if not lines:
+        raise Refused(REFUSED, f"it is empty: its first line is {HEADER}")
+    if len(lines) > MOST_LINES:
+        raise Refused(REFUSED, f"it has {len(lines)} lines, and may have {MOST_LINES}: take out those that are no board's")
+    for at, (_, line) in enumerate(lines[: MOST_ABOVE + 1]):
+        for separator in SEPARATORS:
+            heading = heading_of(fields_of(line, separator) or [])
+            if heading:
+                if heading.twice:
+                    raise Refused(REFUSED, f"its {which(at)} has the column {heading.twice} twice: take one out")
+                above = tuple(number for number, _ in lines[:at])
+                return Sheet(heading, separator, tuple(lines[at + 1 :]), above)
+    raise Refused(REFUSED, f"its first line names no board and device: it is to be {HEADER}")
+
+
+def which(at: int) -> str:
+    """The line with the headings."""
+    return "first line" if at == 0 else "line with the headings"
+
+
+def fields_of(line: str, separator: str) -> Optional[List[str]]:
+    """None where its quotes are wrong."""
+    try:
+        return [field.strip() for field in next(csv.reader([line], delimiter=separator, strict=True), [])]
+    except csv.Error:
+        return None
+
+
+def told_of_above(above: Sequence[int]) -> List[str]:
+    """What is said of lines above the headings."""
+    if not above:
+        return []
+    return [f"line {above[0]} stands above the headings, and isn't used" if len(above) == 1 else
+            f"lines {above[0]} to {above[-1]} stand above the headings, and aren't used"]  # fmt: skip

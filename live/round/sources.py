@@ -1,0 +1,70 @@
+"""Where a round's pairs and boards are read: a table with both, or a table or a report with the pairs and one with
+the hall's boards."""
+
+from __future__ import annotations
+
+import pathlib
+from typing import Callable, Dict, List, Mapping, Optional
+
+from live.device import serial_line
+from live.device.numbers import IN_USE, numbers_of
+from live.game import files
+from live.refused import REFUSED, Refused
+from live.round.joining import joined, placed, serials_wanted
+from live.round.pairings import Pairings, read_pairings
+from live.round.sheets import LARGEST
+from live.round.trf import is_report, read_report
+
+BOARDS = "boards.csv"
+
+
+def plugged_in() -> Dict[str, str]:
+    """The device of each board that gives its number, under the name that its cable keeps. It waits for up to two
+    seconds."""
+    found = serial_line.devices()
+    names = {device: name or device for device, name in found}
+    numbers = numbers_of(list(names))
+    return {number: names[device] for device, number in numbers.items() if number != IN_USE}
+
+
+class Source:
+    """The files of a round. The hall's boards stand beside the pairs, unless these name their devices themselves."""
+
+    def __init__(
+        self, file: pathlib.Path, round_number: Optional[int] = None, looks: Callable[[], Mapping[str, str]] = plugged_in
+    ) -> None:
+        self.file = file
+        self.boards = file.parent / BOARDS
+        self._round, self._looks = round_number, looks
+        self.in_tournament = False  # the number of the round is in its file's name
+        self._plugged: Dict[str, str] = {}
+        self.wants: List[str] = []  # the numbers of boards that weren't found when it was read last
+
+    def read(self) -> Pairings:
+        """Reads them. An OSError comes where one can't be read; refused where one is no table."""
+        content = files.beginning(self.file, LARGEST + 1)
+        read = read_report(content, self._round) if is_report(content) else read_pairings(content)
+        if not read.has_devices:
+            read = joined(self._hall(), self.boards.name, read, self.file.name)
+        self.wants = [serial for serial in serials_wanted(read) if serial not in self._plugged]
+        return placed(read, self._plugged)
+
+    def _hall(self) -> Pairings:
+        try:
+            hall = read_pairings(files.beginning(self.boards, LARGEST + 1))
+        except FileNotFoundError:
+            why = f"it doesn't say where its boards are plugged in: write {self.boards}, with the columns board and device"
+            raise Refused(REFUSED, why) from None
+        except Refused as refused:
+            raise Refused(REFUSED, f"its boards can't be read: {self.boards}: {refused.lines[0]}") from None
+        if not hall.has_devices:
+            raise Refused(REFUSED, f"its boards can't be read: {self.boards} has neither a column device nor a column serial")
+        return hall
+
+    def look(self) -> Dict[str, str]:
+        """Which boards are plugged in. It waits for up to two seconds, and changes nothing here."""
+        return dict(self._looks())
+
+    def found(self, plugged: Mapping[str, str]) -> None:
+        """These are."""
+        self._plugged.update(plugged)

@@ -1,0 +1,169 @@
+"""A round on the screen: a row for each board, and what was said last below them. Pure: the time comes in."""
+
+from __future__ import annotations
+
+import textwrap
+from dataclasses import dataclass
+from typing import List, Optional, Sequence, Tuple
+
+WIDTH = 80  # columns for which a row is made; more of them are the names' and the state's
+NARROW = 72  # columns below which there are no clocks
+INDENT = " " * 4  # a name of a cable has room behind it
+MESSAGES = 3  # lines that messages always have
+MOST_MESSAGES = 8  # and where there is room
+MOST_LISTED = 8  # boards, or boards in a row, whose numbers are listed
+LONGEST_ROW = 3  # lines of a row that tells a trouble
+
+
+@dataclass(frozen=True)
+class RowView:
+    """What a row shows. `number` is none where a line of the file could not be read."""
+
+    number: Optional[int]
+    white: str = ""
+    black: str = ""
+    last: str = ""
+    clocks: Tuple[str, str] = ("", "")
+    state: str = ""  # before how long it has lasted
+    rest: str = ""  # after that
+    since: Optional[float] = None
+    alarm: bool = False
+    is_board: bool = True  # and not a line of the file that is wrong
+    is_of_all: bool = False  # of the round as a whole, and of no board
+
+
+@dataclass(frozen=True)
+class Columns:
+    """How wide the parts of a row are."""
+
+    whole: int
+    names: int
+    clocks: bool
+
+    @staticmethod
+    def of(width: int) -> Columns:
+        """The last column stays empty: what is written there would begin another line on some terminals."""
+        if width >= WIDTH:
+            names = min(30, 12 + (width - WIDTH) // 3)
+        else:
+            names = 8 if width >= 60 else 4
+        return Columns(width - 1, names, width >= NARROW)
+
+
+def since(seconds: float) -> str:
+    """How long, in few letters: `40s`, `12m`, `3h05`."""
+    whole = max(0, int(seconds))
+    if whole < 60:
+        return f"{whole}s"
+    minutes = whole // 60
+    return f"{minutes}m" if minutes < 60 else f"{minutes // 60}h{minutes % 60:02}"
+
+
+def plain(text: str) -> str:
+    """What any terminal shows."""
+    return "".join(letter if " " <= letter <= "~" else "?" for letter in text)
+
+
+def fitted(text: str, width: int) -> str:
+    """In so many columns: cut off with two dots where it is longer."""
+    seen = plain(text)
+    return (seen if len(seen) <= width else seen[: max(0, width - 2)] + "..").ljust(width)
+
+
+def wrapped(text: str, width: int, indent: str, most: int) -> List[str]:
+    """In lines of so many columns, those after the first indented; what is longer than `most` of them ends in two dots."""
+    lines = textwrap.wrap(plain(text), width, subsequent_indent=indent, break_on_hyphens=False) or [""]
+    if len(lines) > most:
+        lines[most - 1] = lines[most - 1][: width - 2] + ".."
+    return lines[:most]
+
+
+def head(width: int = WIDTH) -> str:
+    """The line above the rows."""
+    columns = Columns.of(width)
+    names = [fitted(name, columns.names) for name in ("White", "Black")]
+    clocks = "  White   Black " if columns.clocks else ""
+    return fitted(f"  No {' '.join(names)} {'Last move':13}{clocks}  State and since", columns.whole).rstrip()
+
+
+def row(view: RowView, now: float, width: int = WIDTH) -> List[str]:
+    """A board in a line. A trouble that stands in the place of a game is told in as many lines as it needs."""
+    columns = Columns.of(width)
+    number = "" if view.is_of_all else "?" if view.number is None else str(view.number)
+    front = f"{'!' if view.alarm else ' '}{number:>3} "
+    state = view.state + ("" if view.since is None else " " + since(now - view.since)) + view.rest
+    if not view.last and view.alarm and view.since is None:
+        return wrapped(front + state, columns.whole, " " * len(front), LONGEST_ROW)
+    parts = [fitted(view.white, columns.names), fitted(view.black, columns.names), fitted(view.last, 13)]
+    if columns.clocks:
+        parts += [view.clocks[0].rjust(7)[:7], view.clocks[1].rjust(7)[:7]]
+    line = front + " ".join(parts) + "  "
+    return [(line + fitted(state, columns.whole - len(line))).rstrip()]
+
+
+def counted(number: int, what: str) -> str:
+    """`no alarm`, `1 alarm`, `2 alarms`."""
+    return f"{number or 'no'} {what}{'' if number < 2 else 's'}"
+
+
+def lines_are_wrong(number: int) -> str:
+    """What is added to that for lines of the file."""
+    return "" if number == 0 else ", 1 line is wrong" if number == 1 else f", {number} lines are wrong"
+
+
+def boards_are(numbers: Sequence[int]) -> str:
+    """Which boards there are, of their numbers in order: `the boards are 1 to 8`."""
+    if len(numbers) < 2:
+        return f"the only board is {numbers[0]}" if numbers else "no line of the table is right"
+    runs: List[List[int]] = []
+    for number in numbers:
+        if runs and runs[-1][-1] + 1 == number:
+            runs[-1].append(number)
+        else:
+            runs.append([number])
+    parts: List[str] = []
+    for run in runs:
+        parts += [f"{run[0]} to {run[-1]}"] if len(run) > 2 else [str(number) for number in run]
+    if len(parts) > MOST_LISTED:
+        parts = [*parts[: MOST_LISTED - 2], "..", parts[-1]]
+    return "the boards are " + (" and ".join([", ".join(parts[:-1]), parts[-1]]) if len(parts) > 1 else parts[0])
+
+
+def title_line(title: str, rows: Sequence[RowView], width: int) -> str:
+    """What is recorded, and how many boards there are, and alarms, and lines of the file that are wrong."""
+    boards = [view for view in rows if view.is_board and not view.is_of_all]
+    lines = sum(not view.is_board for view in rows)
+    alarms = counted(sum(view.alarm for view in rows if view.is_board), "alarm")
+    tail = f"{counted(len(boards), 'board')}, {alarms}{lines_are_wrong(lines)}"
+    return f"{fitted(title, max(0, width - 2 - len(tail)))} {tail}"
+
+
+def last_messages(messages: Sequence[str], width: int, room: int) -> List[str]:
+    """The last ones, as many as there is room for, each as a whole."""
+    lines: List[str] = []
+    for message in reversed(messages):
+        more = wrapped(message, width, INDENT, room)
+        if len(more) + len(lines) > room:
+            break
+        lines = more + lines
+    return lines
+
+
+def screen(
+    title: str, rows: Sequence[RowView], messages: Sequence[str], now: float, height: int, width: int = WIDTH
+) -> List[str]:
+    """The whole screen, but for the line in which somebody types. Where not all rows fit, alarms come first. It has the same
+    number of lines whatever happens on the boards, so that what is being typed stays in its place."""
+    above = [title_line(title, rows, width), head(width)]
+    whole = max(len(above) + 2 + MESSAGES, min(height - 2, len(above) + len(rows) + 1 + MOST_MESSAGES))
+    room = whole - len(above) - 1 - MESSAGES
+    shown = [row(view, now, width) for view in rows]
+    more: List[str] = []
+    if sum(map(len, shown)) > room:
+        shown = [lines for _, lines in sorted(zip(rows, shown), key=lambda one: not one[0].alarm)]
+        while shown and sum(map(len, shown)) > max(1, room - 1):
+            shown.pop()
+        more = [f"     {len(rows) - len(shown)} more: make the window higher"][: room - sum(map(len, shown))]
+    table = [line for lines in shown for line in lines] + more
+    below = last_messages(messages, width - 1, whole - len(above) - 1 - len(table))
+    return above + table + [""] + below + [""] * (whole - len(above) - 1 - len(table) - len(below))

@@ -1,0 +1,170 @@
+"""A tournament in a folder: its settings, its hall's boards, the tables of its rounds as they come, and a folder for
+each round."""
+
+from __future__ import annotations
+
+import contextlib
+import os
+import pathlib
+import re
+from dataclasses import dataclass
+from typing import List, Optional, Tuple
+
+from live.device import serial_line
+from live.device.numbers import IN_USE, numbers_of
+from live.game import files
+from live.game.files import text_of
+from live.game.options import TAG
+from live.refused import FAILED, REFUSED, Refused
+from live.round import settings
+from live.round.sheets import LARGEST
+from live.round.sources import BOARDS
+from live.round.trf import head_of, is_report
+
+SETTINGS = "tournament.txt"
+TABLES = (".csv", ".txt", ".tsv")
+REPORTS = (".trf", ".trfx", ".trf16", ".txt")
+NUMBER = re.compile("[0-9]{1,3}")
+BOARDS_HEADER = "board;device;serial;rotated"
+ROUND_HEADER = "board;white;white title;white elo;white fide id;black;black title;black elo;black fide id;result"
+MOST_LISTED = 5  # files
+
+
+@dataclass(frozen=True)
+class Tournament:
+    """A round of a tournament, by the tournament's folder."""
+
+    folder: pathlib.Path
+    number: int
+
+    @property
+    def games(self) -> str:
+        """The folder of the round."""
+        return str(self.folder / f"round{self.number}")
+
+    @property
+    def all_games(self) -> pathlib.Path:
+        """The published texts of all rounds."""
+        return self.folder / "all.pgn"
+
+    @property
+    def settings(self) -> pathlib.Path:
+        """What is said once for all its rounds."""
+        return self.folder / SETTINGS
+
+    def words(self, table: pathlib.Path, options: Tuple[str, ...]) -> List[str]:
+        """What its report and its settings say of the round, as words of a command line that has these options with a
+        value."""
+        return [*self._reported(table), *self._set(options)]
+
+    def _reported(self, table: pathlib.Path) -> List[str]:
+        """What the report of the tournament says of it, where the round's pairs are read of one."""
+        try:
+            content = files.beginning(table, LARGEST + 1)
+        except OSError:
+            return []  # that is said when the pairs are read
+        if not is_report(content):
+            return []
+        head = head_of(content, self.number)
+        said = (("--event", head.event), ("--site", head.site), ("--date", head.date))
+        words = [f"{option}={value}" for option, value in said if value]
+        return [*words, f"{TAG}=TimeControl={head.time_control}"] if head.time_control else words
+
+    def _set(self, options: Tuple[str, ...]) -> List[str]:
+        path = self.settings
+        try:
+            return settings.words_of(files.beginning(path, LARGEST + 1), self.number, options)
+        except FileNotFoundError:
+            return []
+        except OSError as error:
+            raise Refused(FAILED, f"{path} can't be read ({text_of(error)})") from None
+        except Refused as refused:
+            raise Refused(REFUSED, f"{path}: {refused.lines[0]}") from None
+
+    def table(self) -> pathlib.Path:
+        """The table of the round, or the report that has it. Refused where there is none, or more than one."""
+        try:
+            names = sorted(path for path in self.folder.iterdir() if path.is_file())
+        except OSError as error:
+            raise Refused(FAILED, f"{self.folder} can't be read ({text_of(error)})") from None
+        tables = [path for path in names if path.suffix.lower() in TABLES and self._is_named(path) and not _is_report(path)]
+        reports = [path for path in names if path.suffix.lower() in REPORTS and _is_report(path)]
+        found = tables or [path for path in reports if self._is_named(path)] or reports
+        if len(found) == 1:
+            return found[0]
+        if found:
+            listed = ", ".join(path.name for path in found[:MOST_LISTED])
+            raise Refused(REFUSED, f"{self.folder} has more than one table of round {self.number}: {listed}: leave one there")
+        raise Refused(
+            REFUSED,
+            f"{self.folder} has no table of round {self.number}: save it there as round{self.number}.csv,",
+            "as the pairing program writes it, or its report of the tournament (TRF16) as NAME.trf",
+        )
+
+    def _is_named(self, path: pathlib.Path) -> bool:
+        """Whether a file's name ends in the number of the round, as `round3.csv` and `Runde 03.txt` do."""
+        number = re.search("[0-9]+$", path.stem)
+        return bool(number) and len(number.group()) <= 3 and int(number.group()) == self.number if number else False
+
+    def other_rounds(self) -> List[Tuple[int, bytes]]:
+        """The published texts of the other rounds, with their numbers."""
+        texts = []
+        for path in self.folder.glob("round*/broadcast.pgn"):
+            number = path.parent.name[len("round") :]
+            if NUMBER.fullmatch(number) and int(number) != self.number:
+                with contextlib.suppress(OSError):
+                    texts.append((int(number), files.existing(path)))
+        return sorted(texts)
+
+
+def _is_report(path: pathlib.Path) -> bool:
+    try:
+        return is_report(files.beginning(path, LARGEST + 1))
+    except OSError:
+        return False
+
+
+def tournament_of(file: str, folder: str) -> Optional[Tournament]:
+    """The tournament that `dgt_round cup 3` names; None where a table is named. Refused where there is none yet."""
+    path = pathlib.Path(file)
+    if path.is_dir() and not folder:
+        raise Refused(REFUSED, f"{file} is a folder: say which round of its tournament is played, as dgt_round {file} 1")
+    if not NUMBER.fullmatch(folder) or path.is_file() or path.suffix.lower() in TABLES:
+        return None
+    if not path.is_dir():
+        raise Refused(REFUSED, f"there is no folder {file}: dgt_round --new {file} makes it, with the files to fill in")
+    if int(folder) == 0:
+        raise Refused(REFUSED, "the first round is 1")
+    return Tournament(path, int(folder))
+
+
+def made(folder: pathlib.Path) -> List[str]:
+    """Makes the files of a tournament that aren't there yet. What is to be done with them."""
+    try:
+        folder.mkdir(exist_ok=True)
+        contents = {SETTINGS: settings.TEMPLATE, BOARDS: boards_text(), "round1.csv": ROUND_HEADER + "\n"}
+        new = [name for name in contents if not os.path.lexists(folder / name)]
+        for name in new:
+            files.put_in_place(folder / name, contents[name].encode("utf-8"))
+    except OSError as error:
+        raise Refused(FAILED, f"{folder} can't be made ({text_of(error)}): choose another folder") from None
+    plugged = ": those that are plugged in are there" if contents[BOARDS].count("\n") > 1 else ""
+    return [
+        f"{folder} {'now has' if new else 'has'} these files. Fill them in, with a spreadsheet or an editor:",
+        f"  {SETTINGS:<15} event, place, dates, time control, page, delay",
+        f"  {BOARDS:<15} a line for each board of the hall, with its device{plugged}",
+        f"  {'round1.csv':<15} the pairs of round 1. Or save the pairing program's own table there, as round1.csv,",
+        f"  {'':<15} or its report of the tournament (TRF16), as NAME.trf",
+        f"Then type: dgt_round {folder} 1",
+    ]
+
+
+def boards_text() -> str:
+    """A table of the boards that are plugged in, in the order of their own numbers."""
+    found = serial_line.devices()
+    numbers = numbers_of([device for device, _ in found])
+    lines = [BOARDS_HEADER]
+    places = [(numbers.get(device, "").replace(IN_USE, ""), name or device) for device, name in found]
+    for board, (number, name) in enumerate(sorted(places, key=lambda place: (not place[0], place)), 1):
+        lines.append(f"{board};{name};{number};")
+    return "\n".join(lines) + "\n"

@@ -1,0 +1,80 @@
+"""What a tournament's folder gets of a round while it is played: all.pgn, with what is published of all rounds, and
+the results of the round as a table."""
+
+from __future__ import annotations
+
+import csv
+import io
+import pathlib
+from typing import Callable, Iterable, List, Tuple
+
+from live.guard import Guard, traced
+from live.loop import Turns
+from live.round.published import Published
+
+LOOK = 1.0  # seconds between two looks; a text that is the same isn't written
+AGAIN = 5.0  # seconds after which it is begun again where an error has ended it
+RESULTS = "results.csv"
+HEADER = ("Board", "White", "Black", "Result")
+
+Result = Tuple[int, str, str, str]  # a board, White's name, Black's, and the result
+
+
+def results_text(results: Iterable[Result]) -> bytes:
+    """A line for each board; one without a result has none. In UTF-8 with a mark in front, which spreadsheets want."""
+    text = io.StringIO()
+    writer = csv.writer(text, delimiter=";", lineterminator="\r\n")
+    writer.writerow(HEADER)
+    for board, white, black, result in results:
+        writer.writerow((board, white, black, "" if result == "*" else result))
+    return text.getvalue().encode("utf-8-sig", "replace")
+
+
+def all_text(others: Iterable[Tuple[int, bytes]], number: int, published: bytes) -> bytes:
+    """What is published of all rounds, in their order."""
+    texts = sorted([*others, (number, published)])
+    return b"".join(text for _, text in texts)
+
+
+class TournamentFiles:
+    """Keeps files up to date, each with the text that is asked for."""
+
+    def __init__(
+        self,
+        loop: Turns,
+        texts: Iterable[Tuple[pathlib.Path, Callable[[], bytes]]],
+        says: Callable[[str], None],
+        trouble: Callable[[str], None],
+    ) -> None:
+        self._loop, self._texts, self._says, self._trouble = loop, list(texts), says, trouble
+        self._files: List[Published] = []
+        self._closed = False
+        self._begin()
+
+    def _begin(self) -> None:
+        self._guard = Guard(self._loop, self._broke, lambda error: self._trouble(traced(error)))
+        self._files = [Published(self._guard, path, text, self._says) for path, text in self._texts]
+        for file in self._files:
+            self._guard.opened(file.stop)
+        self._guard.after(LOOK, self._look)
+
+    def _broke(self, error: Exception) -> None:
+        """An error has ended it: it is begun again."""
+        self._trouble(traced(error))
+        self._loop.after(AGAIN, self._begin_again)
+
+    def _begin_again(self) -> None:
+        if not self._closed:
+            self._begin()
+
+    def _look(self) -> None:
+        self._guard.after(LOOK, self._look)
+        for file in self._files:
+            file.changed()
+
+    def close(self) -> List[str]:
+        """Writes them a last time. What can't be written."""
+        self._closed = True
+        troubles = [(file.path, file.close()) for file in self._files]
+        self._guard.end()
+        return [f"{path} can't be written ({trouble}): is the disk full?" for path, trouble in troubles if trouble]

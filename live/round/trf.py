@@ -1,0 +1,214 @@
+"""The report file of a tournament, TRF16, as FIDE has it: a line for each player, with a column for each letter. One
+round of it is taken. Pure.
+
+The boards are numbered in the order in which FIDE's rules for Swiss tournaments (C.04.2, D) have pairings published:
+by the score of the higher ranked player of a pair, then by the sum of both scores, then by the higher ranked player's
+number. Higher ranked is who has more points, and of equal ones the smaller number. The scores are those before the
+round.
+"""
+
+from __future__ import annotations
+
+import re
+from dataclasses import dataclass
+from typing import Dict, List, Optional, Tuple
+
+from live.game.tags import Malformed, cleaned, value_of
+from live.refused import REFUSED, Refused
+from live.round.pairings import MOST_UNKNOWN, Pairing, Pairings, Wrong, more_lines, shown
+from live.round.sheets import LARGEST, text_of
+
+PLAYER, TEAM, EVENT, SITE, TIME_CONTROL, DATES = "001", "013", "012", "022", "122", "132"
+NOT_NEEDED = ("032", "042", "052", "062", "072", "082", "092", "102", "112")
+EXTENSION = re.compile(r"XX[A-Z]|BB[A-Z]|\d{3}")  # of programs, or of a later edition
+FIRST_ROUND, ROUND_WIDTH = 91, 10
+MOST_NAMED = 5  # players without an opponent
+# Half points of what stands behind a game: played, not rated, forfeited, and without an opponent.
+HALF_POINTS = {"1": 2, "W": 2, "+": 2, "F": 2, "U": 2, "=": 1, "D": 1, "H": 1}
+OUTCOMES = {"1": "1-0", "W": "1-0", "0": "0-1", "L": "0-1", "=": "1/2-1/2", "D": "1/2-1/2"}  # of White
+FORFEITS = ("+", "-")
+WITHOUT = {"F": "a full point", "H": "half a point", "U": "the bye"}  # an opponent
+
+
+@dataclass(frozen=True)
+class Game:
+    """What a player has in a round; no opponent is 0."""
+
+    opponent: int = 0
+    colour: str = ""
+    result: str = ""
+
+
+@dataclass(frozen=True)
+class Player:
+    """A player's line."""
+
+    line: int
+    number: int
+    name: str
+    values: Tuple[Tuple[str, str], ...]  # what stands in the columns of a title, a rating ..
+    games: Tuple[Game, ...]
+
+    def game(self, round_number: int) -> Game:
+        """That of a round."""
+        return self.games[round_number - 1] if round_number <= len(self.games) else Game()
+
+    def score(self, before: int) -> int:
+        """Half points before a round."""
+        return sum(HALF_POINTS.get(game.result, 0) for game in self.games[: before - 1])
+
+
+def is_report(content: bytes) -> bool:
+    """Whether it is a tournament's report, and no table."""
+    return len(content) <= LARGEST and re.search(r"^\ufeff?001 [ \d]{3}\d ", text_of(content), re.MULTILINE) is not None
+
+
+def read_report(content: bytes, round_number: Optional[int]) -> Pairings:
+    """The pairs of a round. Refused where there is no such round."""
+    if len(content) > LARGEST:
+        raise Refused(REFUSED, f"it has more than {LARGEST // 1024} kB")
+    if round_number is None:
+        raise Refused(REFUSED, "it is the report of a tournament: say which round is played, as --round 3")
+    players: Dict[int, Player] = {}
+    teams: Dict[int, str] = {}
+    wrong: List[Wrong] = []
+    unknown: List[str] = []
+    for number, line in enumerate(re.split("\r\n|\r|\n", text_of(content)), 1):
+        code = line.lstrip("\ufeff")[:3]
+        if code == PLAYER:
+            player = player_of(number, line)
+            if player is None or player.number in players:
+                why = "is no player's"
+                if player:
+                    why = f"has the number {player.number} of line {players[player.number].line}"
+                wrong.append(Wrong(number, None, f"it {why}: {shown(line[:40].strip())}"))
+            else:
+                players[player.number] = player
+        elif code == TEAM:
+            teams.update(dict.fromkeys(map(int, re.findall(r"\d+", line[36:])), cleaned(line[4:36])))
+        elif line.strip() and code not in (EVENT, SITE, TIME_CONTROL, DATES, *NOT_NEEDED) and not EXTENSION.fullmatch(code):
+            unknown.append(f"line {number} isn't known, and isn't used: {shown(line.strip())}")
+    rounds = max((len(player.games) for player in players.values()), default=0)
+    if not 0 < round_number <= rounds:
+        raise Refused(REFUSED, f"it has no pairs of round {round_number}: {told_of_rounds(rounds)}")
+    told = [*unknown[:MOST_UNKNOWN], *more_lines(len(unknown) - MOST_UNKNOWN)]
+    return _pairs(players, teams, round_number, wrong, told)
+
+
+def told_of_rounds(rounds: int) -> str:
+    """Which rounds there are."""
+    return "it has no round at all" if not rounds else f"it has rounds 1 to {rounds}" if rounds > 1 else "it has round 1 alone"
+
+
+def _pairs(players: Dict[int, Player], teams: Dict[int, str], of: int, wrong: List[Wrong], told: List[str]) -> Pairings:
+    """The pairs of a round, by their boards."""
+    pairs: List[Tuple[Player, Player]] = []
+    for player in players.values():
+        game = player.game(of)
+        opponent = players.get(game.opponent)
+        if not game.opponent:
+            continue
+        back = opponent.game(of) if opponent else Game()
+        if opponent is None or back.opponent != player.number or {game.colour, back.colour} != {"w", "b"}:
+            differs = "and that one has another opponent or colour"
+            wrong.append(Wrong(player.line, None, f"{player.name} has {game.opponent} in round {of}, {differs}"))
+        elif game.colour == "w":
+            pairs.append((player, opponent))
+
+    def place(pair: Tuple[Player, Player]) -> Tuple[int, int, int]:
+        higher, lower = sorted(((-player.score(of), player.number) for player in pair))
+        return higher[0], higher[0] + lower[0], higher[1]
+
+    boards: List[Pairing] = []
+    for number, (white, black) in enumerate(sorted(pairs, key=place), 1):
+        result = white.game(of).result
+        if result in FORFEITS or black.game(of).result in FORFEITS:
+            told.append(f"board {number}: {white.name} - {black.name} isn't played, and no game is recorded")
+            continue
+        tags, remarks = tags_of(white, black, teams)
+        told += remarks
+        boards.append(
+            Pairing(white.line, number, "", white.name, black.name, result=OUTCOMES.get(result, ""), tags=tags, remarks=remarks)
+        )
+    return Pairings(tuple(boards), tuple(wrong), (*told, *told_of_byes(players, of)), False)
+
+
+def told_of_byes(players: Dict[int, Player], of: int) -> List[str]:
+    """Who has no opponent in a round."""
+    names = []
+    for player in players.values():
+        game = player.game(of)
+        if not game.opponent:
+            names.append(f"{player.name} ({WITHOUT.get(game.result, 'absent')})")
+    if not names:
+        return []
+    more = f" and {len(names) - MOST_NAMED} more" if len(names) > MOST_NAMED else ""
+    return [f"no opponent in round {of}: {', '.join(names[:MOST_NAMED])}{more}"]
+
+
+def tags_of(white: Player, black: Player, teams: Dict[int, str]) -> Tuple[Tuple[Tuple[str, str], ...], Tuple[str, ...]]:
+    """The tags of two players, and what is said of values that are left out."""
+    tags: Dict[str, str] = {}
+    remarks: List[str] = []
+    for side, player in (("White", white), ("Black", black)):
+        for name, text in (*player.values, ("Team", teams.get(player.number, ""))):
+            try:
+                tags[side + name] = value_of(side + name, text)
+            except Malformed as error:
+                remarks.append(f"line {player.line}, {side}{name}: {error}; the board is recorded without it")
+    return tuple(sorted((name, value) for name, value in tags.items() if value)), tuple(remarks)
+
+
+def player_of(number: int, line: str) -> Optional[Player]:
+    """A player's line; None where it has no number. Some programs count the bytes of a name in UTF-8, and not its
+    letters."""
+    by_letters = _player(number, line)
+    if by_letters and all(game.colour in ("w", "b") for game in by_letters.games if game.opponent):
+        return by_letters
+    return _player(number, line.encode("utf-8").decode("latin-1"), "latin-1") or by_letters
+
+
+def _player(number: int, line: str, written: str = "") -> Optional[Player]:
+    def column(first: int, last: int) -> str:
+        text = line[first - 1 : last]
+        return cleaned(text.encode(written).decode("utf-8", "replace") if written else text)
+
+    start = column(5, 8)
+    name = column(15, 47)
+    if not (start.isascii() and start.isdigit()) or not name:
+        return None
+    games = []
+    for first in range(FIRST_ROUND + 1, len(line.rstrip()) + 1, ROUND_WIDTH):
+        opponent = column(first, first + 3)
+        digits = int(opponent) if opponent.isascii() and opponent.isdigit() else 0
+        games.append(Game(digits, column(first + 5, first + 5).lower(), column(first + 7, first + 7).upper()))
+    values = (("Title", column(11, 13)), ("Elo", column(49, 52)), ("Fed", column(54, 56)), ("FideId", column(58, 68)))
+    return Player(number, int(start), name, values, tuple(games))
+
+
+@dataclass(frozen=True)
+class Head:
+    """What a report says of the whole tournament, as the options of a round."""
+
+    event: str = ""
+    site: str = ""
+    date: str = ""
+    time_control: str = ""
+
+
+def head_of(content: bytes, round_number: int) -> Head:
+    """What the report says of the tournament and of a round's day."""
+    values: Dict[str, str] = {}
+    for line in re.split("\r\n|\r|\n", text_of(content)):
+        code = line.lstrip("\ufeff")[:3]
+        if code in (EVENT, SITE, TIME_CONTROL):
+            values[code] = cleaned(line[4:])
+        elif code == DATES:
+            first = FIRST_ROUND + ROUND_WIDTH * (round_number - 1)
+            day = re.fullmatch(r"(\d\d)/(\d\d)/(\d\d)", line[first : first + 8].strip(), re.ASCII)
+            values[code] = "20" + ".".join(day.groups()) if day else ""
+    try:
+        control = value_of("TimeControl", values.get(TIME_CONTROL, ""))
+    except Malformed:
+        control = ""  # it is for readers, in words
+    return Head(values.get(EVENT, ""), values.get(SITE, ""), values.get(DATES, ""), control)

@@ -1,0 +1,113 @@
+"""What is told of a game, with the time of day: to the screen and to NAME.log."""
+
+from __future__ import annotations
+
+import collections
+import datetime
+from typing import Callable, Deque, Optional
+
+from live.game.added import OK, REOPENS
+from live.game.files import LOGGED, Log
+from live.terminal.terminal import Terminal
+
+INDENT = " " * 10
+NO_TIME = "--:--:--"
+PROMPT = "  > "
+LASTS = 10.0  # seconds between two writings of a state that only lasts
+Clock = Callable[[], datetime.datetime]
+
+
+class Screen:
+    """Lines with the time of day, and the state of the board."""
+
+    def __init__(self, terminal: Optional[Terminal], clock: Clock = datetime.datetime.now) -> None:
+        self._terminal, self._clock = terminal, clock
+        self.on_change: Callable[[], None] = lambda: None  # at each move and each state
+        self._log: Optional[Log] = None
+        self._news: object = None
+        self._last: Deque[str] = collections.deque(maxlen=3)  # the texts of the last lines
+        self._state_at = datetime.datetime.min
+
+    def keep(self, log: Optional[Log]) -> None:
+        """From here on the lines are kept in this log."""
+        if self._log:
+            self._log.close()
+        self._log = log
+
+    def say(self, text: str, *more: str) -> None:
+        """A line, and those that belong to it."""
+        now = self._clock()
+        self._last.append(text)
+        self._print(f"{now:%H:%M:%S}  {text}")
+        self._write(now, text)
+        for line in more:
+            self._print(INDENT + line)
+            self._write(now, line)
+
+    def old(self, text: str) -> None:
+        """A line of what was played before this call: nobody knows when."""
+        self._print(f"{NO_TIME}  {text}")
+
+    def told(self, text: str, is_old: bool) -> None:
+        """A move, a correction or a result, of this call or from before it."""
+        if is_old:
+            self.old(text)
+        else:
+            self.move(text)
+        self.on_change()
+
+    def move(self, text: str) -> None:
+        """A move, a correction or a result of this call."""
+        self.say(text)
+
+    def anew(self, pgn: str, text: str) -> str:
+        """What is told where the text of a game was made anew, and is another one."""
+        return f"{pgn} is made anew: {text}"
+
+    def turn(self, rotated: bool) -> str:
+        """What to do where the board lies the other way round than is said. The last line has room for no more."""
+        return f"Ctrl-C, start again {'without' if rotated else 'with'} --rotated"
+
+    def ok(self) -> str:
+        """What is typed by who has looked at what he was to look at."""
+        return OK
+
+    def reopens(self) -> str:
+        """What is typed where a result was typed for the wrong board."""
+        return REOPENS
+
+    def other_device(self) -> str:
+        """What to do where the device that isn't there is another one than is meant."""
+        return "Ctrl-C, and see dgt_live --devices"
+
+    def hint(self, text: str) -> None:
+        """What somebody is to look at: told where it is new, beside the state that says it too."""
+
+    def note(self, text: str) -> None:
+        """A line for the log alone."""
+        self._write(self._clock(), text)
+
+    def state(self, text: str, news: object) -> None:
+        """How the board stands, and what makes that another state than before: on a terminal the last line, elsewhere a line
+        for each other state."""
+        now = self._clock()
+        # A result that was just told as a line needs no second one.
+        is_news, self._news = news != self._news, news
+        if is_news and text not in self._last:
+            self._write(now, text)
+        if self._terminal and self._terminal.in_place:
+            # It lasts: what is typed below isn't disturbed each second.
+            if is_news or abs((now - self._state_at).total_seconds()) >= LASTS:
+                self._state_at = now
+                self._terminal.state(f"{now:%H:%M:%S}  {text}{PROMPT}")
+        elif is_news and text not in self._last:
+            self._print(f"{now:%H:%M:%S}  {text}")
+        self.on_change()
+
+    def _print(self, line: str) -> None:
+        if self._terminal:
+            self._terminal.line(line)
+
+    def _write(self, now: datetime.datetime, text: str) -> None:
+        if self._log:
+            self._log.write(f"{now:{LOGGED}}", text)

@@ -1,0 +1,214 @@
+"""What is printed, and what is typed. A terminal that is stopped, or a reader that is slow, holds up nothing."""
+
+from __future__ import annotations
+
+import errno
+import os
+import select
+import stat
+import time
+from typing import Callable, List, Optional
+
+from live.loop import Loop
+
+WAITING = 64 * 1024  # bytes that may wait to be printed; lines past that are dropped
+WIDEST = 79  # columns of the last line
+PAUSE = 1.0  # seconds, where a terminal can't be read just now
+ERASE = b"\r\x1b[K"
+
+
+def open_standard_streams() -> None:
+    """Where one of them is closed, a file that is opened would take its number, and get what is printed."""
+    for number in (0, 1, 2):
+        try:
+            os.fstat(number)
+        except OSError:
+            os.open(os.devnull, os.O_RDWR)
+
+
+class Terminal:
+    """Standard output: lines, and on a terminal below them one line that is rewritten in place."""
+
+    def __init__(self, loop: Loop, number: int = 1) -> None:
+        self._loop = loop
+        self._number: Optional[int] = None
+        self._waiting = bytearray()
+        self._dropped = 0
+        self._state = ""
+        self._shown = False
+        self._stuck = False
+        try:
+            mode = os.fstat(number).st_mode
+        except OSError:
+            self.in_place = False
+            return
+        self._file = stat.S_ISREG(mode)
+        self.in_place = os.isatty(number) and os.environ.get("TERM", "dumb") != "dumb"
+        self._number = number if self._file else opened_again(number)
+
+    def line(self, text: str) -> None:
+        """Prints a line, above the state."""
+        line = text.encode("utf-8", "backslashreplace") + b"\n"
+        if len(self._waiting) + len(line) > WAITING:
+            self._dropped += 1
+            return
+        self._erase()
+        self._waiting += line
+        self._write()
+
+    def state(self, text: str) -> None:
+        """The line below all others, where there is one."""
+        if self.in_place and text != self._state:
+            self._state = text
+            if not self._stuck:
+                self._erase()
+                self._write()
+
+    def _erase(self) -> None:
+        if self._shown:
+            self._waiting += ERASE
+            self._shown = False
+
+    def _show_state(self) -> None:
+        if self._state and not self._shown:
+            self._waiting += self._state[: self._width() - 1].encode("utf-8", "backslashreplace")
+            self._shown = True
+
+    def _width(self) -> int:
+        try:
+            return os.get_terminal_size(self._number or 0).columns or WIDEST + 1
+        except OSError:
+            return WIDEST + 1
+
+    def _write(self) -> None:
+        """Writes what waits, and the state below it. Where it is stuck the rest waits, and the newest state comes after it."""
+        if self._number is None:
+            self._waiting.clear()
+            return
+        if not self._stuck:
+            self._show_state()
+        try:
+            while self._waiting:
+                del self._waiting[: os.write(self._number, self._waiting)]
+        except BlockingIOError:
+            if not self._stuck:
+                self._stuck = True
+                self._loop.watch(self._number, None, self._write)
+            return
+        except OSError as error:
+            # Nobody reads it any more, or its disk is full.
+            self._waiting.clear()
+            if error.errno in (errno.EPIPE, errno.EIO) and not self._file:
+                self.close()
+            return
+        except Exception:
+            return  # it is printed with the next line
+        if self._stuck:
+            self._stuck = False
+            self._loop.forget(self._number)
+            self._erase()
+            self._tell_dropped()
+            self._write()
+
+    def _tell_dropped(self) -> None:
+        if self._dropped:
+            self.line(f"          {self._dropped} lines were dropped here: the terminal was stopped; the log has them")
+            self._dropped = 0
+
+    def clear(self) -> None:
+        """Takes the state away."""
+        self._state = ""
+        self._erase()
+
+    def end(self, seconds: float) -> None:
+        """What can't be printed within so many seconds is dropped."""
+        ends = time.monotonic() + seconds
+        self._write()
+        while self._waiting and self._number is not None and time.monotonic() < ends:
+            select.select([], [self._number], [], max(0.0, ends - time.monotonic()))
+            self._write()
+
+    def close(self) -> None:
+        if self._number is not None:
+            if self._stuck:
+                self._loop.forget(self._number)
+                self._stuck = False
+            if self._number > 2:
+                os.close(self._number)
+            self._number = None
+
+
+def opened_again(number: int) -> int:
+    """The same terminal or pipe under a number of its own, so that nobody else's use of it is made non-blocking."""
+    try:
+        return os.open(f"/proc/self/fd/{number}", os.O_WRONLY | os.O_NONBLOCK | os.O_NOCTTY)
+    except OSError:
+        copy = os.dup(number)
+        os.set_blocking(copy, False)
+        return copy
+
+
+class Typed:
+    """Standard input: a call for each line that is typed. Its end means that nothing more is typed. What a call raises ends
+    nothing: `refused` is told of it."""
+
+    def __init__(
+        self, loop: Loop, heard: Callable[[str], None], refused: Callable[[str, Exception], None], number: int = 0
+    ) -> None:
+        self._loop, self._heard, self._refused = loop, heard, refused
+        self._number: Optional[int] = None
+        self._text = b""
+        try:
+            mode = os.fstat(number).st_mode
+        except OSError:
+            return
+        if stat.S_ISREG(mode) or not (os.isatty(number) or stat.S_ISFIFO(mode) or stat.S_ISSOCK(mode)):
+            return
+        self._number = number
+        self._watch()
+
+    def _watch(self) -> None:
+        if self._number is None:
+            return
+        try:
+            self._loop.watch(self._number, self._readable)
+        except Exception as error:
+            self._later(error)
+
+    def _later(self, error: Exception) -> None:
+        """It can't be read just now, as where the terminal belongs to another group of processes: it is tried again."""
+        self._loop.after(PAUSE, self._watch)
+        if not isinstance(error, OSError):
+            self._refused("", error)
+
+    def _readable(self) -> None:
+        assert self._number is not None
+        try:
+            part = os.read(self._number, 4096)
+        except BlockingIOError:
+            return
+        except Exception as error:
+            self._later(error)
+            self._loop.forget(self._number)
+            return
+        if not part:
+            self._loop.forget(self._number)
+            self._number = None
+            return
+        lines: List[bytes]
+        *lines, self._text = (self._text + part).split(b"\n")
+        self._text = self._text[-4096:]
+        for line in lines:
+            self._hear(line.decode("utf-8", "replace").strip())
+
+    def _hear(self, text: str) -> None:
+        try:
+            self._heard(text)
+        except Exception as error:
+            self._refused(text, error)
+
+    def close(self) -> None:
+        """Nothing is heard from here on."""
+        if self._number is not None:
+            self._loop.forget(self._number)
+            self._number = None

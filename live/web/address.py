@@ -1,0 +1,116 @@
+"""Where a page is served, `--page [ADDRESS:]PORT`, and the names by which it may be asked for, `--page-host NAME`."""
+
+from __future__ import annotations
+
+import ipaddress
+import re
+import socket
+from dataclasses import dataclass
+from typing import Callable, FrozenSet, Iterable, NamedTuple, Optional, Tuple
+
+from live.refused import ARGUMENTS, Refused
+
+HERE = "127.0.0.1"
+SHAPE = re.compile(r"(?:(?:\[(?P<bracketed>[^\[\]]*)\]|(?P<plain>[^\[\]]*)):)?(?P<port>[^:\[\]]*)")
+HIGHEST_PORT = 65535
+LONGEST_NAME = 253  # letters of a host name, as DNS has it
+NAME = re.compile(r"(?=.*[a-z])[0-9a-z_](?:[0-9a-z_-]*[0-9a-z_])?(?:\.[0-9a-z_](?:[0-9a-z_-]*[0-9a-z_])?)*")
+HOST = re.compile(r"(?:\[(?P<bracketed>[^\[\]]*)\]|(?P<plain>[^\[\]:]*))(?::[0-9]*)?")
+
+
+class Address(NamedTuple):
+    """An address in numbers, and a port."""
+
+    host: str
+    port: int
+
+    @property
+    def text(self) -> str:
+        """As it stands in a URL."""
+        return f"[{self.host}]:{self.port}" if ":" in self.host else f"{self.host}:{self.port}"
+
+
+@dataclass(frozen=True)
+class Names:
+    """The names of this computer, in small letters. A page of somebody else may have its own name lead here, and would then be
+    let read what is served: so no other name is answered."""
+
+    names: FrozenSet[str]
+
+    def allow(self, host: Optional[str]) -> bool:
+        """Whether a request may name this host, perhaps with a port: an address in numbers, or one of the names. No browser
+        leaves it out, so that is allowed too."""
+        if host is None:
+            return True
+        match = HOST.fullmatch(host)
+        if not match:
+            return False
+        bracketed, plain = match.group("bracketed", "plain")
+        if bracketed is not None:
+            return _is_address(ipaddress.IPv6Address, bracketed)
+        name = plain.lower()
+        return (name[:-1] if name.endswith(".") else name) in self.names or _is_address(ipaddress.IPv4Address, plain)
+
+
+@dataclass(frozen=True)
+class Door:
+    """Where a page is served, by which names it may be asked for, and the password that each reader must give, if any must."""
+
+    address: Address
+    names: Names
+    password: str = ""
+
+
+def names_of(own: str, given: Iterable[str]) -> Names:
+    """The names of a computer that calls itself `own`, and those that were given."""
+    own = own.lower().rstrip(".")
+    short = own.partition(".")[0]
+    found = {"localhost", own, short, f"{short}.local", *given}
+    return Names(frozenset(name for name in found if NAME.fullmatch(name)))
+
+
+def read_names(texts: Iterable[str]) -> Names:
+    """The names of this computer, and those of each `--page-host NAME[,NAME..]`. Refused where one is no name."""
+    given = [name.strip().lower().rstrip(".") for text in texts for name in text.split(",")]
+    for name in given:
+        if len(name) > LONGEST_NAME or not NAME.fullmatch(name):
+            reason = "it is a name as it stands in the browser, without http:// and a port, as chess.example.org"
+            raise Refused(ARGUMENTS, f"--page-host {name!r}: {reason}")
+    return names_of(socket.gethostname(), given)
+
+
+def _is_address(kind: Callable[[str], object], text: str) -> bool:
+    try:
+        kind(text)
+        return True
+    except ValueError:
+        return False
+
+
+def read_address(text: str, option: str = "--page") -> Address:
+    """`8000` is port 8000 of this computer alone; `0.0.0.0:8000` is for all that can reach it; `[::1]:8000` has an IPv6
+    address. Refused with what to type where it is none of them."""
+    match = SHAPE.fullmatch(text)
+    if not match:
+        raise _refused(option, text, "it is [ADDRESS:]PORT, as 8000 or 192.168.1.5:8000")
+    bracketed, plain, port = match.group("bracketed", "plain", "port")
+    if bracketed is None and plain and ":" in plain:
+        raise _refused(option, text, "an address with colons stands in brackets, as [::1]:8000")
+    if not (port.isascii() and port.isdigit() and len(port) <= 5 and 1 <= int(port) <= HIGHEST_PORT):
+        raise _refused(option, text, f"the port is a number from 1 to {HIGHEST_PORT}, as 8000")
+    return Address(HERE if bracketed is None and plain is None else _host(option, text, (bracketed, plain)), int(port))
+
+
+def _host(option: str, text: str, host: Tuple[str, str]) -> str:
+    bracketed, plain = host
+    if plain == "localhost":
+        return HERE
+    try:
+        return str(ipaddress.IPv4Address(plain) if bracketed is None else ipaddress.IPv6Address(bracketed))
+    except ValueError:
+        kind = "four numbers, as 192.168.1.5:8000" if bracketed is None else "an IPv6 address in brackets, as [::1]:8000"
+        raise _refused(option, text, f"before the port stands {kind}, or nothing") from None
+
+
+def _refused(option: str, text: str, reason: str) -> Refused:
+    return Refused(ARGUMENTS, f"{option} {text!r}: {reason}")

@@ -1,0 +1,117 @@
+"""The two pages of a call: the spectators', at `--page`, and the arbiter's, on this computer alone unless `--arbiter-page` says
+where else, and then with a password."""
+
+from __future__ import annotations
+
+import contextlib
+import secrets
+from dataclasses import dataclass
+from typing import Callable, List, Optional, Sequence, Tuple
+
+from live.broadcast.broadcast import Broadcast
+from live.loop import Loop
+from live.refused import Refused
+from live.web.address import HERE, HIGHEST_PORT, Address, Door, Names, read_address, read_names
+from live.web.page import ARBITER, SPECTATORS
+from live.web.round_page import ArbiterView, RoundPage
+from live.web.view import RoundView
+
+ANY_PORT = 0
+LETTERS = "abcdefghjkmnpqrstuvwxyz23456789"  # none that looks like another one
+PARTS, PART = 4, 4  # of a password: 79 bits
+
+
+@dataclass(frozen=True)
+class Pages:
+    """Where the pages are served. Without a page for spectators the arbiter has his own where he asks for it."""
+
+    spectators: Optional[Address] = None
+    arbiter: Optional[Address] = None
+    names: Names = Names(frozenset())
+
+    @property
+    def any(self) -> bool:
+        return bool(self.spectators or self.arbiter)
+
+
+def read_pages(page: Optional[str], arbiter_page: Optional[str], hosts: Sequence[str]) -> Pages:
+    """What the options say. Refused where they say nothing that there is."""
+    return Pages(
+        None if page is None else read_address(page),
+        None if arbiter_page is None else read_address(arbiter_page, "--arbiter-page"),
+        read_names(hosts),
+    )
+
+
+def new_password() -> str:
+    """One that is easy to type and can't be guessed."""
+    return "-".join("".join(secrets.choice(LETTERS) for _ in range(PART)) for _ in range(PARTS))
+
+
+@dataclass(frozen=True)
+class Title:
+    """What stands above the boards."""
+
+    event: str
+    round: str = ""
+    late: str = ""  # how late spectators see them, in words
+
+    @property
+    def said(self) -> Tuple[Tuple[str, str], ...]:
+        """What is said beside the event."""
+        return tuple((name, value) for name, value in (("round", self.round), ("late", self.late)) if value)
+
+
+class TwoPages:
+    """The pages, once they are served. Refused where one that was asked for can't be."""
+
+    def __init__(self, loop: Loop, pages: Pages, title: Title) -> None:
+        self._title = title
+        self._spectators = RoundPage(loop, Door(pages.spectators, pages.names), SPECTATORS) if pages.spectators else None
+        self._password = ""
+        self._arbiter = self._arbiters(loop, pages) if pages.any else None
+        self.trouble: Callable[[str], None] = lambda text: None
+
+    def _arbiters(self, loop: Loop, pages: Pages) -> RoundPage:
+        """Where nobody says where, it is at the next port of this computer alone, or at any that is free."""
+        if pages.arbiter:
+            self._password = "" if pages.arbiter.host in (HERE, "::1") else new_password()
+            return RoundPage(loop, Door(pages.arbiter, pages.names, self._password), ARBITER)
+        port = pages.spectators.port if pages.spectators else HIGHEST_PORT
+        if port < HIGHEST_PORT:
+            with contextlib.suppress(Refused):
+                return RoundPage(loop, Door(Address(HERE, port + 1), pages.names), ARBITER)
+        return RoundPage(loop, Door(Address(HERE, ANY_PORT), pages.names), ARBITER)
+
+    def show(self, arbiter: ArbiterView, broadcast: Broadcast) -> None:
+        """From here on these are shown. What spectators see comes from the broadcast alone."""
+        title = self._title
+        for page in self._all:
+            page.trouble = self.trouble
+        if self._spectators:
+            broadcast.on_news = self._spectators.changed
+            self._spectators.shows(lambda: RoundView(title.event, broadcast.boards, title.said))
+        if self._arbiter:
+            self._arbiter.shows(arbiter.view)
+
+    @property
+    def _all(self) -> List[RoundPage]:
+        return [page for page in (self._spectators, self._arbiter) if page]
+
+    def changed(self) -> None:
+        """A board is another than before."""
+        if self._arbiter:
+            self._arbiter.changed()
+
+    def told(self, what: str) -> List[str]:
+        """Where they are served, in lines."""
+        lines = [f"{what} is shown at {self._spectators.url}"] if self._spectators else []
+        if self._arbiter and self._password:
+            lines.append(f"the arbiter's page is at {self._arbiter.url}, with any name and the password {self._password}")
+        elif self._arbiter:
+            lines.append(f"the arbiter's page is at {self._arbiter.url}, on this computer alone")
+        return lines
+
+    def close(self) -> None:
+        for page in self._all:
+            page.close()

@@ -1,0 +1,218 @@
+// All boards in a grid, and one of them large where the page's address names it: `#3`. Each page says what it shows beside that.
+
+import { numbered, printedResult, spoken } from './chess.js';
+import { drawPieces, say } from './diagram.js';
+import { fit, placeAfter } from './grid.js';
+import { Stream } from './stream.js';
+
+const at = (name) => document.getElementById(name);
+const UNNAMED = 'Chess, live';
+const SECOND = 1000;
+
+export class Boards {
+  constructor() {
+    this.cards = new Map();
+    this.focused = null; // the board whose card is to have the focus when the large one is closed
+    this.scrolled = 0;
+    this.open = null; // the number of the board that is large
+    this.asked = false;
+    this.columns = 1;
+    this.how = 'connecting';
+    drawPieces();
+    this.large = this.largeOf(() => this.stream.now(), () => this.showLine());
+    window.addEventListener('resize', () => this.size());
+    window.addEventListener('hashchange', () => {
+      this.asked = true;
+      this.route();
+    });
+    document.addEventListener('keydown', (event) => this.press(event));
+    window.setInterval(() => this.tick(), SECOND);
+    this.stream = new Stream((number, before) => this.changed(number, before), (how) => this.connected(how));
+  }
+
+  // What each page says in its own way: beside these `cardOf(number, now)`, which makes a board's card, `largeOf(now, stepped)`,
+  // which makes what shows one large, and `line(how)`, which says how the page stands.
+
+  /** The round is another. */
+  titled() {}
+
+  /** What is told of a board to somebody who doesn't see the page, beside its moves and its result: a list of words. */
+  troubles() {
+    return [];
+  }
+
+  /** What stands before the page's name. */
+  mark() {
+    return '';
+  }
+
+  /** Another view than the boards, which the address names; whether it is shown. */
+  routeElsewhere() {
+    return false;
+  }
+
+  /** A second has gone by. */
+  tick() {
+    for (const board of this.stream.list()) {
+      if (this.cards.has(board.number)) this.cards.get(board.number).showClocks(board);
+    }
+    if (this.open !== null && this.large.board) this.large.showClocks();
+  }
+
+  // What has changed.
+
+  changed(number, before) {
+    if (number === undefined) {
+      this.arrange();
+      return;
+    }
+    const board = this.stream.boards.get(number);
+    if (!this.cards.has(number)) this.arrange();
+    const card = this.cards.get(number);
+    if (card) card.show(board);
+    if (this.open === number) this.large.show(board);
+    if (before) this.announce(board, before);
+    this.showTitle();
+    this.showLine();
+    this.route();
+  }
+
+  /** Each board has its card, in the order of the round. */
+  arrange() {
+    const { numbers } = this.stream;
+    for (const [number, card] of this.cards) {
+      if (!numbers.includes(number)) {
+        card.root.remove();
+        this.cards.delete(number);
+      }
+    }
+    numbers.forEach((number, index) => {
+      if (!this.cards.has(number)) this.cards.set(number, this.cardOf(number, () => this.stream.now()));
+      const { root } = this.cards.get(number);
+      const place = at('boards').children[index] || null;
+      if (place !== root) at('boards').insertBefore(root, place);
+    });
+    say(at('event'), this.name);
+    at('none').hidden = numbers.length > 0;
+    this.titled();
+    this.showTitle();
+    this.route();
+    this.size();
+  }
+
+  /** What the round is called. */
+  get name() {
+    return this.stream.event || UNNAMED;
+  }
+
+  /** What somebody who doesn't see the page is told: the moves of the large board, and the results of all. */
+  announce(board, before) {
+    const words = [];
+    const count = board.moves.length;
+    const isNew = count > before.moves.length || (count > 0 && before.moves[count - 1].san !== board.moves[count - 1].san);
+    if (this.open === board.number && count > 0 && isNew) {
+      const { san, clock } = board.moves[count - 1];
+      const { number, side } = numbered(board.positions[0], count - 1);
+      words.push(`${number}, ${side === 'w' ? 'White' : 'Black'}: ${spoken(san)}${clock ? `, clock ${clock}` : ''}`);
+    }
+    if (board.result !== before.result && board.result !== '*') words.push(`result ${printedResult(board.result)}`);
+    words.push(...this.troubles(board, before));
+    if (words.length > 0) say(at('said'), `Board ${board.number}: ${words.join('. ')}`);
+  }
+
+  showTitle() {
+    const title = this.open === null ? this.name : `Board ${this.open}, ${this.name}`;
+    const whole = this.mark() + title;
+    if (document.title !== whole) document.title = whole;
+  }
+
+  connected(how) {
+    this.how = how;
+    this.showLine();
+  }
+
+  /** How the page stands: it isn't live for a reader who looks at a game as it was. */
+  showLine() {
+    const { how } = this;
+    const looksBack = how === 'live' && this.open !== null && this.large.looksBack;
+    document.body.classList.toggle('stale', how === 'silent' || how === 'lost');
+    document.body.classList.toggle('live', how === 'live' && !looksBack);
+    say(at('line'), this.line(looksBack ? 'back' : how));
+  }
+
+  // Which board is large.
+
+  route() {
+    const { numbers, boards } = this.stream;
+    const only = numbers.length === 1;
+    const elsewhere = this.routeElsewhere();
+    const wanted = only && !elsewhere ? numbers[0] : Number(window.location.hash.slice(1));
+    const board = elsewhere ? undefined : boards.get(wanted);
+    at('back').hidden = only;
+    at('escape').hidden = only;
+    if (board && this.open !== wanted) {
+      this.show(board);
+    } else if (!board && (this.open !== null || at('boards').hidden !== (elsewhere || numbers.length === 0))) {
+      this.showAll(elsewhere);
+    }
+  }
+
+  /** Shows one board large. */
+  show(board) {
+    if (this.open === null) this.scrolled = window.scrollY;
+    this.open = board.number;
+    at('boards').hidden = true;
+    this.large.open(board);
+    document.body.classList.add('one');
+    if (this.asked) {
+      window.scrollTo(0, 0);
+      this.large.root.focus({ preventScroll: true });
+    }
+    this.showTitle();
+    this.showLine();
+  }
+
+  /** Shows the grid, or makes room for what is shown elsewhere. */
+  showAll(elsewhere) {
+    this.focused = this.open === null ? this.focused : this.open;
+    this.open = null;
+    this.large.close();
+    document.body.classList.remove('one');
+    at('boards').hidden = elsewhere || this.stream.numbers.length === 0;
+    this.size();
+    if (this.asked && !elsewhere && this.cards.has(this.focused)) {
+      this.cards.get(this.focused).link.focus({ preventScroll: true });
+      window.scrollTo(0, this.scrolled);
+    }
+    this.showTitle();
+    this.showLine();
+  }
+
+  // Keys.
+
+  press(event) {
+    if (event.ctrlKey || event.altKey || event.metaKey || event.defaultPrevented) return;
+    const { numbers } = this.stream;
+    if (event.key === 'Escape' && (at('boards').hidden && (this.open === null || numbers.length > 1))) {
+      window.location.hash = '';
+      event.preventDefault();
+    } else if (this.open === null ? this.pressOnGrid(event.key) : this.large.press(event.key)) {
+      event.preventDefault();
+    }
+  }
+
+  pressOnGrid(key) {
+    if (at('boards').hidden) return false;
+    const links = this.stream.numbers.map((number) => this.cards.get(number).link);
+    const next = placeAfter(key, links.indexOf(document.activeElement), links.length, this.columns);
+    if (next === undefined) return false;
+    if (links[next]) links[next].focus();
+    return true;
+  }
+
+  size() {
+    const list = at('boards');
+    const { length } = this.stream.numbers;
+    if (length > 0 && !list.hidden) this.columns = fit(list, length);
+  }
+}

@@ -1,0 +1,54 @@
+// One board among others: players, clocks, a diagram, the last move. Names and moves are set as text, never as markup.
+
+import { printedResult, toMove, withNumber } from './chess.js';
+import { clockAt } from './clock.js';
+import { Picture, element, positionOf, say } from './diagram.js';
+import { showPlayer, wordsOf } from './names.js';
+
+export class Card {
+  constructor(number, now) {
+    this.now = now; // in seconds since 1970
+    this.root = element('li');
+    this.link = this.root.appendChild(element('a', 'tile'));
+    this.link.href = `#${number}`;
+    this.head = this.link.appendChild(element('span', 'head'));
+    this.head.append(element('span', 'unseen', 'Board '), element('span', 'number', String(number)));
+    this.black = this.seat('Black');
+    this.picture = new Picture();
+    this.link.appendChild(this.picture.root);
+    this.white = this.seat('White');
+    const foot = this.link.appendChild(element('span', 'foot'));
+    this.last = foot.appendChild(element('span', 'last'));
+    this.result = foot.appendChild(element('span', 'result'));
+  }
+
+  seat(name) {
+    const root = this.link.appendChild(element('span', 'seat'));
+    root.appendChild(element('span', 'unseen', `, ${name}: `));
+    const player = root.appendChild(element('span', name === 'White' ? 'player w' : 'player b'));
+    const clock = root.appendChild(element('span', 'clock'));
+    return { root, player, clock };
+  }
+
+  show(board) {
+    const ply = board.moves.length;
+    const position = positionOf(board, ply, true);
+    const mover = board.result === '*' ? toMove(position.fen) : '';
+    for (const [seat, side, index] of [[this.white, 'w', 0], [this.black, 'b', 1]]) {
+      showPlayer(seat.player, board, index);
+      seat.player.title = wordsOf(board, index);
+      seat.root.classList.toggle('moves', mover === side);
+    }
+    this.showClocks(board);
+    this.picture.show(position);
+    say(this.last, ply > 0 ? withNumber(board.positions[0], ply - 1, board.moves[ply - 1].san) : '');
+    say(this.result, printedResult(board.result));
+    this.root.classList.toggle('over', board.result !== '*');
+  }
+
+  showClocks(board) {
+    const now = this.now();
+    say(this.white.clock, clockAt(board, 0, now));
+    say(this.black.clock, clockAt(board, 1, now));
+  }
+}

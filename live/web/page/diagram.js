@@ -1,0 +1,117 @@
+// Diagrams: a small one that is a picture alone, and a large one that is a table for those who can't see it.
+
+import { FILES, movedSquares, pieceName, squareName, squaresOf } from './chess.js';
+
+/** An element with a class and a text. */
+export function element(kind, name = '', text = '') {
+  const made = document.createElement(kind);
+  if (name) made.className = name;
+  if (text) made.textContent = text;
+  return made;
+}
+
+/** Sets a text where it is another one, so that nothing is read out twice. */
+export function say(where, text) {
+  if (where.textContent !== text) where.textContent = text;
+}
+
+/** From here on the pieces are drawn as the page's first answer has them: no other answer is needed for them. */
+export function drawPieces() {
+  const picture = new XMLSerializer().serializeToString(document.getElementById('pieces').content.querySelector('svg'));
+  document.documentElement.style.setProperty('--pieces', `url("data:image/svg+xml,${encodeURIComponent(picture)}")`);
+}
+
+function kindOf(number) {
+  return (number + Math.floor(number / 8)) % 2 === 0 ? 'light' : 'dark';
+}
+
+function classesOf(position, number) {
+  const { squares, from, to, differing } = position;
+  let name = `square ${kindOf(number)}`;
+  if (squares[number]) name += ` piece ${squares[number]}`;
+  if (number === from) name += ' from';
+  if (number === to) name += ' to';
+  if (differing.has(squareName(number))) name += ' off';
+  return name;
+}
+
+/** What is drawn of a board after a ply. Squares that differ belong to the board as it stands now. */
+export function positionOf(board, ply, live) {
+  const known = Math.min(ply, board.positions.length - 1);
+  const fen = board.positions[known] || '';
+  const moved = known === ply && ply > 0 ? movedSquares(board.positions[ply - 1], fen) : {};
+  return { fen, squares: squaresOf(fen), from: moved.from, to: moved.to, differing: new Set(live ? board.differing : []) };
+}
+
+/** A small diagram. */
+export class Picture {
+  constructor() {
+    this.root = element('div', 'diagram small');
+    this.root.setAttribute('aria-hidden', 'true');
+    this.cells = [];
+    for (let number = 0; number < 64; number += 1) this.cells.push(this.root.appendChild(element('i')));
+  }
+
+  show(position) {
+    this.cells.forEach((cell, number) => {
+      const name = classesOf(position, number);
+      if (cell.className !== name) cell.className = name;
+    });
+  }
+}
+
+/** A large diagram with its coordinates. */
+export class Table {
+  constructor(root) {
+    this.root = root;
+    this.root.className = 'diagram table';
+    this.root.setAttribute('role', 'table');
+    this.turned = null;
+    this.cells = [];
+    this.turn(false);
+  }
+
+  /** Lays the squares out, with White or Black below. */
+  turn(turned) {
+    if (turned === this.turned) return;
+    this.turned = turned;
+    this.cells = [];
+    this.root.replaceChildren();
+    const order = [0, 1, 2, 3, 4, 5, 6, 7];
+    if (turned) order.reverse();
+    for (const row of order) {
+      const line = this.root.appendChild(element('div', 'row'));
+      line.setAttribute('role', 'row');
+      line.appendChild(this.heading('rowheader', 'rank', String(8 - row)));
+      for (const column of order) {
+        const cell = line.appendChild(element('div'));
+        cell.setAttribute('role', 'cell');
+        cell.appendChild(element('span', 'unseen'));
+        this.cells[row * 8 + column] = cell;
+      }
+    }
+    const last = this.root.appendChild(element('div', 'row'));
+    last.setAttribute('role', 'row');
+    last.appendChild(this.heading('cell', 'rank', ''));
+    for (const column of order) last.appendChild(this.heading('columnheader', 'file', FILES[column]));
+  }
+
+  heading(role, name, text) {
+    const made = element('div', name, text);
+    made.setAttribute('role', role);
+    return made;
+  }
+
+  show(position, label) {
+    if (this.root.getAttribute('aria-label') !== label) this.root.setAttribute('aria-label', label);
+    this.cells.forEach((cell, number) => {
+      const name = classesOf(position, number);
+      if (cell.className !== name) cell.className = name;
+      const square = squareName(number);
+      const words = [square, pieceName(position.squares[number]) || 'empty'];
+      if (number === position.from || number === position.to) words.push('last move');
+      if (position.differing.has(square)) words.push('the board differs here');
+      say(cell.firstChild, words.join(', '));
+    });
+  }
+}

@@ -1,0 +1,213 @@
+// One game, large, with its moves, through which a reader steps while it goes on.
+
+import { numbered, printedResult, spoken, toMove, withNumber } from './chess.js';
+import { clockAt } from './clock.js';
+import { Table, element, positionOf, say } from './diagram.js';
+import { showPlayer } from './names.js';
+
+const at = (name) => document.getElementById(name);
+
+export class GameView {
+  /** `stepped()` is called where a reader has gone back, or follows the game again. */
+  constructor(now, stepped = () => {}) {
+    this.now = now;
+    this.stepped = stepped;
+    this.root = at('large');
+    this.table = new Table(at('diagram'));
+    this.moves = at('moves');
+    this.board = null;
+    this.ply = null; // the ply that is shown, or null where the game is followed
+    this.turned = false;
+    this.made = []; // the moves that are listed, with their elements
+    at('first').addEventListener('click', () => this.go(0));
+    at('previous').addEventListener('click', () => this.step(-1));
+    at('next').addEventListener('click', () => this.step(1));
+    at('last').addEventListener('click', () => this.go(Infinity));
+    at('live').addEventListener('click', () => this.go(Infinity));
+    at('turn').addEventListener('click', () => this.turn());
+    this.moves.addEventListener('click', (event) => {
+      const button = event.target.closest('button');
+      if (button) this.go(Number(button.dataset.ply));
+    });
+    new ResizeObserver(() => this.scroll()).observe(this.moves); // in another window other moves are in sight
+    this.keys = {
+      ArrowLeft: () => this.step(-1),
+      ArrowRight: () => this.step(1),
+      ArrowUp: () => this.step(-1),
+      ArrowDown: () => this.step(1),
+      Home: () => this.go(0),
+      End: () => this.go(Infinity),
+      l: () => this.go(Infinity),
+      t: () => this.turn(),
+    };
+  }
+
+  /** Shows this board from here on, at its last move. */
+  open(board) {
+    this.ply = null;
+    this.root.hidden = false;
+    this.show(board);
+  }
+
+  close() {
+    this.board = null;
+    this.root.hidden = true;
+  }
+
+  /** Whether the key means something here. */
+  press(key) {
+    const call = this.keys[key.length === 1 ? key.toLowerCase() : key];
+    if (call) call();
+    return Boolean(call);
+  }
+
+  step(by) {
+    this.go((this.ply === null ? this.board.moves.length : this.ply) + by);
+  }
+
+  /** Shows the position after this ply; the last one is followed. */
+  go(ply) {
+    const count = this.board.moves.length;
+    this.ply = ply >= count ? null : Math.max(0, ply);
+    this.show(this.board);
+    this.stepped();
+  }
+
+  /** Whether it shows the game as it was, and not as it is. */
+  get looksBack() {
+    return this.board !== null && this.ply !== null;
+  }
+
+  turn() {
+    this.turned = !this.turned;
+    this.table.turn(this.turned);
+    this.show(this.board);
+  }
+
+  show(board) {
+    this.board = board;
+    const count = board.moves.length;
+    if (this.ply !== null && this.ply >= count) this.ply = null;
+    const live = this.ply === null;
+    const ply = live ? count : this.ply;
+    const position = positionOf(board, ply, live);
+    say(at('title'), `Board ${board.number}`);
+    this.showSeats(position.fen, live);
+    const last = ply > 0 ? withNumber(board.positions[0], ply - 1, board.moves[ply - 1].san) : 'the start';
+    this.table.show(position, `Board ${board.number}, ${live ? 'now' : 'after'}: ${last}`);
+    this.showPlace(last, live, count - ply);
+    this.listMoves();
+    this.markMove(ply);
+    at('own').href = board.pgn;
+    at('live').setAttribute('aria-pressed', String(live));
+    at('turn').setAttribute('aria-pressed', String(this.turned));
+  }
+
+  showSeats(fen, live) {
+    const { board } = this;
+    const mover = board.result === '*' && live ? toMove(fen) : '';
+    this.clocks = [];
+    for (const [side, index, name] of [['w', 0, 'White'], ['b', 1, 'Black']]) {
+      const place = at((side === 'w') === this.turned ? 'upper' : 'lower');
+      const player = element('span', `player ${side}`);
+      const who = element('span');
+      showPlayer(who, board, index);
+      player.append(element('span', 'unseen', `${name}: `), who);
+      this.clocks[index] = element('span', 'clock');
+      place.replaceChildren(player, this.clocks[index]);
+      place.classList.toggle('moves', mover === side);
+    }
+    this.showClocks();
+  }
+
+  /** Clocks run while the game is followed. */
+  showClocks() {
+    const now = this.now();
+    this.clocks.forEach((clock, index) => {
+      say(clock, this.ply === null ? clockAt(this.board, index, now) : this.clockOf(index));
+    });
+  }
+
+  /** The clock of a player after the ply that is shown: 0 is White's, 1 is Black's. */
+  clockOf(index) {
+    for (let ply = this.ply - 1; ply >= 0; ply -= 1) {
+      const { side } = numbered(this.board.positions[0], ply);
+      if ((side === 'w') === (index === 0)) return this.board.moves[ply].clock;
+    }
+    return '';
+  }
+
+  showPlace(last, live, behind) {
+    const result = live ? printedResult(this.board.result) : '';
+    const where = live ? '' : ` (${behind} ${behind === 1 ? 'move' : 'moves'} back)`;
+    say(at('at'), [last + where, result].filter((part) => part).join('   '));
+  }
+
+  /** The list has the moves that it had, as far as they are the same. */
+  listMoves() {
+    const { moves, positions } = this.board;
+    const start = positions[0] || '';
+    let same = 0;
+    const is = (made, move) => made.san === move.san && made.clock === move.clock && made.kind === move.kind;
+    while (same < this.made.length && same < moves.length && is(this.made[same].move, moves[same])) same += 1;
+    if (this.start !== start || this.listed !== this.board.number) same = 0;
+    this.start = start;
+    this.listed = this.board.number;
+    for (const { place } of this.made.splice(same)) {
+      const row = place.parentNode;
+      place.remove();
+      if (!row.querySelector('button')) row.remove();
+    }
+    for (let ply = same; ply < moves.length; ply += 1) this.made.push(this.listMove(ply, moves[ply], start));
+  }
+
+  listMove(ply, move, start) {
+    const { number, side } = numbered(start, ply);
+    let row = this.moves.lastElementChild;
+    if (side === 'w' || !row || ply === 0) {
+      row = this.moves.appendChild(element('li'));
+      row.value = number;
+      const label = row.appendChild(element('span', 'number', `${number}.`));
+      label.setAttribute('aria-hidden', 'true');
+      if (side === 'b') row.appendChild(element('span', 'gap', '..'));
+    }
+    const place = row.appendChild(element('button'));
+    place.type = 'button';
+    place.tabIndex = -1;
+    place.dataset.ply = String(ply + 1);
+    place.append(element('span', 'san', move.san), element('span', 'time', move.clock));
+    const words = [`${number}, ${side === 'w' ? 'White' : 'Black'}: ${spoken(move.san)}`, move.clock];
+    this.mark(move, place, words);
+    place.setAttribute('aria-label', words.filter((word) => word).join(', '));
+    return { move, place };
+  }
+
+  /** What else is said of a move in the list. */
+  mark() {}
+
+  markMove(ply) {
+    this.made.forEach(({ place }, index) => {
+      const here = index === ply - 1;
+      if ((place.getAttribute('aria-current') === 'true') !== here) {
+        if (here) place.setAttribute('aria-current', 'true');
+        else place.removeAttribute('aria-current');
+        place.tabIndex = here ? 0 : -1;
+      }
+    });
+    this.scroll();
+  }
+
+  /** Brings the move that is shown into sight. */
+  scroll() {
+    const list = this.moves;
+    const ply = this.ply === null ? this.made.length : this.ply;
+    if (ply === 0) list.scrollTop = 0;
+    else if (this.made[ply - 1]) {
+      const { place } = this.made[ply - 1];
+      const top = place.offsetTop; // in the list
+      if (top < list.scrollTop) list.scrollTop = top;
+      const bottom = top + place.offsetHeight - list.clientHeight;
+      if (bottom > list.scrollTop) list.scrollTop = bottom;
+    }
+  }
+}

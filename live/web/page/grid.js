@@ -1,0 +1,43 @@
+// How large the cards are: as large as can be with all of them in sight, or of a size that can be read.
+
+const LEAST = 13; // pixels of a letter: what is smaller can't be read on a laptop
+
+/** Sizes so many cards in their list, and returns in how many columns they stand. */
+export function fit(list, count) {
+  const gap = window.innerWidth < 700 ? 8 : 12;
+  const width = document.documentElement.clientWidth - 2 * gap;
+  const height = window.innerHeight - list.offsetTop - gap;
+  const least = window.innerWidth < 700 ? 150 : 116;
+  const letters = (wide) => Math.min(24, Math.max(LEAST, wide / 18));
+  const high = (wide) => 6 * letters(wide) + 3; // four lines, beside the diagram
+  let best = 0;
+  let columns = 1;
+  for (let number = 1; number <= count; number += 1) {
+    const rows = Math.ceil(count / number);
+    const room = height / rows - gap;
+    let wide = Math.min((width + gap) / number - gap, 720);
+    while (wide > least && wide + high(wide) > room) wide -= 1;
+    if (wide > best + 2 && wide + high(wide) <= room) {
+      best = wide;
+      columns = number;
+    }
+  }
+  if (best < least) {
+    columns = Math.max(1, Math.floor((width + gap) / (least * 1.15 + gap)));
+    best = (width + gap) / columns - gap;
+  }
+  list.style.setProperty('--tile', `${Math.floor(best)}px`);
+  list.style.setProperty('--columns', String(columns));
+  list.style.setProperty('--letters', `${letters(best)}px`);
+  list.style.setProperty('--gap', `${gap}px`);
+  return columns;
+}
+
+/** The place to which an arrow, Home or End leads from a place among so many; undefined for any other key. */
+export function placeAfter(key, here, count, columns) {
+  if (key === 'Home') return 0;
+  if (key === 'End') return count - 1;
+  const by = { ArrowLeft: -1, ArrowRight: 1, ArrowUp: -columns, ArrowDown: columns }[key];
+  if (by === undefined) return undefined;
+  return here < 0 ? 0 : here + by;
+}

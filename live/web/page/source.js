@@ -1,0 +1,155 @@
+// Where the page's words come from: one connection to the recorder for all tabs of a browser, which allows six to a server.
+//
+// One tab leads: it has the connection, and passes each word on. The browser's lock says which one. A tab that is seen and gets
+// no answer from the leading one takes the lock from it: a browser may have stopped a tab that nobody sees. Browsers have locks
+// only for HTTPS and for their own computer. Without them each tab that is seen has a connection of its own, a hidden one none.
+
+const NAME = 'round';
+const DEAD = 12000; // milliseconds without a word, after which the connection is made anew
+const AGAIN = 2000; // milliseconds until the next try, where the browser has given up
+const ANSWER = 1500; // milliseconds that the leading tab has to answer
+const KINDS = ['beat', 'round', 'board'];
+
+export const SHARES = Boolean(window.BroadcastChannel && navigator.locks);
+
+export class Source {
+  /** `hear(kind, data)` is called for each word, `told()` after some; `known()` is all that was heard, as a list of words. */
+  constructor(hear, told, known) {
+    this.hear = hear;
+    this.told = told;
+    this.known = known;
+    this.name = Math.random().toString(36).slice(2);
+    this.isOn = false;
+    this.heard = -Infinity; // when the last word came
+    this.wanted = 0; // since when this tab wants to hear something
+    this.asked = 0; // when it has asked the leading tab
+    this.isLost = false;
+    this.events = null; // the connection, where this tab has one
+    this.begun = 0; // when it was made
+    this.channel = null;
+    this.lock = null; // what ends the wait for the lock
+    this.release = null; // gives the lock back
+    this.tries = 0;
+    this.waits = 0;
+  }
+
+  begin() {
+    if (this.isOn) return;
+    this.isOn = true;
+    this.isLost = false;
+    this.wanted = performance.now();
+    if (!SHARES) {
+      this.connect();
+      return;
+    }
+    this.channel = new BroadcastChannel(NAME);
+    this.channel.addEventListener('message', (event) => this.take(event.data));
+    this.lead(false);
+    this.ask();
+  }
+
+  /** Lets everything go, so that others have it. */
+  end() {
+    this.isOn = false;
+    this.hang();
+    window.clearTimeout(this.waits);
+    if (this.channel) this.channel.close();
+    if (this.lock) this.lock.abort();
+    if (this.release) this.release();
+    this.channel = null;
+    this.lock = null;
+    this.release = null;
+  }
+
+  /** What came is of no use: all of it is wanted again. */
+  again() {
+    if (this.events || !this.channel) this.connect();
+    else this.ask();
+  }
+
+  /** To be called now and then. */
+  look() {
+    const now = performance.now();
+    if (this.events && now - Math.max(this.begun, this.heard) > DEAD) this.connect();
+    else if (this.channel && !this.events && now - Math.max(this.heard, this.asked) > ANSWER * 2) this.ask();
+  }
+
+  // The connection.
+
+  connect() {
+    this.hang();
+    this.begun = performance.now();
+    const events = new EventSource('/events');
+    this.events = events;
+    for (const kind of KINDS) {
+      events.addEventListener(kind, (event) => {
+        const data = JSON.parse(event.data);
+        this.heard = performance.now();
+        this.isLost = false;
+        this.post({ words: [[kind, data]] });
+        this.hear(kind, data);
+        this.told();
+      });
+    }
+    events.addEventListener('error', () => {
+      this.isLost = true;
+      this.post({ words: [] });
+      this.told();
+      if (events.readyState === EventSource.CLOSED) this.tries = window.setTimeout(() => this.connect(), AGAIN);
+    });
+  }
+
+  hang() {
+    window.clearTimeout(this.tries);
+    if (this.events) this.events.close();
+    this.events = null;
+  }
+
+  // The tabs among themselves.
+
+  /** Leads as soon as no other tab does, or at once where it `takes` the lock. */
+  lead(takes) {
+    if (this.lock) this.lock.abort();
+    const lock = new AbortController();
+    this.lock = lock;
+    const held = () => {
+      if (this.lock !== lock) return undefined;
+      this.connect();
+      return new Promise((release) => {
+        this.release = release;
+      });
+    };
+    navigator.locks.request(NAME, takes ? { steal: true } : { signal: lock.signal }, held).catch((error) => {
+      if (this.lock !== lock) return;
+      this.hang();
+      if (error.name === 'AbortError') this.lead(false); // another tab has taken it
+      else this.connect();
+    });
+  }
+
+  post(message) {
+    if (this.channel) this.channel.postMessage({ ...message, age: performance.now() - this.heard, isLost: this.isLost });
+  }
+
+  /** Asks the leading tab for all that it knows. */
+  ask() {
+    window.clearTimeout(this.waits);
+    this.asked = performance.now();
+    this.channel.postMessage({ asks: this.name });
+    this.waits = window.setTimeout(() => {
+      if (!this.events && !document.hidden) this.lead(true);
+    }, ANSWER);
+  }
+
+  take(message) {
+    if (message.asks) {
+      if (this.events) this.post({ to: message.asks, words: this.heard === -Infinity ? [] : this.known() });
+    } else if (!this.events && (!message.to || message.to === this.name)) {
+      window.clearTimeout(this.waits);
+      this.heard = performance.now() - message.age;
+      this.isLost = message.isLost;
+      for (const [kind, data] of message.words) this.hear(kind, data);
+      this.told();
+    }
+  }
+}

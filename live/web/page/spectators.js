@@ -1,0 +1,125 @@
+// The spectators' page: games, clocks that run, results, and the way from one board to the next.
+
+import { Boards } from './boards.js';
+import { Card } from './card.js';
+import { printedResult } from './chess.js';
+import { element, say } from './diagram.js';
+import { GameView } from './game.js';
+import { showPlayer } from './names.js';
+
+const at = (name) => document.getElementById(name);
+const RESULTS = '#results';
+const LINES = {
+  connecting: 'Connecting',
+  live: 'Live',
+  back: 'Looking back',
+  silent: 'Nothing comes just now',
+  lost: 'No connection: trying again',
+  hidden: 'In the background',
+};
+
+class Spectators extends Boards {
+  constructor() {
+    super();
+    this.rows = new Map(); // of the result list
+    this.large.keys.n = () => this.go(1);
+    this.large.keys.p = () => this.go(-1);
+  }
+
+  cardOf(number, now) {
+    return new Card(number, now);
+  }
+
+  largeOf(now, stepped) {
+    return new GameView(now, stepped);
+  }
+
+  line(how) {
+    const late = this.stream && this.stream.said.late;
+    return how === 'live' && late ? `${late} late` : LINES[how];
+  }
+
+  /** Event and round. */
+  get name() {
+    const { round } = this.stream.said;
+    return round ? `${super.name}, round ${round}` : super.name;
+  }
+
+  titled() {
+    this.showLine();
+    this.listResults();
+  }
+
+  changed(number, before) {
+    super.changed(number, before);
+    if (number !== undefined) this.listResults();
+  }
+
+  route() {
+    super.route();
+    for (const [name, by] of [['board-before', -1], ['board-after', 1]]) {
+      const number = this.beside(by);
+      at(name).hidden = number === undefined;
+      if (number !== undefined) {
+        at(name).href = `#${number}`;
+        say(at(name), by < 0 ? `\u2190 Board ${number}` : `Board ${number} \u2192`);
+      }
+    }
+  }
+
+  /** The number of the board before the one that is large, or behind it. */
+  beside(by) {
+    const { numbers } = this.stream;
+    const here = numbers.indexOf(this.open);
+    return this.open === null || here < 0 ? undefined : numbers[here + by];
+  }
+
+  go(by) {
+    const number = this.beside(by);
+    if (number !== undefined) window.location.hash = `#${number}`;
+  }
+
+  // The result list.
+
+  routeElsewhere() {
+    const shows = window.location.hash === RESULTS;
+    const comes = shows && at('results').hidden;
+    at('results').hidden = !shows;
+    if (comes && this.asked) at('results').focus({ preventScroll: true });
+    at('to-results').setAttribute('aria-current', shows ? 'page' : 'false');
+    return shows;
+  }
+
+  listResults() {
+    const body = at('result-rows');
+    const boards = this.stream.list();
+    const kept = new Map();
+    boards.forEach((board, index) => {
+      const row = this.rows.get(board.number) || this.row(board.number);
+      kept.set(board.number, row);
+      showPlayer(row.white, board, 0);
+      showPlayer(row.black, board, 1);
+      const going = board.moves.length > 0 ? 'playing' : '';
+      say(row.result, printedResult(board.result) || going);
+      if (body.children[index] !== row.root) body.insertBefore(row.root, body.children[index] || null);
+    });
+    for (const [number, row] of this.rows) {
+      if (!kept.has(number)) row.root.remove();
+    }
+    this.rows = kept;
+  }
+
+  row(number) {
+    const root = element('tr');
+    const link = element('a', '', String(number));
+    link.href = `#${number}`;
+    link.setAttribute('aria-label', `Board ${number}`);
+    const head = root.appendChild(element('th'));
+    head.scope = 'row';
+    head.append(link);
+    const [white, result, black] = ['name', 'result', 'name'].map((name) => root.appendChild(element('td', name)));
+    return { root, white, result, black };
+  }
+}
+
+new Spectators();

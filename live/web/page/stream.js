@@ -1,0 +1,104 @@
+// The round as the recorder tells it, through lost connections and sleeping computers.
+
+import { SHARES, Source } from './source.js';
+
+const SILENT = 4000; // milliseconds without a word, after which the page says so: a beat comes each two or three seconds
+const LOOK = 500;
+const HIDDEN = SHARES ? 30000 : 0; // a page that nobody sees lets its connection go
+
+export class Stream {
+  /**
+   * `changed(number)` is called for each board that has changed, or without a number for the round; `connected(how)` with
+   * 'connecting', 'live', 'silent' where nothing comes, 'lost' where there is no connection, and 'hidden' where nobody sees the
+   * page: a browser slows its timers then, so it couldn't say in time that nothing comes.
+   */
+  constructor(changed, connected) {
+    this.changed = changed;
+    this.tell = connected;
+    this.boards = new Map();
+    this.event = '';
+    this.numbers = [];
+    this.said = {}; // what else is said of the round
+    this.offset = 0;
+    this.sleeps = 0;
+    this.source = new Source((kind, data) => this.hear(kind, data), () => this.say(), () => this.known());
+    document.addEventListener('visibilitychange', () => this.seen(!document.hidden));
+    window.addEventListener('pageshow', () => this.seen(!document.hidden));
+    window.addEventListener('pagehide', () => this.source.end());
+    window.setInterval(() => this.look(), LOOK);
+    if (SHARES) this.source.begin();
+    this.seen(!document.hidden);
+  }
+
+  /** The recorder's time of day, in seconds. */
+  now() {
+    return performance.now() / 1000 + this.offset;
+  }
+
+  hear(kind, data) {
+    if (kind === 'beat') this.offset = data.now - performance.now() / 1000;
+    else if (kind === 'round') this.takeRound(data);
+    else this.takeBoard(data);
+  }
+
+  /** All that is known, as it was heard. */
+  known() {
+    const round = { ...this.said, event: this.event, numbers: this.numbers };
+    return [['beat', { now: this.now() }], ['round', round], ...this.list().map((board) => ['board', board])];
+  }
+
+  takeRound(round) {
+    const { event, numbers, ...said } = round;
+    this.event = event;
+    this.numbers = numbers;
+    this.said = said;
+    for (const number of [...this.boards.keys()]) {
+      if (!round.numbers.includes(number)) this.boards.delete(number);
+    }
+    this.changed();
+  }
+
+  /** A board comes whole, or with what is new in it. */
+  takeBoard(board) {
+    const before = this.boards.get(board.number);
+    if (board.kept) {
+      if (!before || before.moves.length < board.kept.moves || before.positions.length < board.kept.positions) {
+        this.source.again();
+        return;
+      }
+      board.moves = before.moves.slice(0, board.kept.moves).concat(board.moves);
+      board.positions = before.positions.slice(0, board.kept.positions).concat(board.positions);
+      delete board.kept;
+    }
+    this.boards.set(board.number, board);
+    this.changed(board.number, before);
+  }
+
+  /** The boards that are there, in their order. */
+  list() {
+    return this.numbers.map((number) => this.boards.get(number)).filter((board) => board);
+  }
+
+  look() {
+    this.source.look();
+    this.say();
+  }
+
+  /** Says how the page stands. */
+  say() {
+    const { heard, wanted, isLost } = this.source;
+    const now = performance.now();
+    if (document.hidden) this.tell('hidden');
+    else if (isLost) this.tell('lost');
+    else if (now - heard <= SILENT) this.tell('live');
+    else this.tell(now - wanted > SILENT ? 'silent' : 'connecting');
+  }
+
+  seen(isSeen) {
+    window.clearTimeout(this.sleeps);
+    if (isSeen) this.source.begin();
+    else if (HIDDEN) this.sleeps = window.setTimeout(() => this.source.end(), HIDDEN);
+    else this.source.end();
+    this.say();
+  }
+}

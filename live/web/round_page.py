@@ -1,0 +1,160 @@
+"""A page that is begun again where an error ends it, and what the arbiter's page shows of a board."""
+
+from __future__ import annotations
+
+from typing import Callable, Dict, Iterable, Optional, Protocol, Sequence, Tuple
+
+from live.board.board import Board
+from live.game.course import clocks_of
+from live.game.report import Move
+from live.guard import Guard, traced
+from live.loop import Loop, Timer
+from live.web.address import Door
+from live.web.page import Page, Site
+from live.web.view import BoardView, Ply, RoundView
+
+GATHERED = 0.05  # seconds in which changes are shown at once
+AGAIN = 1.0  # seconds after which a page that an error has ended is begun again
+NOT_RECORDED = "NOT RECORDED: the recorder's screen says why"  # the reason may have a folder's path, or who is logged in
+NOT_PUBLISHED = "NOT PUBLISHED: the recorder's screen says why"
+
+
+class RoundPage:
+    """Shows a round to browsers."""
+
+    def __init__(self, loop: Loop, door: Door, site: Site) -> None:
+        self._loop, self._door, self._site = loop, door, site
+        self._view: Callable[[], RoundView] = lambda: RoundView("")
+        self._timer: Optional[Timer] = None
+        self._closed = False
+        self.trouble: Callable[[str], None] = lambda text: None  # is told of what should never happen
+        self._begin()
+
+    def _begin(self) -> None:
+        """Refused where no page can be served there."""
+        self._guard = Guard(self._loop, self._broke, lambda error: self.trouble(traced(error)))
+        self._page = Page(self._guard, self._door, self._site, lambda text: self.trouble(text))
+        self._guard.opened(self._page.close)
+
+    def _broke(self, error: Exception) -> None:
+        """The page has ended by an error: it is begun again."""
+        self.trouble(traced(error))
+        self._timer = None
+        self._loop.after(AGAIN, self._begin_again)
+
+    def _begin_again(self) -> None:
+        if self._closed:
+            return
+        try:
+            self._begin()
+            self._timer = None
+            self.changed()
+        except Exception as error:
+            self._guard.end()
+            self._broke(error)
+
+    @property
+    def url(self) -> str:
+        return self._page.url
+
+    def shows(self, view: Callable[[], RoundView]) -> None:
+        """From here on this is shown. `changed` is to be called where it is another than before."""
+        self._view = view
+        self.changed()
+
+    def changed(self) -> None:
+        if self._timer is None:
+            self._timer = self._guard.after(GATHERED, self._show)
+
+    def _show(self) -> None:
+        self._timer = None
+        self._page.show(self._view())
+
+    def close(self) -> None:
+        self._closed = True
+        self._guard.end()
+
+
+def ways_to_mend(state: str, in_front: str) -> str:
+    """What an arbiter may type where the record may be wrong; nothing where no typing mends that."""
+    ok = f'"{in_front}ok" if the game is right, ' if "LOOK" in state else ""
+    if not ok and "WRONG" not in state:
+        return ""
+    back = f'"{in_front}back" to take the last ply off, "{in_front}help" for more'
+    return f"Arbiter: in the recorder's terminal, type {ok}{back}"
+
+
+class Game(Protocol):
+    """What the arbiter's page asks of a board and its game."""
+
+    board: Board
+
+    @property
+    def number(self) -> int:
+        """That of its board."""
+
+    @property
+    def name(self) -> str:
+        """What its files are called."""
+
+    @property
+    def in_front(self) -> str:
+        """What stands in front of a line that is typed for it: its number and a blank, or nothing."""
+
+    def standing(self) -> Tuple[str, Optional[float], bool]:
+        """How it stands in words, since when, and whether somebody must look at it."""
+
+    def player_name(self, option: str) -> str:
+        """The name behind `--white` or `--black`."""
+
+
+class ArbiterView:
+    """What the arbiter's page shows. `trouble` is told of what should never happen."""
+
+    def __init__(self, event: str, games: Callable[[], Iterable[Game]], trouble: Callable[[str], None]) -> None:
+        self._event, self._games, self._trouble = event, games, trouble
+        self._views: Dict[int, BoardView] = {}
+        self.is_unpublished: Callable[[], bool] = lambda: False
+
+    def view(self) -> RoundView:
+        """All boards as they are now."""
+        boards = [self._of(game) for game in self._games()]
+        self._views = {board.number: board for board in boards}
+        said = (("notice", NOT_PUBLISHED),) if self.is_unpublished() else ()
+        return RoundView(self._event, tuple(boards), said)
+
+    def _of(self, game: Game) -> BoardView:
+        """A game as it is shown; as it was, where that can't be told."""
+        try:
+            return view_of(game)
+        except Exception as error:
+            self._trouble(traced(error))
+            return self._views.get(game.number, BoardView(game.number, ""))
+
+
+def plies_view(plies: Sequence[Move]) -> Tuple[Ply, ...]:
+    """The moves as the page has them."""
+    return tuple(Ply(ply.san, ply.clock, "correction" if ply.corrects else "move") for ply in plies)
+
+
+def view_of(game: Game) -> BoardView:
+    """A game as it is shown. A move is shown with its position."""
+    board = game.board
+    words, since, alarm = game.standing()
+    plies = board.plies[: max(0, len(board.fens) - 1)]
+    return BoardView(
+        number=game.number,
+        name=game.name,
+        white=game.player_name("--white"),
+        black=game.player_name("--black"),
+        result=board.result,
+        state=NOT_RECORDED if board.trouble else words,
+        since=since,
+        alarm=alarm,
+        mend=ways_to_mend(words, game.in_front),
+        differing=board.differing,
+        clocks=clocks_of(plies),
+        moves=plies_view(plies),
+        positions=tuple(board.fens),
+        pgn=board.pgn,
+    )

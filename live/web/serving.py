@@ -1,0 +1,430 @@
+"""Serves readers over TCP, on the recorder's own loop: no call waits, and what a reader may use up is bounded.
+
+Threads would serve as well, but one that makes an answer holds the interpreter while a board's byte waits. Here a turn of the
+loop answers at most two requests of each reader, and writes at most 64 kB for each; then the boards have theirs. While a request
+waits nothing more is read of its reader. Descriptors that the boards may need are never a reader's.
+"""
+
+from __future__ import annotations
+
+import collections
+import errno
+import ipaddress
+import math
+import socket
+import time
+import traceback
+from dataclasses import dataclass
+from typing import Callable, Deque, Dict, Iterable, List, Optional, Protocol, Tuple
+
+from live import descriptors
+from live.loop import Turns
+from live.refused import FAILED, Refused
+from live.web import http
+from live.web.address import Address, Door
+
+MOST_READERS = 256
+HERE = ("127.0.0.1", "::1")  # behind these may stand a server that passes on what many readers ask
+PART = 64 * 1024  # bytes that are written in a turn, or read where no request is taken any more
+KERNEL_BUFFER = 128 * 1024  # bytes that the system may keep for a reader, each way
+MOST_UNSENT = 32 * 1024 * 1024  # bytes that wait to be sent, of all readers; what many wait for counts once
+ACCEPTED_IN_A_TURN = 16
+MOST_DROPPED = 256 * 1024  # bytes that are read where no request is taken any more
+IDLE = 30.0  # seconds between two requests
+WHOLE = 10.0  # seconds from a request's first byte to its last, and from the connection to its first request
+TAKEN = 30.0  # seconds in which a reader must take an answer or the events that wait, and a second more for each
+SLOWEST = 16 * 1024  # bytes
+LINGER = 2.0  # seconds in which a reader may still send where no request is taken any more
+SWEEP = 1.0  # seconds
+NO_MORE_ROOM = (errno.EMFILE, errno.ENFILE, errno.ENOBUFS, errno.ENOMEM)
+
+
+@dataclass(frozen=True)
+class Content:
+    """What stands at a path."""
+
+    kind: str
+    body: bytes
+    tag: str
+
+
+class Stream(Protocol):
+    """The events for one reader."""
+
+    def more(self) -> bytes:
+        """What is to be sent next, at most a part or an event; nothing where there is nothing new."""
+
+
+class Site(Protocol):
+    """What is served."""
+
+    def content(self, path: str) -> Optional[Content]:
+        """What stands at this path, if anything does."""
+
+    def stream(self, path: str, last: str) -> Optional[Stream]:
+        """The events at this path, from the one after `last` on, if events stand there."""
+
+
+class Reader:
+    """One connection: requests one after the other, or events until it ends."""
+
+    def __init__(self, server: Server, line: socket.socket, host: str) -> None:
+        self._server, self._line = server, line
+        self.host = host  # its machine's address
+        self._received = bytearray()
+        self.unsent: Deque[memoryview] = collections.deque()
+        self._keeps = True
+        self._answers = False
+        self._goes_on = False  # whether what was received is looked at again in the next turn
+        self._stream: Optional[Stream] = None
+        self._dropped: Optional[int] = None  # bytes that came where no request is taken any more
+        self.ends_at = server.loop.now() + WHOLE
+        self._watch()
+
+    @property
+    def idle(self) -> bool:
+        """Whether no request is under way."""
+        return not (self._received or self._answers)
+
+    @property
+    def closed(self) -> bool:
+        return self._line.fileno() < 0
+
+    def _watch(self) -> None:
+        loop, number = self._server.loop, self._line.fileno()
+        if self.unsent:
+            loop.watch(number, None, lambda: self._server.guard(self, self._write))
+        elif self._goes_on:
+            loop.forget(number)
+        else:
+            loop.watch(number, lambda: self._server.guard(self, self._read))
+
+    def _ends_in(self, seconds: float) -> None:
+        self.ends_at = self._server.loop.now() + seconds
+
+    # What the reader sends.
+
+    def _read(self) -> None:
+        drops = self._dropped is not None
+        try:
+            came = self._line.recv(PART if drops else http.LONGEST_HEAD + 1 - len(self._received))
+        except BlockingIOError:
+            return
+        if not came:
+            self.close()
+        elif self._dropped is not None:
+            self._dropped += len(came)
+            if self._dropped > MOST_DROPPED:
+                self.close()
+        else:
+            was_idle = not self._received
+            self._received += came
+            self._take_request()
+            if was_idle and self._received and not self._answers:
+                self._ends_in(WHOLE)
+
+    def _take_request(self) -> None:
+        """Answers the next request, where it is whole."""
+        self._received = self._received.lstrip(b"\r\n")
+        try:
+            end = http.head_end(self._received)
+            if end is None:
+                return
+            request = http.read_request(bytes(self._received[:end]))
+        except http.Bad as bad:
+            self.complain(bad.status)
+            return
+        del self._received[:end]
+        self._answer(request)
+
+    # What it is sent.
+
+    def _answer(self, request: http.Request) -> None:
+        if not self._server.names.allow(request.host):
+            self._keeps = request.keeps
+            self._send(*http.complaint(421, time.time(), self._keeps, request.with_body))
+            return
+        if self._server.password and not http.has_password(request, self._server.password):
+            self._keeps = request.keeps
+            self._send(*http.complaint(401, time.time(), self._keeps, request.with_body))
+            return
+        stream = self._server.site.stream(request.path, request.fields.get("last-event-id", ""))
+        self._keeps = request.keeps and stream is None
+        fields = {"Connection": "keep-alive" if self._keeps else "close"}
+        content = self._server.site.content(request.path)
+        if stream is not None:
+            if request.with_body:
+                self._stream, self._dropped = stream, 0
+            fields["Content-Type"] = "text/event-stream; charset=utf-8"
+            self._send(http.answer(200, fields, time.time()))
+        elif content is None:
+            self._send(*http.complaint(404, time.time(), self._keeps, request.with_body))
+        elif http.has_tag(request, content.tag):
+            self._send(http.answer(304, {"ETag": content.tag, **fields}, time.time()))
+        else:
+            fields.update({"Content-Type": content.kind, "Content-Length": str(len(content.body)), "ETag": content.tag})
+            self._send(http.answer(200, fields, time.time()), content.body if request.with_body else b"")
+
+    def complain(self, status: int) -> None:
+        """Says what is wrong, and ends the connection."""
+        self._keeps = False
+        self._received.clear()
+        self._send(*http.complaint(status, time.time(), False))
+
+    def _send(self, *parts: bytes) -> None:
+        self._answers = True
+        self._queue(*parts)
+        self._write()
+
+    def _queue(self, *parts: bytes) -> None:
+        self.unsent.extend(memoryview(part) for part in parts if part)
+        self._ends_in(TAKEN + sum(len(part) for part in parts) / SLOWEST)
+
+    def _write(self) -> None:
+        """Sends a part, and watches for the moment of the next."""
+        left = PART
+        try:
+            while self.unsent and left > 0:
+                count = self._line.send(self.unsent[0][:left])
+                left -= count
+                self.unsent[0] = self.unsent[0][count:]
+                if not self.unsent[0]:
+                    self.unsent.popleft()
+        except BlockingIOError:
+            pass
+        if not self.unsent:
+            self._sent()
+        self._watch()
+
+    def _sent(self) -> None:
+        """All that waited is sent."""
+        if self._stream is not None:
+            self.ends_at = math.inf
+            self._top_up(self._stream)
+        elif not self._keeps:
+            # A connection that is closed with bytes unread is reset, and the answer may be lost with it.
+            self._line.shutdown(socket.SHUT_WR)
+            self._dropped = 0
+            self._ends_in(LINGER)
+        else:
+            self._answers = False
+            self._ends_in(WHOLE if self._received else IDLE)
+            if self._received:
+                self._goes_on = True
+                self._server.loop.after(0, lambda: self._server.guard(self, self._go_on))
+
+    def _go_on(self) -> None:
+        """The next request may have come with the one before it."""
+        self._goes_on = False
+        if not (self.closed or self._answers):
+            self._take_request()
+        if not (self.closed or self._answers):
+            self._watch()
+
+    def _top_up(self, stream: Stream) -> None:
+        more = stream.more()
+        if more:
+            self._queue(more)
+
+    def fill(self) -> None:
+        """Sends the next events, where there are any and those before them are sent."""
+        if self._stream is not None and not self.unsent and not self.closed:
+            self._top_up(self._stream)
+            if self.unsent:
+                self._write()
+
+    # How it ends.
+
+    def too_late(self) -> None:
+        """Its time is over."""
+        if self._received and not self._answers:
+            self.complain(408)
+        else:
+            self.close()
+
+    def close(self) -> None:
+        """Ends the connection, whatever is under way."""
+        self._server.readers.pop(self, None)
+        self._stream = None
+        self.unsent.clear()
+        if not self.closed:
+            try:
+                self._server.loop.forget(self._line.fileno())
+            finally:
+                self._line.close()
+
+
+class Server:
+    """Listens at an address, and answers who asks for one of the names. Its readers stand in the order in which they came.
+
+    `trouble` is told of what should never happen, where it does: it ends one reader's connection, and nothing else.
+    """
+
+    def __init__(self, loop: Turns, door: Door, site: Site, trouble: Callable[[str], None]) -> None:
+        self.loop, self.names, self.password, self.site, self._trouble = loop, door.names, door.password, site, trouble
+        self.readers: Dict[Reader, None] = {}
+        self._line = _listening(door.address)
+        self.address = Address(*self._line.getsockname()[:2])
+        self._watch()
+        self._sweep = loop.after(SWEEP, self._look_again)
+
+    def _watch(self) -> None:
+        """Readers are taken from here on, or from a while on where that can't be heard."""
+        try:
+            if self._line.fileno() >= 0:
+                self.loop.watch(self._line.fileno(), lambda: self._safely(self._accept))
+        except Exception:
+            self._trouble(traceback.format_exc())
+            self.loop.after(SWEEP, self._watch)
+
+    def _accept(self) -> None:
+        room = self._room()
+        for _ in range(ACCEPTED_IN_A_TURN):
+            try:
+                line, address = self._line.accept()
+            except BlockingIOError:
+                return
+            except OSError as error:
+                if error.errno in NO_MORE_ROOM:
+                    # It can't be taken now, and would be ready all the time.
+                    self.loop.forget(self._line.fileno())
+                    self.loop.after(SWEEP, self._watch)
+                    return
+                continue
+            try:
+                self._take(line, host_of(address[0]), room)
+            except OSError:
+                line.close()
+
+    def _room(self) -> descriptors.Room:
+        """How many readers there may be."""
+        room = descriptors.room_now(len(self.readers))
+        return descriptors.Room(min(MOST_READERS, room.readers), room.turned_away)
+
+    def _take(self, line: socket.socket, host: str, room: descriptors.Room) -> None:
+        line.setblocking(False)
+        line.setsockopt(socket.IPPROTO_TCP, socket.TCP_NODELAY, 1)
+        places, refusals = share(room.readers, host)
+        if len(self._of(host)) >= places:
+            self._drop_idle(self._of(host))
+        elif len(self.readers) >= room.readers:
+            self._drop_idle(self.readers)
+        own = len(self._of(host))
+        if len(self.readers) >= room.readers + room.turned_away or own >= places + refusals:
+            line.close()
+            return
+        reader = Reader(self, line, host)
+        self.readers[reader] = None
+        if len(self.readers) > room.readers or own >= places:
+            self.guard(reader, lambda: reader.complain(503))
+
+    def _of(self, host: str) -> List[Reader]:
+        """The readers of this machine."""
+        return [reader for reader in self.readers if reader.host == host]
+
+    def _drop_idle(self, readers: Iterable[Reader]) -> None:
+        """Ends the oldest of these that has no request under way, if there is one."""
+        idle = next((reader for reader in readers if reader.idle), None)
+        if idle is not None:
+            self._drop(idle)
+
+    def guard(self, reader: Reader, call: Callable[[], None]) -> None:
+        """Whatever goes wrong with a reader is this connection's end, and never the recorder's."""
+        try:
+            call()
+        except OSError:
+            self._drop(reader)
+        except Exception:
+            self._trouble(traceback.format_exc())
+            self._drop(reader)
+
+    def _drop(self, reader: Reader) -> None:
+        self._safely(reader.close)
+
+    def _safely(self, call: Callable[[], None]) -> None:
+        """What goes wrong here is told, and ends nothing."""
+        try:
+            call()
+        except Exception:
+            self._trouble(traceback.format_exc())
+
+    def wake(self) -> None:
+        """There may be new events, and new boards."""
+        self._safely(self._make_room)
+        for reader in list(self.readers):
+            self.guard(reader, reader.fill)
+
+    def _look_again(self) -> None:
+        self._sweep = self.loop.after(SWEEP, self._look_again)
+        self._safely(self._look)
+
+    def _look(self) -> None:
+        """Ends what is too late, and what waits for too much."""
+        now = self.loop.now()
+        for reader in [reader for reader in self.readers if reader.ends_at <= now]:
+            self.guard(reader, reader.too_late)
+        waiting = sorted((reader for reader in self.readers if reader.unsent), key=lambda reader: reader.ends_at)
+        while waiting and _unsent(waiting) > MOST_UNSENT:
+            self._drop(waiting.pop(0))
+        self.wake()
+
+    def _make_room(self) -> None:
+        """Boards that have begun since readers were taken may need what those have: the idle ones go first, then the oldest."""
+        room = self._room()
+        too_many = len(self.readers) - room.readers - room.turned_away
+        for reader in sorted(self.readers, key=lambda reader: not reader.idle)[: max(0, too_many)]:
+            self._drop(reader)
+
+    def close(self) -> None:
+        """Ends all connections."""
+        self._sweep.cancel()
+        for reader in list(self.readers):
+            reader.close()
+        if self._line.fileno() >= 0:
+            self.loop.forget(self._line.fileno())
+            self._line.close()
+
+
+def host_of(address: str) -> str:
+    """A reader's address, the same whether IPv4 or IPv6 is listened to."""
+    mapped = ipaddress.IPv6Address(address.partition("%")[0]).ipv4_mapped if ":" in address else None
+    return str(mapped or address)
+
+
+def share(readers: int, host: str) -> Tuple[int, int]:
+    """How many of so many places one machine may have: a quarter, this computer nearly all; and how many more of its readers
+    are told that there are too many."""
+    return max(1, readers * 15 // 16 if host in HERE else readers // 4), max(1, readers // 32)
+
+
+def _unsent(readers: "list[Reader]") -> int:
+    """The bytes that are kept for these readers."""
+    kept = {id(part.obj): memoryview(part.obj).nbytes for reader in readers for part in reader.unsent}
+    return sum(kept.values())
+
+
+def _listening(address: Address) -> socket.socket:
+    """A socket that listens there. Refused where that can't be."""
+    line: Optional[socket.socket] = None
+    try:
+        family, kind, protocol, _, where = socket.getaddrinfo(
+            address.host, address.port, type=socket.SOCK_STREAM, flags=socket.AI_NUMERICHOST
+        )[0]
+        line = socket.socket(family, kind, protocol)
+        line.setsockopt(socket.SOL_SOCKET, socket.SO_REUSEADDR, 1)
+        line.setsockopt(socket.SOL_SOCKET, socket.SO_SNDBUF, KERNEL_BUFFER)
+        line.setsockopt(socket.SOL_SOCKET, socket.SO_RCVBUF, KERNEL_BUFFER)
+        line.bind(where)
+        line.listen(MOST_READERS)
+        line.setblocking(False)
+        return line
+    except OSError as error:
+        if line is not None:
+            line.close()
+        reasons = {
+            errno.EADDRINUSE: f"another program has port {address.port}: give another one, or end that program",
+            errno.EADDRNOTAVAIL: f"this computer has no address {address.host}: 0.0.0.0 stands for all that it has",
+            errno.EACCES: f"port {address.port} is kept for the system: give one from 1024 on",
+        }
+        reason = reasons.get(error.errno or 0, error.strerror or str(error))
+        raise Refused(FAILED, f"no page can be served at {address.text}: {reason}") from None

@@ -1,0 +1,132 @@
+"""What a page shows, as values, and their texts: JSON for the page, PGN for a broadcast."""
+
+from __future__ import annotations
+
+import json
+from dataclasses import dataclass
+from typing import Any, Dict, Iterable, Optional, Protocol, Sequence, Tuple
+
+
+@dataclass(frozen=True)
+class Ply:
+    """A ply of the game: its SAN, the clock of its player after it, and whether it was told as a correction."""
+
+    san: str
+    clock: str = ""
+    kind: str = "move"  # or "correction"
+
+
+@dataclass(frozen=True)
+class BoardView:
+    """A board and its game.
+
+    `positions` are FENs: of the start and after each ply, as far as they are known. `state` is in words, without a time;
+    `since` is when it began, as `Loop.now` tells it. `mend` is what an arbiter may type about it. The clocks are White's and Black's, empty where none is known.
+    """
+
+    number: int
+    name: str
+    white: str = ""
+    black: str = ""
+    result: str = "*"
+    state: str = ""
+    since: Optional[float] = None
+    alarm: bool = False
+    mend: str = ""
+    differing: Tuple[str, ...] = ()
+    clocks: Tuple[str, str] = ("", "")
+    moves: Tuple[Ply, ...] = ()
+    positions: Tuple[str, ...] = ()
+    pgn: bytes = b""
+
+    def text(self, offset: float, before: Optional[BoardView]) -> bytes:
+        """In JSON, for a page that has what it was before."""
+        return board_text(self, offset, before)
+
+
+class Shows(Protocol):
+    """A board as some page shows it."""
+
+    @property
+    def number(self) -> int:
+        """Each has its own."""
+
+    @property
+    def pgn(self) -> bytes:
+        """The game."""
+
+    def text(self, offset: float, before: Any) -> bytes:
+        """In JSON. `before` is what the page has of it, if it has any. `offset` turns the time of the loop into seconds since
+        1970."""
+
+
+@dataclass(frozen=True)
+class RoundView:
+    """All boards, in the order in which they are shown, and what is said of all of them. Each has a number of its own."""
+
+    event: str
+    boards: Tuple[Shows, ...] = ()
+    said: Tuple[Tuple[str, str], ...] = ()
+
+    @property
+    def header(self) -> bytes:
+        """All but the boards, in JSON."""
+        return json_text({"event": self.event, "numbers": [board.number for board in self.boards], **dict(self.said)})
+
+
+def pgn_path(number: int) -> str:
+    """Where the PGN of a board's game is fetched."""
+    return f"/{number:02}.pgn"
+
+
+def board_text(board: BoardView, offset: float, before: Optional[BoardView] = None) -> bytes:
+    """A board in JSON. `offset` turns the time of the loop into seconds since 1970.
+
+    With `before`, which the page has, the moves and positions that are the same are left out, and `kept` counts them.
+    """
+    moves = same_front(before.moves, board.moves) if before else 0
+    positions = same_front(before.positions, board.positions) if before else 0
+    values: Dict[str, object] = {
+        "number": board.number,
+        "name": board.name,
+        "white": board.white,
+        "black": board.black,
+        "result": board.result,
+        "state": board.state,
+        "since": None if board.since is None else round(board.since + offset, 1),
+        "alarm": board.alarm,
+        "mend": board.mend,
+        "differing": board.differing,
+        "clocks": board.clocks,
+        "pgn": pgn_path(board.number),
+        "moves": [{"san": ply.san, "clock": ply.clock, "kind": ply.kind} for ply in board.moves[moves:]],
+        "positions": board.positions[positions:],
+    }
+    if before:
+        values["kept"] = {"moves": moves, "positions": positions}
+    return json_text(values)
+
+
+def json_text(value: object) -> bytes:
+    """JSON in one line of ASCII."""
+    return json.dumps(value, separators=(",", ":")).encode("ascii")
+
+
+def same_front(one: Sequence[object], other: Sequence[object]) -> int:
+    """How many of the first ones are the same in both."""
+    count = 0
+    for here, there in zip(one, other):
+        if here != there:
+            break
+        count += 1
+    return count
+
+
+def round_text(event: str, boards: Iterable[bytes]) -> bytes:
+    """The round in JSON, of the texts of its boards."""
+    return b'{"event":' + json_text(event) + b',"boards":[' + b",\n".join(boards) + b"]}\n"
+
+
+def round_pgn(games: Iterable[bytes]) -> bytes:
+    """The games one after the other, with an empty line between them; a board without a game is left out."""
+    return b"".join(game.rstrip(b"\n") + b"\n\n" for game in games if game)
