@@ -1,0 +1,116 @@
+// Reads a capture by the program, whenever bytes of it came: its report, line by line, and its PGN.
+
+import { News, Newsworthy } from '../game/newsworthy.js';
+import { lineOf } from '../game/report.js';
+import { published } from '../game/tags.js';
+
+const PAUSES = 2; // times as long as a reading takes are between two that can wait, for each board
+
+export class Reader {
+  /**
+   * `hears`: options (of the game), hear(line) for each line that is new, heardAll() when all were heard, reread()
+   * where lines have changed that were heard before.
+   */
+  constructor(hall, guard, hears) {
+    this.hall = hall;
+    this.program = hall.program;
+    this.guard = guard;
+    this.hears = hears;
+    this.epoch = 0; // how often it was begun anew
+    this.known = 0; // lines that were heard
+    this.isReading = false;
+    this.readsAgain = false;
+    this.readsLater = null;
+    this.took = 0; // seconds that the last reading took, which ended then
+    this.readAt = 0;
+  }
+
+  /** This is the capture from here on. All that it has may be read. */
+  take(key, capture) {
+    this.key = key;
+    this.capture = capture;
+    this.size = capture.size; // bytes that may be read
+    this.taught = null; // when the program was begun that has the capture
+    this.newsworthy = new Newsworthy();
+  }
+
+  /** All lines are heard again. */
+  begin() {
+    this.epoch += 1;
+    this.known = 0;
+    this.guard.call(() => this.read());
+  }
+
+  /** These bytes are kept: they may be read. */
+  kept(bytes) {
+    this.size += bytes.length;
+    if (this.taught === this.program.epoch) this.program.append(this.key, bytes).catch(() => {});
+    const news = this.newsworthy.take(bytes);
+    if (news === News.BOARD) this.guard.call(() => this.read());
+    else if (news === News.CLOCK || this.hears.options.recover) this.readLater();
+  }
+
+  /** Reads what can wait a little: so all boards together leave time for what can't. */
+  readLater() {
+    if (this.readsLater) return;
+    const due = this.readAt + PAUSES * this.hall.seats.size * this.took;
+    this.readsLater = this.guard.after(Math.max(0, due - this.guard.now()), () => {
+      this.readsLater = null;
+      return this.read();
+    });
+  }
+
+  /** Reads what is new; the newest state again after it. */
+  async read() {
+    this.readsAgain = true;
+    if (this.isReading) return;
+    this.isReading = true;
+    try {
+      while (this.readsAgain && !this.guard.ended) {
+        this.readsAgain = false;
+        await this.readOnce();
+      }
+    } finally {
+      this.isReading = false;
+    }
+  }
+
+  async readOnce() {
+    const { epoch } = this;
+    await this.teach();
+    const began = this.guard.now();
+    const { from, lines } = await this.program.watch(this.key, this.known, this.hears.options);
+    this.readAt = this.guard.now();
+    this.took = this.readAt - began;
+    if (epoch !== this.epoch || this.guard.ended) {
+      this.readsAgain = true;
+      return;
+    }
+    if (from < this.known) {
+      this.hears.reread();
+      return;
+    }
+    this.known = from + lines.length;
+    for (const text of lines) {
+      const line = lineOf(text);
+      if (line) this.hears.hear(line);
+      if (epoch !== this.epoch) return;
+    }
+    await this.hears.heardAll();
+  }
+
+  /** A program that was begun anew has no capture. */
+  async teach() {
+    if (this.taught !== this.program.epoch) {
+      this.taught = this.program.epoch;
+      await this.program.renew(this.key, this.capture.bytes(this.size));
+    }
+  }
+
+  /** The PGN of so many bytes, as it is published; of all where the limit is null. */
+  async text(limit) {
+    const { options } = this.hears;
+    await this.teach();
+    return published(await this.program.record(this.key, limit, options), options.tags);
+  }
+}

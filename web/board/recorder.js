@@ -1,0 +1,554 @@
+// The games of one board while it is recorded. What came is kept first, then told, and the PGN is made anew where the
+// game changed.
+
+import { DUMP_ID, SIZES, dump, joined, same } from '../device/protocol.js';
+import { Refused, STRAY } from '../game/added.js';
+import { AfterTheEnd } from '../game/after_the_end.js';
+import { Alarms, acknowledged } from '../game/alarms.js';
+import { reached } from '../game/back.js';
+import { endingWithSign, gameEnd } from '../game/ending.js';
+import { textOfLook } from '../game/looks.js';
+import { dayOf } from '../game/names.js';
+import { newCourse } from '../game/reading.js';
+import { codesOf, shownOf } from '../game/report.js';
+import { Capture, LARGEST } from '../kept/capture.js';
+import { spread } from '../kept/spread.js';
+import { Cable } from './cable.js';
+import { Reader } from './reader.js';
+import { BoardState, Kind, TURNED_ROUND } from './state.js';
+import { Typing } from './typing.js';
+import { another, back as backAgain, mayTake } from './whose.js';
+
+const LINGER = 10.0; // seconds that a result stands before it ends the game
+const SETTLES = 0.2; // seconds after which all lines of a byte have been heard
+const SURELY_SETTLES = 1.0; // and those where one that comes late would be taken for another
+const TICK = 1.0; // seconds between two looks at what waits
+const ROOM = 1 << 20; // bytes for what `recover` puts in: the program reads no more than LARGEST
+const SAID = [Kind.WRONG, Kind.NO_START]; // states that are told as lines too
+const TOLD = ['move', 'result', 'differs', 'agrees'];
+
+const Reason = {
+  RESULT: 'it has a result',
+  TYPED: 'its result was typed',
+  SET_UP: 'the pieces stand at the start again',
+  LIMIT: 'its capture has 64 MiB, and none may have more',
+};
+
+export class Recorder {
+  /**
+   * `kept` is what the database has: { board, game, chunks }. `hears` is told: says(text), changed(), placed() where
+   * the PGN is another, owner(number), lends(number, heard), begun(game) where another game begins, keeps(before) where
+   * the capture was made anew, as it was before.
+   */
+  constructor(hall, guard, kept, hears) {
+    this.program = hall.program;
+    this.database = hall.database;
+    this.guard = guard;
+    this.hears = hears;
+    this.board = kept.board;
+    this.pgn = '';
+    this.trouble = ''; // why it isn't recorded
+    this.isStopped = false;
+    this.wasAway = false; // unplugged or silent, since it was heard last
+    this.gap = null; // for how long it wasn't heard, while the report is read anew
+    this.isUnkept = false; // whether the game's record couldn't be kept
+    this.isLate = false; // whether the next game couldn't be begun
+    this.typing = new Typing(this);
+    this.reader = new Reader(hall, guard, this);
+    this.cable = new Cable(guard, kept.board.serial || '', this);
+    this.takeGame(kept.game, kept.chunks);
+    this.tick = guard.after(TICK, () => this.eachSecond());
+    this.reread(true);
+  }
+
+  /** This is the game from here on. */
+  takeGame(game, chunks) {
+    this.game = game;
+    this.capture = new Capture(this.database, game.id, chunks, {
+      kept: (bytes) => this.guard.call(() => this.reader.kept(bytes)),
+      changed: () => this.guard.call(() => this.diskChanged()),
+    });
+    this.reader.take(String(game.id), this.capture);
+    this.heardAt = this.capture.lastAt === null ? this.guard.now() : this.capture.lastAt;
+    this.isRestart = this.capture.lastAt !== null;
+    this.showsItself = !this.isRestart;
+    this.awaitsDump = false;
+    this.byHand = [0, 0]; // the bytes that were added last
+  }
+
+  get options() {
+    return this.game.options;
+  }
+
+  get isOver() {
+    return this.game.end !== null;
+  }
+
+  // Reading the capture.
+
+  /** All is read anew: at the beginning, with other options, or of another capture. */
+  reread(isFirst = false) {
+    this.old = this.reader.size; // bytes whose report isn't news
+    this.isOld = true;
+    this.course = newCourse(this.options);
+    this.alarms = new Alarms(this.course, this.game.looks);
+    const before = this.state;
+    this.state = new BoardState(this.course.start, TURNED_ROUND);
+    if (before) {
+      this.state.silentSince = before.silentSince;
+      this.state.unpluggedSince = before.unpluggedSince;
+    } else {
+      this.state.unplugged(this.guard.now());
+    }
+    this.state.disk(this.capture.trouble);
+    this.cancelLingering();
+    this.after = null;
+    this.startAt = null; // where the start came to stand last
+    this.starts = []; // where it did behind the game's end
+    this.isFirstReading = isFirst;
+    this.wantText();
+    this.reader.begin();
+  }
+
+  /** All lines were heard. */
+  async heardAll() {
+    if (this.isOld) this.tellOld();
+    if (this.isOver && this.starts.length > 0) await this.tryNext();
+    this.hears.changed();
+  }
+
+  /** The next line of the report. */
+  hear(line) {
+    const { offset, event } = line;
+    if (event.kind === 'fault') return;
+    const isOld = offset < this.old;
+    if (this.isOld && !isOld) this.tellOld();
+    const now = isOld ? this.capture.times.of(offset) : this.guard.now();
+    if (event.kind === 'picture' && same(codesOf(event.placement), this.course.start)) this.startAt = offset;
+    if (this.isOver && offset >= this.game.end) {
+      this.hearAfter(line, isOld);
+      return;
+    }
+    this.course.take(line, now);
+    this.course.news.length = 0; // it is told below
+    if (isOld) return;
+    const isByHand = offset >= this.byHand[0] && offset < this.byHand[1];
+    const look = this.alarms.take(now, line, isByHand);
+    if (event.kind === 'picture') {
+      this.state.shows(codesOf(event.placement));
+      if (this.course.standsAgain) this.guard.after(SETTLES, () => this.lookAtStart());
+    } else if (event.kind === 'recovered') {
+      this.hears.says(`${event.text}: look whether these moves were played`);
+    } else if (TOLD.includes(event.kind)) {
+      this.state.showsItself();
+      this.state.told(now, event);
+      if (event.kind === 'move' || event.kind === 'result') this.hearChange(event);
+    }
+    this.tellLook(look);
+  }
+
+  hearChange(change) {
+    this.hears.says(shownOf(change), change.kind === 'move');
+    this.wantText();
+    if (change.kind === 'result') this.hearResult(change.outcome);
+  }
+
+  /** A line of what came behind the end of the game. */
+  hearAfter({ offset, event }, isOld) {
+    if (event.kind === 'picture' && this.startAt === offset) this.starts.push(offset);
+    if (!this.after) this.after = new AfterTheEnd(this.course.start, reached(this.course.plies), this.course.result);
+    const look = this.after.take(event);
+    if (!isOld) this.tellLook(look ? this.alarms.add(look) : null);
+  }
+
+  /** What was played before, and how the board stood then, until it shows itself. */
+  tellOld() {
+    this.isOld = false;
+    const now = this.guard.now();
+    this.alarms = new Alarms(this.course, this.game.looks);
+    if (this.gap) this.alarms.away(this.gap.seconds, this.gap.isRestart);
+    this.gap = null;
+    this.state.look = this.alarms.looks.short;
+    if (this.isFirstReading && this.reader.size > 0 && !this.showsItself) this.state.goesOn();
+    if (this.course.board) this.state.shows(this.course.board);
+    for (const event of this.course.standing()) this.state.told(now, event);
+    if (this.isOver) return;
+    this.hearResult(this.course.result, true);
+    if (this.course.stoodAgain) this.guard.after(SETTLES, () => this.lookAtStart());
+  }
+
+  // What the cable brings.
+
+  /** The board has sent this. */
+  heard({ bytes, ended }) {
+    if (this.typing.holds({ bytes, ended })) return;
+    if (this.capture.size + bytes.length > LARGEST) return; // the game is over, and nobody has begun another one
+    const now = this.guard.now();
+    const silence = now - this.heardAt;
+    this.heardAt = now;
+    if (this.wasAway || this.isRestart) {
+      if (this.isOld) this.gap = { seconds: silence + (this.gap ? this.gap.seconds : 0), isRestart: this.isRestart };
+      else this.alarms.away(silence, this.isRestart);
+      this.awaitsDump = true;
+    }
+    this.wasAway = false;
+    this.isRestart = false;
+    this.capture.append(bytes, now);
+    if (ended.time.length > 0) this.alarms.time(now, ended.time);
+    if (ended.dumped) this.dumped();
+    if (this.capture.size >= LARGEST - ROOM && !this.isOver) this.end(Reason.LIMIT);
+  }
+
+  /** What came ends a whole dump. What the program makes of it is heard soon. */
+  dumped() {
+    if (!this.showsItself) {
+      this.showsItself = true;
+      this.guard.after(SETTLES, () => {
+        this.state.showsItself();
+        this.hears.changed();
+      });
+    }
+    if (this.awaitsDump) {
+      this.awaitsDump = false;
+      this.guard.after(SURELY_SETTLES, () => this.tellLook(this.alarms.stands(this.guard.now())));
+    }
+  }
+
+  plugged() {
+    this.trouble = '';
+    this.isStopped = false;
+    this.state.plugged();
+    this.hears.changed();
+  }
+
+  unplugged() {
+    this.wasAway = true;
+    if (!this.isOver) this.hears.says("its device isn't there: plug it in again; the recording then goes on");
+    this.state.unplugged(this.guard.now());
+    this.hears.changed();
+  }
+
+  taken(why) {
+    this.trouble = 'another program has its device';
+    this.hears.says(
+      `its device can't be opened (${why}): close the program or the tab that has it. It is tried again each 2 seconds`,
+    );
+    this.hears.changed();
+  }
+
+  silence(isSilent) {
+    this.wasAway = this.wasAway || isSilent;
+    this.state.silent(this.guard.now(), isSilent);
+    this.hears.says(
+      isSilent
+        ? "no board answers on its device; it is asked again and again. Look at the cable, and at the board's power"
+        : 'the board answers again',
+    );
+    this.hears.changed();
+  }
+
+  numbered(number) {
+    this.board = { ...this.board, serial: number };
+    this.keep(() => this.database.putBoard(this.board));
+  }
+
+  another(number) {
+    const owner = this.hears.owner(number);
+    this.tellLook(this.alarms.add(another(this.cable.number, number, owner, this.course.plies.length > 0)));
+  }
+
+  back(other) {
+    this.tellLook(this.alarms.add(backAgain(this.cable.number, other)));
+  }
+
+  lends(number, heard) {
+    return this.hears.lends(number, heard);
+  }
+
+  // What somebody is to look at.
+
+  tellLook(look) {
+    if (!look) return;
+    this.hears.says(`${textOfLook(look)}. Look at it, and press OK`);
+    this.looksChanged();
+  }
+
+  looksChanged() {
+    this.state.look = this.alarms.looks.short;
+    this.game = { ...this.game, looks: this.alarms.looks.open };
+    this.keepGame();
+    this.hears.changed();
+  }
+
+  acknowledge() {
+    const other = this.cable.other ? this.hears.owner(this.cable.other) : null;
+    const takes = this.cable.other && mayTake(other, this.course.plies.length > 0);
+    let seen = acknowledged(this.alarms.acknowledge());
+    if (takes) {
+      this.cable.takeOther();
+      seen += `; the board with serial number ${this.cable.number} is recorded here`;
+    }
+    this.hears.says(seen);
+    this.looksChanged();
+    return seen;
+  }
+
+  // Keeping.
+
+  /** Keeps the game's record. It is tried again where that fails. */
+  keepGame() {
+    this.database.putGame(this.game).then(
+      () => {
+        this.isUnkept = false;
+      },
+      (error) => {
+        if (!this.isUnkept) this.hears.says(`the browser can't keep a change (${error.message}): make room on the disk`);
+        this.isUnkept = true;
+      },
+    );
+  }
+
+  /** Keeps something else beside the capture. Where that fails it is said. */
+  keep(change) {
+    change().catch((error) => this.hears.says(`the browser can't keep a change (${error.message}): make room on the disk`));
+  }
+
+  diskChanged() {
+    this.state.disk(this.capture.trouble);
+    const { trouble, why } = this.capture;
+    const what = `${trouble}: the browser can't keep what the board sends (${why}). Make room on the disk, and choose a folder`;
+    const until = 'what comes is in memory alone until then, and is tried again each second';
+    this.hears.says(trouble ? `${what}: ${until}` : 'there is room again, and all is kept');
+    this.hears.changed();
+  }
+
+  eachSecond() {
+    this.tick = this.guard.after(TICK, () => this.eachSecond());
+    if (this.capture.trouble) this.capture.write();
+    if (this.isUnkept) this.keepGame();
+    this.sayState();
+    this.hears.changed();
+  }
+
+  /** An alarm of the state is told once. */
+  sayState() {
+    const state = this.state.state(this.guard.now());
+    const news = JSON.stringify([this.game.id, ...state.news]);
+    const isNew = news !== this.lastNews;
+    this.lastNews = news;
+    if (isNew && SAID.includes(state.kind) && !this.isOver && !this.isStopped) this.hears.says(state.text(this.guard.now()));
+  }
+
+  // Its text.
+
+  wantText() {
+    this.wantsText = true;
+    this.guard.call(() => this.makeText());
+  }
+
+  async makeText() {
+    if (this.isMaking) return;
+    this.isMaking = true;
+    try {
+      while (this.wantsText && !this.guard.ended) {
+        this.wantsText = false;
+        const { epoch } = this.reader;
+        const text = await this.reader.text(this.game.end);
+        if (epoch === this.reader.epoch) {
+          this.pgn = text;
+          this.hears.placed();
+        } else {
+          this.wantsText = true;
+        }
+      }
+    } finally {
+      this.isMaking = false;
+    }
+  }
+
+  // How it ends.
+
+  hearResult(result, isOld = false) {
+    this.cancelLingering();
+    if (result === '*' || this.isOver) return;
+    if (!isOld) this.hears.says(`ends in ${LINGER} seconds, unless the result changes`);
+    this.lingering = this.guard.after(LINGER, () => this.end(Reason.RESULT));
+  }
+
+  cancelLingering() {
+    if (this.lingering) this.lingering.cancel();
+    this.lingering = null;
+  }
+
+  /**
+   * The start stands after a set-up. It ends a game that doesn't stand there; but where the board has never stood as
+   * the game says, a move that was told was a part of the set-up.
+   */
+  lookAtStart() {
+    const { course } = this;
+    if (this.isOver || this.isOld || course.standsAtStart) return;
+    if (course.hasAgreed || course.plies.length > 1) this.end(course.result !== '*' ? Reason.RESULT : Reason.SET_UP);
+    else this.guard.call(() => this.beginAnew());
+  }
+
+  end(reason) {
+    if (this.isOver) return;
+    let end = this.capture.size;
+    if (reason === Reason.RESULT) end = this.course.changedAt + 1;
+    if (reason === Reason.SET_UP) end = this.endBeforeSetUp();
+    this.alarms.end(end);
+    this.closeGame(end, reason);
+  }
+
+  closeGame(end, reason) {
+    this.cancelLingering();
+    this.game = { ...this.game, end, looks: this.alarms.looks.open };
+    this.keepGame();
+    this.hears.says(`${this.game.name} is over: ${reason}`);
+    this.reread();
+  }
+
+  endBeforeSetUp() {
+    const lines = this.course.lines();
+    const found = gameEnd(lines, this.course.start);
+    if (found.dropped.length > 0) this.hears.says(`taken for setting up, and not for moves: ${found.dropped.join('; ')}`);
+    if (!found.sure) this.hears.says(`LOOK at the last moves of ${this.game.name}: where the game ended isn't sure`);
+    return endingWithSign(lines, found.size);
+  }
+
+  /** The game's capture begins with the start, and what came behind it: what was told of it before was setting up. */
+  async beginAnew() {
+    await this.typing.exclusively(async () => {
+      if (this.startAt === null) return;
+      const content = this.fromStart(this.startAt);
+      this.game = { ...this.game, looks: [] };
+      await this.renew(content, true);
+      this.hears.says(`the pieces have been set up: ${this.game.name} begins now`);
+    });
+  }
+
+  fromStart(offset) {
+    return joined(dump(this.course.start, this.options.rotated), this.capture.bytes().slice(offset + 1));
+  }
+
+  /** The next game begins with the start, which stands since this byte. */
+  beginNext(offset) {
+    return this.typing.exclusively(async () => {
+      if (!this.isOver || this.starts[0] !== offset) return;
+      await this.begin(this.fromStart(offset));
+      this.hears.says(`the pieces stand at the start: ${this.game.name} begins`);
+    });
+  }
+
+  /** Begins the next game. Where it can't be begun, what comes is kept behind the game that is over. */
+  async tryNext() {
+    try {
+      await this.beginNext(this.starts[0]);
+      this.isLate = false;
+    } catch (error) {
+      if (!this.isLate) this.hears.says(`the next game can't be begun (${error.message}). Make room: it is tried again`);
+      this.isLate = true;
+      this.guard.after(TICK, () => this.heardAll());
+    }
+  }
+
+  /** Somebody wants the next game, whatever stands on the board. */
+  async nextGame() {
+    await this.typing.exclusively(async () => {
+      if (!this.isOver) {
+        this.cancelLingering();
+        this.game = { ...this.game, end: this.capture.size };
+        await this.database.putGame(this.game);
+      }
+      await this.begin(this.lastDump());
+      this.hears.says(`${this.game.name} begins`);
+    });
+  }
+
+  /** The last whole dump, since without one no update would count. */
+  lastDump() {
+    const content = this.capture.bytes();
+    for (let at = content.length - SIZES[DUMP_ID]; at >= 0; at -= 1) {
+      const frame = content.slice(at, at + SIZES[DUMP_ID]);
+      const begins = frame[0] === DUMP_ID && frame[1] === 0 && frame[2] === SIZES[DUMP_ID];
+      if (begins && frame.slice(1).every((byte) => byte < 0x80)) return frame;
+    }
+    return new Uint8Array(0);
+  }
+
+  async begin(content) {
+    const before = this.game;
+    const pgn = await this.reader.text(before.end);
+    const options = { ...this.options, began: dayOf(new Date()) };
+    const name = this.hears.nextName(before.name);
+    const game = { board: this.board.id, name, options, end: null, looks: this.alarms.looks.open };
+    const chunks = content.length > 0 ? spread(content, this.guard.now()) : [];
+    game.id = await this.database.beginGame(this.board, game, chunks);
+    this.board = { ...this.board, game: game.id };
+    this.hears.begun({ ...before, pgn, bytes: this.capture.bytes() });
+    this.takeGame(game, chunks);
+    this.isRestart = false;
+    this.showsItself = true;
+    this.pgn = '';
+    this.reread();
+    this.cable.added(STRAY);
+  }
+
+  // What is put into the capture.
+
+  /** This is added by hand. */
+  async add(put) {
+    this.byHand = [this.capture.size, this.capture.size + put.length];
+    this.capture.append(put, this.guard.now());
+    this.cable.added(put);
+    await this.capture.write();
+  }
+
+  /** The game ends with a result that was typed: with what was added last. */
+  endTyped() {
+    this.closeGame(this.byHand[1], Reason.TYPED);
+  }
+
+  /** The capture is this from here on; it is kept as it was beside, where that is wanted. */
+  async renew(content, keepsBefore, changes = {}) {
+    const chunks = spread(content, this.guard.now());
+    const before = { game: this.game.id, name: this.game.name, at: this.guard.now(), bytes: this.capture.bytes() };
+    const game = { ...this.game, hasBefore: this.game.hasBefore || keepsBefore, ...changes };
+    await this.database.renew(game, chunks, keepsBefore ? before : null);
+    if (keepsBefore) this.hears.keeps(before);
+    const { trouble } = this.capture;
+    this.takeGame(game, chunks);
+    this.capture.trouble = trouble;
+    this.isRestart = false;
+    this.showsItself = true;
+    this.wasAway = true; // the board may have been moved on meanwhile
+    this.reread();
+    this.cable.added(STRAY);
+  }
+
+  // What is edited.
+
+  /** Other options: names are tags alone; how the capture is read changes the game. */
+  async edit(changes) {
+    const options = { ...this.options, ...changes.options };
+    if (options.rotated !== this.options.rotated && this.course.plies.length > 0) {
+      throw new Refused('the game has moves, so how its board lies stays');
+    }
+    const isRead = ['rotated', 'first', 'recover'].some((name) => options[name] !== this.options[name]);
+    this.game = { ...this.game, ...changes, options };
+    this.keepGame();
+    if (isRead) this.reread();
+    else this.wantText();
+    this.hears.changed();
+  }
+
+  // How it is recorded.
+
+  stop() {
+    this.isStopped = true;
+    this.wasAway = true;
+    this.cable.close();
+    this.hears.says(`the recording of ${this.game.name} is stopped`);
+    this.hears.changed();
+  }
+}

@@ -1,0 +1,103 @@
+// What somebody types for a board that is recorded, or whose game is over: what is added, and what is taken off.
+
+import { joined } from '../device/protocol.js';
+import { Refused, readWords, withoutTypedResult } from '../game/added.js';
+import { addition, refusal } from '../game/adding.js';
+import { wayBack, withoutResult } from '../game/going_back.js';
+
+export class Typing {
+  constructor(recorder) {
+    this.recorder = recorder;
+    this.held = []; // what came while something is being put in
+    this.isHolding = false;
+    this.last = Promise.resolve();
+    this.asked = ''; // what was asked before many plies would go
+  }
+
+  /** Whether this, which the board has sent, waits for something that is being put in. */
+  holds(heard) {
+    if (this.isHolding) this.held.push(heard);
+    return this.isHolding;
+  }
+
+  /** Does it while nothing of what comes is taken: that waits, and nothing of it is shown meanwhile. */
+  exclusively(work) {
+    const { recorder } = this;
+    const done = this.last.then(async () => {
+      this.isHolding = true;
+      try {
+        await recorder.capture.write();
+        return await work();
+      } finally {
+        this.isHolding = false;
+        const { held } = this;
+        this.held = [];
+        recorder.guard.call(() => held.forEach((one) => recorder.heard(one)));
+      }
+    });
+    this.last = done.catch(() => {});
+    return done;
+  }
+
+  /** What was typed in one line: { done, said }. An error in it ends nothing. */
+  async take(text) {
+    const { recorder } = this;
+    try {
+      const typed = readWords(text, recorder.game.name);
+      if (typed.kind === 'nothing') return { done: true, said: '' };
+      if (typed.kind === 'quit') throw new Refused('press Stop recording to end the recording');
+      if (typed.kind === 'acknowledged') return { done: true, said: recorder.acknowledge() };
+      if (recorder.capture.trouble) throw new Refused('the disk is full, and nothing can be changed. Make room, and type it again');
+      const said = await this.exclusively(() => this.put(typed));
+      recorder.hears.says(said);
+      return { done: true, said };
+    } catch (error) {
+      return { done: false, said: refusal(text, error) };
+    }
+  }
+
+  /** Puts it in. What was done. */
+  async put(typed) {
+    const { recorder } = this;
+    const { asked } = this;
+    this.asked = '';
+    const shown = recorder.capture.bytes();
+    const sent = recorder.capture.bytes(recorder.isOver ? recorder.game.end : recorder.capture.size);
+    if (typed.kind === 'reopened') return this.reopen(sent, shown);
+    if (typed.kind === 'back') {
+      try {
+        return await this.goBack(await wayBack(recorder.program, recorder.options, { sent, shown }, typed, asked));
+      } catch (error) {
+        this.asked = error.message;
+        throw error;
+      }
+    }
+    const { put, what } = await addition(recorder.program, recorder.options, sent, typed);
+    if (recorder.isOver) {
+      const end = sent.length + put.length;
+      await recorder.renew(joined(sent, put, shown.slice(sent.length)), false, { end });
+    } else {
+      await recorder.add(put);
+      if (typed.kind === 'result') recorder.endTyped();
+    }
+    return `added by hand: ${what}`;
+  }
+
+  async goBack({ content, what }) {
+    await this.recorder.renew(content, true, { end: null });
+    return `${what}. What the board had sent is kept`;
+  }
+
+  /** The result is taken off: the game goes on. */
+  async reopen(sent, shown) {
+    const { recorder } = this;
+    const shorter = (bytes) => withoutTypedResult(bytes, recorder.course.position, recorder.options.rotated);
+    let front = sent;
+    while (shorter(front).length < front.length) front = shorter(front);
+    if (recorder.isOver && front.length < sent.length) {
+      await recorder.renew(joined(front, shown.slice(sent.length)), true, { end: null });
+      return `${recorder.game.name} goes on, without the result`;
+    }
+    return this.goBack(await withoutResult(recorder.program, recorder.options, { sent, shown }));
+  }
+}

@@ -1,0 +1,59 @@
+// What a card shows of a board, as values; in the shape that the page of a round has. Pure.
+
+import { clocksOf } from '../game/course.js';
+import { NO_TIME } from '../game/clocks.js';
+import { written } from '../game/options.js';
+import { Kind, State, TURNED_ROUND } from './state.js';
+
+/** The clocks as they run; where no clock is there, each after its player's last move. */
+function clocks(course) {
+  const { clock } = course;
+  return clock && clock.white !== NO_TIME ? [clock.white, clock.black] : clocksOf(course.plies);
+}
+
+/** A state's words without how long it has lasted, and since when it does. */
+export function standing(state, now) {
+  const { kind, since, isAlarm, differing } = state;
+  const words = new State(kind, now, state).text(now);
+  const isWaiting = kind === Kind.WAITS || state.hint.startsWith(TURNED_ROUND);
+  return { state: words, since: isWaiting ? null : since, alarm: isAlarm, differing, mend: mendOf(state) };
+}
+
+const MENDS = {
+  [Kind.WRONG]:
+    'Set the pieces as the diagram shows them. Did the board miss a move? Type it below. Is the last move wrong? Take it back.',
+  [Kind.NO_START]: 'Set up the start. Is a game being played already? Take its moves back on the board, and make them again.',
+  [Kind.SILENT]: "Look at the cable and at the board's power. The board is asked again and again.",
+  [Kind.UNPLUGGED]: 'Plug the board in again, in any socket. The recording then goes on.',
+};
+
+/** What somebody may do about a state; nothing where it is no alarm. */
+export function mendOf({ kind, disk }) {
+  if (disk) return 'Make room on the disk, and choose a folder. What the board sends is in memory until then.';
+  return MENDS[kind] || '';
+}
+
+/** A game that isn't recorded now: in so many words, since nobody knows when. */
+export function resting(words, looks = '') {
+  return { state: looks ? `${looks}; ${words}` : words, since: null, alarm: Boolean(looks), differing: [], mend: '' };
+}
+
+/** A board's number, its game and how it stands, as a card shows it. A move is shown with its position. */
+export function viewOf(number, { options, name }, course, stands) {
+  const plies = course.plies.slice(0, Math.max(0, course.fens.length - 1));
+  return {
+    number,
+    name,
+    white: written(options, 'White'),
+    black: written(options, 'Black'),
+    result: course.result,
+    ratings: [written(options, 'WhiteElo'), written(options, 'BlackElo')],
+    clocks: clocks(course),
+    runs: '', // the board itself tells each second of them
+    at: null,
+    moves: plies.map(({ san, clock, corrects }) => ({ san, clock, kind: corrects ? 'correction' : 'move' })),
+    positions: [...course.fens],
+    pgn: '#',
+    ...stands,
+  };
+}

@@ -1,0 +1,78 @@
+// Whose board is on a cable, by its serial number. Pure: the time comes in.
+//
+// - A board gives its number right before it shows its pieces. Where the game's number is known, what comes from then
+//   on that the number is asked for is kept back until it has come: for 5 s, or three dumps.
+// - A board that gives none then is taken for the game's, and so is each board where the game has no number.
+
+import { lookAt } from '../game/looks.js';
+
+const KEPT_BACK = 5.0; // seconds
+const DUMPS = 3; // without a number
+const WHERE = 'at the cable';
+
+/** Takes what a board says of itself. */
+export class Whose {
+  constructor(own = '') {
+    this.own = own; // the number of the game's board, where it is known
+    this.shown = ''; // that of the board on the cable, where it has given one since the connection
+    this.askedAt = null; // when it was asked for first since it came
+    this.dumps = 0; // that have come since then
+  }
+
+  /** The line is open, and the number is asked for: any board may be on it. */
+  connected(now) {
+    this.shown = '';
+    this.askedAt = now;
+    this.dumps = 0;
+  }
+
+  /** The number is asked for again: another board may be on the line. */
+  asked(now) {
+    if (this.askedAt === null) {
+      this.askedAt = now;
+      this.dumps = 0;
+    }
+  }
+
+  /** A whole dump has come. */
+  dumped() {
+    this.dumps += 1;
+  }
+
+  /** The board has given its number. */
+  told(number) {
+    this.shown = number;
+    this.askedAt = null;
+  }
+
+  /** Whether what comes is to be kept back, until the number has come. */
+  isUnsure(now) {
+    return Boolean(this.own) && this.askedAt !== null && now < this.askedAt + KEPT_BACK && this.dumps < DUMPS;
+  }
+
+  /** Whether the board that gave its number last is another one than the game's. */
+  get isOther() {
+    return Boolean(this.own && this.shown) && this.shown !== this.own;
+  }
+}
+
+/** Whether `ok` gives the board on the cable to this game, and not to its owner: a game with moves keeps its board. */
+export function mayTake(owner, hasMoves) {
+  return owner === null || !(owner.hasMoves || hasMoves);
+}
+
+/** What is told of the board of another number on the cable of a game. */
+export function another(own, shown, owner, hasMoves) {
+  if (owner === null) {
+    const has = `it has the board with serial number ${shown}, and not ${own}: what it sends is kept back`;
+    return lookAt(WHERE, `${has}. Put the cables right; if this board is to be recorded here, ok takes it`, WHERE);
+  }
+  const has = `it has the board of ${owner.name}, serial number ${shown}, and not ${own}`;
+  const right = mayTake(owner, hasMoves) ? '; if they are right now, ok takes this board' : '';
+  return lookAt(WHERE, `${has}: what it sends goes to the game of ${owner.name}. Put the cables right${right}`, WHERE);
+}
+
+/** What is told when its own board is on the cable again. */
+export function back(own, other) {
+  return lookAt(WHERE, `it had the board with serial number ${other}; its own, ${own}, is back`, WHERE);
+}

@@ -1,0 +1,89 @@
+// The connection to one board: its line, and when it is asked, as `asking` says.
+
+import { Asking } from './asking.js';
+import { Line } from './line.js';
+
+export class Connection {
+  /** `hears` is told: came(bytes, ended), asked() where the board's number is asked for, silence(isSilent), lost(). */
+  constructor(guard, port, hears) {
+    this.guard = guard;
+    this.port = port;
+    this.hears = hears;
+    this.asking = new Asking();
+    this.isSilent = false;
+    this.timer = null;
+    this.closed = false;
+    this.line = new Line(port, {
+      heard: (bytes) => this.guard.call(() => this.heard(bytes)),
+      lost: () => this.guard.call(() => this.lost()),
+    });
+  }
+
+  /** Opens it, and asks. A Taken comes where it can't be opened. */
+  async open() {
+    await this.line.open();
+    if (this.closed) {
+      this.line.close();
+      return;
+    }
+    this.asking.connected(this.guard.now());
+    this.ask();
+  }
+
+  heard(bytes) {
+    if (this.closed) return;
+    this.hears.came(bytes, this.asking.came(this.guard.now(), bytes));
+    this.tellSilence();
+    this.ask();
+  }
+
+  lost() {
+    if (this.closed) return;
+    this.close();
+    this.hears.lost();
+  }
+
+  /** Sends what is due, and looks again when the next request is. */
+  ask() {
+    if (this.closed) return;
+    const now = this.guard.now();
+    const request = this.asking.request(now);
+    if (request.length > 0) {
+      this.line.write(request);
+      if (request.includes(0x4b)) this.hears.asked(); // with a start: another board may be on the line
+    }
+    this.tellSilence();
+    const due = this.asking.due();
+    if (this.timer && (this.timer.when > due || this.timer.when <= now)) {
+      this.timer.cancel();
+      this.timer = null;
+    }
+    if (!this.timer && due < Infinity) {
+      this.timer = this.guard.after(Math.max(0, due - now), () => {
+        this.timer = null;
+        this.ask();
+      });
+    }
+  }
+
+  tellSilence() {
+    if (this.isSilent !== this.asking.silent) {
+      this.isSilent = this.asking.silent;
+      this.hears.silence(this.isSilent);
+    }
+  }
+
+  /** This was put into the capture by hand: it may have cut a frame, so the board is asked for a dump. */
+  added(bytes) {
+    this.asking.added(bytes);
+    this.ask();
+  }
+
+  close() {
+    if (this.closed) return;
+    this.closed = true;
+    if (this.timer) this.timer.cancel();
+    this.asking.disconnected();
+    this.line.close();
+  }
+}

@@ -1,0 +1,74 @@
+// One serial port, by Web Serial: opened, read, written to.
+
+const BAUD_RATE = 9600;
+const ROOM = 4096; // bytes that the browser keeps until they are read
+
+/** A port that can't be opened: another program or another tab has it. */
+export class Taken extends Error {}
+
+export class Line {
+  /** `heard(bytes)` is called for what comes, and `lost()` once where the line goes away. */
+  constructor(port, hears) {
+    this.port = port;
+    this.hears = hears;
+    this.closed = false;
+    this.reader = null;
+    this.writer = null;
+  }
+
+  async open() {
+    try {
+      await this.port.open({ baudRate: BAUD_RATE, bufferSize: ROOM });
+    } catch (error) {
+      throw new Taken(error && error.message ? error.message : String(error));
+    }
+    this.writer = this.port.writable.getWriter();
+    this.ending = this.read();
+  }
+
+  async read() {
+    let before = null;
+    while (!this.closed && this.port.readable && this.port.readable !== before) {
+      before = this.port.readable;
+      this.reader = before.getReader();
+      try {
+        for (;;) {
+          const { value, done } = await this.reader.read();
+          if (done) break;
+          if (value && value.length > 0) this.hears.heard(value);
+        }
+      } catch (error) {
+        // A frame that was garbled on the line leaves the port open, with another stream; a port that is gone has none.
+      } finally {
+        this.reader.releaseLock();
+        this.reader = null;
+      }
+    }
+    if (!this.closed) {
+      this.close();
+      this.hears.lost();
+    }
+  }
+
+  /** Sends this, where the line is there. */
+  write(bytes) {
+    if (this.writer && !this.closed) this.writer.write(bytes).catch(() => {});
+  }
+
+  async close() {
+    if (this.closed) return;
+    this.closed = true;
+    try {
+      if (this.reader) await this.reader.cancel();
+      await this.ending;
+    } catch (error) {
+      // It is gone.
+    }
+    try {
+      if (this.writer) this.writer.releaseLock();
+      await this.port.close();
+    } catch (error) {
+      // It is gone.
+    }
+  }
+}

@@ -1,0 +1,66 @@
+// What somebody is to look at in a game, until he acknowledges it: of what is reported of it. Pure; who calls it keeps
+// `looks`.
+
+import { Doubts } from './doubts.js';
+import { Looks } from './looks.js';
+import { StoppedClock, hasRun } from './stopped_clock.js';
+
+/** What is told of what was acknowledged. */
+export function acknowledged(seen) {
+  return seen ? `acknowledged: ${seen}` : 'there is nothing to acknowledge';
+}
+
+/** Says of what is reported of a game whether somebody is to look at it. */
+export class Alarms {
+  constructor(course, open = []) {
+    const { fens, plies, movedAt } = course;
+    this.doubts = Doubts.goingOn(fens, plies.length > 0 ? plies[plies.length - 1] : null, movedAt);
+    this.clock = new StoppedClock(hasRun(plies));
+    this.looks = new Looks(open);
+    this.since = new Map(); // at which byte each of this call came
+  }
+
+  /** The board wasn't heard for so long, and is heard again; or it was the recorder that was away. */
+  away(seconds, isRestart) {
+    this.doubts.away(seconds, isRestart);
+    this.clock.gone();
+  }
+
+  /** All is told of the board's first dump since then: what is to be looked at, if anything. */
+  stands(now) {
+    return this.add(this.doubts.stands(now));
+  }
+
+  /** A time message has come, with these seven bytes. */
+  time(now, data) {
+    this.clock.time(now, data);
+  }
+
+  /** The next line of the game: what is to be looked at, if anything. What was added by hand is not. */
+  take(now, { offset, event }, byHand) {
+    let look = this.doubts.take(now, event);
+    if (event.kind === 'move' && !byHand) look = this.clock.moved(now, event) || look;
+    if (look) this.since.set(look.what, offset);
+    return byHand ? null : this.add(look);
+  }
+
+  /** This is to be looked at, if anything is: what is new of it. */
+  add(look) {
+    if (!look || this.looks.open.some((one) => JSON.stringify(one) === JSON.stringify(look))) return null;
+    this.looks = this.looks.withOneMore(look);
+    return look;
+  }
+
+  /** The game has so many bytes. What came behind them was setting up, and nobody need look at it. */
+  end(size) {
+    this.looks = new Looks(this.looks.open.filter((look) => (this.since.get(look.what) || 0) < size));
+  }
+
+  /** Somebody has looked: at what. */
+  acknowledge() {
+    const seen = this.looks.all;
+    this.looks = new Looks();
+    this.clock.acknowledged();
+    return seen;
+  }
+}

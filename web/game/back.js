@@ -1,0 +1,114 @@
+// The way back: with which ply a game ends, and the capture that is made anew of the plies that stay. Pure.
+//
+// No rule of settling is changed for that, and nothing is cut out of a capture. The new one shows the positions of the
+// game one after the other, each one legal move from the one before it, as a board would; then the board as it stands.
+
+import { dump, joined, pictureOfPlacement } from '../device/protocol.js';
+import { Refused, STRAY } from './added.js';
+import { timeMessage } from './clocks.js';
+import { shortOf } from './report.js';
+
+const WITHOUT_A_QUESTION = 2; // plies that may go at once
+const SAME_MOVE = 4; // plies by which the same move counts as nearer
+
+/** A reading for each ply in which its player has the ply's clock; null where it has none. */
+export function readings(plies) {
+  const last = ['', ''];
+  return plies.map((ply) => {
+    const side = ply.number.endsWith('...') ? 1 : 0;
+    last[side] = ply.clock || last[side];
+    const other = last[1 - side] || ply.clock;
+    if (!ply.clock) return null;
+    return side === 0 ? { white: ply.clock, black: other } : { white: other, black: ply.clock };
+  });
+}
+
+/**
+ * The bytes of a board that shows what a game keeps: its plies, the positions at its start and after each, what the
+ * clocks show now, and what the board shows, where that is known. The stray byte is a fault: a frame of the board's may
+ * be under way.
+ */
+export function captureOf({ plies, fens, present, board }, rotated, blackFirst) {
+  const pictures = fens.map((fen) => dump(pictureOfPlacement(fen), rotated));
+  const times = readings(plies).map((reading) => timeMessage(reading, blackFirst));
+  const game = pictures.slice(1).flatMap((picture, at) => [times[at], picture]);
+  const stands = board === null ? [] : [dump(board, rotated)];
+  return joined(pictures[0], ...game, timeMessage(present, blackFirst), ...stands, STRAY);
+}
+
+/**
+ * How many stay. Refused where there is nothing to take off, or where the game has no such ply: with the nearest one.
+ */
+export function pliesThatStay(plies, typed) {
+  if (typed.all) return 0;
+  if (plies.length === 0) throw new Refused('the game has no ply that could be taken off');
+  if (!typed.number) return plies.length - 1;
+  const found = plies.findIndex((ply) => ply.number === typed.number && bare(ply.san) === bare(typed.san));
+  if (found >= 0) return found + 1;
+  let [nearest] = plies;
+  for (const ply of plies) {
+    if (distance(ply, typed) < distance(nearest, typed)) nearest = ply;
+  }
+  const named = `${typed.number} ${typed.san}`.trim();
+  throw new Refused(`${named} is no ply of the game. The nearest is ${shortOf(nearest)}: type back ${shortOf(nearest)}`);
+}
+
+/** Without the mark of a check. */
+function bare(san) {
+  return san.replace(/[+#]+$/, '');
+}
+
+/** The place of a ply, by its number: 14. or 14... */
+function halfMoves(number) {
+  return 2 * parseInt(number, 10) + (number.endsWith('...') ? 1 : 0);
+}
+
+/** How far a ply is from the one that was typed, in plies. A number is mistyped sooner than a move. */
+function distance(ply, typed) {
+  const far = Math.abs(halfMoves(ply.number) - halfMoves(typed.number));
+  return bare(ply.san) === bare(typed.san) ? far - SAME_MOVE : far;
+}
+
+/** What is asked before so many go; nothing where they may go at once. */
+export function question(gone) {
+  const many = gone.length > WITHOUT_A_QUESTION;
+  return many ? `takes off ${gone.length} plies, from ${shortOf(gone[0])}: type it again` : '';
+}
+
+/** `14... Qd7 15. Rd1 Rae8`. */
+export function movesOf(plies) {
+  return plies.map((ply, at) => (at > 0 && ply.number.endsWith('...') ? ply.san : shortOf(ply))).join(' ');
+}
+
+/** The ply with which a game ends, or its start. */
+export function reached(plies) {
+  return plies.length > 0 ? shortOf(plies[plies.length - 1]) : 'the start';
+}
+
+/** What was done: `back to 14. Bxf6; taken off: 14... Qd7 15. Rd1`. The result was the one of before. */
+export function wordsOfBack(plies, stays, result) {
+  const gone = plies.slice(stays);
+  const parts = [`back to ${reached(plies.slice(0, stays))}`];
+  parts.push(gone.length > 0 ? `taken off: ${movesOf(gone)}` : 'no ply is taken off');
+  if (result !== '*') parts.push(`the result ${result} is gone`);
+  return parts.join('; ');
+}
+
+/**
+ * What nobody need look at any more where only so many plies stay: those that are gone, and the moves since the last
+ * one.
+ */
+export function settled(plies, stays) {
+  const gone = plies.slice(stays).map(shortOf);
+  if (gone.length === 0) return [];
+  return [...gone.map((ply) => `at ${ply}`), ...[reached(plies.slice(0, stays)), ...gone].map((ply) => `since ${ply}`)];
+}
+
+/** Why it can't be: with the board as it stands the game would have these plies and this result. */
+export function notSo(plies, stays, after, result) {
+  const place = stays === 0 ? 'at the start' : `after ${reached(plies.slice(0, stays))}`;
+  const hint = `Set the pieces as ${place}, or keep a king in your hand, and type it again`;
+  if (result !== '*' && after.length === stays) return `the result stays ${result} with the board as it stands. ${hint}`;
+  if (after.length > stays) return `the board still shows ${shortOf(after[stays])}. ${hint}`;
+  return `with the board as it stands the game would be another one. ${hint}`;
+}

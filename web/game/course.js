@@ -1,0 +1,105 @@
+// The course of a game: what the program's report of it comes to. Pure: lines and times are passed in.
+
+import { same } from '../device/protocol.js';
+import { PACE_OF } from './doubts.js';
+import { Lines, StartAgain } from './ending.js';
+import { codesOf } from './report.js';
+
+const STANDING = ['move', 'result', 'differs', 'agrees'];
+
+/**
+ * The moves of a game with their positions, its result, what the board shows, and what the end of the game may ask for.
+ */
+export class Course {
+  constructor(start) {
+    this.start = start;
+    this.plies = [];
+    this.fens = []; // of the start and after each ply, as far as they were reported
+    this.result = '*';
+    this.recovered = []; // the pairs that were put in
+    this.placement = ''; // what the board shows
+    this.clock = null; // what the clocks show, as far as it was reported
+    this.changedAt = -1; // the offset of the last line that changed the game
+    this.hasAgreed = false; // whether the board has stood as the game says
+    this.standsAgain = false; // whether the start has come to stand again with the last picture
+    this.stoodAgain = false; // whether it has before, since there are moves
+    this.movedAt = []; // when the last moves came
+    this.news = []; // what was told of the game: its changes, and the pairs before them
+    this.stands = null; // how the board stood last
+    this.kept = new Lines();
+    this.startAgain = new StartAgain(start);
+  }
+
+  /** The next line, which came at this time. */
+  take({ offset, event }, at) {
+    if (event.kind === 'picture') {
+      this.placement = event.placement;
+      this.standsAgain = this.startAgain.takes(codesOf(event.placement), []);
+      this.stoodAgain = this.stoodAgain || (this.standsAgain && this.plies.length > 0);
+    } else if (event.kind === 'position') {
+      this.fens.length = Math.min(this.fens.length, this.plies.length);
+      this.fens.push(event.fen);
+    } else if (event.kind === 'clock') {
+      this.clock = event;
+    } else if (event.kind === 'recovered') {
+      this.recovered.push(event.text);
+      this.news.push(event);
+    } else if (STANDING.includes(event.kind)) {
+      this.kept.take({ offset, at, event });
+      this.stands = event;
+      this.hasAgreed = this.hasAgreed || event.kind === 'agrees';
+      if (event.kind === 'move' && !event.corrects) this.movedAt = [...this.movedAt, at].slice(-PACE_OF - 1);
+      if (event.kind === 'move' || event.kind === 'result') {
+        this.takeChange(event);
+        this.changedAt = offset;
+      }
+    }
+  }
+
+  takeChange(change) {
+    this.news.push(change);
+    if (change.kind === 'result') {
+      this.result = change.outcome;
+      return;
+    }
+    if (change.corrects && this.plies.length > 0) {
+      this.plies.pop();
+      this.fens.length = Math.min(this.fens.length, this.plies.length + 1);
+    }
+    this.plies.push(change);
+  }
+
+  /** What the board shows, where that is known. */
+  get board() {
+    return this.placement ? codesOf(this.placement) : null;
+  }
+
+  /** That of the game. */
+  get position() {
+    return this.fens.length > 0 ? codesOf(this.fens[this.fens.length - 1].split(' ')[0]) : this.start;
+  }
+
+  /** Whether the game's position is the one at its start. */
+  get standsAtStart() {
+    return this.plies.length === 0 || (this.fens.length > this.plies.length && same(this.position, this.start));
+  }
+
+  /** As few lines as say how the board stands. */
+  standing() {
+    const last = this.plies.slice(-1);
+    if (this.result !== '*') last.push({ kind: 'result', outcome: this.result });
+    if (this.stands && !last.some((event) => JSON.stringify(event) === JSON.stringify(this.stands))) last.push(this.stands);
+    return last;
+  }
+
+  /** The lines of the game, as far as its end may ask for them. */
+  lines() {
+    return this.kept.all();
+  }
+}
+
+/** White's clock and Black's, each after its last move. */
+export function clocksOf(plies) {
+  const last = (isBlack) => [...plies].reverse().find((ply) => ply.clock && ply.number.endsWith('...') === isBlack);
+  return [false, true].map((isBlack) => (last(isBlack) ? last(isBlack).clock : ''));
+}

@@ -1,0 +1,58 @@
+// Takes plies, or a result, off a game, with the program's help. Its capture is made anew; the old one is kept beside.
+
+import { Asked, Refused } from './added.js';
+import { isSame, sansOf } from './adding.js';
+import { captureOf, notSo, pliesThatStay, question, reached, wordsOfBack } from './back.js';
+import { readingOfClock } from './clocks.js';
+import { sideOf } from './options.js';
+import { gameOf, movetextOf } from './reading.js';
+
+/**
+ * Back to the ply that was typed, of the game of the bytes `sent`; it goes on with a board that has sent `shown`, or
+ * with none. What comes of it is { course, stays, content, what }. Refused with what is to be typed; with a question,
+ * where many plies would go and `asked` is another one than that.
+ */
+export async function wayBack(program, options, { sent, shown }, typed, asked) {
+  const course = await gameOf(program, options, sent);
+  const stays = pliesThatStay(course.plies, typed);
+  if (stays === course.plies.length && course.result === '*') {
+    throw new Refused(`the game ends with ${reached(course.plies)} already`);
+  }
+  const way = await checked(program, options, { sent, shown }, course, stays);
+  const asks = question(course.plies.slice(stays));
+  if (asks && asks !== asked) throw new Asked(asks);
+  return way;
+}
+
+/** All plies, without the result. Refused where there is none. */
+export async function withoutResult(program, options, { sent, shown }) {
+  const course = await gameOf(program, options, sent);
+  if (course.result === '*') throw new Refused('the game has no result');
+  return checked(program, options, { sent, shown }, course, course.plies.length);
+}
+
+/** Refused where the new capture doesn't give the front of the game. */
+async function checked(program, options, { sent, shown }, course, stays) {
+  const now = shown ? await gameOf(program, options, shown) : course;
+  const kept = {
+    plies: course.plies.slice(0, stays),
+    fens: course.fens.slice(0, stays + 1),
+    present: readingOfClock(now.clock),
+    board: shown ? now.board : null,
+  };
+  const isBlackFirst = sideOf(options) === 'black';
+  const content = captureOf(kept, options.rotated, isBlackFirst);
+  const after = await gameOf(program, options, content);
+  if (!isSame(sansOf(after.plies), sansOf(kept.plies)) || after.result !== '*') {
+    const withoutBoard = await gameOf(program, options, captureOf({ ...kept, board: null }, options.rotated, isBlackFirst));
+    if (withoutBoard.result !== '*') {
+      throw new Refused(`the game ends with ${reached(kept.plies)} on the board: that is its result`);
+    }
+    throw new Refused(notSo(course.plies, stays, after.plies, after.result));
+  }
+  const front = (await movetextOf(program, options, content)).slice(0, -1);
+  if (!isSame(front, (await movetextOf(program, options, sent)).slice(0, front.length))) {
+    throw new Refused('the game made anew would have other clocks. Nothing was changed');
+  }
+  return { course, stays, content, what: wordsOfBack(course.plies, stays, course.result) };
+}

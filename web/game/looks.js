@@ -1,0 +1,46 @@
+// What somebody is to look at: alarms that stay until they are acknowledged, whatever the board shows then.
+
+/** An alarm. `what` is short: `at 4... Qg4+`. Another one about the same thing takes its place. */
+export function lookAt(what, why, about = '') {
+  return { what, why, about };
+}
+
+/** `LOOK at 4... Qg4+`. */
+export function shortOfLook(look) {
+  return `LOOK ${look.what}`;
+}
+
+/** In full. */
+export function textOfLook(look) {
+  return `${shortOfLook(look)}: ${look.why}`;
+}
+
+/** The alarms of a game that nobody has acknowledged yet, the newest last. */
+export class Looks {
+  constructor(open = []) {
+    this.open = open;
+  }
+
+  /** With this one too. */
+  withOneMore(look) {
+    const isOther = (one) => one.what !== look.what && !(look.about && one.about === look.about);
+    return new Looks([...this.open.filter(isOther), look]);
+  }
+
+  /** Without those about something that was settled. */
+  without(settled) {
+    return new Looks(this.open.filter((look) => !settled.includes(look.what)));
+  }
+
+  /** The first one in a few words, and how many more there are; nothing where there is none. */
+  get short() {
+    if (this.open.length === 0) return '';
+    const more = this.open.length - 1;
+    return shortOfLook(this.open[0]) + (more > 0 ? ` and ${more} more` : '');
+  }
+
+  /** All of them in full. */
+  get all() {
+    return this.open.map(textOfLook).join('; ');
+  }
+}

@@ -1,0 +1,93 @@
+// Names and dates as they are typed, turned into what a PGN text takes: a tag's value has at most 100 characters, each
+// a printable one of ASCII. A date is `2024.05.31`, with `?` for each digit that isn't known.
+
+import { printable } from './added.js';
+
+const LONGEST_NAME = 100; // characters of a tag's value
+
+// What passports write for the letters that aren't a basic letter with a mark (the tables for Latin letters of ICAO Doc
+// 9303), and for those marked ones that they write as two letters.
+const WRITTEN = {
+  ä: 'ae', å: 'aa', æ: 'ae', ð: 'd', đ: 'd', ħ: 'h', ı: 'i', ĳ: 'ij', ĸ: 'q', ł: 'l', ŀ: 'l', ŉ: 'n', ŋ: 'n', ö: 'oe', ø: 'oe',
+  œ: 'oe', ß: 'ss', þ: 'th', ŧ: 't', ü: 'ue',
+};
+const SIGNS = {
+  '‘': "'", '’': "'", '‚': "'", 'ʼ': "'", '′': "'", '´': "'", '“': '"', '”': '"', '„': '"', '«': '"', '»': '"', '″': '"',
+  '‐': '-', '‑': '-', '‒': '-', '–': '-', '—': '-', '−': '-', '×': 'x', '·': '.',
+};
+
+const PARTS = [
+  /^(?<year>[0-9?]{4})[./-](?<month>[0-9?]{1,2})[./-](?<day>[0-9?]{1,2})$/,
+  /^(?<day>[0-9?]{1,2})\. ?(?<month>[0-9?]{1,2})\. ?(?<year>[0-9?]{4})$/,
+  /^(?<year>[0-9?]{4})[./-](?<month>[0-9?]{1,2})$/,
+  /^(?<month>[0-9?]{1,2})\.(?<year>[0-9?]{4})$/,
+  /^(?<year>[0-9?]{4})$/,
+];
+
+/** What was typed can't be turned. Its message says why, behind what it is, and what to write. */
+export class Unreadable extends Error {}
+
+/**
+ * A name in printable ASCII: `Jörg Müller` is `Joerg Mueller`, `José` is `Jose`; one that is in ASCII stays as it is.
+ */
+export function asciiName(text) {
+  const letters = [...text.normalize('NFC')];
+  const turned = letters.map((letter, at) => written(letter, letters[at - 1] || '', letters[at + 1] || ''));
+  if (turned.includes(null)) throw new Unreadable("has letters that PGN can't take: write it with the letters A to Z");
+  const name = turned.join('');
+  if (name.length > LONGEST_NAME) throw new Unreadable(`has ${name.length} letters: write at most ${LONGEST_NAME}`);
+  return name;
+}
+
+const isUpper = (letter) => /^[\p{Lu}\p{Lt}]$/u.test(letter);
+
+/** What is written for one character, or null where nothing is known for it. */
+function written(letter, before, after) {
+  if (letter >= ' ' && letter <= '~' && letter.length === 1) return letter;
+  if (letter === '\t' || /^\p{Zs}$/u.test(letter)) return ' ';
+  if (/^\p{Cf}$/u.test(letter)) return ''; // it isn't seen: a soft hyphen, a mark of the direction
+  if (Object.hasOwn(SIGNS, letter)) return SIGNS[letter];
+  const lower = letter.toLowerCase();
+  if (Object.hasOwn(WRITTEN, lower)) {
+    const pair = WRITTEN[lower];
+    if (!isUpper(letter)) return pair;
+    const beside = /^\p{L}$/u.test(after) ? after : before;
+    return isUpper(beside) ? pair.toUpperCase() : pair[0].toUpperCase() + pair.slice(1);
+  }
+  const parts = [...letter.normalize('NFKD')].filter((part) => !/^\p{Mn}$/u.test(part));
+  const spelt = parts.map((part) => (Object.hasOwn(WRITTEN, part) ? WRITTEN[part] : part)).join('');
+  return /^[ -~]*$/.test(spelt) ? spelt : null;
+}
+
+/** A date as PGN has it. `31.05.2024`, `2024-05-31`, `2024/5/31` are `2024.05.31`; `2024` is `2024.??.??`. */
+export function pgnDate(text) {
+  for (const pattern of PARTS) {
+    const match = pattern.exec(text.trim());
+    if (match) return dateOf(text, match.groups);
+  }
+  throw new Unreadable(`'${printable(text)}' can't be read: write it as 2024.05.31, with ? for what isn't known`);
+}
+
+/** The day of a Date, as PGN has it. */
+export function dayOf(date) {
+  return [date.getFullYear(), date.getMonth() + 1, date.getDate()].map((part) => String(part).padStart(2, '0')).join('.');
+}
+
+/** The date of its parts, where there is such a day. */
+function dateOf(text, { year, month = '?', day = '?' }) {
+  const parts = [year, padded(month), padded(day)];
+  // A leap year and a long month stand for those that aren't known.
+  const [ofYear, ofMonth, ofDay] = parts.map((part, at) => (/^[0-9]+$/.test(part) ? Number(part) : [2000, 1, 1][at]));
+  const isLeap = ofYear % 4 === 0 && (ofYear % 100 !== 0 || ofYear % 400 === 0);
+  const days = [31, isLeap ? 29 : 28, 31, 30, 31, 30, 31, 31, 30, 31, 30, 31];
+  const isOne = ofYear >= 1 && ofMonth >= 1 && ofMonth <= 12 && ofDay >= 1 && ofDay <= days[ofMonth - 1];
+  if (!isOne) {
+    throw new Unreadable(`'${printable(text)}' isn't in the calendar: write it as 2024.05.31, year, month and day`);
+  }
+  return parts.join('.');
+}
+
+/** A month or a day in two characters. */
+function padded(part) {
+  return part === '?' ? '??' : part.padStart(2, '0');
+}

@@ -1,0 +1,38 @@
+// What bytes of a board may bring, before the program has read them: so a capture isn't read anew each second where
+// nobody moves a piece. Pure.
+//
+// A whole dump that is the same as the one before it, with no update and no fault between the two, brings no line of
+// `watch`. A time message brings a line for the clocks alone, which can wait a little.
+
+import { Frames, same } from '../device/protocol.js';
+
+export const News = { NONE: 0, CLOCK: 1, BOARD: 2 };
+
+export class Newsworthy {
+  constructor() {
+    this.frames = new Frames();
+    this.dump = null; // the last whole dump, where nothing has come since that changes what it shows
+  }
+
+  /** The most that these bytes, which come next, may bring. */
+  take(bytes) {
+    let news = News.NONE;
+    for (const byte of bytes) {
+      const kind = this.frames.take(byte);
+      if (kind === 'time') news = Math.max(news, News.CLOCK);
+      else if (kind === 'dump') news = Math.max(news, this.takeDump());
+      else if (kind === 'update' || kind === 'fault') {
+        this.dump = null;
+        news = News.BOARD;
+      }
+    }
+    return news;
+  }
+
+  takeDump() {
+    const { whole } = this.frames;
+    if (this.dump !== null && same(whole, this.dump)) return News.NONE;
+    this.dump = whole;
+    return News.BOARD;
+  }
+}

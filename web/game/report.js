@@ -1,0 +1,86 @@
+// What the program reports of a game: the lines of `watch`, and the pairs of `recover`, each read here and nowhere
+// else.
+//
+// An event is one of
+//   { kind: 'move', number: '12...', san, clock, corrects }  a picture settled a move, or corrected the last one
+//   { kind: 'result', outcome }                              the result has become this one; `*` where there is none any more
+//   { kind: 'differs', squares }                             the picture differs from the position on these squares
+//   { kind: 'agrees' }                                       the picture is that of the position
+//   { kind: 'fault', what }                                  bytes that are no frame
+//   { kind: 'picture', placement }                           a trusted picture that differs from the one before
+//   { kind: 'position', fen }                                the position that the game has reached
+//   { kind: 'clock', white, black }                          both clocks show another time than before
+//   { kind: 'recovered', text }                              two moves that no picture showed were put in
+
+import { pictureOfPlacement } from '../device/protocol.js';
+
+/** The words of a line without its offset. */
+export function wordsOf(event) {
+  switch (event.kind) {
+    case 'move':
+      return [event.corrects ? 'correction' : 'move', event.number, event.san, event.clock].filter((part) => part).join(' ');
+    case 'result':
+      return `result ${event.outcome}`;
+    case 'differs':
+      return ['differs', ...event.squares].join(' ');
+    case 'fault':
+      return `fault ${event.what}`;
+    default:
+      return event.kind;
+  }
+}
+
+/** A move as `12. Nf3`. */
+export function shortOf(move) {
+  return `${move.number} ${move.san}`;
+}
+
+/** What is told of a move, a result or a pair: `12. Nf3  1:12:07`, `correction 12. Nf3  1:12:07`. */
+export function shownOf(event) {
+  if (event.kind === 'move') {
+    return (event.corrects ? 'correction ' : '') + [shortOf(event), event.clock].filter((part) => part).join('  ');
+  }
+  return event.kind === 'recovered' ? event.text : wordsOf(event);
+}
+
+/** The event of a line, of its words behind the offset; null where it is none. */
+export function eventOf(words) {
+  const at = words.indexOf(' ');
+  const kind = at < 0 ? words : words.slice(0, at);
+  const rest = at < 0 ? '' : words.slice(at + 1);
+  const parts = rest.split(' ');
+  if ((kind === 'move' || kind === 'correction') && (parts.length === 2 || parts.length === 3)) {
+    return { kind: 'move', number: parts[0], san: parts[1], clock: parts[2] || '', corrects: kind === 'correction' };
+  }
+  if (kind === 'result' && rest) return { kind, outcome: rest };
+  if (kind === 'differs' && rest) return { kind, squares: parts };
+  if (kind === 'agrees') return { kind };
+  if (kind === 'fault') return { kind, what: rest };
+  if (kind === 'picture' && rest) return { kind, placement: rest };
+  if (kind === 'position' && rest) return { kind, fen: rest };
+  if (kind === 'clock' && parts.length === 2) return { kind, white: parts[0], black: parts[1] };
+  return kind === 'recovered' ? { kind, text: words } : null;
+}
+
+/**
+ * A line of `watch`, `follow` or `recover`: { offset, event }. Null for its last one, `rest N`, and for whatever else.
+ */
+export function lineOf(text) {
+  const match = /^([0-9]{1,15}) ([^]*)$/.exec(text);
+  const event = match ? eventOf(match[2]) : null;
+  return event ? { offset: Number(match[1]), event } : null;
+}
+
+const known = new Map();
+const MOST_KNOWN = 4096;
+
+/** The picture of a placement. */
+export function codesOf(placement) {
+  let codes = known.get(placement);
+  if (!codes) {
+    codes = pictureOfPlacement(placement);
+    if (known.size >= MOST_KNOWN) known.clear();
+    known.set(placement, codes);
+  }
+  return codes;
+}

@@ -1,0 +1,79 @@
+// Moves that were made while the clock stood: players try moves after they have agreed on a draw, or the clock was
+// forgotten.
+//
+// The seventh byte of a time message says whether the clock runs (bit 0), and whether one is there (bit 5). An
+// acknowledgement of a command to the clock, which has 10 in the low four bits of its first or fourth byte, says
+// nothing of either.
+
+import { lookAt } from './looks.js';
+import { shortOf } from './report.js';
+
+const RUNS = 0x01; // bits of the status
+export const NO_CLOCK = 0x20;
+const ACKNOWLEDGES = 10;
+const STOOD_FOR = 3.0; // seconds: a move that a player made before he stopped the clock may be seen after it, by the next dump
+const ABOUT_THE_CLOCK = 'clock';
+
+/** Whether the clock runs, by the seven bytes of a time message; null where they don't say so. */
+export function runs(data) {
+  if ((data[0] & 0x0f) === ACKNOWLEDGES || (data[3] & 0x0f) === ACKNOWLEDGES || data[6] & NO_CLOCK) return null;
+  return Boolean(data[6] & RUNS);
+}
+
+/** Whether the clock has run while these moves were made: some player had two different times after his moves. */
+export function hasRun(plies) {
+  return [false, true].some((isBlack) => {
+    const clocks = plies.filter((ply) => ply.clock && ply.number.endsWith('...') === isBlack).map((ply) => ply.clock);
+    return new Set(clocks).size > 1;
+  });
+}
+
+/**
+ * Counts the moves of a game that are made one after the other while its clock stands, once it has run in this game.
+ */
+export class StoppedClock {
+  constructor(hasRunBefore = false) {
+    this.hasRun = hasRunBefore;
+    this.count = 0;
+    this.standsSince = Infinity;
+    this.last = ''; // the last move
+    this.first = ''; // the last one before those that are counted
+  }
+
+  /** A time message has come, with these seven bytes. */
+  time(now, data) {
+    const state = runs(data);
+    if (state) {
+      this.hasRun = true;
+      this.standsSince = Infinity;
+    } else if (state === false) {
+      this.standsSince = Math.min(this.standsSince, now);
+    }
+  }
+
+  /** The board isn't heard: nobody knows whether the clock runs. */
+  gone() {
+    this.standsSince = Infinity;
+  }
+
+  /** Somebody has looked at what was counted: later moves are counted anew. */
+  acknowledged() {
+    this.count = 0;
+  }
+
+  /** A move or a correction was reported: what is to be looked at, if anything. */
+  moved(now, move) {
+    const stands = this.hasRun && now >= this.standsSince + STOOD_FOR;
+    const before = this.last;
+    this.last = shortOf(move);
+    if (move.corrects) return null;
+    if (!stands) {
+      this.count = 0;
+      return null;
+    }
+    if (this.count === 0) this.first = before || 'the start';
+    this.count += 1;
+    const moves = this.count === 1 ? 'a move was' : `${this.count} moves were`;
+    return lookAt(`since ${this.first}`, `${moves} made while the clock stood`, `${ABOUT_THE_CLOCK} ${this.first}`);
+  }
+}

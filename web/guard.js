@@ -1,0 +1,58 @@
+// What stands between one board and the rest of the page: an error in one board ends that one alone.
+
+/**
+ * The calls of a loop for one part. What a call throws ends this part: nothing of it is called any more, and `broke` is
+ * told.
+ */
+export class Guard {
+  constructor(loop, broke) {
+    this.loop = loop;
+    this.broke = broke;
+    this.closes = [];
+    this.ended = false;
+  }
+
+  now() {
+    return this.loop.now();
+  }
+
+  /** Calls it once, so many seconds from now. */
+  after(seconds, call) {
+    return this.loop.after(seconds, () => this.call(call));
+  }
+
+  /** Calls it now, unless the part has ended. What comes later of a call that waits is guarded too. */
+  call(call) {
+    if (this.ended) return;
+    try {
+      const later = call();
+      if (later instanceof Promise) later.catch((error) => this.fail(error));
+    } catch (error) {
+      this.fail(error);
+    }
+  }
+
+  /** Something was opened, and this closes it when the part ends. */
+  opened(close) {
+    this.closes.push(close);
+  }
+
+  fail(error) {
+    if (this.ended) return;
+    this.end();
+    this.broke(error);
+  }
+
+  /** Nothing is called from here on, and what is open is closed, the last first. */
+  end() {
+    if (this.ended) return;
+    this.ended = true;
+    for (const close of this.closes.reverse()) {
+      try {
+        close();
+      } catch (error) {
+        console.error(error);
+      }
+    }
+  }
+}

@@ -1,0 +1,221 @@
+// A place of the page with a board: its recorder under a guard. An error ends the recorder alone; it is begun again.
+
+import { Recorder } from '../board/recorder.js';
+import { resting, standing, viewOf } from '../board/view.js';
+import { joined } from '../device/protocol.js';
+import { dayOf } from '../game/names.js';
+import { optionsOf } from '../game/options.js';
+import { newCourse, textOf } from '../game/reading.js';
+import { Guard } from '../guard.js';
+
+const AGAIN = 5.0; // seconds until a recorder that an error has ended is begun again
+
+export class Seat {
+  /** `hears` is told: changed(seat), placed(seat), says(seat, text, isMove), and asked as a Recorder asks. */
+  constructor(hall, board, hears) {
+    this.hall = hall;
+    this.id = board.id;
+    this.hears = hears;
+    this.recorder = null;
+    this.trouble = '';
+    this.port = null;
+    this.view = null;
+    this.isCapture = false;
+    this.isFiling = false; // its files are being written, and whether they are to be written again after that
+    this.wantsFiles = false;
+    this.finished = []; // games of this board that are over, with their texts
+  }
+
+  /** Records it from what the database has. */
+  async begin() {
+    const { database, loop } = this.hall;
+    const guard = new Guard(loop, (error) => this.broke(error));
+    this.guard = guard;
+    const board = await database.board(this.id);
+    const game = (await database.games()).find(({ id }) => id === board.game);
+    if (!game) throw new Error('its game is no more in this browser: remove the board, and add it again');
+    const chunks = await database.chunks(game.id);
+    await this.readFinished(guard);
+    guard.call(() => {
+      this.recorder = new Recorder(this.hall, guard, { board, game, chunks }, this);
+      this.trouble = '';
+      if (this.port) this.recorder.cable.begin(this.port).catch((error) => guard.fail(error));
+    });
+  }
+
+  /** The games of this board that were over before, of today. */
+  async readFinished(guard) {
+    const { database, program } = this.hall;
+    const today = dayOf(new Date());
+    const games = (await database.games()).filter((game) => game.board === this.id && game.options.began === today);
+    const current = (await database.board(this.id)).game;
+    this.finished = [];
+    for (const game of games.filter(({ id }) => id !== current)) {
+      const bytes = joined(...(await database.chunks(game.id)).map((chunk) => chunk.bytes));
+      const pgn = await textOf(program, game.options, bytes.slice(0, game.end === null ? bytes.length : game.end));
+      if (!guard.ended && /^1\./m.test(pgn)) this.finished.push({ ...game, bytes, pgn });
+    }
+  }
+
+  /** Goes on with a connection that is open, from which this has come. */
+  take(port, connection, came) {
+    this.port = port;
+    this.guard.call(() => this.recorder.cable.take(connection, came));
+  }
+
+  /** Records from this port. */
+  async plug(port) {
+    this.port = port;
+    if (this.recorder) this.guard.call(() => this.recorder.cable.begin(port));
+  }
+
+  /** An error has ended the recorder. */
+  broke(error) {
+    console.error(error);
+    const why = error.message || String(error);
+    if (why !== this.trouble) this.hears.says(this, `NOT RECORDED: ${why}. It is tried again by itself`);
+    this.trouble = why;
+    this.changed();
+    this.hall.loop.after(AGAIN, () => {
+      if (this.hall.seats.get(this.id) === this) this.begin().catch((again) => this.broke(again));
+    });
+  }
+
+  /** Whether its board is awaited: its device isn't there. */
+  get isWaiting() {
+    return this.recorder !== null && !this.recorder.cable.isOpen && !this.recorder.isStopped && !this.recorder.cable.isTaken;
+  }
+
+  get serial() {
+    return this.recorder ? this.recorder.cable.number : '';
+  }
+
+  get name() {
+    return this.recorder ? this.recorder.game.name : '';
+  }
+
+  /** Whether there is a game to be seen to. */
+  get isReady() {
+    return this.recorder !== null;
+  }
+
+  get options() {
+    return this.recorder.options;
+  }
+
+  get pgn() {
+    return this.recorder.pgn;
+  }
+
+  get hasMoves() {
+    return this.recorder !== null && this.recorder.course.plies.length > 0;
+  }
+
+  get hasBefore() {
+    return Boolean(this.recorder.game.hasBefore);
+  }
+
+  get isOver() {
+    return this.recorder.isOver;
+  }
+
+  get isStopped() {
+    return this.recorder.isStopped;
+  }
+
+  /** What somebody is to look at, in full, and the hint of the state. */
+  get asks() {
+    const { alarms, state } = this.recorder;
+    return { looks: alarms.looks.all, hint: state.state(this.hall.loop.now()).hint };
+  }
+
+  bytes() {
+    return this.recorder.capture.bytes();
+  }
+
+  /** What its board had sent before plies were taken off, each time: [{ name, bytes }]. */
+  async before() {
+    const all = await this.hall.database.before();
+    return all.filter(({ game }) => game === this.recorder.game.id);
+  }
+
+  typed(text) {
+    return this.recorder.typing.take(text);
+  }
+
+  edit(changes) {
+    return this.recorder.edit(changes);
+  }
+
+  nextGame() {
+    return this.recorder.nextGame();
+  }
+
+  /** What its card shows; as it was, where that can't be told. */
+  show(now) {
+    const { recorder } = this;
+    if (!recorder) {
+      const none = { options: optionsOf(), name: '' };
+      return this.trouble ? viewOf(this.id, none, newCourse(none.options), this.standing(now)) : null;
+    }
+    try {
+      this.view = viewOf(this.id, recorder.game, recorder.course, this.standing(now));
+    } catch (error) {
+      console.error(error);
+    }
+    return this.view;
+  }
+
+  standing(now) {
+    const { recorder, trouble } = this;
+    const why = trouble || recorder.trouble;
+    if (why) return { ...resting(`NOT RECORDED: ${why}`), alarm: true };
+    const looks = recorder.alarms.looks.short;
+    if (recorder.isOver && !recorder.capture.trouble) return resting('over', looks);
+    if (recorder.isStopped) return resting('stopped', looks);
+    return standing(recorder.state.state(now), now);
+  }
+
+  // What the recorder tells and asks.
+
+  changed() {
+    this.hears.changed(this);
+  }
+
+  placed() {
+    this.hears.placed(this);
+  }
+
+  says(text, isMove = false) {
+    this.hears.says(this, text, isMove);
+  }
+
+  begun(before) {
+    if (before.pgn) this.finished.push(before);
+    this.hears.begun(this, before);
+  }
+
+  keeps(before) {
+    this.hears.keeps(this, before);
+  }
+
+  nextName(name) {
+    return this.hears.nextName(name);
+  }
+
+  owner(number) {
+    const other = this.hears.seatOf(number, this);
+    return other ? { name: `board ${other.id}`, hasMoves: other.recorder.course.plies.length > 0 } : null;
+  }
+
+  lends(number, heard) {
+    const other = this.hears.seatOf(number, this);
+    if (!other) return false;
+    other.guard.call(() => other.recorder.heard(heard));
+    return true;
+  }
+
+  close() {
+    this.guard.end();
+  }
+}

@@ -1,0 +1,56 @@
+// A capture that is shown: its game, as the program reads it. Nothing of it is kept.
+
+import { resting, viewOf } from '../board/view.js';
+import { optionsOf } from '../game/options.js';
+import { gameOf, textOf } from '../game/reading.js';
+
+export class Shown {
+  constructor(program, id, fileName, content) {
+    this.program = program;
+    this.id = id;
+    this.fileName = fileName;
+    this.content = content;
+    this.options = optionsOf();
+    this.name = fileName.replace(/\.dgt$/i, '');
+    this.pgn = '';
+    this.course = null;
+    this.isCapture = true;
+    this.isReady = true;
+    this.hasBefore = false;
+    this.isStopped = false;
+    this.asks = { looks: '', hint: '' };
+    this.finished = [];
+  }
+
+  /** Reads it. An error comes where no board has sent it. */
+  async read() {
+    const course = await gameOf(this.program, this.options, this.content);
+    if (!course.placement) throw new Error('it has nothing that a board sends. Choose a .dgt file');
+    this.pgn = await textOf(this.program, this.options, this.content);
+    this.course = course;
+  }
+
+  get hasMoves() {
+    return this.course !== null && this.course.plies.length > 0;
+  }
+
+  bytes() {
+    return this.content;
+  }
+
+  show() {
+    return viewOf(this.id, this, this.course, resting(`a capture: ${this.fileName}`));
+  }
+
+  async edit({ options, name }) {
+    const before = this.options;
+    if (name) this.name = name;
+    this.options = { ...this.options, ...options };
+    try {
+      await this.read();
+    } catch (error) {
+      this.options = before;
+      throw error;
+    }
+  }
+}

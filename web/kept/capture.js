@@ -1,0 +1,129 @@
+// What a board sent: in memory, and kept in the database before anything of it is told. Where it can't be kept it waits
+// in memory, is told all the same, and is tried again each second: the state says so.
+
+import { DISK_FULL, NOT_WRITTEN } from '../board/state.js';
+import { joined } from '../device/protocol.js';
+
+export const LARGEST = 64 * 1024 * 1024; // bytes that the program reads at most
+
+/** What keeps something from being written, as a state tells it. */
+export function troubleOf(error) {
+  return error && error.name === 'QuotaExceededError' ? DISK_FULL : NOT_WRITTEN;
+}
+
+/** The second at which each byte came, as far as it is known. Pure. */
+class Times {
+  constructor() {
+    this.marks = []; // [offset, at]: from this byte on
+  }
+
+  add(offset, at) {
+    this.marks.push([offset, at]);
+  }
+
+  of(offset) {
+    let low = 0;
+    let high = this.marks.length;
+    while (low < high) {
+      const middle = Math.floor((low + high) / 2);
+      if (this.marks[middle][0] <= offset) low = middle + 1;
+      else high = middle;
+    }
+    return low > 0 ? this.marks[low - 1][1] : 0;
+  }
+}
+
+export class Capture {
+  /** `kept(bytes)` is called for what is kept, in its order, and `changed()` where it can be kept no more, or again. */
+  constructor(database, game, chunks, hears) {
+    this.database = database;
+    this.game = game;
+    this.hears = hears;
+    this.setContent(chunks);
+    this.waiting = []; // chunks that aren't kept yet
+    this.told = 0; // of these, those that were told all the same
+    this.writing = null;
+    this.trouble = ''; // why nothing can be kept
+    this.why = '';
+  }
+
+  setContent(chunks) {
+    this.content = joined(...chunks.map(({ bytes }) => bytes));
+    this.size = this.content.length;
+    this.number = chunks.length > 0 ? chunks[chunks.length - 1].number + 1 : 0;
+    this.times = new Times();
+    let offset = 0;
+    for (const { at, bytes } of chunks) {
+      this.times.add(offset, at);
+      offset += bytes.length;
+    }
+  }
+
+  /** All that came, or so many bytes. */
+  bytes(end = this.size) {
+    return this.content.slice(0, Math.min(end, this.size));
+  }
+
+  /** When its last byte came; null where there is none. */
+  get lastAt() {
+    const { marks } = this.times;
+    return marks.length > 0 ? marks[marks.length - 1][1] : null;
+  }
+
+  /** The board has sent this, or somebody has added it. */
+  append(bytes, at) {
+    const size = this.size + bytes.length;
+    if (size > this.content.length) {
+      const larger = new Uint8Array(Math.max(size, 2 * this.content.length, 4096));
+      larger.set(this.content.subarray(0, this.size));
+      this.content = larger;
+    }
+    this.content.set(bytes, this.size);
+    this.times.add(this.size, at);
+    this.size = size;
+    this.waiting.push({ number: this.number, at, bytes });
+    this.number += 1;
+    this.write();
+  }
+
+  /** Keeps what waits. What this returns ends when nothing is being written. */
+  write() {
+    if (!this.writing) {
+      this.writing = this.writeAll().finally(() => {
+        this.writing = null;
+      });
+    }
+    return this.writing;
+  }
+
+  async writeAll() {
+    while (this.waiting.length > 0) {
+      const part = this.waiting.slice();
+      try {
+        await this.database.append(this.game, part);
+      } catch (error) {
+        this.fails(error);
+        return;
+      }
+      this.waiting.splice(0, part.length);
+      const news = part.slice(this.told);
+      this.told = Math.max(0, this.told - part.length);
+      if (this.trouble) {
+        this.trouble = '';
+        this.hears.changed();
+      }
+      if (news.length > 0) this.hears.kept(joined(...news.map(({ bytes }) => bytes)));
+    }
+  }
+
+  /** It can't be kept: it stays in memory, and is told. */
+  fails(error) {
+    const news = this.waiting.slice(this.told);
+    this.told = this.waiting.length;
+    const isNew = !this.trouble;
+    this.trouble = troubleOf(error);
+    this.why = error && error.message ? error.message : String(error);
+    if (isNew) this.hears.changed();
+    if (news.length > 0) this.hears.kept(joined(...news.map(({ bytes }) => bytes)));
+  }
+}

@@ -1,0 +1,109 @@
+// The folder that somebody has chosen: each file is written beside, and moved to its place when it is whole.
+
+import { editedName, isEarlier } from './edited.js';
+
+const AGAIN = 5.0; // seconds until a file that couldn't be written is tried again
+
+export class Folder {
+  /** `hears`: trouble(text) is told what can't be written, and nothing where all is; says(text). */
+  constructor(loop, handle, hears) {
+    this.loop = loop;
+    this.handle = handle;
+    this.hears = hears;
+    this.written = new Map(); // the last text of each PGN
+    this.waiting = new Map(); // the newest content of each file
+    this.isWriting = false;
+    this.failed = '';
+  }
+
+  get name() {
+    return this.handle.name;
+  }
+
+  /** Whether a file of this name is there. */
+  async has(name) {
+    try {
+      await this.handle.getFileHandle(name);
+      return true;
+    } catch (error) {
+      return error.name !== 'NotFoundError';
+    }
+  }
+
+  /** The file has this from here on, or soon. */
+  put(name, content) {
+    this.waiting.set(name, content);
+    this.write();
+  }
+
+  /** The file goes, once those that were put before have been written. */
+  remove(name) {
+    this.put(name, null);
+  }
+
+  async write() {
+    if (this.isWriting) return;
+    this.isWriting = true;
+    let failed = '';
+    while (this.waiting.size > 0) {
+      const [[name, content]] = this.waiting;
+      this.waiting.delete(name);
+      try {
+        await this.writeOne(name, content);
+      } catch (error) {
+        failed = `${name} can't be written in the folder ${this.name} (${error.message || error.name})`;
+        if (!this.waiting.has(name)) this.waiting.set(name, content);
+        break;
+      }
+    }
+    this.isWriting = false;
+    const isNews = Boolean(failed) !== Boolean(this.failed);
+    this.failed = failed;
+    if (isNews) this.hears.trouble(failed);
+    if (failed) this.loop.after(AGAIN, () => this.write());
+  }
+
+  async writeOne(name, content) {
+    if (content === null) {
+      await this.handle.removeEntry(name).catch((error) => {
+        if (error.name !== 'NotFoundError') throw error;
+      });
+      return;
+    }
+    if (name.endsWith('.pgn')) await this.keepEdited(name, content);
+    const file = await this.handle.getFileHandle(name, { create: true });
+    const stream = await file.createWritable(); // another file, which takes the place of this one when it is closed
+    try {
+      await stream.write(content);
+    } catch (error) {
+      await stream.abort().catch(() => {});
+      throw error;
+    }
+    await stream.close();
+    if (name.endsWith('.pgn')) this.written.set(name, content);
+  }
+
+  /** A text that somebody has edited by hand is kept beside, before another one takes its place. */
+  async keepEdited(name, content) {
+    const found = await this.textOf(name);
+    if (found === null || found === this.written.get(name)) return;
+    if (!this.written.has(name) && isEarlier(found, content)) return;
+    let number = 1;
+    while (await this.has(editedName(name, number))) number += 1;
+    const kept = editedName(name, number);
+    this.written.set(kept, found);
+    await this.writeOne(kept, found);
+    this.hears.says(`${name} had another text, which this page has not written: it is kept in ${kept}`);
+  }
+
+  /** What a file has; null where it isn't there. */
+  async textOf(name) {
+    try {
+      const handle = await this.handle.getFileHandle(name);
+      return await (await handle.getFile()).text();
+    } catch (error) {
+      if (error.name === 'NotFoundError') return null;
+      throw error;
+    }
+  }
+}

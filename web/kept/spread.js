@@ -1,0 +1,16 @@
+// A capture that was made anew, in chunks with the seconds at which they came, as far as that can be told: a dump for
+// each second, and the last one now. Pure.
+
+import { DUMP_ID, SIZES } from '../device/protocol.js';
+
+/** Chunks as the database keeps them: [{ number, at, bytes }]. */
+export function spread(content, now) {
+  const starts = [0];
+  for (let at = 1; at + 2 < content.length; at += 1) {
+    if (content[at] === DUMP_ID && content[at + 1] === 0 && content[at + 2] === SIZES[DUMP_ID]) starts.push(at);
+  }
+  return starts.map((start, number) => {
+    const bytes = content.slice(start, number + 1 < starts.length ? starts[number + 1] : content.length);
+    return { number, at: now - (starts.length - 1 - number), bytes };
+  });
+}

@@ -1,0 +1,190 @@
+// All boards in a grid of cards, and one of them large where it is opened.
+
+import { numbered, printedResult, spoken } from '../../live/web/page/chess.js';
+import { element, say } from '../../live/web/page/diagram.js';
+import { fit, placeAfter } from '../../live/web/page/grid.js';
+import { Large } from '../../live/web/page/large.js';
+import { Tile } from '../../live/web/page/tile.js';
+import { at } from './elements.js';
+
+const SURELY = 0.1; // seconds until a change is shown at the latest
+
+export class Cards {
+  constructor() {
+    this.hall = null;
+    this.panel = null;
+    this.tiles = new Map();
+    this.shown = new Map(); // the last view of each board, and its text
+    this.open = null; // the number of the board that is large
+    this.columns = 1;
+    this.scrolled = 0;
+    this.isAsked = false;
+    this.isSoon = false;
+    const now = () => this.hall.loop.now();
+    this.now = now;
+    this.large = new Large(now);
+    window.addEventListener('hashchange', () => {
+      this.isAsked = true;
+      this.route();
+    });
+    window.addEventListener('resize', () => this.size());
+    document.addEventListener('keydown', (event) => this.press(event));
+    window.setInterval(() => this.showTimes(), 1000);
+  }
+
+  /** What is shown may be another: it is drawn with the next frame, or soon where nobody sees the page. */
+  show(hall) {
+    this.hall = hall;
+    if (this.isSoon) return;
+    this.isSoon = true;
+    const draw = () => {
+      if (!this.isSoon) return;
+      this.isSoon = false;
+      this.draw();
+    };
+    requestAnimationFrame(draw);
+    hall.loop.after(SURELY, draw); // a browser draws no frame of a page that nobody sees
+  }
+
+  draw() {
+    const views = this.hall.views();
+    const numbers = views.map(({ number }) => number);
+    for (const [number, tile] of this.tiles) {
+      if (!numbers.includes(number)) {
+        tile.root.remove();
+        this.tiles.delete(number);
+        this.shown.delete(number);
+      }
+    }
+    views.forEach((view, index) => this.drawOne(view, index));
+    say(at('event'), this.hall.event || 'Chess recorder');
+    at('welcome').hidden = views.length > 0;
+    this.showLine();
+    this.showAlarms(views);
+    this.route();
+    if (this.count !== views.length) this.size();
+    this.count = views.length;
+    if (this.open !== null) this.panel.show(this.hall.seat(this.open));
+  }
+
+  drawOne(view, index) {
+    if (!this.tiles.has(view.number)) this.tiles.set(view.number, new Tile(view.number, this.now));
+    const tile = this.tiles.get(view.number);
+    const place = at('boards').children[index] || null;
+    if (place !== tile.root) at('boards').insertBefore(tile.root, place);
+    const text = JSON.stringify(view);
+    const before = this.shown.get(view.number);
+    if (before && before.text === text) return;
+    this.shown.set(view.number, { view, text });
+    tile.show(view);
+    if (this.open === view.number) this.large.show(view);
+    if (before) this.announce(view, before.view);
+  }
+
+  /** How the page stands, in a line. */
+  showLine() {
+    const { words, isAlarm, isLive } = this.hall.standing();
+    say(at('line'), words);
+    document.body.classList.toggle('stale', isAlarm);
+    document.body.classList.toggle('live', isLive);
+  }
+
+  /** The boards to which somebody must go, each as a link. */
+  showAlarms(views) {
+    const numbers = views.filter(({ alarm }) => alarm).map(({ number }) => number);
+    const place = at('alarms');
+    const title = `${numbers.length > 0 ? '(!) ' : ''}${this.hall.event || 'Chess recorder'}`;
+    if (document.title !== title) document.title = title;
+    if (place.dataset.numbers === numbers.join()) return;
+    place.dataset.numbers = numbers.join();
+    place.hidden = numbers.length === 0;
+    place.replaceChildren(numbers.length === 1 ? 'Look at board' : 'Look at boards');
+    for (const number of numbers) {
+      const link = element('a', '', String(number));
+      link.href = `#${number}`;
+      place.append(' ', link);
+    }
+  }
+
+  /** What somebody who doesn't see the page is told: the moves of the large board, and troubles and results of all. */
+  announce(board, before) {
+    const words = [];
+    const count = board.moves.length;
+    const isNew = count > before.moves.length || (count > 0 && before.moves[count - 1].san !== board.moves[count - 1].san);
+    if (this.open === board.number && count > 0 && isNew) {
+      const { san, clock } = board.moves[count - 1];
+      const { number, side } = numbered(board.positions[0], count - 1);
+      words.push(`${number}, ${side === 'w' ? 'White' : 'Black'}: ${spoken(san)}${clock ? `, clock ${clock}` : ''}`);
+    }
+    if (board.result !== before.result && board.result !== '*') words.push(`result ${printedResult(board.result)}`);
+    if (board.alarm && (!before.alarm || board.state !== before.state)) words.push(board.state);
+    if (words.length > 0) say(at('said'), `Board ${board.number}: ${words.join('. ')}`);
+  }
+
+  // Which board is large.
+
+  route() {
+    const wanted = Number(window.location.hash.slice(1));
+    const found = this.shown.get(wanted);
+    if (found && this.open !== wanted) {
+      if (this.open === null) this.scrolled = window.scrollY;
+      this.open = wanted;
+      at('boards').hidden = true;
+      this.large.open(found.view);
+      this.panel.open(this.hall.seat(wanted));
+      document.body.classList.add('one');
+      if (this.isAsked) {
+        window.scrollTo(0, 0);
+        this.large.root.focus({ preventScroll: true });
+      }
+    } else if (!found && (this.open !== null || at('boards').hidden)) {
+      const before = this.open;
+      this.open = null;
+      this.large.close();
+      this.panel.close();
+      document.body.classList.remove('one');
+      at('boards').hidden = this.tiles.size === 0;
+      this.size();
+      if (this.isAsked && this.tiles.has(before)) {
+        this.tiles.get(before).link.focus({ preventScroll: true });
+        window.scrollTo(0, this.scrolled);
+      }
+    }
+  }
+
+  size() {
+    const list = at('boards');
+    if (this.tiles.size > 0 && !list.hidden) this.columns = fit(list, this.tiles.size);
+  }
+
+  /** What only lasts. */
+  showTimes() {
+    for (const [number, tile] of this.tiles) {
+      const { view } = this.shown.get(number);
+      if (view.alarm) tile.showState(view);
+    }
+    if (this.open !== null && this.large.board) this.large.showState();
+  }
+
+  // Keys.
+
+  press(event) {
+    if (event.ctrlKey || event.altKey || event.metaKey || event.defaultPrevented) return;
+    const { target } = event;
+    if (event.key === 'Escape' && this.open !== null) {
+      window.location.hash = '';
+      event.preventDefault();
+    } else if (!target.closest('input, summary, #tools, #notices, #log, #panel')) {
+      const isDone = this.open === null ? this.pressOnGrid(event.key) : this.large.press(event.key);
+      if (isDone) event.preventDefault();
+    }
+  }
+
+  pressOnGrid(key) {
+    const links = [...this.tiles.values()].map((tile) => tile.link);
+    const next = placeAfter(key, links.indexOf(document.activeElement), links.length, this.columns);
+    if (next === undefined) return false;
+    if (links[next]) links[next].focus();
+    return true;
+  }
+}

@@ -1,0 +1,45 @@
+// Captures that are dropped on the page, or opened: their games are shown.
+
+import { at } from './elements.js';
+
+const LARGEST_SHOWN = 64 * 1024 * 1024; // bytes that the program reads at most
+
+export class Dropping {
+  constructor(hall, messages) {
+    this.hall = hall;
+    this.messages = messages;
+    at('open').addEventListener('change', () => {
+      this.take([...at('open').files]);
+      at('open').value = '';
+    });
+    const root = document.documentElement;
+    document.addEventListener('dragover', (event) => {
+      event.preventDefault();
+      root.classList.add('dropping');
+    });
+    document.addEventListener('dragleave', (event) => {
+      if (!event.relatedTarget) root.classList.remove('dropping');
+    });
+    document.addEventListener('drop', (event) => {
+      event.preventDefault();
+      root.classList.remove('dropping');
+      this.take([...event.dataTransfer.files]);
+    });
+  }
+
+  async take(files) {
+    for (const file of files) {
+      try {
+        if (file.size > LARGEST_SHOWN) throw new Error('a capture has 64 MiB at most');
+        await this.show(file.name, new Uint8Array(await file.arrayBuffer()));
+      } catch (error) {
+        this.messages.notice('failed', `${file.name} can't be shown: ${error.message || error}`, [], true);
+      }
+    }
+  }
+
+  async show(name, bytes) {
+    const seat = await this.hall.showCapture(name, bytes);
+    window.location.hash = `#${seat.id}`;
+  }
+}

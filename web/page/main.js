@@ -1,0 +1,57 @@
+// The page that records: it opens what is kept, seats its boards, and connects buttons with what they do.
+
+import { drawPieces } from '../../live/web/page/diagram.js';
+import { Hall } from '../hall/hall.js';
+import { isRunnable } from '../game/program.js';
+import { Cards } from './cards.js';
+import { Dropping } from './dropping.js';
+import { Messages } from './messages.js';
+import { Panel } from './panel.js';
+import { at, bytesIn, failed } from './elements.js';
+
+const WHERE_SERIAL = 'To record a board, open this page in Chrome or Edge on a computer (Windows, macOS, Linux, ChromeOS)';
+const WHERE_MODULE = 'Open this page in Chrome or Edge, version 133 or later';
+
+async function begin() {
+  drawPieces();
+  const messages = new Messages();
+  const cards = new Cards();
+  const hall = new Hall(at('worker').textContent, at('module').textContent.trim(), {
+    changed: () => cards.show(hall),
+    says: (text, number, isMove) => messages.say(text, number, isMove),
+    notice: (name, text, buttons) => messages.notice(name, text, buttons),
+  });
+  cards.hall = hall;
+  cards.panel = new Panel(hall, messages);
+  const dropping = new Dropping(hall, messages);
+
+  at('add').addEventListener('click', () => hall.addBoard().catch(failed(messages, "the board can't be added")));
+  at('folder').addEventListener('click', () => hall.folders.choose().catch(failed(messages, "the folder can't be used")));
+  at('save-round').addEventListener('click', () => hall.saveRound());
+  at('sample').addEventListener('click', () => dropping.show('short-game.dgt', bytesIn(at('short-game').textContent)));
+
+  if (!navigator.serial) {
+    const what = "This browser can't reach a board: it has no Web Serial";
+    messages.notice('serial', `${what}. ${WHERE_SERIAL}. Captures can be shown here.`, [], true);
+  }
+  if (!isRunnable()) {
+    const what = "This browser can't run the recorder: it has no 64-bit WebAssembly memory";
+    messages.notice('module', `${what}. ${WHERE_MODULE}.`, [], true);
+    hall.isReady = true;
+    cards.show(hall);
+    return;
+  }
+  hall.program.begin().catch((error) => messages.notice('module', `The recorder can't be begun: ${error.message}`, [], true));
+  await hall.begin();
+  cards.show(hall);
+  for (const id of ['folder', 'save-round', 'sample', 'open']) at(id).disabled = false;
+  at('add').disabled = !navigator.serial || !hall.database;
+  window.addEventListener('beforeunload', (event) => {
+    if (hall.isUnsaved) event.preventDefault();
+  });
+}
+
+begin().catch((error) => {
+  console.error(error);
+  at('line').textContent = `This page can't begin: ${error.message || error}`;
+});

@@ -1,0 +1,39 @@
+// What is told: lines with the time of day, the newest first; and notices that stay until somebody has seen to them.
+
+import { element } from '../../live/web/page/diagram.js';
+import { at, button } from './elements.js';
+
+const KEPT = 300; // lines
+
+export class Messages {
+  constructor() {
+    this.notices = new Map();
+    const style = document.documentElement.style; // the large board leaves room for the notices
+    new ResizeObserver(() => style.setProperty('--notices', `${at('notices').offsetHeight}px`)).observe(at('notices'));
+  }
+
+  /** A line, of a board where it has a number. */
+  say(text, number = null) {
+    const time = new Date().toTimeString().slice(0, 8);
+    const line = element('li', '', `${time}  ${number === null ? '' : `${number}: `}${text}`);
+    const list = at('messages');
+    list.prepend(line);
+    at('log').hidden = false;
+    while (list.children.length > KEPT) list.lastElementChild.remove();
+  }
+
+  /** A notice of this name, with buttons: [text, what it does]; nothing where there is no text. */
+  notice(name, text, buttons = [], isAlarm = false) {
+    const before = this.notices.get(name);
+    if (before && before.text === text) return;
+    if (before) before.root.remove();
+    this.notices.delete(name);
+    if (!text) return;
+    const root = element('li', isAlarm ? 'alarm' : '');
+    root.append(element('p', '', text));
+    for (const [label, pressed] of buttons) root.append(button(label, pressed, 'main'));
+    root.append(button('Close', () => this.notice(name, '')));
+    at('notices').append(root);
+    this.notices.set(name, { text, root });
+  }
+}

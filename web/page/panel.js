@@ -1,0 +1,182 @@
+// What somebody does with the large board: types, names, options, files.
+
+import { say } from '../../live/web/page/diagram.js';
+import { TURNED_ROUND } from '../board/state.js';
+import { pgnDate } from '../game/names.js';
+import { UNKNOWN, written } from '../game/options.js';
+import { at, failed, save } from './elements.js';
+
+const CHECKS = [['rotated', 'rotated', true, false], ['black-first', 'first', 'black', null], ['recover', 'recover', true, null]];
+
+export class Panel {
+  constructor(hall, messages) {
+    this.hall = hall;
+    this.messages = messages;
+    this.seat = null;
+    this.removes = false; // whether the next press on Remove does it
+    this.ends = false; // whether the next press on Next game ends a game that goes on
+    at('say').addEventListener('submit', (event) => {
+      event.preventDefault();
+      this.type(at('typed').value);
+    });
+    for (const pressed of document.querySelectorAll('[data-says]')) {
+      pressed.addEventListener('click', () => this.type(pressed.dataset.says));
+    }
+    at('ok').addEventListener('click', () => this.type('ok'));
+    at('turned').addEventListener('click', () => this.turnRound());
+    for (const input of document.querySelectorAll('[data-tag]')) {
+      input.addEventListener('change', () => this.edit(input));
+    }
+    at('name').addEventListener('change', () => this.rename());
+    for (const [id, option, on, off] of CHECKS) {
+      at(id).addEventListener('change', () => this.change({ [option]: at(id).checked ? on : off }, at(id)));
+    }
+    at('save-game').addEventListener('click', () => save(`${this.seat.name}.pgn`, this.seat.pgn, 'application/vnd.chess-pgn'));
+    at('save-capture').addEventListener('click', () => save(`${this.seat.name}.dgt`, this.seat.bytes(), 'application/octet-stream'));
+    at('save-before').addEventListener('click', () => this.saveBefore());
+    at('next-game').addEventListener('click', () => this.nextGame());
+    at('connect').addEventListener('click', () => this.does(this.hall.choosePort(this.seat), "its device can't be used"));
+    at('stop').addEventListener('click', () => this.does(this.hall.stopOrGoOn(this.seat), "that can't be done"));
+    at('remove').addEventListener('click', () => this.remove());
+  }
+
+  does(promise, what) {
+    promise.catch(failed(this.messages, what));
+  }
+
+  open(seat) {
+    this.seat = seat;
+    this.removes = false;
+    this.ends = false;
+    this.answer('', true);
+    at('typed').value = '';
+    this.show(seat, true);
+  }
+
+  close() {
+    this.seat = null;
+  }
+
+  answer(text, isDone) {
+    say(at('answer'), text);
+    at('answer').classList.toggle('refused', !isDone);
+  }
+
+  async type(text) {
+    const { seat } = this;
+    if (!text.trim()) return;
+    const { done, said } = await seat.typed(text);
+    if (seat !== this.seat) return;
+    this.answer(said, done);
+    if (done) at('typed').value = '';
+  }
+
+  /** Shows a seat's options; fields in which somebody types stay as they are. */
+  show(seat, isNew = false) {
+    if (!seat) return;
+    at('panel').classList.toggle('unready', !seat.isReady);
+    say(at('remove'), this.removeWords(seat));
+    if (!seat.isReady) return;
+    const isShown = seat.isCapture;
+    const { options } = seat;
+    at('say').hidden = isShown;
+    at('recording').hidden = isShown;
+    for (const input of document.querySelectorAll('[data-tag]')) {
+      if (isNew || document.activeElement !== input) input.value = this.valueOf(input.dataset.tag, options);
+    }
+    if (isNew || document.activeElement !== at('name')) at('name').value = seat.name;
+    for (const [id, option, on] of CHECKS) at(id).checked = options[option] === on;
+    at('rotated').disabled = seat.hasMoves && !options.rotated && !isShown;
+    say(at('next-game'), this.ends ? 'Press again: this game then ends here' : 'Next game');
+    say(at('stop'), seat.isStopped ? 'Record again' : 'Stop recording');
+    at('save-before').hidden = isShown || !seat.hasBefore;
+    this.showAsked(seat);
+  }
+
+  valueOf(name, options) {
+    return name === 'Date' ? options.date || options.began || UNKNOWN : written(options, name);
+  }
+
+  removeWords(seat) {
+    if (seat.isCapture) return 'Close this capture';
+    return this.removes ? 'Press again: its games are then gone from this browser' : 'Remove this board';
+  }
+
+  /** What somebody is to do, with the button that does it. */
+  showAsked(seat) {
+    const { looks, hint } = seat.asks;
+    const isTurned = hint.startsWith(TURNED_ROUND);
+    at('asks').hidden = !looks && !isTurned;
+    at('turned').hidden = !isTurned;
+    at('ok').hidden = !looks;
+    const turned = "White's pieces stand where Black's should. Is the board turned round?";
+    say(at('ask'), [looks, isTurned ? turned : ''].filter((part) => part).join('. '));
+  }
+
+  turnRound() {
+    this.does(this.seat.edit({ options: { rotated: !this.seat.options.rotated } }), "it can't be turned");
+  }
+
+  async change(options, input) {
+    try {
+      await this.seat.edit({ options });
+      this.answer('', true);
+    } catch (error) {
+      this.answer(`refused: ${error.message}`, false);
+      if (input.type === 'checkbox') input.checked = !input.checked;
+    }
+  }
+
+  /** A name, a date or a rating was typed. */
+  async edit(input) {
+    const { tag } = input.dataset;
+    const typed = input.value.trim();
+    try {
+      if (tag === 'Date') await this.seat.edit({ options: { date: typed ? pgnDate(typed) : null } });
+      else await this.hall.edit(this.seat, tag, typed);
+      input.value = this.valueOf(tag, this.seat.options);
+      this.answer(typed && input.value !== typed ? `${typed} is written as ${input.value}` : '', true);
+    } catch (error) {
+      this.answer(`refused: ${error.message.includes(typed) ? '' : `${typed} `}${error.message}`, false);
+    }
+  }
+
+  /** A game that goes on ends only where that is pressed twice. */
+  nextGame() {
+    const { seat } = this;
+    if (seat.hasMoves && !seat.isOver && !this.ends) {
+      this.ends = true;
+      this.show(seat);
+      return;
+    }
+    this.ends = false;
+    this.does(seat.nextGame(), "the next game can't be begun");
+  }
+
+  /** What the board had sent before moves were taken off. */
+  async saveBefore() {
+    const kept = await this.seat.before();
+    kept.forEach(({ name, bytes }, number) => save(`${name}.before-${number + 1}.dgt`, bytes, 'application/octet-stream'));
+  }
+
+  async rename() {
+    const { seat } = this;
+    try {
+      await this.hall.rename(seat, at('name').value);
+      at('name').value = seat.name;
+    } catch (error) {
+      this.answer(`refused: ${error.message}`, false);
+    }
+  }
+
+  remove() {
+    if (!this.seat) return;
+    if (!this.removes && !this.seat.isCapture) {
+      this.removes = true;
+      this.show(this.seat);
+      return;
+    }
+    this.does(this.hall.remove(this.seat), "it can't be removed");
+    window.location.hash = '';
+  }
+}
