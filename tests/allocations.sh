@@ -8,9 +8,16 @@
 # 'N passed, M failed'. The status is 0 where none is broken.
 set -eu
 
-cd "$(dirname "$0")/../crates/test_allocations"
-calls=17
-runs=780
+cd "$(dirname "$0")/.."
+. tests/counting.sh
+if ! command -v rt > /dev/null; then
+    skip 'each allocation failing in turn' "$no_toolchain"
+    counted
+    exit
+fi
+cd crates/test_allocations
+calls=18
+runs=980
 folder=$(mktemp -d)
 trap 'rm -rf "$folder"' EXIT
 

@@ -1,115 +1,43 @@
 """Where a game ended, after which the start stands again: lines of `follow` with their times, and what is the game's."""
 
-from live.ending import End, Line, StartAgain, game_end, goes_home
-from live.protocol import SQUARES, picture_of_placement
+from live.game.ending import End, Line, Lines, StartAgain, game_end, goes_home
+from live.game.report import Fault, event_of
+from live.device.protocol import SQUARES, Picture, picture_of_placement
 
+from decided.cases import cases
 from decided.table import same
 
 INITIAL = picture_of_placement("rnbqkbnr/pppppppp/8/8/8/8/PPPPPPPP/RNBQKBNR")
-AFTER_E4 = picture_of_placement("rnbqkbnr/pppppppp/8/8/4P3/8/PPPP1PPP/RNBQKBNR")
-AFTER_NF6 = picture_of_placement("rnbqkb1r/pppppppp/5n2/8/4P3/8/PPPP1PPP/RNBQKBNR")
-
-HOME = [
-    "move 31. Ke1", "move 31... Ke8", "correction 3... Ng8", "move 4. Qd1 1:29:55", "move 9. Rxa1+", "move 9. R1h1",
-    "move 9. Nf1g1",
-]  # fmt: skip
-NOT_HOME = [
-    "move 1. e4", "move 1... Ke1", "move 31. Ke8", "move 4. O-O", "move 4... O-O-O", "move 30. b8=N",
-    "move 4. Nf3 1:29:55", "differs e1", "agrees", "result 1-0", "fault cut", "move 9. Bb1", "move 9. Qe1",
-]  # fmt: skip
-
-# name; the lines, each 'seconds offset words'; the bytes of the game, whether that is sure, what was dropped
-SET_UP = ["30 110 differs d7", "31 120 differs d7 c2", "32 130 differs d7 c2 h1", "33 140 differs c2 h1"]
-CASES = [
-    ("no line", [], (0, True, [])),
-    ("no move", ["1 66 agrees", "2 71 differs e2", "3 76 agrees"], (77, True, [])),
-    ("a move, and a set-up", ["1 66 agrees", "9 81 move 1. e4", *SET_UP], (82, True, [])),
-    ("a king home", ["9 81 move 1. e4", "20 91 move 31. Ke1", "21 92 differs d7"], (82, False, ["move 31. Ke1"])),
-    (
-        "both kings",
-        ["9 81 move 1. e4", "26 91 move 3. Ke1", "28 95 move 3... Ke8", *SET_UP],
-        (82, False, ["move 3. Ke1", "move 3... Ke8"]),
-    ),
-    (
-        "a king that had castled",
-        ["9 81 move 9. O-O-O", "29 91 correction 9. Rd1", *SET_UP],
-        (82, False, ["correction 9. Rd1"]),
-    ),
-    ("a rook, and then it castles", ["9 81 move 9. Rd1", "29 91 correction 9. O-O-O", *SET_UP], (92, True, [])),
-    (
-        "fast moves, the last of them home: it stood longest",
-        ["9 81 move 8. Qf3", "9.5 85 move 8... Qg3", "10 89 move 9. Nxg1", "10.5 93 move 9... Rh8", "13 97 differs e1"],
-        (94, False, []),
-    ),
-    ("a bishop, late", ["9 81 move 1. e4", "20 91 move 5. Bf1", *SET_UP], (92, False, [])),
-    ("a bishop, 3 s before", ["9 81 move 1. e4", "27 91 move 5. Bf1", *SET_UP], (92, False, [])),
-    ("a bishop, less", ["9 81 move 1. e4", "27.1 91 move 5. Bf1", *SET_UP], (82, False, ["move 5. Bf1"])),
-    (
-        "the last move of the game comes back with it",
-        ["9 81 move 5. Ba4", "29 91 correction 5. Bf1", *SET_UP],
-        (82, False, ["correction 5. Bf1"]),
-    ),
-    ("a move of the game, 1 s before", ["9 81 move 1. e4", "29 91 move 1... e5", *SET_UP], (92, True, [])),
-    ("a piece is lifted at once, and set back", ["9 81 move 1. e4", "9.5 91 differs e7", "11 96 agrees", *SET_UP], (82, True, [])),
-    ("a piece is lifted at once, and held", ["9 81 move 1. e4", "9.4 96 differs e7", *SET_UP], (82, True, [])),
-    ("a fault is no change", ["9 81 move 1. e4", "11 91 move 1... e5", "11.1 95 fault cut", *SET_UP], (92, True, [])),
-    ("what stood for less than 1 s", ["9 81 move 1. e4", "29.1 91 move 1... Qg5", *SET_UP], (82, False, ["move 1... Qg5"])),
-    (
-        "a rook drawn home",
-        ["9 81 move 8. Ra4", "28 91 correction 8. Ra3", "28.1 95 differs a3", "28.3 99 correction 8. Ra1", *SET_UP],
-        (82, False, ["correction 8. Ra3", "correction 8. Ra1"]),
-    ),
-    (
-        "a king drawn home that can't go there",
-        ["9 81 move 8. Ra4", "28 91 move 8... Ke7", "28.2 95 differs e7", "28.6 99 differs e7 e8", *SET_UP],
-        (82, False, ["move 8... Ke7"]),
-    ),
-    (
-        "an agreement after the last move is none",
-        ["9 81 move 8. Ra4", "12 91 differs a4", "13 95 agrees", *SET_UP],
-        (82, True, []),
-    ),
-    ("nothing else was played", ["5 71 move 1. Ng1", *SET_UP], (72, False, [])),
-    ("no move would be left: all are kept", ["29 71 move 1. Ng1", *SET_UP], (141, False, [])),
-    ("no line after the move", ["9 81 move 1. e4"], (82, True, [])),
-]
 
 
-def ends():
+def ends() -> None:
     """The bytes of the game, and whether they are sure."""
-    for name, texts, (size, sure, dropped) in CASES:
+    for name, texts, (size, sure, dropped) in cases("ending", "ends"):
         words = [text.split(" ", 2) for text in texts]
-        lines = [Line(int(offset), float(at), text) for at, offset, text in words]
+        lines = [Line(int(offset), float(at), event_of(text)) for at, offset, text in words]
+        lines = [line for line in lines if not isinstance(line.event, Fault)]
         same(name, game_end(lines, INITIAL), End(size, sure, tuple(dropped)))
-    for text in HOME:
-        same(text, goes_home(text, INITIAL), True)
-    for text in NOT_HOME:
-        same(text, goes_home(text, INITIAL), False)
+        kept = Lines()
+        for line in lines:
+            kept.take(line)
+        same(f"{name}, of what is kept", game_end(kept.all(), INITIAL), End(size, sure, tuple(dropped)))
+    for text in cases("ending", "home"):
+        same(text, goes_home(event_of(text), INITIAL), True)
+    for text in cases("ending", "not home"):
+        event = event_of(text)
+        same(text, goes_home(event if hasattr(event, "san") else None, INITIAL), False)
 
 
-def without(picture, squares):
+def without(picture: Picture, squares: str) -> Picture:
     """The picture with some squares empty."""
     return tuple(0 if square in squares.split() else code for square, code in zip(SQUARES, picture))
 
 
-# name; the pictures that come, each with the game's; at which of them the game ends
-AGAIN = [
-    ("set up before the game", [("a1 b1 c1 d1 e1", INITIAL), ("", INITIAL)], []),
-    ("e4 taken back", [("e2", AFTER_E4), ("", AFTER_E4)], []),
-    ("four squares", [("a1 b1 c1 d1", AFTER_E4), ("", AFTER_E4)], []),
-    ("five squares", [("a1 b1 c1 d1 e1", AFTER_E4), ("", AFTER_E4)], [1]),
-    ("five, and then fewer", [("a1 b1 c1 d1 e1", AFTER_E4), ("a1", AFTER_E4), ("", AFTER_E4), ("", AFTER_E4)], [2]),
-    ("five in all, and never at once", [("a1 b1 c1", AFTER_E4), ("d1 e1", AFTER_E4), ("", AFTER_E4)], []),
-    ("a game that stands at the start", [("a1 b1 c1 d1 e1", INITIAL), ("", INITIAL), ("e2", AFTER_E4), ("", AFTER_E4)], []),
-    ("never at the start", [("a1 b1 c1 d1 e1", AFTER_NF6), ("a1", AFTER_NF6)], []),
-]
-
-
-def again():
+def again() -> None:
     """When the start stands again."""
-    for name, pictures, expected in AGAIN:
-        looks = StartAgain(INITIAL)
-        seen = [at for at, (empty, game) in enumerate(pictures) if looks.takes(without(INITIAL, empty), game)]
+    for name, pictures, expected in cases("ending", "start again"):
+        looks, shown = StartAgain(INITIAL), [(without(INITIAL, empty), picture_of_placement(game)) for empty, game in pictures]
+        seen = [at for at, (picture, game) in enumerate(shown) if looks.takes(picture, game)]
         same(name, seen, expected)
 
 

@@ -5,18 +5,23 @@ import os
 import pathlib
 import pwd
 import tempfile
+from typing import List, Tuple, cast
 
-from live.disk import Disk
-from live.files import Log, check_name
-from live.options import Options
-from live.program import Program
-from live.refusal import is_recorded, reason
+from live.board.disk import Disk, HearsDisk
+from live.board.standing import Standing
+from live.board.state import DISK_FULL, NOT_WRITTEN
+from live.game import files
+from live.game.files import Capture, Log, check_name
+from live.game.options import Options
+from live.game.program import Program
+from live.game.refusal import is_recorded, reason
 from live.refused import Refused
-from live.round import another_folder, ways
-from live.serial_line import listing, login_name, may_not_open
-from live.table import boards_are
+from live.round.round import another_folder, ways
+from live.device.serial_line import listing, login_name, may_not_open
+from live.round.table import boards_are
+from live.terminal.screen import Screen
 
-from decided.table import refused, same
+from decided.table import accepted, refused, same
 
 # What the program prints, and what is told. The reasons are the conditions in CHESS, 'Positions' and 'FEN'.
 REASONS = {
@@ -40,7 +45,7 @@ NAMES = {
     "game.": "game",
     "a.b.end": "a.b",
 }
-BOARDS = [
+BOARDS: List[Tuple[List[int], str]] = [
     ([], "no line of the table is right"),
     ([4], "the only board is 4"),
     ([1, 2], "the boards are 1 and 2"),
@@ -55,8 +60,11 @@ NO_BOARD = [
     ("1 - 0", [1, 2, 3, 4], "of which board? Type its number first, as 3 1-0"),
     ("½", [7], "of which board? Type its number first, as 7 1/2-1/2"),
     ("12. Nf3 Nc6", [1, 2], "of which board? Type its number first, as 2 Nf3"),
-    ("hello", [1, 2], "type 2 1-0, 2 Nf3 Nc6, 2 (how board 2 stands), r (read the file again) or q (end)"),
-    ("Nf3 1-0", [1, 2, 3], "type 3 1-0, 3 Nf3 Nc6, 3 (how board 3 stands), r (read the file again) or q (end)"),
+    ("back", [1, 2], "of which board? Type its number first, as 2 back"),
+    ("back  2... Nc6", [1, 2], "of which board? Type its number first, as 2 back 2... Nc6"),
+    ("*", [1, 2], "of which board? Type its number first, as 2 *"),
+    ("hello", [1, 2], "type 2 1-0, 2 Nf3 Nc6, 2 back, 2 help, 2 (how board 2 stands), r (read the file again) or q (end)"),
+    ("Nf3 1-0", [1, 2, 3], "type 3 1-0, 3 Nf3 Nc6, 3 back, 3 help, 3 (how board 3 stands), r (read the file again) or q (end)"),
 ]
 FOLDERS = {
     "round3": "round4",
@@ -82,14 +90,14 @@ def no_names() -> None:
         said = refused(name, Refused, check_name, name)
         same(name, said.endswith(f"type its NAME alone, {game}"), True)
     for name in PLAIN:
-        same(name, check_name(name), None)
+        accepted(name, check_name, name)
     same("a device", "DEVICE first" in refused("a device", Refused, check_name, "/dev/null"), True)
     with tempfile.TemporaryDirectory() as folder:
         old = pathlib.Path(folder) / "game.pgn.dgt"
         old.write_bytes(b"")
         refused("an empty file", Refused, check_name, str(old.with_suffix("")))
         old.write_bytes(b"\x86")
-        same("a game that was begun so", check_name(str(old.with_suffix(""))), None)
+        accepted("a game that was begun so", check_name, str(old.with_suffix("")))
 
 
 def not_had() -> None:
@@ -109,47 +117,55 @@ def not_had() -> None:
             program.write_text(content)
             program.chmod(0o755)
             told = refused("a program that doesn't run", Refused, Program.find, pathlib.Path(folder))
-            same("what it needs", told, f"{program} doesn't run: it needs Linux on an x86-64 processor, with glibc 2.34")
+            needed = f"Linux with glibc 2.34 or later, and the archive for this processor, which is {os.uname().machine}"
+            same("what it needs", told, f"{program} doesn't run: it needs {needed}")
 
 
 def devices_listed() -> None:
     """Each with the name of its cable, where it has one; and what to do where no board is plugged in."""
-    same("two", listing([("/dev/ttyACM0", ""), ("/dev/ttyUSB0", "/dev/serial/by-id/board")]),
+    two = [("/dev/ttyACM0", ""), ("/dev/ttyUSB0", "/dev/serial/by-id/board")]
+    same("with their numbers", listing(two, {"/dev/ttyACM0": "01234", "/dev/ttyUSB0": "in use"}),
+         ["/dev/ttyACM0  01234", "/dev/ttyUSB0  /dev/serial/by-id/board  in use"])  # fmt: skip
+    same("two", listing(two, {}),
          ["/dev/ttyACM0", "/dev/ttyUSB0  /dev/serial/by-id/board"])  # fmt: skip
     none = "dgt_live: no board is plugged in: there is no /dev/ttyUSB* and no /dev/ttyACM*. Plug it in, and try again"
-    same("none", listing([]), [none])
+    same("none", listing([], {}), [none])
 
 
 class Full:
     """A capture, a screen and a state of the board, as far as a disk asks for them."""
 
     def __init__(self) -> None:
-        self.full = self.disk_full = False
-        self.path, self.trouble, self.lost = "game.dgt", "no room", 0
-        self.said = []
+        self.full = False
+        self.path, self.trouble, self.lost = pathlib.Path("no folder/game.dgt"), "", 0
+        self.text = ""
+        self.said: List[str] = []
 
-    def say(self, *lines) -> None:
+    def say(self, *lines: str) -> None:
         self.said.append(lines[0])
 
-    def disk(self, full) -> None:
-        self.disk_full = full
+    def disk(self, trouble: str) -> None:
+        self.trouble = trouble
+
+    def text_trouble(self) -> str:
+        return self.text
 
     def write(self) -> None:
         self.full = False
 
 
 def disks() -> None:
-    """Each file that was full is written again; the text alone, or the capture alone."""
-    for of_text in (False, True):
+    """Each file that couldn't be written is written again; the text alone, or the capture alone."""
+    for text, told in (("", DISK_FULL), (DISK_FULL, DISK_FULL), (NOT_WRITTEN, NOT_WRITTEN)):
         full = Full()
-        text = [of_text]
-        disk = Disk(full, full, full, lambda: text[0])
-        full.full = not of_text
+        full.text, full.full = text, not text
+        disk = Disk(cast(Screen, full), cast(Standing, full), cast(Capture, full), cast(HearsDisk, full))  # it asks for no more
         disk.look()
-        same("it is full", (full.disk_full, len(full.said)), (True, 0 if of_text else 1))
-        text[0] = False
+        same("it can't be written", (full.trouble, len(full.said)), (told, 0 if text else 1))
+        full.text = ""
         disk.try_again()
-        same("what is told names no file", (full.disk_full, full.said[-1]), (False, "there is room again, and all is written"))
+        room = "all" if told == NOT_WRITTEN else "there is room again, and all"
+        same("what is told names no file", (full.trouble, full.said[-1]), ("", f"{room} is written"))
 
 
 def logs() -> None:
@@ -163,8 +179,49 @@ def logs() -> None:
         log.write("10:00:02", "1... e5")
         log.write("10:00:03", "agrees")
         log.close()
-        missing = "10:00:02  (2 lines are missing here: the log couldn't be written)"
+        missing = "10:00:02  (2 lines are missing here: the log couldn't be written: No such file or directory)"
         same("a log", path.read_text().splitlines(), [missing, "10:00:02  1... e5", "10:00:03  agrees"])
+
+
+def errors_of_logs() -> None:
+    """What keeps a log from being written stands in it before the next line; nobody reckons with a ValueError, which is raised
+    where the log can't tell of it."""
+    real = files.open_regular
+    with tempfile.TemporaryDirectory() as folder:
+        path = pathlib.Path(folder) / "game.log"
+        errors: List[Exception] = []
+
+        def opens(path: pathlib.Path, flags: int) -> int:
+            if errors:
+                raise errors.pop(0)
+            return real(path, flags)
+
+        setattr(files, "open_regular", opens)
+        try:
+            errors = [ValueError("first")]
+            log = Log(path)
+            log.write("10:00:00", "agrees")
+            log.close()
+            errors = [ValueError("second"), OSError(24, "Too many open files")]
+            log = Log(path)
+            log.write("10:00:01", "1. e4")
+            log.close()
+            errors = [ValueError("third"), ValueError("fourth")]
+            log = Log(path)
+            same("what nobody is told of is raised", refused("fourth", ValueError, log.close), "fourth")
+            errors = [OSError(24, "Too many open files")] * 2
+            Log(path).close()
+        finally:
+            setattr(files, "open_regular", real)
+        same(
+            "a log and its errors",
+            path.read_text().splitlines(),
+            [
+                "10:00:00  (the log couldn't be opened at first: ValueError: first)",
+                "10:00:00  agrees",
+                "(1 line is missing here: the log couldn't be written: ValueError: second; Too many open files)",
+            ],
+        )
 
 
 def rounds() -> None:
@@ -210,7 +267,7 @@ RECORDED = [
 def recorded() -> None:
     """Ctrl-C is told only where it ends one game."""
     for words, board, told in RECORDED:
-        same(f"{words} on board {board}", list(is_recorded("g3", board, Options(tuple(words.split())))), told)
+        same(f"{words} on board {board}", list(is_recorded("g3", board, Options.of_words(words.split()))), told)
 
 
-TABLES = [reasons, no_names, not_had, devices_listed, disks, logs, rounds, recorded]
+TABLES = [reasons, no_names, not_had, devices_listed, disks, logs, errors_of_logs, rounds, recorded]

@@ -1,10 +1,11 @@
 """Pairs of moves that two hands hid: when they are recovered, what is told of them, and where what was put in belongs; and
 which other options a game goes on with, and what is told of that."""
 
-from live.making import told_of_reading, told_of_result
-from live.options import Options, parse
+from live.game.making_pgn import told_of_reading, told_of_result
+from live.doors.calls import parse
+from live.game.options import Options
 from live.refused import Refused
-from live.whole import Pair, Place, place_in
+from live.game.whole import Pair, Place, place_in
 
 from decided.table import refused, same
 
@@ -103,23 +104,23 @@ LINES = {
 
 def kept() -> None:
     for (before, given), recovers in KEPT.items():
-        same(f"{before}, {given}", Options(before).recovers_with(Options(given)), recovers)
-    options = Options(("--rotated", "--recover", "--white", "Anna"))
+        same(f"{before}, {given}", Options.of_words(before).recovers_with(Options.of_words(given)), recovers)
+    options = Options.of_words(("--rotated", "--recover", "--white", "Anna"))
     same("of record", options.of_record(), ("--rotated", "--white", "Anna"))
     same("of the board", options.of_board(), ("--rotated",))
-    same("no longer", options.recovering(False).words, ("--rotated", "--white", "Anna"))
+    same("no longer", options.recovering(False).words(), ("--rotated", "--white", "Anna"))
 
 
 def goes_on() -> None:
     for (before, given), words in GOES_ON.items():
-        options = Options(before).going_on(Options(given), True)
-        same(f"{before}, {given}", options and options.words, words)
+        options = Options.of_words(before).going_on(Options.of_words(given), True)
+        same(f"{before}, {given}", options, None if words is None else Options.of_words(words))
     for given, words in (((), ANNA), (BEN, BEN), (TURNED, TURNED), (BLACK, BLACK + ANNA), (BEN + BLACK, BEN + BLACK)):
-        options = Options(ANNA).going_on(Options(given), False)
-        same(f"{given}, and no move", options and options.words, words)
+        options = Options.of_words(ANNA).going_on(Options.of_words(given), False)
+        same(f"{given}, and no move", options, None if words is None else Options.of_words(words))
     for given, says in ((), True), (ANNA, True), (("--white=Anna",), True), (BLACK, False), (BEN, False), (YES, True):
-        same(f"the same: {given}", Options(ANNA).is_said_by(Options(given)), says)
-    firsts = [Options(words).first for words in ((), WHITE, BLACK, ("--first=black",))]
+        same(f"the same: {given}", Options.of_words(ANNA).is_said_by(Options.of_words(given)), says)
+    firsts = [Options.of_words(words).side for words in ((), WHITE, BLACK, ("--first=black",))]
     same("whose time", firsts, ["white", "white", "black", "black"])
 
 
@@ -127,29 +128,30 @@ def calls() -> None:
     """With a device a game is recorded so; without one its text is made anew."""
     for words in (YES, NO, BLACK, (*YES, *BLACK)):
         call = parse(["/dev/ttyUSB0", "game", *words])
-        same(f"{words} with a device", (call.device, call.name, call.words), ("/dev/ttyUSB0", "game", words))
+        options = Options.of_words(words)
+        same(f"{words} with a device", (call.device, call.name, call.options), ("/dev/ttyUSB0", "game", options))
         call = parse([*words, "game"])
-        same(f"{words} without", (call.device, call.name, call.words), ("", "game", words))
+        same(f"{words} without", (call.device, call.name, call.options), ("", "game", options))
     wrong = [[*YES], [*YES, *NO, "game"], [*YES, "--rotated", "game"], [*YES, "--series", "game"], [*BLACK, *ANNA, "game"]]
-    for words in (*wrong, ["game"]):
-        refused(" ".join(words), Refused, parse, words)
+    for given in (*wrong, ["game"]):
+        refused(" ".join(given), Refused, parse, given)
 
 
 def told_of_options() -> None:
     """What is told of other players, other tags, and of a game that is made anew."""
     for before, now, are_others in PLAYERS:
-        same(f"{before}, {now}", Options(now).has_other_players_than(Options(before)), are_others)
+        same(f"{before}, {now}", Options.of_words(now).has_other_players_than(Options.of_words(before)), are_others)
     for before, now, line in TAGS:
-        same(f"tags {before}, {now}", Options(now).told_of_tags(Options(before)), line)
+        same(f"tags {before}, {now}", Options.of_words(now).told_of_tags(Options.of_words(before)), line)
     for before, now, line in ALL:
-        same(f"all {before}, {now}", Options(now).told_of_all(Options(before)), line)
+        same(f"all {before}, {now}", Options.of_words(now).told_of_all(Options.of_words(before)), line)
     for before, now, lines in READING:
-        pairs = ["recovered 3. Bc4 3... Nc6"] if Options(now).recover else []
-        same(f"read {before}, {now}", told_of_reading(Options(before), Options(now), pairs), lines)
+        pairs = ["recovered 3. Bc4 3... Nc6"] if Options.of_words(now).recover else []
+        same(f"read {before}, {now}", told_of_reading(Options.of_words(before), Options.of_words(now), pairs), lines)
     for (was, is_now), lines in RESULTS.items():
         same(f"{was}, {is_now}", told_of_result(was, is_now), lines)
     for words, reading in ((BLACK + ANNA + YES, BLACK + YES), (ANNA + TURNED, ()), (NO, NO), (("--first=black",), BLACK)):
-        same(f"of {words}", Options(words).reading().words, reading)
+        same(f"of {words}", Options.of_words(words).reading(), Options.of_words(reading))
 
 
 def told() -> None:

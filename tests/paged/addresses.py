@@ -1,9 +1,10 @@
-"""Where the page is served: what may be typed, and what is refused with which word."""
+"""Where the page is served, and the names by which it is asked for: what may be typed, and what is refused with which word."""
 
 from decided.table import refused, same
 
-from live.address import read_address
+from live.doors import calls, dgt_round
 from live.refused import Refused
+from live.web.address import names_of, read_address, read_names
 
 TAKEN = [
     ("8000", ("127.0.0.1", 8000), "127.0.0.1:8000"),
@@ -44,7 +45,7 @@ REFUSED = [
 ]
 
 
-def typed():
+def typed() -> None:
     for text, address, shown in TAKEN:
         read = read_address(text)
         same(f"--page {text}", (tuple(read), read.text), (address, shown))
@@ -53,4 +54,49 @@ def typed():
         same(f"--page {text} says what to type", word in said, True)
 
 
-TABLES = [typed]
+# The recorder's computer calls itself Hall.club.example, and --page-host has given chess.example.org.
+OWN_HOSTS = [
+    None, "localhost", "localhost:8000", "LOCALHOST", "localhost.", "127.0.0.1", "127.0.0.1:8000", "192.168.1.5:80",
+    "203.0.113.9", "[::1]", "[::1]:8000", "[2001:db8::7]:8000", "hall", "hall:8000", "Hall.Club.Example", "hall.club.example.",
+    "hall.local", "chess.example.org", "Chess.example.org:8000",
+]  # fmt: skip
+OTHER_HOSTS = [
+    "", ":8000", ".", "x", "evil.example", "evil.example:8000", "127.0.0.1.evil.example", "localhost.evil.example",
+    "evil.localhost", "xlocalhost", "localhost..", "org", "example.org", "www.chess.example.org", "club.example", "::1",
+    "[::1", "::1]", "[]", "[127.0.0.1]", "[localhost]", "127.0.0.1:x", "127.0.0.256", "127.1", "2130706433", "0x7f000001", "localhost@evil.example",
+    "evil.example@localhost", "localhost, evil.example", "localhost evil.example", "localhost/", "localh\u00f6st",
+]  # fmt: skip
+NO_NAMES = ["", "a b", "http://hall.example", "hall.example:8000", "hall.example/", "-hall", "hall-", "hall..example",
+            "h\u00f6lle", "192.168.1.5", "a" * 254, "hall.example,", "*", "*.example"]  # fmt: skip
+
+
+def named() -> None:
+    names = names_of("Hall.club.example", ["chess.example.org"])
+    for host in OWN_HOSTS:
+        same(f"Host: {host}", names.allow(host), True)
+    for host in OTHER_HOSTS:
+        same(f"Host: {host}", names.allow(host), False)
+    given = read_names(["hall.example,Chess.Example.org.", " third.example"])
+    for host in ("hall.example", "chess.example.org", "third.example", "localhost"):
+        same(f"--page-host: {host}", given.allow(host), True)
+    for text in NO_NAMES:
+        said = refused(f"--page-host {text[:20]}", Refused, read_names, [text])
+        same(f"--page-host {text[:20]} says what to type", "as chess.example.org" in said, True)
+    same("a computer without a name", names_of("", []).allow(""), False)
+
+
+def options() -> None:
+    live = ["--page-host", "a.example", "/dev/null", "game"]
+    for what, call, words in [
+        ("dgt_live", calls.parse, live),
+        ("dgt_round", dgt_round.parse, ["round.csv", "--page-host=a.example"]),
+    ]:
+        said = refused(f"{what} --page-host without --page", Refused, call, words)
+        same(f"{what} says what lacks", "--page PORT" in said, True)
+    asked = calls.parse([*live, "--page=8000", "--page-host=b.example,c.example"])
+    same("dgt_live: more than one", [asked.pages.names.allow(f"{name}.example") for name in "abcd"], [True, True, True, False])
+    pages = dgt_round.parse(["round.csv", "--page", "8000", "--page-host", "a.example", "--page-host=b.example,c.example"]).pages
+    same("dgt_round: more than one", [pages.names.allow(f"{name}.example") for name in "abcd"], [True, True, True, False])
+
+
+TABLES = [typed, named, options]

@@ -1,13 +1,14 @@
 """Answers to requests over a connection: each path, odd ones, and what is too long, too late or too much."""
 
+import contextlib
 import json
 import socket
 import time
 
-from decided.table import same
+from decided.table import same, skip
 
-from live import http
-from paged.web import Site, a_board, parted, rest
+from live.web import http
+from paged.web import PATIENCE, Answer, Site, a_board, parted, rest
 
 KINDS = {
     "/": "text/html; charset=utf-8",
@@ -22,11 +23,11 @@ KINDS = {
 NOTHING = [
     "/x", "//", "/../x", "/../live/page.py", "/%2e%2e/page.py", "/page/index.html", "/index.html", "/page.py", "/1.pgn", "/001.pgn",
     "/03.pgn", "/-1.pgn", "/pieces", "/page.js/", "/./page.js", "/%70age.js", "/page.js%00", "/events/", "/Events", "\\..\\x",
-    "*", "http://x/../x", "http://x//", "ftp://x/", "x" * 2000, "/" * 2000,
+    "*", "http://localhost/../x", "http://localhost//", "ftp://x/", "x" * 2000, "/" * 2000,
 ]  # fmt: skip
 
 
-def paths():
+def paths() -> None:
     with Site() as site:
         site.show(a_board(1, 3), a_board(12, 2, pgn=""))
         site.until("/state.json", lambda content: b"White 12" in content)
@@ -41,13 +42,15 @@ def paths():
             known = site.get(path, f"If-None-Match: {fields['ETag']}")
             same(f"{path} that is known", (known[0], known[1]["ETag"], known[2]), (304, fields["ETag"], b""))
             same(f"{path} that was known", site.get(path, 'If-None-Match: "x"')[0], 200)
-        same("security policy", site.get("/")[1]["Content-Security-Policy"], "default-src 'self'")
+        policy = site.get("/")[1]["Content-Security-Policy"].split("; ")
+        same("nothing comes from elsewhere", policy[0], "default-src 'self'")
+        same("no page of somebody else has it in a frame", "frame-ancestors 'none'" in policy, True)
         same("01.pgn", site.get("/01.pgn")[2], b'[White "White 1"]\n\n3 *\n\n')
         same("a board without a game", site.get("/12.pgn")[2], b"")
         for path in NOTHING:
             answer = site.get(path)
-            same(f"no {path[:30]}", (answer[0], answer[1]["Content-Security-Policy"]), (404, "default-src 'self'"))
-        same("a whole URI", site.get("http://elsewhere/01.pgn")[0], 200)
+            same(f"no {path[:30]}", (answer[0], "frame-ancestors 'none'" in answer[1]["Content-Security-Policy"]), (404, True))
+        same("a whole URI", site.get("http://localhost/01.pgn")[0], 200)
         same("with a query", site.get("/01.pgn?t=5")[0], 200)
         same("HEAD /x", site.get("/x", method="HEAD")[::2], (404, b""))
         for method in ("POST", "PUT", "DELETE", "OPTIONS", "CONNECT", "TRACE", "PATCH", "BREW"):
@@ -55,7 +58,27 @@ def paths():
             same(method, (status, fields["Allow"]), (405, "GET, HEAD"))
 
 
-def changes():
+def hosts() -> None:
+    """Only who asks for this computer, or for a name that --page-host gave, is answered."""
+    with Site() as site:
+        site.show(a_board(1, 3))
+        for host, status in [
+            ("localhost:8000", 200), ("127.0.0.1", 200), ("[::1]:8000", 200), ("hall", 200), ("chess.example.org:8000", 200),
+            ("evil.example", 421), ("127.0.0.1.evil.example:8000", 421), ("", 421),
+        ]:  # fmt: skip
+            for path in ("/", "/state.json", "/round.pgn", "/page.js", "/x"):
+                expected = 404 if (path, status) == ("/x", 200) else status
+                same(f"Host: {host}, {path}", site.get(path, host=host)[0], expected)
+        for path in ("/events", "/state.json"):
+            status, fields, content = site.get(path, host="evil.example")
+            same(f"{path} says what to do", (status, b"--page-host NAME" in content, b"White" in content), (421, True, False))
+            same(f"{path} is as long as said", int(fields["Content-Length"]), len(content))
+        same("a whole URI of another host", site.get("http://evil.example/01.pgn")[0], 421)
+        same("counts, and not the field", site.get("http://localhost/state.json", host="evil.example")[0], 200)
+        same("it answers on", site.get("/state.json")[0], 200)
+
+
+def changes() -> None:
     with Site() as site:
         same("no board yet", json.loads(site.get("/state.json")[2]), {"event": "", "boards": []})
         same("no game yet", site.get("/round.pgn")[2], b"")
@@ -78,7 +101,7 @@ def changes():
         same("a board that is gone", site.get("/round.pgn")[2], b"Two 1-0\n\n")
 
 
-def long_ones():
+def long_ones() -> None:
     with Site() as site:
         same("a long path", site.get("/" + "a" * 3000)[0], 414)
         same("a long line without an end", site.status(b"GET /" + b"a" * 300_000), 414)
@@ -86,15 +109,15 @@ def long_ones():
         same("a long head without an end", site.status(b"GET / HTTP/1.1\r\n" + b"A: b\r\n" * 30_000), 431)
         same("many fields", site.get("/", *["A: b"] * 100)[0], 431)
         same("content", site.get("/", "Content-Length: 5")[0], 413)
-        same("NUL", site.status(b"GET /\x00 HTTP/1.1\r\nHost: x\r\n\r\n"), 400)
+        same("NUL", site.status(b"GET /\x00 HTTP/1.1\r\nHost: localhost\r\n\r\n"), 400)
         same("no HTTP", site.status(b"\x16\x03\x01\x02\x00\x01\x00\x01\xfc\x03\x03\r\n\r\n"), 400)
         same("HTTP/2", site.status(b"PRI * HTTP/2.0\r\n\r\nSM\r\n\r\n"), 505)
         same("it is well", site.get("/")[0], 200)
 
 
-def connections():
+def connections() -> None:
     with Site() as site:
-        request = b"GET /icon.svg HTTP/1.1\r\nHost: x\r\n\r\n"
+        request = b"GET /icon.svg HTTP/1.1\r\nHost: localhost\r\n\r\n"
         with site.line() as line:
             seen = []
             for _ in range(3):
@@ -105,13 +128,14 @@ def connections():
             time.sleep(0.05)
             line.sendall(request[9:])
             same("in two parts, after an empty line", one_answer(line)[2], seen[0][2])
-            line.sendall(b"GET /x HTTP/1.1\r\nHost: x\r\n\r\n")
+            line.sendall(b"GET /x HTTP/1.1\r\nHost: localhost\r\n\r\n")
             same("a path that isn't there ends no connection", one_answer(line)[0], 404)
             line.sendall(request.replace(b"Host", b"Connection: close\r\nHost"))
             same("and then it is closed", (parted(rest(line))[0]), 200)
         together = site.ask(request * 40 + request.replace(b"Host", b"Connection: close\r\nHost"))
         same("many at once", together.count(b"HTTP/1.1 200 OK"), 41)
-        same("after a bad one nothing is answered", site.ask(b"POST / HTTP/1.1\r\nHost: x\r\n\r\n" + request).count(b"HTTP/"), 1)
+        bad = b"POST / HTTP/1.1\r\nHost: localhost\r\n\r\n"
+        same("after a bad one nothing is answered", site.ask(bad + request).count(b"HTTP/"), 1)
         old = parted(site.ask(b"GET /icon.svg HTTP/1.0\r\n\r\n"))
         same("HTTP/1.0", (old[0], old[1]["Connection"], old[2]), (200, "close", seen[0][2]))
         with site.line() as line:
@@ -120,7 +144,7 @@ def connections():
             same("its own end is closed", parted(rest(line))[2], seen[0][2])
 
 
-def one_answer(line):
+def one_answer(line: socket.socket) -> Answer:
     """The status, the fields and the content of one answer on a connection that is kept."""
     came = b""
     while b"\r\n\r\n" not in came:
@@ -132,22 +156,31 @@ def one_answer(line):
     return (*parted(came)[:2], content)
 
 
-def late_ones():
+def late_ones() -> None:
     with Site(WHOLE=0.4, IDLE=0.4, LINGER=0.4, SWEEP=0.05) as site:
-        same("half a request", site.status(b"GET / HTTP/1.1\r\nHost:"), 408)
+        with site.stopped():
+            line = site.line()
+            line.sendall(b"GET / HTTP/1.1\r\nHost:")
+        with line:
+            same("half a request", parted(rest(line))[0], 408)
         with site.line() as line:
             begun = time.monotonic()
             same("nothing is asked", rest(line), b"")
             same("and not at once", time.monotonic() - begun > 0.2, True)
-        with site.line() as line:
-            line.sendall(b"GET /icon.svg HTTP/1.1\r\nHost: x\r\n\r\n")
+        with site.stopped():
+            line = site.line()
+            line.sendall(b"GET /icon.svg HTTP/1.1\r\nHost: localhost\r\n\r\n")
+        with line:
             same("an answer", one_answer(line)[0], 200)
             same("nothing more is asked", rest(line), b"")
-        with site.line() as line:
+        with site.stopped():
+            line = site.line()
+            line.sendall(b"G")
+        with line, contextlib.suppress(BrokenPipeError, ConnectionResetError):
             begun = time.monotonic()
             line.settimeout(0.05)
             came = b""
-            while b"408" not in came and time.monotonic() < begun + 10:
+            while b"408" not in came and time.monotonic() < begun + PATIENCE:
                 line.sendall(b"G")
                 try:
                     came += line.recv(4096)
@@ -156,16 +189,16 @@ def late_ones():
             same("a byte now and then makes no time", b"408" in came, True)
 
 
-def addresses():
+def addresses() -> None:
     for address in ("[::1]:0", "0.0.0.0:0", "127.0.0.1:0"):
         if address.startswith("[") and not has_ipv6():
-            print("  skipped: this machine has no IPv6")
+            skip(f"at {address}", "this machine has no IPv6")
             continue
         with Site(address) as site:
             same(f"at {address}", (site.url.startswith("http://" + address[:-2]), site.get("/")[0]), (True, 200))
 
 
-def has_ipv6():
+def has_ipv6() -> bool:
     try:
         with socket.socket(socket.AF_INET6) as line:
             line.bind(("::1", 0))
@@ -174,4 +207,4 @@ def has_ipv6():
         return False
 
 
-TABLES = [paths, changes, long_ones, connections, late_ones, addresses]
+TABLES = [paths, hosts, changes, long_ones, connections, late_ones, addresses]

@@ -5,7 +5,9 @@ import contextlib
 import json
 import os
 import pathlib
+import select
 import shutil
+import signal
 import socket
 import struct
 import subprocess
@@ -13,40 +15,32 @@ import tempfile
 import time
 import urllib.parse
 import urllib.request
+from typing import Any, Dict, List, Optional
 
-NAMES = ("chromium", "chromium-browser", "google-chrome", "chrome")
-PATIENCE = 30  # seconds
+import outside
+
+PATIENCE = 90  # seconds, on a machine that has too much to do
+Json = Dict[str, Any]  # what the browser tells: each method and each event has fields of its own
 KEYS = {"ArrowLeft": 37, "ArrowUp": 38, "ArrowRight": 39, "ArrowDown": 40, "Home": 36, "End": 35, "Escape": 27, "Enter": 13, "Tab": 9}
 
 
-def browser_path():
-    """Where a browser is, or None."""
-    return next((path for name in NAMES for path in [shutil.which(name)] if path), None)
-
-
-def install_browser():
-    """Debian's chromium, where there is no browser and the caller may install one, unless INSTALL=no forbids it."""
-    if browser_path() or os.geteuid() != 0 or os.environ.get("INSTALL") == "no" or not shutil.which("apt-get"):
-        return
-    print("there is no browser here: apt-get install chromium (INSTALL=no leaves that)", flush=True)
-    install = ["-o", "DPkg::Lock::Timeout=600", "--no-install-recommends", "install", "chromium"]
-    for words in (["update"], install):
-        with contextlib.suppress(subprocess.TimeoutExpired):
-            subprocess.run(["apt-get", "-q", "-y", *words], stdin=subprocess.DEVNULL, stdout=subprocess.DEVNULL,
-                           stderr=subprocess.DEVNULL, timeout=900, env={**os.environ, "DEBIAN_FRONTEND": "noninteractive"})  # fmt: skip
-
-
 class Browser:
-    """A browser with a profile of its own, from `with` on."""
+    """A browser with a profile of its own, from `with` on, or with that of a browser that was killed."""
 
-    def __enter__(self):
-        self.folder = tempfile.mkdtemp(prefix="page-")
+    def __init__(self, folder: str = "") -> None:
+        self.folder = folder
+
+    def __enter__(self) -> "Browser":
+        self.folder = self.folder or tempfile.mkdtemp(prefix="page-")
         words = ["--headless=new", "--remote-debugging-port=0", f"--user-data-dir={self.folder}", "--no-first-run", "--disable-gpu",
                  "--disable-background-networking", "--disable-component-update", "--disable-sync", "--disable-dev-shm-usage",
                  "--hide-scrollbars", "--mute-audio"]  # fmt: skip
         if os.geteuid() == 0:
             words.append("--no-sandbox")
-        self.process = subprocess.Popen([browser_path(), *words, "about:blank"], stdout=subprocess.DEVNULL, stderr=subprocess.DEVNULL,
+        browser = outside.path_of("chromium")
+        if browser is None:
+            raise OSError(outside.lacks("chromium"))
+        self.process = subprocess.Popen([browser, *words, "about:blank"], stdout=subprocess.DEVNULL, stderr=subprocess.DEVNULL,
                                         stdin=subprocess.DEVNULL, start_new_session=True)  # fmt: skip
         told = pathlib.Path(self.folder) / "DevToolsActivePort"
         ends = time.monotonic() + PATIENCE
@@ -58,7 +52,7 @@ class Browser:
         self.port = int(told.read_text().split("\n")[0])
         return self
 
-    def __exit__(self, *_):
+    def __exit__(self, *_: object) -> None:
         self.process.terminate()
         try:
             self.process.wait(PATIENCE)
@@ -67,7 +61,15 @@ class Browser:
             self.process.wait()
         shutil.rmtree(self.folder, ignore_errors=True)
 
-    def tab(self):
+    def kill(self) -> None:
+        """All its processes at once, as when the power fails. Its profile stays."""
+        os.killpg(self.process.pid, signal.SIGKILL)
+        self.process.wait()
+        for name in ("DevToolsActivePort", "SingletonLock", "SingletonSocket", "SingletonCookie"):
+            with contextlib.suppress(FileNotFoundError):
+                os.unlink(os.path.join(self.folder, name))
+
+    def tab(self) -> "Tab":
         """A new tab, which shows nothing yet."""
         request = urllib.request.Request(f"http://127.0.0.1:{self.port}/json/new?about:blank", method="PUT")
         with urllib.request.build_opener(urllib.request.ProxyHandler({})).open(request, timeout=PATIENCE) as answer:
@@ -77,16 +79,16 @@ class Browser:
 class Shared:
     """One browser for all cases: it is there from the first tab on, until `end`."""
 
-    browser = None
+    browser: Optional[Browser] = None
 
     @classmethod
-    def tab(cls):
+    def tab(cls) -> "Tab":
         if cls.browser is None:
             cls.browser = Browser().__enter__()
         return cls.browser.tab()
 
     @classmethod
-    def end(cls):
+    def end(cls) -> None:
         if cls.browser is not None:
             cls.browser.__exit__()
             cls.browser = None
@@ -95,13 +97,13 @@ class Shared:
 class Tab:
     """A tab of the browser. `events` are those that it has told of, in their order."""
 
-    def __init__(self, url):
+    def __init__(self, url: str) -> None:
         parts = urllib.parse.urlsplit(url)
-        self.line = socket.create_connection((parts.hostname, parts.port), PATIENCE)
+        self.line = socket.create_connection((str(parts.hostname), int(parts.port or 0)), PATIENCE)
         self.line.settimeout(PATIENCE)
         self.text = b""
         self.number = 0
-        self.events = []
+        self.events: List[Json] = []
         key = base64.b64encode(os.urandom(16)).decode()
         self.line.sendall(
             f"GET {parts.path} HTTP/1.1\r\nHost: {parts.netloc}\r\nUpgrade: websocket\r\nConnection: Upgrade\r\n"
@@ -113,23 +115,40 @@ class Tab:
         for domain in ("Page", "Runtime", "Network", "Log"):
             self.call(f"{domain}.enable")
 
-    def call(self, method, **given):
+    def call(self, method: str, **given: object) -> Json:
         """What the browser answers."""
-        self.number += 1
-        self._send(json.dumps({"id": self.number, "method": method, "params": given}).encode())
+        self.send(method, **given)
         while True:
-            told = json.loads(self._message())
+            told: Json = json.loads(self._message())
             if told.get("id") == self.number:
                 assert "error" not in told, told
-                return told["result"]
+                result: Json = told["result"]
+                return result
             self.events.append(told)
 
-    def _send(self, content):
+    def send(self, method: str, **given: object) -> None:
+        """For what isn't answered."""
+        self.number += 1
+        self._send(json.dumps({"id": self.number, "method": method, "params": given}).encode())
+
+    def until_event(self, method: str) -> None:
+        """Until the browser has told of it."""
+        while not any(told.get("method") == method for told in self.events):
+            self.events.append(json.loads(self._message()))
+
+    def _send(self, content: bytes) -> None:
         """A text frame, masked as a client's must be."""
         size = bytes((0x80 | len(content),)) if len(content) < 126 else b"\xfe" + struct.pack(">H", len(content))
+        if len(content) > 0xFFFF:
+            size = b"\xff" + struct.pack(">Q", len(content))
         self.line.sendall(b"\x81" + size + bytes(4) + content)
 
-    def _message(self):
+    def listen(self) -> None:
+        """Takes what the browser has told of by now."""
+        while self.text or select.select([self.line], [], [], 0)[0]:
+            self.events.append(json.loads(self._message()))
+
+    def _message(self) -> bytes:
         content = b""
         while True:
             first, size = self._bytes(2)
@@ -139,7 +158,7 @@ class Tab:
             if first & 0x80 and first & 0x0F < 8:
                 return content
 
-    def _bytes(self, count):
+    def _bytes(self, count: int) -> bytes:
         while len(self.text) < count:
             part = self.line.recv(1 << 16)
             assert part, "the browser has gone"
@@ -147,21 +166,22 @@ class Tab:
         part, self.text = self.text[:count], self.text[count:]
         return part
 
-    def close(self):
+    def close(self) -> None:
         self.call("Page.close")
         self.line.close()
 
     # What a reader does.
 
-    def open(self, url):
+    def open(self, url: str) -> None:
         self.call("Page.navigate", url=url)
 
-    def value(self, expression):
+    def value(self, expression: str) -> object:
         """What the expression is on the page; None where it has none."""
         result = self.call("Runtime.evaluate", expression=expression, returnByValue=True, awaitPromise=True)
-        return None if "exceptionDetails" in result else result["result"].get("value")
+        seen: object = None if "exceptionDetails" in result else result["result"].get("value")
+        return seen
 
-    def until(self, expression, expected=True, seconds=PATIENCE):
+    def until(self, expression: str, expected: object = True, seconds: float = PATIENCE) -> object:
         """The last value of the expression, which is the expected one as soon as it is."""
         ends = time.monotonic() + seconds
         while True:
@@ -170,7 +190,7 @@ class Tab:
                 return seen
             time.sleep(0.01)
 
-    def press(self, *keys):
+    def press(self, *keys: str) -> None:
         for key in keys:
             code = KEYS.get(key, ord(key.upper()[0]))
             text = {"Enter": "\r"}.get(key, key if len(key) == 1 else "")
@@ -178,21 +198,22 @@ class Tab:
             self.call("Input.dispatchKeyEvent", type="keyDown" if text else "rawKeyDown", text=text, **given)
             self.call("Input.dispatchKeyEvent", type="keyUp", **given)
 
-    def look(self, width, height, dark=False, scale=1):
+    def look(self, width: int, height: int, dark: bool = False, scale: int = 1) -> None:
         """As on a screen of this size."""
         self.call("Emulation.setDeviceMetricsOverride", width=width, height=height, deviceScaleFactor=scale, mobile=width < 600)
         scheme = {"name": "prefers-color-scheme", "value": "dark" if dark else "light"}
         self.call("Emulation.setEmulatedMedia", features=[scheme])
 
-    def picture(self, path):
+    def picture(self, path: pathlib.Path) -> None:
         """Puts what is seen into a PNG file."""
         pathlib.Path(path).write_bytes(base64.b64decode(self.call("Page.captureScreenshot", format="png")["data"]))
 
-    def requests(self):
-        """The URLs that the page has asked for."""
-        return [told["params"]["request"]["url"] for told in self.events if told["method"] == "Network.requestWillBeSent"]
+    def requests(self) -> List[str]:
+        """The URLs that the page has asked for. A picture that it has itself is asked of nobody."""
+        urls = [told["params"]["request"]["url"] for told in self.events if told["method"] == "Network.requestWillBeSent"]
+        return [url for url in urls if not url.startswith("data:")]
 
-    def printed(self):
+    def printed(self) -> List[Json]:
         """What stands on the console."""
         kinds = ("Runtime.consoleAPICalled", "Runtime.exceptionThrown", "Log.entryAdded")
         return [told["params"] for told in self.events if told["method"] in kinds]

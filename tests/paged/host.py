@@ -1,69 +1,159 @@
 """A page in a process of its own: `host.py [ADDRESS:]PORT LIMITS`, with port 0 for a free one, and some limits of
-`live.serving` as JSON, so that a case needn't wait for the real ones.
+`live.serving` as JSON, so that a case needn't wait for the real ones; with `spectators` among them it is their page.
 
-It prints its URL, then shows each round that it reads, a line of JSON each, and answers each line with the longest time, in
-milliseconds, for which its loop was held up since the last one, and the number of its readers.
+It prints its URL, then shows each round that it reads, a line of JSON each, and answers each line with what its loop did at
+most in a turn since the last one, as `Work` has it, and the number of its readers.
 """
 
+import collections
 import json
 import os
 import pathlib
+import socket
 import sys
+from typing import Any, Callable, Counter, Dict, List, Mapping, Optional, Sequence, Tuple
 
 sys.dont_write_bytecode = True
-sys.path[:0] = [str(pathlib.Path(__file__).resolve().parents[2])]
-from live import page, serving  # noqa: E402
-from live.address import Address, read_address  # noqa: E402
-from live.loop import Loop  # noqa: E402
-from live.page import BoardView, Page, Ply, RoundView  # noqa: E402
+sys.path[:0] = [str(pathlib.Path(__file__).resolve().parents[number]) for number in (2, 1)]
+from live.broadcast.history import Shot  # noqa: E402
+from live.broadcast.running import Clocks  # noqa: E402
+from live.broadcast.view import Player, SpectatorBoard  # noqa: E402
+from live.web import page, serving  # noqa: E402
+from live.web.address import Address, Door, names_of, read_address  # noqa: E402
+from live.loop import Loop, Watch  # noqa: E402
+from live.web.page import ARBITER, SPECTATORS, BoardView, Page, Ply, RoundView  # noqa: E402
+from live.web.view import Shows, board_text  # noqa: E402
+from paged.web import SpectatorsGiven, Work  # noqa: E402
 
-TICK = 0.005  # seconds
+
+class CountingLoop(Loop):
+    """A loop that counts what is done in each of its turns."""
+
+    def __init__(self) -> None:
+        self.answers: Counter[object] = collections.Counter()  # of each reader
+        self.sent: Counter[object] = collections.Counter()  # bytes to each reader
+        self.texts = 0  # of boards
+        self.most = Work()
+        super().__init__()
+
+    def _ready(self) -> List[Tuple[Watch, int, int]]:
+        most = self.most
+        answers, sent = max(self.answers.values(), default=0), max(self.sent.values(), default=0)
+        self.most = Work(max(most.answers, answers), max(most.sent, sent), most.texts + self.texts)
+        self.answers.clear()
+        self.sent.clear()
+        self.texts = 0
+        return super()._ready()
+
+    def count(self) -> None:
+        """From here on what the page does is counted."""
+        answer, take = serving.Reader._answer, serving.Server._take
+
+        def answers(reader: serving.Reader, request: Any) -> None:
+            self.answers[reader] += 1
+            answer(reader, request)
+
+        def takes(server: serving.Server, line: socket.socket, *more: Any) -> None:
+            take(server, CountedLine(line, self), *more)  # type: ignore[arg-type]  # it does what a socket does
+
+        def texts(board: BoardView, offset: float, before: Optional[BoardView] = None) -> bytes:
+            self.texts += 1
+            return board_text(board, offset, before)
+
+        setattr(serving.Reader, "_answer", answers)
+        setattr(serving.Server, "_take", takes)
+        setattr(BoardView, "text", texts)
 
 
-def board_of(values):
+class CountedLine:
+    """A connection whose bytes are counted."""
+
+    def __init__(self, line: socket.socket, loop: CountingLoop) -> None:
+        self._line, self._loop = line, loop
+
+    def send(self, part: bytes) -> int:
+        count = self._line.send(part)
+        self._loop.sent[self] += count
+        return count
+
+    def __getattr__(self, name: str) -> Callable[..., Any]:
+        call: Callable[..., Any] = getattr(self._line, name)
+        return call
+
+
+def spectators_board_of(values: SpectatorsGiven, now: float) -> SpectatorBoard:
+    """A board as spectators see it, of JSON."""
+    players = [
+        Player(name, title, rating)
+        for name, title, rating in zip(
+            (values["white"], values["black"]), values.get("titles", ("", "")), values.get("ratings", ("", ""))
+        )
+    ]
+    white, black = values["clocks"]
+    clocks = Clocks(white, black, values.get("runs", ""), now - values.get("ago", 0.0))
+    moves = tuple(Ply(*move[:2]) for move in values["moves"])
+    pgn = values["pgn"].encode()
+    shot = Shot(values["result"], moves, tuple(values["positions"]), pgn, clocks)
+    return SpectatorBoard(values["number"], players[0], players[1], shot, pgn)
+
+
+def board_of(values: SpectatorsGiven, _: float) -> BoardView:
     """A board, of JSON."""
-    plies = tuple(Ply(*move) for move in values.pop("moves", []))
-    pgn = values.pop("pgn", "").encode()
-    lists = {name: tuple(value) if isinstance(value, list) else value for name, value in values.items()}
-    return BoardView(moves=plies, pgn=pgn, **lists)
+    white_clock, black_clock = values["clocks"]
+    return BoardView(
+        number=values["number"],
+        name=values["name"],
+        white=values["white"],
+        black=values["black"],
+        result=values["result"],
+        state=values["state"],
+        since=values["since"],
+        alarm=values["alarm"],
+        mend=values["mend"],
+        differing=tuple(values["differing"]),
+        clocks=(white_clock, black_clock),
+        moves=tuple(Ply(*move) for move in values["moves"]),
+        positions=tuple(values["positions"]),
+        pgn=values["pgn"].encode(),
+    )
 
 
 class Host:
-    def __init__(self, address, limits):
+    def __init__(self, address: Address, limits: Mapping[str, float]) -> None:
+        spectators = "spectators" in limits
+        self.board_of: Callable[[SpectatorsGiven, float], Shows] = board_of
+        if spectators:
+            self.board_of = spectators_board_of
         for name, value in limits.items():
             setattr(page if hasattr(page, name) else serving, name, value)
-        self.loop = Loop()
-        self.page = Page(self.loop, address, self.trouble)
-        self.boards = {}
+        self.loop = CountingLoop()
+        self.loop.count()
+        door = Door(address, names_of("Hall.club.example", ["chess.example.org"]))
+        self.page = Page(self.loop, door, SPECTATORS if spectators else ARBITER, self.trouble)
+        self.boards: Dict[int, Shows] = {}
         self.text = b""
-        self.late = 0.0
-        self.due = self.loop.now()
-        self.tick()
         os.set_blocking(0, False)
         self.loop.watch(0, self.read)
         print(self.page.url, flush=True)
 
-    def trouble(self, text):
+    def trouble(self, text: str) -> None:
         print("TROUBLE", json.dumps(text), flush=True)
 
-    def tick(self):
-        self.late = max(self.late, self.loop.now() - self.due)
-        self.due = self.loop.now() + TICK
-        self.loop.after(TICK, self.tick)
-
-    def read(self):
+    def read(self) -> None:
         part = os.read(0, 1 << 20)
         if not part:
             self.loop.stop()
         *lines, self.text = (self.text + part).split(b"\n")
         for line in lines:
             given = json.loads(line)
-            for values in given["boards"]:
-                self.boards[values["number"]] = board_of(values)
+            boards: Sequence[SpectatorsGiven] = given["boards"]
+            for values in boards:
+                self.boards[values["number"]] = self.board_of(values, self.loop.now())
             numbers = given.get("numbers", sorted(self.boards))
-            self.page.show(RoundView(given["event"], tuple(self.boards[number] for number in numbers)))
-            print(round(self.late * 1000), self.page.readers, flush=True)
-            self.late = 0.0
+            said = tuple(given["said"].items())
+            self.page.show(RoundView(given["event"], tuple(self.boards[number] for number in numbers), said))
+            print(*self.loop.most, self.page.readers, flush=True)
+            self.loop.most = Work()
 
 
 if __name__ == "__main__":

@@ -1,8 +1,10 @@
 """Requests as bytes: what is read of them, and what is refused with which status."""
 
+from typing import Callable, Optional
+
 from decided.table import same
 
-from live import http
+from live.web import http
 
 HOST = b"Host: x\r\n"
 READ = [
@@ -17,6 +19,14 @@ READ = [
     (b"GET HTTPS://hall HTTP/1.1\r\nHost: x\r\n\r\n", ("GET", "/", True)),
     (b"GET %2e%2e HTTP/1.1\r\nHost: x\r\n\r\n", ("GET", "%2e%2e", True)),
     (b"GET / HTTP/1.2\r\nHost: x\r\nContent-Length: 0\r\n\r\n", ("GET", "/", True)),
+]
+HOSTS = [
+    (b"GET / HTTP/1.1\r\nHost: Hall:8000\r\n\r\n", "Hall:8000"),
+    (b"GET / HTTP/1.1\r\nHost:\r\n\r\n", ""),
+    (b"GET / HTTP/1.0\r\n\r\n", None),
+    (b"GET http://one:80/x HTTP/1.1\r\nHost: other\r\n\r\n", "one:80"),
+    (b"GET HTTP://one HTTP/1.0\r\n\r\n", "one"),
+    (b"GET //one/x HTTP/1.1\r\nHost: other\r\n\r\n", "other"),
 ]
 BAD = [
     (b"\r\n\r\n", 400),
@@ -49,7 +59,7 @@ TAGS = [
 ]  # fmt: skip
 
 
-def status(call, *arguments):
+def status(call: Callable[..., object], *arguments: object) -> Optional[int]:
     """The status with which it is refused, or None."""
     try:
         call(*arguments)
@@ -58,16 +68,18 @@ def status(call, *arguments):
     return None
 
 
-def read():
+def read() -> None:
     for head, expected in READ:
         request = http.read_request(head)
         same(repr(head), (request.method, request.path, request.keeps), expected)
-    for head, expected in BAD:
-        same(repr(head[:80]), status(http.read_request, head), expected)
+    for head, host in HOSTS:
+        same(f"the host of {head!r}", http.read_request(head).host, host)
+    for head, refusal in BAD:
+        same(repr(head[:80]), status(http.read_request, head), refusal)
     same("64 fields", status(http.read_request, b"GET / HTTP/1.1\r\nHost: x\r\n" + b"A: b\r\n" * 63 + b"\r\n"), None)
 
 
-def limits():
+def limits() -> None:
     line = b"GET /" + b"a" * (http.LONGEST_LINE - 15) + b" HTTP/1.1\r"
     same("a line of 2,048 bytes with its CR", (len(line), http.head_end(line + b"\n\r\n")), (2048, 2051))
     same("one more", status(http.head_end, b"a" + line + b"\n\r\n"), 414)
@@ -81,14 +93,14 @@ def limits():
     same("the first of two", http.head_end(b"GET / HTTP/1.1\r\n\r\nGET / HTTP/1.1\r\n\r\n"), 18)
 
 
-def tags():
+def tags() -> None:
     for given, expected in TAGS:
         request = http.Request("GET", "/", fields={"if-none-match": given})
         same(f"If-None-Match: {given}", http.has_tag(request, '"a"'), expected)
     same("no If-None-Match", http.has_tag(http.Request("GET", "/"), '"a"'), False)
 
 
-def answers():
+def answers() -> None:
     head, content = http.complaint(405, 784111777, False)
     # The date is the example of RFC 9110, section 5.6.7.
     same("a complaint", head.split(b"\r\n")[:2], [b"HTTP/1.1 405 Method Not Allowed", b"Date: Sun, 06 Nov 1994 08:49:37 GMT"])

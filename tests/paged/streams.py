@@ -2,26 +2,28 @@
 
 import json
 import re
+from typing import Dict, List, Tuple, cast
 
 from decided.table import same
 
-from paged.web import Events, Site, a_board
+from live.web import page, serving
+from paged.web import Events, Given, Site, Told, a_board
 
 NAME = "</script><img src=x onerror=alert(1)>\n\ndata: x\r\u2028 \"'&"
 EVENT = re.compile(rb"event: (beat|round|board)\n(id: [0-9a-f]{8}-\d+\n)?data: [ -~]+\n\n")
 
 
-def state(site):
+def state(site: Site) -> Dict[int, Told]:
     """What /state.json says, by the boards' numbers."""
     return {board["number"]: board for board in json.loads(site.get("/state.json")[2])["boards"]}
 
 
-def form():
+def form() -> None:
     with Site() as site:
         site.show(a_board(1, 2, white=NAME), a_board(2, 0), event=NAME)
         site.until("/state.json", lambda content: b"Black 2" in content)
         with site.line() as line:
-            line.sendall(b"GET /events HTTP/1.1\r\nHost: x\r\n\r\n")
+            line.sendall(b"GET /events HTTP/1.1\r\nHost: localhost\r\n\r\n")
             came = b""
             while came.count(b"event: board") < 2 or not came.endswith(b"\n\n"):
                 came += line.recv(65536)
@@ -42,20 +44,22 @@ def form():
         reader.close()
 
 
-def news():
+def news() -> None:
     with Site(PAUSE=0.01) as site:
         site.show(a_board(1, 5), a_board(2, 0))
         reader = Events(site)
         reader.until(lambda: len(reader.boards) == 2)
-        for what, board, kept, new in [
+        corrected = [*a_board(1, 5)["moves"], ["Be7", "1:29:00", "correction"]]
+        changes: List[Tuple[str, Given, Tuple[int, int], List[str]]] = [
             ("a move", a_board(1, 6), (5, 6), ["Bc5"]),
             ("a clock", a_board(1, 6, clocks=["1:00:00", "0:59:00"]), (6, 7), []),
-            ("a correction", a_board(1, 6, moves=a_board(1, 5)["moves"] + [["Be7", "1:29:00", "correction"]]), (5, 7), ["Be7"]),
+            ("a correction", a_board(1, 6, moves=corrected), (5, 7), ["Be7"]),
             ("a move is taken back", a_board(1, 4), (4, 5), []),
             ("another game", a_board(1, 1, moves=[["d4"]], positions=["x", "y"]), (0, 0), ["d4"]),
-        ]:
+        ]
+        for what, board, kept, new in changes:
             site.show(board)
-            events = reader.until(lambda board=board: reader.boards[1]["clocks"] == board["clocks"]
+            events = reader.until(lambda: reader.boards[1]["clocks"] == board["clocks"]
                 and [move["san"] for move in reader.boards[1]["moves"]] == [move[0] for move in board["moves"]])  # fmt: skip
             boards = [data for kind, data in events if kind == "board"]
             same(f"{what}: one board", [data["number"] for data in boards], [1])
@@ -73,7 +77,7 @@ def news():
         reader.close()
 
 
-def again():
+def again() -> None:
     with Site(PAUSE=0.01) as site:
         site.show(*[a_board(number, number) for number in range(1, 6)])
         reader = Events(site)
@@ -90,37 +94,71 @@ def again():
         events += again.until(lambda: len(again.boards[2]["moves"]) == 7)
         same("what has changed meanwhile, and it goes on from there", again.boards, state(site))
         same("nothing else", {data["number"] for kind, data in events if kind == "board"}, {2, 4})
-        known = again.last
+        first = again.last.split("-")[0]
         again.close()
         for what, identifier in [
             ("of another call", "00000000-3"),
-            ("from the future", known.split("-")[0] + "-999"),
-            ("of no number", known.split("-")[0] + "-x"),
-            ("of a long number", known.split("-")[0] + "-" + "9" * 1000),
+            ("from the future", first + "-999"),
+            ("of no number", first + "-x"),
+            ("of a long number", first + "-" + "9" * 1000),
             ("no sense", "-\u00b2"),
         ]:
             reader = Events(site, identifier)
-            reader.until(lambda reader=reader: len(reader.boards) == 5)
+            reader.until(lambda: len(reader.boards) == 5)
             same(f"a last event {what}: all", reader.boards, state(site))
             reader.close()
         with Site() as other:
             other.show(a_board(1, 1))
-            reader = Events(other, known)
+            reader = Events(other, again.last)
             reader.until(lambda: 1 in reader.boards)
             same("a recorder that was started again", reader.boards, state(other))
             reader.close()
 
 
-def beats():
+def beats() -> None:
     with Site(BEAT=0.05, SWEEP=0.02) as site:
         reader = Events(site)
-        times = []
+        times: List[float] = []
         while len(times) < 4:
             kind, data = reader.next()
             if kind == "beat":
                 times.append(data["now"])
         same("the time goes on", times == sorted(times), True)
         reader.close()
+    with Site() as site:
+        reader = Events(site)
+        times = []
+        while len(times) < 4:
+            kind, data = reader.next()
+            if kind == "beat":
+                times.append(data["now"])
+        same("without any news too", len(times), 4)
+        reader.close()
 
 
-TABLES = [form, news, again, beats]
+class Clock:
+    """What the events of a page ask of it, at a time that is said."""
+
+    header, time = b"{}", 100.0
+
+    def now(self) -> float:
+        return self.time
+
+    def since(self, seen: int) -> Tuple[bytes, int]:
+        return b"", seen
+
+
+def when_it_beats() -> None:
+    """Every 2 s, and the next sweep comes a second later at the latest. A page says after 4 s that nothing comes."""
+    clock = Clock()
+    events = page.Events(cast(page.Page, clock), 0)
+    beats_at = []
+    for tenth in range(101):
+        clock.time = 100.0 + tenth / 10
+        if b"event: beat" in events.more():
+            beats_at.append(tenth / 10)
+    same("when it beats", beats_at, [0.0, 2.0, 4.0, 6.0, 8.0, 10.0])
+    same("and a sweep", serving.SWEEP, 1.0)
+
+
+TABLES = [form, news, again, beats, when_it_beats]

@@ -18,6 +18,7 @@ from played.stage import (
     go_on,
     kill,
     movetext,
+    recorded,
     rest,
     run,
     same,
@@ -50,7 +51,7 @@ def typed_results(folder: pathlib.Path) -> None:
         until_line(live, f"{words.RESULT}{result}")
         same(ended(live), 0)
         same(movetext(live.name), RUY_TEXT.replace("*", result))
-        text = run("record", *options, given=bytes_of(live.name + ".dgt")).stdout
+        text = recorded(bytes_of(live.name + ".dgt"), live.name, *options)
         same(text, bytes_of(live.name + ".pgn"))
         assert result in (place / "game.log").read_text()
         assert words.SETTING_UP not in live.lines(), live.lines()
@@ -77,7 +78,7 @@ def typed_moves(folder: pathlib.Path) -> None:
     board.play("f1b5")
     until_game(live.name, RUY_TEXT)
     same(stop(live), 0)
-    same(run("record", given=bytes_of(live.name + ".dgt")).stdout, bytes_of(live.name + ".pgn"))
+    same(recorded(bytes_of(live.name + ".dgt"), live.name), bytes_of(live.name + ".pgn"))
     assert "Nc6" in (folder / "game.log").read_text()
 
 
@@ -89,7 +90,7 @@ def typed_nonsense(folder: pathlib.Path) -> None:
         "Nf6": "Nf6 is no legal move: White is to move, after 1... e5",
         "Nf3 Qxf7": "Qxf7 is no legal move: Black is to move, after 2. Nf3",
         "2-0": "2-0",
-        "0-0": "O-O is no legal move",
+        "0-0": "refused: 0-0: do both lose?",
         "K" * 300: "K",
     }
     for text, part in refused.items():
@@ -148,7 +149,7 @@ def added_by_command(folder: pathlib.Path) -> None:
     same((answer.returncode, movetext(live.name)), (0, "1. e4 e5 2. Nf3 Nc6 3. Bb5 0-1"))
     assert b"gone" not in answer.stdout, answer.stdout.decode()
     same(bytes_of(live.name + ".dgt")[: len(capture)], capture)
-    same(run("record", given=bytes_of(live.name + ".dgt")).stdout, bytes_of(live.name + ".pgn"))
+    same(recorded(bytes_of(live.name + ".dgt"), live.name), bytes_of(live.name + ".pgn"))
     log = (folder / "game.log").read_text()
     assert "Nf3 Nc6" in log and "0-1" in log, log
     answer = add(folder, "1-0", folder / "none")

@@ -13,6 +13,7 @@ from typing import Dict, Iterator, List, Optional, Sequence, Tuple
 import play_board
 from play_board import BLACK, DUMP, EMPTY, INITIAL, KING, UPDATE, field, frame
 
+SEND_SERIAL, SERIAL = 0x45, 0x91
 RATE = 960  # bytes a second of the line: 9600 baud, ten bits a byte
 
 
@@ -22,7 +23,7 @@ class Board(play_board.Board):
     It sends updates once it was asked for them, and forgets that when its power fails or its cable is pulled.
     `deaf` has it ignore what it is asked. `answers_after` seconds pass before a dump. With a `rate` its line takes so many
     bytes a second. The updates in `spoiled` are cut to so many bytes, the next one first, None for a whole one; of the others
-    `spoiled_share` are cut somewhere, or lost whole where `lost_whole`.
+    `spoiled_share` are cut somewhere, or lost whole where `lost_whole`. With a `serial_number`, of five digits, it gives that.
     """
 
     def __init__(
@@ -48,6 +49,7 @@ class Board(play_board.Board):
         self.spoiled: List[Optional[int]] = []
         self.spoiled_share = 0.0
         self.lost_whole = False
+        self.serial_number = b""
         self.asked = b""
         self.asked_at: List[Tuple[float, int]] = []
         self.outgoing = bytearray()
@@ -132,6 +134,8 @@ class Board(play_board.Board):
                 self.answers.append(now + self.answers_after)
             elif command == play_board.SEND_UPDATES:
                 self.asked_for_updates = True
+            elif command == SEND_SERIAL and self.serial_number:
+                self.outgoing += frame(SERIAL, self.serial_number)
 
     def flush(self) -> None:
         """Writes what the line takes."""

@@ -5,7 +5,6 @@ import os
 import pathlib
 import signal
 import subprocess
-import time
 
 from play_board import INITIAL, frame
 from played import words
@@ -99,7 +98,7 @@ def full_disk_ended(folder: pathlib.Path) -> None:
     fill(board, live, live.name + ".pgn")
     rest(1.5)
     live.send(signal.SIGINT)
-    assert holds_within(lambda: not live.runs, 20), "it doesn't end"
+    assert holds_within(lambda: not live.runs, 30), "it doesn't end"
     refuses(live, 3, words.FULL)
     kept = bytes_of(live.name + ".dgt")
     assert b"Bb5" in bytes_of(live.name + ".pgn")
@@ -228,8 +227,6 @@ def longest_capture(folder: pathlib.Path) -> None:
     assert len(bytes_of(live.name + ".dgt")) <= LONGEST
     same(check(bytes_of(live.name + ".pgn")), "moves 2, result *")
     again = Live(board.device, live.name)
-    start = time.monotonic()
     until(lambda: not again.runs, "its end")
     assert words.LIMIT in again.lines() + again.complaint(), again.lines() + again.complaint()
-    assert time.monotonic() - start < 60
     same(check(bytes_of(live.name + ".pgn")), "moves 2, result *")

@@ -1,17 +1,18 @@
 """What happens in a hall: updates that are cut or lost, boards that are switched off, cables that change places, noise, and
 processes that are killed."""
 
-import contextlib
-import os
 import pathlib
 import signal
 import time
-from typing import List
 
+from emulated import board as emulated
+from emulated.board import Manner
+from emulated.cable import Cable
+from emulated.room import stopwatch
 from play_board import EMPTY, field
 from played import words
 from played.boards import Cables
-from played.recorder import Live, command
+from played.recorder import Live, command, signal_to
 from played.stage import (
     RUY,
     RUY_TEXT,
@@ -143,21 +144,20 @@ def slow_answers(folder: pathlib.Path) -> None:
 
 
 def noise(folder: pathlib.Path) -> None:
-    """Five seconds of noise at the full rate of the line: a few requests, and the game goes on at once."""
+    """Five seconds of noise at the full rate of the line: a few requests, and the game goes on."""
     board, live = begin_game(folder)
     rest(0.5)
     asked = len(board.asked)
+    start = time.monotonic()
     board.make_noise(5)
     rest(5)
     board.play("g1f3")
-    requests = len(board.asked) - asked
-    assert requests < 40, f"{requests} requests"
+    requests, most = len(board.asked) - asked, 10 + 5 * (time.monotonic() - start)
+    assert requests < most, f"{requests} requests"
     until_game(live.name, "1. e4 e5 2. Nf3 *")
-    start = time.monotonic()
     until_line(live, "2. Nf3")
     board.play("b8c6")
     until_game(live.name, "1. e4 e5 2. Nf3 Nc6 *")
-    assert time.monotonic() - start < 15, "it has caught up late"
     same(stop(live), 0)
 
 
@@ -175,7 +175,7 @@ def part_killed(folder: pathlib.Path) -> None:
             break
         killed = command(children[number])
         live.was_killed = True
-        os.kill(children[number], signal.SIGKILL)
+        signal_to(children[number])
         board.play("g1f3")
         for second in range(20000):
             board.clock(3600 + second % 60, 3600)
@@ -201,8 +201,7 @@ def kill_part(folder: pathlib.Path, number: int) -> int:
     board, live = begin_game(folder)
     parts = [live.process.pid, *live.children()]
     live.was_killed = True
-    with contextlib.suppress(ProcessLookupError):
-        os.kill(parts[number], signal.SIGKILL)
+    signal_to(parts[number])
     live.send(signal.SIGINT)
     assert ended(live) in (-signal.SIGKILL, 0, 3), live.complaint()
     same(movetext(live.name), "1. e4 e5 *")
@@ -236,7 +235,7 @@ def main_killed(folder: pathlib.Path) -> None:
         count = 1 + len(children)
         live.was_killed = True
         for process in children[number - 1 : number] if number else []:
-            os.kill(process, signal.SIGKILL)
+            signal_to(process)
         live.process.kill()
         live.process.wait()
         board.play("g1f3")
@@ -337,14 +336,27 @@ def another_board(folder: pathlib.Path) -> None:
 
 
 def devices(folder: pathlib.Path) -> None:
-    """--devices lists the cables by their own names."""
+    """--devices lists the cables by their own names, with the serial numbers of boards that give one."""
     cables = Cables(folder)
-    boards: List[object] = [cables.board(f"DGT_{letter}", at) for at, letter in enumerate("AB")]
-    Stage.boards += boards  # type: ignore[arg-type]
+    Stage.boards += [cables.board(f"DGT_{letter}", at) for at, letter in enumerate("AB")]
     live = Live("", "", "--devices", environment=cables.environment())
     same(ended(live), 0)
     for part in ("usb-DGT_A", "usb-DGT_B"):
         assert part in live.lines(), live.lines()
+    now = stopwatch()
+    for letter, manner in (("C", Manner()), ("D", Manner(late=(0.4, 0.8)))):
+        device = cables.folder / f"ttyUSB{letter}"
+        Stage.boards.append(Cable(device, emulated.Board(serial=f"0000{letter}", manner=manner), now))  # type: ignore[arg-type]
+        (cables.serial / "by-id" / f"usb-DGT_{letter}").symlink_to(device)
+    recording = Live(Stage.boards[-1].device, folder / "game")
+    begun(recording)
+    again = Live("", "", "--devices", environment=cables.environment())
+    same(ended(again), 0)
+    assert "usb-DGT_C  0000C" in again.lines() and "usb-DGT_D  in use" in again.lines(), again.lines()
+    same(stop(recording), 0)
+    last = Live("", "", "--devices", environment=cables.environment())
+    same(ended(last), 0)
+    assert "usb-DGT_D  0000D" in last.lines(), last.lines()
 
 
 def killed_at_once(folder: pathlib.Path) -> None:
@@ -356,3 +368,32 @@ def killed_at_once(folder: pathlib.Path) -> None:
         live = go_on(board, live)
         until_game(live.name, f"1. e4 e5 {text} *")
     same(stop(live), 0)
+
+
+# Raises an error that nobody reckons with in the next read of a line, where a file is there.
+RAISING = """
+import os
+read = os.read
+def fails(number, count):
+    if os.path.exists({flag!r}) and os.isatty(number):
+        os.unlink({flag!r})
+        raise ValueError("nobody reckons with this")
+    return read(number, count)
+os.read = fails
+"""
+
+
+def begun_again(folder: pathlib.Path) -> None:
+    """An error that nobody reckons with: it is said, the log has where it was, and the game goes on after some seconds."""
+    flag = folder / "flag"
+    (folder / "sitecustomize.py").write_text(RAISING.format(flag=str(flag)))
+    board, live = begin_game(folder, environment={"PYTHONPATH": str(folder)})
+    for number in (1, 2):
+        flag.touch()
+        until_line(live, "isn't recorded: ValueError: nobody reckons with this", number)
+        until_line(live, "  records ", number + 1)
+        board.play(RUY[1 + number])
+        until_game(live.name, "1. e4 e5 2. Nf3 *" if number == 1 else "1. e4 e5 2. Nf3 Nc6 *")
+    assert "Traceback" in (folder / "game.log").read_text()
+    same((stop(live), live.complaint()), (0, ""))
+    same(movetext(live.name), "1. e4 e5 2. Nf3 Nc6 *")

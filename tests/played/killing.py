@@ -2,11 +2,8 @@
 played, and none besides."""
 
 import collections
-import contextlib
-import os
 import pathlib
 import random
-import signal
 import termios
 import time
 from typing import Counter, List, Optional
@@ -14,7 +11,7 @@ from typing import Counter, List, Optional
 from play_board import EMPTY, field
 from played.boards import Board
 from played.games import PARIS, PARIS_TEXT
-from played.recorder import Live, children_now, command
+from played.recorder import Live, children_now, command, signal_to
 from played.stage import (
     Stage,
     a_board,
@@ -72,10 +69,9 @@ class Killer:
 
     def kill(self, live: Live, kind: str, moment: str) -> None:
         victims = self.victims(live, kind)
-        names = [word for word in ("record", "follow", "pictures") if victims and word in command(victims[0])]
+        names = [word for word in ("record", "watch", "recover") if victims and word in command(victims[0])]
         for victim in victims:
-            with contextlib.suppress(ProcessLookupError):
-                os.kill(victim, signal.SIGKILL)
+            signal_to(victim)
         if victims:
             live.was_killed = True
             name = kind if kind in ("main", "all") else "".join(names) or "another"

@@ -12,6 +12,7 @@ import struct
 import subprocess
 import tempfile
 import termios
+import time
 from typing import Dict, List, Optional, Sequence
 
 from played import TOP, words
@@ -154,7 +155,7 @@ class Live:
             start_new_session=True,
             preexec_fn=prepare,
             cwd=cwd,
-            env={**os.environ, "TMPDIR": str(self.scratch), **(environment or {})},
+            env={**os.environ, "TMPDIR": str(self.scratch), **({"TERM": "xterm"} if terminal else {}), **(environment or {})},
         )
         self.told.give_away()
         self.wrong.give_away()
@@ -216,9 +217,11 @@ class Live:
 
     def end(self) -> None:
         """All of it, at once."""
-        if self.runs or processes(self.process.pid):
+        for _ in range(1000):  # so long as one of them may still write into the case's folder
+            if not self.runs and not processes(self.process.pid):
+                break
             self.send_all(signal.SIGKILL)
-            self.process.wait()
+            time.sleep(0.01)
         if self.typing >= 0:
             os.close(self.typing)
             self.typing = -1
@@ -227,12 +230,18 @@ class Live:
 def processes(session: int) -> List[int]:
     """Those of the session that run; one that has ended may wait long to be reaped."""
     found = []
-    for stat in pathlib.Path("/proc").glob("[0-9]*/stat"):
+    for name in filter(str.isdigit, os.listdir("/proc")):  # one may end between any two steps
         with contextlib.suppress(OSError):
-            state, _, _, number = stat.read_text().rpartition(")")[2].split()[:4]
+            state, _, _, number = pathlib.Path("/proc", name, "stat").read_text().rpartition(")")[2].split()[:4]
             if int(number) == session and state not in "ZX":
-                found.append(int(stat.parent.name))
+                found.append(int(name))
     return sorted(found)
+
+
+def signal_to(process: int, number: int = signal.SIGKILL) -> None:
+    """Sends a signal to one that may have ended since it was listed."""
+    with contextlib.suppress(ProcessLookupError):
+        os.kill(process, number)
 
 
 def children_now(process: int) -> List[int]:

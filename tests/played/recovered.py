@@ -1,15 +1,13 @@
 """`--recover`: moves that two hands hid."""
 
-import os
 import pathlib
-import signal
 import subprocess
-from typing import Tuple
+from typing import List, Tuple
 
 from play_board import BLACK, PROMOTED
 from played import words
 from played.boards import Board
-from played.recorder import LIVE, Live, command, processes
+from played.recorder import LIVE, Live, command, processes, signal_to
 from played.stage import (
     a_board,
     begun,
@@ -28,6 +26,7 @@ from played.stage import (
 )
 
 KNIGHT = PROMOTED["n"]
+DUMP = 67  # bytes
 STRICT_TEXT = "1. e4 e5 *"
 WHOLE_TEXT = "1. e4 e5 2. Nf3 Nc6 3. Bb5 *"
 PAIR = "recovered 2. Nf3 2... Nc6"
@@ -44,7 +43,7 @@ def hurried(board: Board, first: str = "g1f3", reply: str = "b8c6") -> None:
 def begin(folder: pathlib.Path, *options: str, **more: object) -> Tuple[Board, Live]:
     """Two plies, recorded with --recover."""
     board = a_board(folder)
-    live = Live(board.device, folder / "game", "--recover", *options, **more)  # type: ignore[arg-type]
+    live = Live(board.device, folder / "game", "--recover", *options, **more)  # type: ignore[arg-type]  # what Live takes by name
     begun(live)
     for move in ("e2e4", "e7e5"):
         board.play(move)
@@ -108,7 +107,7 @@ def recovered_and_killed(folder: pathlib.Path) -> None:
 
     for part in range(2):
         until(is_another, "a child that recovers")
-        os.kill(ended_ones[-1], signal.SIGKILL)
+        signal_to(ended_ones[-1])
         if part == 0:
             hurried(board)
             rest(0.5)
@@ -138,22 +137,23 @@ def recovered_and_added(folder: pathlib.Path) -> None:
     live.type("1-0")
     same(ended(live), 0)
     same(movetext(live.name), WHOLE_TEXT.replace("*", "a6 1-0"))
-    size = (folder / "game.end").read_text()
-    same(int(size), len(bytes_of(live.name + ".dgt")))
-    for given, text, told in (
+    size = int((folder / "game.end").read_text())
+    same((len(bytes_of(live.name + ".dgt")) - size) % DUMP, 0)  # dumps that were on their way as the result was typed
+    calls: List[Tuple[List[str], str, List[str]]] = [
         (["--add", "0-1"], "0-1", []),
         (["--strict"], "", ["nothing recovered", words.RESULT_GONE.format("0-1")]),
         (["--strict"], "", ["nothing recovered"]),
         (["--recover"], "0-1", [PAIR, "the result is 0-1"]),
         (["--recover"], "0-1", [PAIR]),
-    ):
+    ]
+    for given, text, told in calls:
         answer = subprocess.run([LIVE, *given, live.name], stdout=subprocess.PIPE, stderr=subprocess.PIPE)
         if told:
             same(answer.stdout.decode(), f"dgt_live: {live.name}.pgn is made anew: {'; '.join(told)}\n")
         whole = WHOLE_TEXT.replace("*", f"a6 {text}")
         same((answer.returncode, movetext(live.name)), (0, whole if text else STRICT_TEXT))
         same(PAIR.encode() in answer.stdout, given == ["--recover"])
-    same(bytes_of(folder / "game.options"), b"--recover\n")
+    same(bytes_of(folder / "game.options").splitlines()[0], b"--recover")
     for name, status in ((str(folder / "other"), 1), ("/dev/null", 2)):
         same(subprocess.run([LIVE, "--strict", name], stderr=subprocess.DEVNULL).returncode, status)
 

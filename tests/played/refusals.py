@@ -1,11 +1,12 @@
 """What is refused, and what stands then; help, names and dates, old games, the archive, the sources."""
 
+import ast
 import os
 import pathlib
-import shutil
 import subprocess
-from typing import List, Tuple
+from typing import Dict, List, Tuple
 
+import outside
 from played import TOP, words
 from played.recorder import LIVE, Live
 from played.stage import (
@@ -28,6 +29,8 @@ from played.stage import (
     until_game,
     until_line,
 )
+
+MODULE_FOLDERS = ("tests", "tools", "bench")  # a file in one of them is imported by its name alone
 
 
 def refused(folder: pathlib.Path) -> None:
@@ -123,9 +126,9 @@ def old_name(folder: pathlib.Path) -> None:
         until_game(live.name, text)
         until_line(again, "2. Nf3  0:09:50" if text == white_first else "2. Nf3  0:08:20")
         same(stop(again), 0)
-    answer = subprocess.run([LIVE, "--first", "white", live.name], stdout=subprocess.PIPE)
-    same((answer.returncode, movetext(live.name)), (0, white_first))
-    assert b"White's time comes first" in answer.stdout, answer.stdout
+    anew = subprocess.run([LIVE, "--first", "white", live.name], stdout=subprocess.PIPE)
+    same((anew.returncode, movetext(live.name)), (0, white_first))
+    assert b"White's time comes first" in anew.stdout, anew.stdout
     assert '[White "Anna O\'Neil \\\\ \\"x\\" $HOME *"]\n' in bytes_of(live.name + ".pgn").decode()
     assert '[Event ""]\n' in bytes_of(live.name + ".pgn").decode()
     (folder / "bare").mkdir()
@@ -220,16 +223,89 @@ def names_and_dates(folder: pathlib.Path) -> None:
     for tag in ('White "Joerg Mueller"', 'Date "2024.05.31"', 'Site "Besancon"'):
         assert f"[{tag}]\n" in text, f"{tag} in\n{text}"
     assert text.isascii() and "Joerg Mueller" in live.lines(), live.lines()
+    movetext_and_tags(live.name, 'White "Jörg Müller"', 'Black "Håkon Łukasz Ørsted"', 'Site "Besançon"')
     # The same words go on with the game, and so does none.
     again = go_on(board, live, *options)
     board.play("e7e5")
     until_game(live.name, "1. e4 e5 *")
     same(stop(again), 0)
+    # Tags may be given when the game is over too.
+    tagged = Live("", live.name, "--tag", "WhiteElo=2050", "--tag", "timecontrol=90+30")
+    same(ended(tagged), 0)
+    movetext_and_tags(live.name, 'White "Jörg Müller"', 'WhiteElo "2050"', 'TimeControl "5400+30"')
+    same(bytes_of(live.name + ".pgn").isascii(), True)
+    refuses(Live("", live.name, "--tag", "WhiteElo=20x0"), 2, "WhiteElo: '20x0' is no rating")
     (folder / "room").mkdir()
     other = Live(a_board(folder / "room").device, folder / "other", "--date", "2024-05-31")
     begun(other)
     same(stop(other), 0)
     assert b'[Date "2024.05.31"]' in bytes_of(other.name + ".pgn")
+
+
+def movetext_and_tags(name: str, *tags: str) -> None:
+    """What is published has these tags, and the movetext that is recorded."""
+    head, _, movetext = bytes_of(name + ".broadcast.pgn").partition(b"\n\n")
+    for tag in tags:
+        assert f"[{tag}]\n" in head.decode() + "\n", f"{tag} in\n{head.decode()}"
+    same(movetext.rstrip(), bytes_of(name + ".pgn").partition(b"\n\n")[2].rstrip())
+
+
+EAST, WEST = {"TZ": "AAA-14"}, {"TZ": "BBB12"}  # where it is always another day
+
+
+def today(zone: Dict[str, str]) -> str:
+    """The date there, as `date` prints it."""
+    call = ["date", "+%Y.%m.%d"]
+    return subprocess.run(call, stdout=subprocess.PIPE, env={**os.environ, **zone}, check=True).stdout.decode().strip()
+
+
+def dates(folder: pathlib.Path) -> None:
+    """A game has the date on which it began, where no other is typed; it keeps it when it goes on on another day. One without a
+    move begins again. In a series each game has its own. An old game that has none stays so."""
+
+    def date_of(name: object) -> str:
+        return bytes_of(f"{name}.pgn").decode().partition('[Date "')[2].partition('"')[0]
+
+    board = a_board(folder)
+    live = Live(board.device, folder / "game", "--white", "Anna", environment=WEST)
+    begun(live)
+    before, now = date_of(live.name), today(WEST)
+    assert before == now or today(WEST) != now, (before, now)
+    same(stop(live), 0)
+    live = Live(board.device, folder / "game", environment=EAST)
+    begun(live)
+    began, now = date_of(live.name), today(EAST)
+    assert began != before and (began == now or today(EAST) != now), (before, began, now)
+    board.play("e2e4")
+    until_game(live.name, "1. e4 *")
+    same(stop(live), 0)
+    anna = ("--white", "Anna")
+    for given, wanted in (((), 0), (anna, 0), ((*anna, "--date", began), 0), (("--date", before), 1)):
+        again = Live(board.device, live.name, *given, environment=WEST)
+        if wanted:
+            refuses(again, 1, words.OTHER_OPTIONS)
+            assert "They were\n  --white Anna\n" in again.complaint(), again.complaint()
+        else:
+            until_line(again, "1. e4")
+            same(stop(again), 0)
+        same(date_of(live.name), began)
+    (folder / "old.dgt").write_bytes((TOP / "samples" / "short-game.dgt").read_bytes())
+    (folder / "old.options").write_text("--white\nAnna\n")
+    again = Live(board.device, folder / "old")
+    until_line(again, "3. Bb5")
+    same(stop(again), 0)
+    same(date_of(folder / "old"), "????.??.??")
+    place = folder / "series"
+    place.mkdir()
+    for path in folder.glob("old.*"):
+        path.rename(place / path.name.replace("old", "old-1"))
+    (place / "old-1.end").write_text(f"{(place / 'old-1.dgt').stat().st_size}\n")
+    again = Live(a_board(place).device, place / "old", "--series", environment=EAST)
+    until(lambda: date_of(place / "old-2"), "the next game")
+    now = today(EAST)
+    same(stop(again), 0)
+    assert date_of(place / "old-2") == now or today(EAST) != now, date_of(place / "old-2")
+    same(date_of(place / "old-1"), "????.??.??")
 
 
 def old_game(folder: pathlib.Path) -> None:
@@ -292,7 +368,8 @@ def archive(folder: pathlib.Path) -> None:
     for _ in range(2):
         answer = subprocess.run([TOP / "bin" / "package"], stdout=subprocess.PIPE)
         same(answer.returncode, 0)
-        made.append((TOP / answer.stdout.decode().strip()).read_bytes())
+        (name,) = [line for line in answer.stdout.decode().splitlines() if line.endswith("-x86_64-linux.tar.gz")]
+        made.append((TOP / name).read_bytes())
     assert made[0] == made[1], "it is another archive"
     (folder / "archive").write_bytes(made[0])
     subprocess.run(["tar", "-xzf", "archive"], cwd=folder, check=True)
@@ -300,7 +377,8 @@ def archive(folder: pathlib.Path) -> None:
     program, version = answer.stdout.decode().split()
     same(program, "dgt_replay")
     unpacked = folder / f"dgt_replay-{version}-x86_64-linux"
-    names = {"CHESS.md", "FORMATS.md", "USING.md", "dgt_live", "dgt_live.1", "dgt_replay", "dgt_replay.1", "short-game.dgt"}
+    names = {"CHESS.md", "FORMATS.md", "USING.md", "BROADCAST.md", "REFERENCE.md", "dgt_live.1", "dgt_replay.1", "short-game.dgt"}
+    names |= {"dgt_live", "dgt_round", "dgt_replay"}
     same(names - {path.name for path in unpacked.iterdir()}, set())
     for left in unpacked.rglob("*"):
         assert left.suffix != ".pyc" and left.name != "__pycache__", f"{left} is of no use"
@@ -310,8 +388,8 @@ def archive(folder: pathlib.Path) -> None:
     same(answer.stderr, b"BKB\nmessages 24, faults 1, moves 5, rest 0\n")
     for page in ["dgt_live.1", "dgt_replay.1"]:
         assert version in (unpacked / page).read_text(), page
-        if shutil.which("groff"):
-            answer = subprocess.run(["groff", "-ww", "-man", "-Tutf8", unpacked / page], capture_output=True)
+        if groff := outside.path_of("groff-base"):
+            answer = subprocess.run([groff, "-ww", "-man", "-Tutf8", unpacked / page], capture_output=True)
             same((answer.returncode, answer.stderr), (0, b""))
     place = folder / "room"
     place.mkdir()
@@ -322,11 +400,13 @@ def archive(folder: pathlib.Path) -> None:
         board.play(move)
     until_game(live.name, RUY_TEXT)
     same(stop(live), 0)
+    if lacking := outside.lacks("groff-base"):
+        raise Skipped(f"but for the manual pages all is well, and {lacking}")
 
 
 def sources(kind: str) -> "list[pathlib.Path]":
     """The scripts of the repository that are written in `kind`, as their first line or their name says."""
-    places = [TOP / "bin", TOP / "bench", TOP / "live", TOP / "tests", TOP / "tools", TOP / "samples"]
+    places = [TOP / "bin", TOP / "bench", TOP / "hosts", TOP / "live", TOP / "tests", TOP / "tools", TOP / "samples"]
     files = [path for place in places for path in sorted(place.rglob("*")) if path.is_file() and "__pycache__" not in path.parts]
     suffix = {"python3": ".py", "sh": ".sh"}[kind]
     found = []
@@ -338,13 +418,14 @@ def sources(kind: str) -> "list[pathlib.Path]":
     return found
 
 
-def complains_of_nothing(tool: str, *arguments: object, place: pathlib.Path = TOP, path: str = "") -> None:
-    """Where the tool is here."""
-    if not shutil.which(tool):
-        raise Skipped(f"there is no {tool} here")
+def complains_of_nothing(tool: str, *arguments: object, path: str = "") -> None:
+    """The tool prints nothing that is wrong. The case is skipped where the tool isn't here."""
+    program = outside.path_of(tool)
+    if program is None:
+        raise Skipped(outside.lacks(tool))
     answer = subprocess.run(
-        [tool, *map(str, arguments)],
-        cwd=place,
+        [program, *map(str, arguments)],
+        cwd=TOP,
         stdout=subprocess.PIPE,
         stderr=subprocess.STDOUT,
         env={**os.environ, "MYPYPATH": path},
@@ -357,22 +438,35 @@ def shellcheck(folder: pathlib.Path) -> None:
     complains_of_nothing("shellcheck", "--severity=warning", *sources("sh"))
 
 
-def ruff(folder: pathlib.Path) -> None:
-    """ruff has no complaint about the recorder and its tests."""
-    places = ["live", "bin/dgt_live", "tests/live", "tests/played", "tools"]
-    complains_of_nothing("ruff", "check", "--no-cache", "--line-length=127", *places)
+def pyflakes3(folder: pathlib.Path) -> None:
+    """pyflakes has no complaint about any Python file."""
+    complains_of_nothing("pyflakes3", *sources("python3"))
 
 
 def mypy(folder: pathlib.Path) -> None:
-    """mypy --strict has no complaint about the recorder, nor about its tests."""
-    path = os.pathsep.join([".", str(TOP), str(TOP / "tools")])
-    packages = ["-p", "live", "-p", "played"]
-    complains_of_nothing("mypy", "--strict", f"--cache-dir={folder}", *packages, place=TOP / "tests", path=path)
+    """mypy --strict has no complaint about any Python file but samples/make.py, as one for Python 3.9."""
+    links = folder / "links"  # a script is a module to mypy where its name ends in '.py'
+    links.mkdir()
+    files = []
+    for path in sources("python3"):
+        if path.parent.name == "samples":
+            continue
+        if path.suffix != ".py":
+            link = links / f"{path.parent.name}_{path.name}.py"
+            link.symlink_to(path)
+            path = link
+        files.append(path)
+    places = os.pathsep.join(map(str, [links, TOP, *(TOP / name for name in MODULE_FOLDERS)]))
+    words = ["--strict", "--python-version=3.9", "--explicit-package-bases", f"--cache-dir={folder}"]
+    complains_of_nothing("mypy", *words, *files, path=places)
 
 
 def compiles(folder: pathlib.Path) -> None:
-    """Each Python file is one for this Python, of at most 500 lines."""
+    """Each Python file compiles as one for Python 3.9, has at most 500 lines, and names each kind of error that it catches."""
     for path in sources("python3"):
         text = path.read_text()
-        compile(text, str(path), "exec")
+        tree = ast.parse(text, str(path), feature_version=(3, 9))
+        compile(tree, str(path), "exec")
+        for node in ast.walk(tree):
+            assert not (isinstance(node, ast.ExceptHandler) and node.type is None), f"{path}:{node.lineno}: name what is caught"
         assert len(text.splitlines()) <= 500 or path.parent.name == "samples", f"{path} is long"

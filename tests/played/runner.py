@@ -12,6 +12,7 @@ import traceback
 import types
 from typing import Callable, Dict, List, Optional, Sequence
 
+import outside
 from played import TOP
 from played.recorder import Live
 from played.stage import LIMIT, PROGRAM, Skipped, Stage
@@ -69,7 +70,8 @@ def play(case: Case) -> int:
         try:
             case(place)
         except Skipped as skipped:
-            status, outcome = SKIPPED, f"skipped, {skipped}:"
+            status, outcome = (FAILED, "FAILED") if outside.no_skips() else (SKIPPED, "skipped")
+            print(outside.skip_line(case.__name__, str(skipped)))
         except Exception:
             traceback.print_exc(file=sys.stdout)
             tell_what_was_said()
@@ -179,6 +181,7 @@ def lacks() -> bool:
 def main(script: str, cases: Sequence[Case], arguments: Sequence[str]) -> int:
     """`--alone NAME` plays one here; `--at-once N`, and names of cases, else all."""
     named = {case.__name__: case for case in cases}
+    assert len(named) == len(cases), "two cases have one name, and one of them would never be played"
     if list(arguments[:1]) == ["--alone"]:
         return play(named[arguments[1]])
     wanted = list(arguments)

@@ -13,8 +13,8 @@ from played.stage import (
     bytes_of,
     kill,
     movetext,
+    recorded,
     rest,
-    run,
     same,
     stop,
     until,
@@ -145,7 +145,7 @@ def resigned(folder: pathlib.Path) -> None:
     ends = int(bytes_of(folder / "round-1.end").split()[0])
     capture = bytes_of(folder / "round-1.dgt")
     assert 0 < ends <= len(capture), (ends, len(capture))
-    game = run("record", "--white", "Anna", given=capture[:ends]).stdout
+    game = recorded(capture[:ends], folder / "round-1", "--white", "Anna")
     same(game, bytes_of(folder / "round-1.pgn"))
     same(stop(live), 0)
     same(movetext(folder / "round-1"), text)

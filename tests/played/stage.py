@@ -10,7 +10,7 @@ import select
 import signal
 import subprocess
 import time
-from typing import Callable, List, Optional, Tuple
+from typing import Callable, List, Optional, Sequence, Tuple
 
 from played import TOP, words
 from played.boards import Board
@@ -37,9 +37,15 @@ class Stage:
     ends = float("inf")
 
 
-def a_board(folder: pathlib.Path, *words: object, **more: object) -> Board:
+def a_board(
+    folder: pathlib.Path,
+    codes: Optional[Sequence[int]] = None,
+    rotated: bool = False,
+    device: Optional[pathlib.Path] = None,
+    seed: int = 1,
+) -> Board:
     """A board on the stage."""
-    board = Board(folder, *words, **more)  # type: ignore[arg-type]
+    board = Board(folder, codes, rotated, device, seed)
     Stage.boards.append(board)
     return board
 
@@ -152,6 +158,12 @@ def run(*arguments: str, given: bytes = b"") -> "subprocess.CompletedProcess[byt
     return subprocess.run([program(), *arguments], input=given, stdout=subprocess.PIPE, stderr=subprocess.PIPE)
 
 
+def recorded(capture: bytes, name: object, *options: str) -> bytes:
+    """What `record` makes of a capture, with the date that NAME.pgn has."""
+    date = bytes_of(f"{name}.pgn").decode().partition('[Date "')[2].partition('"')[0]
+    return run("record", *options, "--date", date, given=capture).stdout
+
+
 @functools.lru_cache(maxsize=64)
 def check(text: bytes) -> Optional[str]:
     """What `check` says of a text, where it passes."""
@@ -169,7 +181,7 @@ def same(got: object, wanted: object) -> None:
 def begin_game(folder: pathlib.Path, *options: str, **more: object) -> Tuple[Board, Live]:
     """Two plies, recorded."""
     board = a_board(folder)
-    live = Live(board.device, folder / "game", *options, **more)  # type: ignore[arg-type]
+    live = Live(board.device, folder / "game", *options, **more)  # type: ignore[arg-type]  # what Live takes by name
     begun(live)
     board.play("e2e4")
     until_game(live.name, "1. e4 *")
@@ -181,6 +193,6 @@ def begin_game(folder: pathlib.Path, *options: str, **more: object) -> Tuple[Boa
 def go_on(board: Board, live: Live, *options: str, **more: object) -> Live:
     """The same game again, where the board has been asked for a dump and updates."""
     asked = board.asked.count(b"BK")
-    again = Live(board.device, live.name, *options, **more)  # type: ignore[arg-type]
+    again = Live(board.device, live.name, *options, **more)  # type: ignore[arg-type]  # what Live takes by name
     until(lambda: board.asked.count(b"BK") > asked, f"a request of the recorder of {live.name}")
     return again

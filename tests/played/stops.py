@@ -11,7 +11,7 @@ from typing import Tuple
 from play_board import DUMP, INITIAL, field, frame
 from played import words
 from played.boards import Board
-from played.recorder import Live, Terminal, children_now
+from played.recorder import Live, Terminal, children_now, signal_to
 from played.stage import (
     RUY,
     RUY_TEXT,
@@ -24,8 +24,8 @@ from played.stage import (
     holds_within,
     kill,
     movetext,
+    recorded,
     rest,
-    run,
     same,
     stop,
     until,
@@ -81,7 +81,7 @@ def group_signal(folder: pathlib.Path) -> None:
             live.send_all(number)
             time.sleep(0.02 if name != "mixed" else 0.002)
         same(ended(live), 0)
-        same(bytes_of(live.name + ".pgn"), run("record", given=bytes_of(live.name + ".dgt")).stdout)
+        same(bytes_of(live.name + ".pgn"), recorded(bytes_of(live.name + ".dgt"), live.name))
         same(movetext(live.name), RUY_TEXT)
 
 
@@ -276,12 +276,11 @@ def held(folder: pathlib.Path) -> None:
         chosen = [live.process.pid, *live.children()]
         chosen = [chosen[number % len(chosen)]] if number < 4 else chosen
         for process in chosen:
-            os.kill(process, signal.SIGSTOP)
+            signal_to(process, signal.SIGSTOP)
         board.play(move)
         rest(1.2)
         for process in chosen:
-            with contextlib.suppress(ProcessLookupError):
-                os.kill(process, signal.SIGCONT)
+            signal_to(process, signal.SIGCONT)
         game += f" {2 + number // 2}. {san}" if number % 2 == 0 else f" {san}"
         until_game(live.name, f"{game} *")
     same(stop(live), 0)
@@ -290,7 +289,7 @@ def held(folder: pathlib.Path) -> None:
     place.mkdir()
     board, live = begin_game(place)
     for process in live.children():
-        os.kill(process, signal.SIGSTOP)
+        signal_to(process, signal.SIGSTOP)
     for move in RUY[2:]:
         board.play(move)
     until(lambda: len(bytes_of(live.name + ".dgt")) >= 67 + 50, "what was played")
@@ -433,7 +432,7 @@ def in_the_background(folder: pathlib.Path) -> None:
     same(movetext(live.name), "1. e4 e5 *")
     for child in live.children():
         if child in children_now(live.process.pid):
-            os.kill(child, signal.SIGTERM)
+            signal_to(child, signal.SIGTERM)
     same(ended(live), 0)
 
 

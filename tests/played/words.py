@@ -8,6 +8,7 @@ import re
 AGREES = "agrees"
 IN_HAND = "in hand"
 WRONG = "WRONG"
+NO_START = "NO START"
 SILENT = "SILENT"
 UNPLUGGED = "UNPLUGGED"
 BACK = "is there"

@@ -13,7 +13,7 @@ import re
 from dataclasses import dataclass
 from typing import List, Tuple
 
-from live.protocol import SQUARES, TIME_ID, UPDATE_ID, dump, picture_of_placement
+from live.device.protocol import SQUARES, TIME_ID, UPDATE_ID, dump, picture_of_placement
 from recovering.rules import CODES, INITIAL
 
 START = INITIAL.split(" ")[0]
@@ -95,6 +95,10 @@ AFTER_E4 = "r1bqkbnr/pppppppp/2n5/8/4P3/5N2/PPPP1PPP/RNBQKB1R"
 PUT_IN = f"[{AFTER_NF3} {AFTER_NC6} {AFTER_E4}]"
 PAIR = "recovered 1. Nf3 1... Nc6"
 GAME = "1. Nf3 Nc6 2. e4 *"
+# Eight plies after which White's Nxe5, and Black's dxe5, leave a board with two pieces less: a knight of f3 and the pawn of d6. So it
+# looks, too, where these two are just lifted.
+QUIET = f"{START} e2 e4P e7 e5p g1 f3N d7 d6p d2 d3P b8 c6n b1 d2N g8 f6n"
+QUIET_GAME = "1. e4 e5 2. Nf3 d6 3. d3 Nc6 4. Nbd2 Nf6"
 CASES: Tuple[Case, ...] = (
     Case("a reply lifted early", f"{KNIGHTS} e2 e4P {PUT_IN} e7 e5p", "1. Nf3 Nc6 2. e4 e5 *", (f"96 {PAIR}",)),
     Case("nothing confirms it", f"{KNIGHTS} e2", "*"),
@@ -207,6 +211,45 @@ CASES: Tuple[Case, ...] = (
         "taken back",
         f"{KNIGHTS} f3 c6 b8n g1N {AFTER_E4}",
         "*",
+    ),
+    Case(
+        # White's other knight is lifted while Black's pawn is still in the air: so the board would look after 5. Nxe5 dxe5 6. Nf3.
+        # But the knight of f3, which that exchange took, was back before.
+        "both sides straighten pieces",
+        f"{QUIET} f3 d6 f3N d2 d2N d6p f1 e2B f8 e7b e1 g1K h1 f1R",
+        f"{QUIET_GAME} 5. Be2 Be7 6. O-O *",
+    ),
+    Case(
+        # The same exchange would put no piece where none, or another one, stood. And the kings are no sign without it.
+        "two pieces are taken off before the kings are set up",
+        f"{QUIET} f3 d6 e1 e8 d4K e5k",
+        f"{QUIET_GAME} *",
+    ),
+    Case(
+        # White straightens the knight of f3, and then takes with it. What was back before the picture that waits again is no matter.
+        "an exchange with a piece that was just straightened",
+        f"{QUIET} f3 d6 f3N f3 e5 e5p d2 f3N [r1bqkb1r/ppp2ppp/2np1n2/4N3/4P3/3P4/PPPN1PPP/R1BQKB1R"
+        " r1bqkb1r/ppp2ppp/2n2n2/4p3/4P3/3P4/PPPN1PPP/R1BQKB1R r1bqkb1r/ppp2ppp/2n2n2/4p3/4P3/3P1N2/PPP2PPP/R1BQKB1R]",
+        f"{QUIET_GAME} 5. Nxe5 dxe5 6. Nf3 *",
+        ("186 recovered 5. Nxe5 5... dxe5",),
+    ),
+    Case(
+        # The queen stands before the pawn is off the board: one piece more, but none that the pair took.
+        "a promotion with the new piece first",
+        "4k3/P6p/8/8/8/8/7P/4K3 4k3/P7/7p/8/8/7P/8/4K3 a8Q a7"
+        " [4k3/P6p/8/8/8/7P/8/4K3 4k3/P7/7p/8/8/7P/8/4K3 Q3k3/8/7p/8/8/7P/8/4K3]",
+        "1. h3 h6 2. a8=Q+ *",
+        ("143 recovered 1. h3 1... h6",),
+        fen="4k3/P6p/8/8/8/8/7P/4K3 w - - 0 1",
+    ),
+    Case(
+        # White's rook takes a rook, is taken, and a pawn is promoted to a rook: more rooks than were left, behind the pair.
+        "a promotion to the piece that was taken",
+        "3rk3/P7/8/8/8/8/8/3RK3 3k4/P7/8/8/8/8/8/4K3 a7 a8R"
+        " [3Rk3/P7/8/8/8/8/8/4K3 3k4/P7/8/8/8/8/8/4K3 R2k4/8/8/8/8/8/8/4K3]",
+        "1. Rxd8+ Kxd8 2. a8=R+ *",
+        ("143 recovered 1. Rxd8+ 1... Kxd8",),
+        fen="3rk3/P7/8/8/8/8/8/3RK3 w - - 0 1",
     ),
     Case("three plies at once", f"{START} {AFTER_E4} e7 e5p", "*"),
     # Of the pictures that wait, that of both knights is the fourth, and 255 come after it; then 256.

@@ -5,10 +5,10 @@ Each rule stands where it is needed. Nothing is fast but what would take hours w
 
 from __future__ import annotations
 
-from dataclasses import dataclass, field
+from dataclasses import dataclass, field, replace
 from typing import Iterator, List, Optional, Sequence, Tuple
 
-from live.protocol import HEADER, TIME_ID, FrameKind, Frames, Picture, dump
+from live.device.protocol import HEADER, TIME_ID, FrameKind, Frames, Picture, dump
 from recovering.rules import BLACK, EMPTY, KING, Move, Position, is_white
 
 MOST_WAITING = 256  # pictures that are kept
@@ -30,7 +30,7 @@ class Pair:
 
 @dataclass(frozen=True)
 class Waiting:
-    """An entry that waits, and the pairs that explain it."""
+    """An entry that waits, and the pairs that explain it and took nothing that is back since."""
 
     picture: Picture
     reading: Reading
@@ -58,6 +58,16 @@ def is_sign(picture: Picture, position: Position) -> bool:
         return False
     wanted = [EMPTY if code in kings else code for code in position.board]
     return all(picture[square] == wanted[square] for square in range(64) if square not in CENTRE)
+
+
+def is_back(picture: Picture, now: Position, after: Position) -> bool:
+    """Whether a picture shows a piece that was taken between two positions: more of a code than are left."""
+    return any(after.board.count(code) < min(now.board.count(code), picture.count(code)) for code in range(1, 13))
+
+
+def puts_piece(now: Position, after: Position) -> bool:
+    """Whether a piece was put down between two positions."""
+    return any(code not in (EMPTY, old) for old, code in zip(now.board, after.board))
 
 
 def two_plies(position: Position, picture: Picture) -> Iterator[Tuple[Move, Move]]:
@@ -115,7 +125,8 @@ class Fold:
             return None
         confirmed = self.confirmed(picture)
         if len(confirmed) != 1:
-            self.waiting = [*self.waiting, Waiting(picture, reading, self.explaining(picture))][-MOST_WAITING:]
+            kept = [replace(entry, pairs=self.without_back(entry.pairs, picture)) for entry in self.waiting]
+            self.waiting = [*kept, Waiting(picture, reading, self.explaining(picture))][-MOST_WAITING:]
             return None
         found = self.recovery(confirmed[0])
         if found.pair.corrects:
@@ -145,9 +156,17 @@ class Fold:
         return self.begins(pair).after(pair.first).after(pair.second)
 
     def confirmed(self, picture: Picture) -> List[Pair]:
-        """The pairs that explain an entry that waits and have this picture as their sequel: a move, or a sign."""
+        """The pairs that explain an entry that waits and have this picture as their sequel: a move, or a sign over the position
+        after a pair that put a piece down."""
         pairs = dict.fromkeys(pair for entry in self.waiting for pair in entry.pairs)
-        return [pair for pair in pairs if self.ends(pair).move_to(picture) or is_sign(picture, self.ends(pair))]
+        return [pair for pair in pairs if self.ends(pair).move_to(picture) or self.is_sign_after(pair, picture)]
+
+    def is_sign_after(self, pair: Pair, picture: Picture) -> bool:
+        return is_sign(picture, self.ends(pair)) and puts_piece(self.position, self.ends(pair))
+
+    def without_back(self, pairs: Tuple[Pair, ...], picture: Picture) -> Tuple[Pair, ...]:
+        """Those of which no piece that they took is back in a picture."""
+        return tuple(pair for pair in pairs if not is_back(picture, self.position, self.ends(pair)))
 
     def recovery(self, pair: Pair) -> Recovery:
         before = self.begins(pair)

@@ -1,15 +1,15 @@
-"""A round that is played while a browser without a screen shows its page."""
+"""A round that is played while a browser without a screen shows the arbiter's page."""
 
 import pathlib
 import time
-from typing import Any, List
+from typing import List
 
-from paged.devtools import Shared, browser_path
+import outside
+from paged.devtools import Shared, Tab
 from played.stage import Skipped, rest, same, stop, until
 from rounds.hall import Hall, moves
 from rounds.rounds import free_port
 
-SECOND = 1.0  # from a move's last byte to the page, for half of the moves
 SHOWN = ["1. e4", "1... e5", "2. Nf3", "2... Nc6", "3. Bb5", "3... a6", "4. Ba4", "4... Nf6", "5. O-O", "5... Be7"]
 TILE = "document.querySelector(\".tile[href='#1'] {}\").textContent"
 # By the squares' numbers, a8 is 0: where each move leads to, and what stands there then.
@@ -30,12 +30,13 @@ def on_the_page(ply: int) -> str:
 
 
 def in_a_browser(folder: pathlib.Path) -> None:
-    """A game is played: diagram, clock and last move follow within a second; keys step through it; nobody else is asked."""
-    if browser_path() is None:
-        raise Skipped("there is no browser: apt-get install chromium")
+    """A game is played: diagram, clock and last move follow before the next move, and the page asks for nothing more; keys step
+    through it; nobody else is asked."""
+    if lacking := outside.lacks("chromium"):
+        raise Skipped(lacking)
     hall = Hall(folder, 2, clocks=(0,))
     port = free_port()
-    live = hall.record("--event", "Club", "--page", str(port))
+    live = hall.record("--event", "Club", "--arbiter-page", str(port))
     hall.begun(live)
     tab = Shared.tab()
     try:
@@ -43,6 +44,7 @@ def in_a_browser(folder: pathlib.Path) -> None:
         tab.open(f"http://127.0.0.1:{port}/")
         until_value(tab, "document.getElementById('line').textContent", "Live")
         times: List[float] = []
+        asked = len(tab.requests())
         for ply in range(len(SHOWN)):
             hall.make(ply, (0,))
             begun = time.monotonic()
@@ -50,7 +52,7 @@ def in_a_browser(folder: pathlib.Path) -> None:
             times.append(time.monotonic() - begun)
             rest(0.05)
         print(f"  on the page after {1000 * sorted(times)[5]:.0f} ms, and at most {1000 * max(times):.0f}")
-        assert sorted(times)[len(times) // 2] < SECOND, times
+        same(tab.requests()[asked:], [])
         tab.press("ArrowRight", "Enter")
         at = "document.getElementById('at').textContent"
         until_value(tab, at, "5... Be7")
@@ -63,9 +65,9 @@ def in_a_browser(folder: pathlib.Path) -> None:
         hall.make(0, (1,))
         tab.press("Escape")
         until_value(tab, "document.querySelector(\".tile[href='#2'] .last\").textContent", "1. d4")
-        asked = tab.requests()
-        same([url for url in asked if not url.startswith(f"http://127.0.0.1:{port}/")], [])
-        assert asked and not tab.printed(), tab.printed()
+        urls = tab.requests()
+        same([url for url in urls if not url.startswith(f"http://127.0.0.1:{port}/")], [])
+        assert urls and not tab.printed(), tab.printed()
         tab.close()
     finally:
         Shared.end()
@@ -73,6 +75,6 @@ def in_a_browser(folder: pathlib.Path) -> None:
     same(stop(live), 0)
 
 
-def until_value(tab: Any, expression: str, expected: object) -> None:
+def until_value(tab: Tab, expression: str, expected: object) -> None:
     """The expression has this value on the page; the boards answer meanwhile."""
     until(lambda: tab.value(expression) == expected, f"{expected} as {expression}, which is {tab.value(expression)}", 0.01)

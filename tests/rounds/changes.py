@@ -2,6 +2,7 @@
 
 import pathlib
 import signal
+from typing import List
 
 from played import words
 from played.recovered import PAIR, hurried
@@ -56,6 +57,66 @@ def another_round(folder: pathlib.Path) -> None:
     live = hall.record("--round", "4")
     until_line(live, "  2  its round is now 4, and was ?\n")
     same(stop(live), 0)
+
+
+def edited_in_a_round(folder: pathlib.Path) -> None:
+    """A name is put right by hand in the text of one game: that text is kept, a line of its board says so, and round.pgn and the
+    other game go on."""
+    hall = Hall(folder, 2)
+    live = hall.record()
+    hall.begun(live)
+    hall.play(0, 2)
+    pgn = pathlib.Path(hall.name(1) + ".pgn")
+    edited = pgn.read_bytes().replace(b"White 1", b"Anna Kern")
+    pgn.write_bytes(edited)
+    hall.play(2, 4)
+    until_line(live, f"  1  {pgn} was edited by hand: that text is kept in {hall.name(1)}.edited.pgn, and a new one takes its place")
+    same(bytes_of(hall.name(1) + ".edited.pgn"), edited)
+    hall.until_round()
+    same(stop(live), 0)
+    same([path.name for path in hall.games.glob("*.edited*")], ["01.edited.pgn"])
+
+
+def options_kept(folder: pathlib.Path) -> None:
+    """A round that is started again without its options goes on with them, and says so; one that is given counts, and `?` takes
+    one out. A new board has them too. What can't be read is left alone."""
+    hall = Hall(folder, 2)
+    kept = hall.games / "round.options"
+
+    def tags() -> List[str]:
+        game = bytes_of(hall.games / "round.pgn").decode()
+        return [line for line in game.splitlines() if line.startswith(("[Event ", "[Date ", "[Round "))]
+
+    def until_tags(event: str, number: str, games: int = 2) -> None:
+        wanted = [f'[Event "{event}"]', '[Date "2024.05.31"]', f'[Round "{number}"]'] * games
+        until(lambda: tags() == wanted, f"the tags {wanted} in round.pgn")
+
+    live = hall.record("--event", "Club cup", "--date", "31.05.2024", "--round", "3")
+    hall.begun(live)
+    hall.play(0, 2)
+    assert "goes on with" not in live.lines(), live.lines()
+    same(stop(live), 0)
+    until_tags("Club cup", "3")
+    hall.file.write_text(f"{hall.file.read_text()}3,{folder}/nowhere,A,B\n")
+    live = hall.record()
+    until_line(live, "the round goes on with --event 'Club cup' --date 2024.05.31 --round 3; give others to change that\n")
+    hall.begun(live)
+    until_tags("Club cup", "3", 3)
+    hall.play(2, 4)
+    same(stop(live), 0)
+    until_tags("Club cup", "3", 3)
+    live = hall.record("--round", "4")
+    until_line(live, "the round goes on with --event 'Club cup' --date 2024.05.31; give others to change that\n")
+    hall.begun(live)
+    until_tags("Club cup", "4", 3)
+    same(stop(live), 0)
+    live = hall.record("--event", "?")
+    hall.begun(live)
+    until_tags("?", "4", 3)
+    same(stop(live), 0)
+    kept.write_text("--colour\nred\n")
+    refuses(hall.record(), 1, f"{kept} can't be read (there is no option --colour")
+    same(kept.read_text(), "--colour\nred\n")
 
 
 def read_again(folder: pathlib.Path) -> None:

@@ -9,7 +9,7 @@ from typing import Dict, List, Optional, Sequence, Set
 from played import TOP
 from played.boards import Board, Cables
 from played.recorder import Live
-from played.stage import Stage, a_board, bytes_of, check, movetext, until, until_line
+from played.stage import Stage, a_board, bytes_of, check, movetext, until
 
 ROUND = TOP / "bin" / "dgt_round"
 GAMES = [
@@ -78,6 +78,12 @@ def games_of(round_text: bytes) -> List[bytes]:
     return [part.rstrip(b"\n") + b"\n\n" for part in parts if part.strip()]
 
 
+def agrees(live: Live, number: int) -> bool:
+    """Whether it was said of a board that it agrees, whatever somebody is to look at there."""
+    lines = [line[10:] for line in live.lines().splitlines()]
+    return any(line.startswith(f"{number:>3}  ") and line.endswith("agrees") for line in lines)
+
+
 class Hall:
     """So many boards and the round that records them. Those in `clocks` and `cabled`, counted from 0, have a clock, and a
     cable with a name of its own, under which the file names them."""
@@ -110,14 +116,14 @@ class Hall:
         self, *options: str, environment: Optional[Dict[str, str]] = None, program: pathlib.Path = ROUND, **more: object
     ) -> Live:
         serial = {**self.cables.environment(), **(environment or {})}
-        return Live(self.file, self.games, *options, program=program, environment=serial, **more)  # type: ignore[arg-type]
+        return Live(self.file, self.games, *options, program=program, environment=serial, **more)  # type: ignore[arg-type]  # what Live takes by name
 
     def name(self, number: int) -> str:
         return str(self.games / f"{number:02}")
 
     def begun(self, live: Live) -> None:
         for number in range(1, len(self.boards) + 1):
-            until_line(live, f"{number:>3}  agrees")
+            until(lambda: agrees(live, number), f"that board {number} agrees")
 
     def until_over(self, live: Live, number: int, result: str) -> None:
         """The board's game is over, and its row says so when it is asked."""

@@ -1,13 +1,12 @@
 """A large hall in which all goes wrong that may, and troubles that are one board's alone."""
 
-import os
 import pathlib
-import shutil
 import signal
 import subprocess
 
+import outside
 from played import words
-from played.recorder import Live, command
+from played.recorder import Live, command, signal_to
 from played.stage import Skipped, bytes_of, kill, movetext, rest, same, stop, until, until_line
 from rounds.hall import Hall, Reader, games_of, moves, plain, text
 
@@ -146,8 +145,8 @@ def always_failing(folder: pathlib.Path) -> None:
     def fails() -> bool:
         for child in live.children():
             called = command(child)
-            if "follow" in called and "--rotated" in called:
-                os.kill(child, signal.SIGKILL)
+            if "watch" in called and "--rotated" in called:
+                signal_to(child)
         return live.says("  2  isn't recorded: a part of the program failed again and again")
 
     until(fails, "that board 2 is given up")
@@ -182,8 +181,7 @@ def full_from_the_start(folder: pathlib.Path) -> None:
 
 def chess_programs(folder: pathlib.Path) -> None:
     """pgn-extract and Scid read round.pgn without a complaint: clocks, results, a game without moves, turned names."""
-    places = f"{os.environ.get('PATH', os.defpath)}{os.pathsep}/usr/games"
-    extract, scid = (shutil.which(name, path=places) for name in ("pgn-extract", "tkscid"))
+    extract, scid = outside.path_of("pgn-extract"), outside.path_of("scid")
     hall = Hall(folder, 5, clocks=(0, 2))
     hall.write(f'6,{folder}/nowhere,"Ødegård, Åse",Jörg')
     live = hall.record("--event", 'Club "cup" \\ 2', "--date", "31.05.2024", "--round", "3", typed=True)
@@ -202,8 +200,8 @@ def chess_programs(folder: pathlib.Path) -> None:
             "sc_base create base\nputs [sc_base import [sc_base current] games/round.pgn]\nexit 0\n"
         )
         same(said_by(folder, scid, "import.tcl"), "6 {}\n")  # the number of games, and what it complains of
-    if not (extract and scid):
-        raise Skipped("there is not both: Debian's packages pgn-extract and scid")
+    if lacking := outside.lacks("pgn-extract", "scid"):
+        raise Skipped(lacking)
 
 
 def said_by(folder: pathlib.Path, *words: str) -> str:

@@ -1,19 +1,18 @@
 """Rounds that are played."""
 
 import json
-import os
 import pathlib
 import re
 import shutil
-import signal
 import socket
 import subprocess
 import urllib.request
-from typing import Any, Dict, List
+from typing import List
 
+from paged.web import Told
 from played import TOP, words
-from played.recorder import Live
-from played.stage import bytes_of, check, ended, kill, program, refuses, same, stop, until, until_line
+from played.recorder import Live, signal_to
+from played.stage import bytes_of, ended, kill, program, refuses, same, stop, until, until_line
 from rounds.hall import ROUND, Hall, Reader, games_of, moves, text, told
 
 
@@ -82,15 +81,15 @@ def troubles(folder: pathlib.Path) -> None:
         "line 7 of round.csv is wrong: board 2 stands in line 3 already: type another",
         "line 8 of round.csv is wrong: 'x' is no number of a board",
         "line 9 of round.csv is wrong: a quote isn't closed",
-        "  7  isn't recorded: the white player's name has letters that PGN can't take",
+        "  7  UNPLUGGED",
         f"line 11 of round.csv is wrong: {folder}/other is the device of board 1, line 2",
     ):
         until_line(live, part)
     hall.play(0, 4)
     hall.until_text(1, "1. e4 e5 2. Nf3 Nc6 *")
-    same(check(bytes_of(hall.games / "07.pgn")), None)
-    same(stop(live), 3)  # two boards are not recorded, and it says so last
-    assert "board 4" in live.complaint() and "board 7" in live.complaint(), live.complaint()
+    assert b'[White "White 7"]' in bytes_of(hall.games / "07.pgn"), bytes_of(hall.games / "07.pgn")
+    same(stop(live), 3)  # a board is not recorded, and it says so last
+    assert "board 4" in live.complaint() and "board 7" not in live.complaint(), live.complaint()
 
 
 def typed(folder: pathlib.Path) -> None:
@@ -133,6 +132,24 @@ def typed(folder: pathlib.Path) -> None:
     same(hall.text(3), "1. e4 c5 0-1")
 
 
+def all_squares(folder: pathlib.Path) -> None:
+    """Ten squares differ: the row counts them, and the number of the board alone names each of them."""
+    hall = Hall(folder, 1)
+    live = hall.record(typed=True)
+    hall.begun(live)
+    hall.play(0, 2)
+    wrong = "a1 b1 c1 d1 e1 f1 g1 h1 a2 b2".split()
+    for square in wrong:
+        hall.boards[0].lift(square)
+    until_line(live, ": 10 squares")
+    live.type("1")
+    until_line(live, "1: WRONG since ")
+    until_line(live, "/01.dgt\n")
+    line = next(line for line in live.lines().splitlines() if "1: WRONG since " in line)
+    same(sorted(line.partition(" s: ")[2].partition(";")[0].split()), sorted(wrong))
+    same(stop(live), 0)
+
+
 def killed(folder: pathlib.Path) -> None:
     """All is killed in mid-game, twice, and started again: each game goes on, and dgt_live goes on with one of them."""
     hall = Hall(folder, 4, clocks=(0, 2))
@@ -171,7 +188,7 @@ def parts_killed(folder: pathlib.Path) -> None:
     hall.play(0, 2)
     live.was_killed = True
     for child in live.children()[:3]:
-        os.kill(child, signal.SIGKILL)
+        signal_to(child)
     hall.play(2, 6)
     hall.until_round()
     same(stop(live), 0)
@@ -243,7 +260,7 @@ def slow_disk(folder: pathlib.Path) -> None:
 
 
 def slow_program(folder: pathlib.Path) -> None:
-    """The page's positions don't come: moves are told, games and round.pgn are written. When they come the page has them."""
+    """`positions` doesn't answer: moves are told, games and round.pgn are written, and the page has the positions all the same."""
     hall = Hall(folder, 2)
     stuck, place = folder / "stuck", folder / "place"
     place.mkdir()
@@ -259,12 +276,11 @@ def slow_program(folder: pathlib.Path) -> None:
     for number in (0, 1):
         until_line(live, f"{number + 1:>3}  {told(number, 3)}")
     hall.until_round()
-    same([board["moves"] for board in boards_of(port)], [[], []])
-    stuck.unlink()
     until(lambda: [len(board["positions"]) for board in boards_of(port)] == [5, 5], "five positions on each board", 0.05)
     moves_shown = [[ply["san"] for ply in board["moves"]] for board in boards_of(port)]
     same(moves_shown, [["e4", "e5", "Nf3", "Nc6"], ["d4", "d5", "c4", "e6"]])
     same(stop(live), 0)
+    stuck.unlink()
 
 
 def on_a_terminal(folder: pathlib.Path) -> None:
@@ -347,17 +363,17 @@ def fetch(port: int, path: str) -> bytes:
         return bytes(answer.read())
 
 
-def boards_of(port: int) -> List[Dict[str, Any]]:
+def boards_of(port: int) -> List[Told]:
     """The boards as the page has them."""
-    boards: List[Dict[str, Any]] = json.loads(fetch(port, "/state.json"))["boards"]
+    boards: List[Told] = json.loads(fetch(port, "/state.json"))["boards"]
     return boards
 
 
 def page(folder: pathlib.Path) -> None:
-    """The page has the round: its boards, their moves and positions, round.pgn, and the state."""
+    """The arbiter's page has the round: its boards, their moves and positions, round.pgn, and the state."""
     hall = Hall(folder, 2, clocks=(0,))
     port = free_port()
-    live = hall.record("--event", "Club", "--page", str(port))
+    live = hall.record("--event", "Club", "--arbiter-page", str(port))
     hall.begun(live)
     hall.play(0, 3)
 
@@ -415,5 +431,5 @@ def help_on_a_screen(folder: pathlib.Path) -> None:
     assert len(lines) < 24 and all(len(line) < 80 for line in lines), (len(lines), max(map(len, lines)))
     for word in ["FOLDER", "round.pgn", "board,device,white,black", "rotated", "fen", "name", "recover", "3 1-0", "--devices"]:
         assert word in shown, word
-    for option in ["--event", "--site", "--date", "--round", "--linger", "--page", "--recover", "--strict"]:
+    for option in ["--event", "--site", "--date", "--round", "--linger", "--page", "--page-host", "--recover", "--strict"]:
         assert option in shown, option

@@ -2,10 +2,11 @@
 
 import pathlib
 
-from live.options import Options
-from live.pairings import Pairing, read_pairings
+from live.descriptors import Room, room
+from live.game.options import Options
+from live.round.pairings import Pairing, read_pairings
 from live.refused import Refused
-from live.table import RowView, head, row, screen
+from live.round.table import RowView, head, row, screen
 from played.stage import same
 
 LINE = "1,/dev/ttyUSB0,Jörg,Ben"
@@ -28,7 +29,9 @@ def separators(_: pathlib.Path) -> None:
     read = read_pairings(b"board,device,recover\n1,a,yes\n2,b,no\n3,c,\n").boards
     same([pairing.words(("--event", "E", "--recover")) for pairing in read],
          [("--event", "E", "--recover", *words) for words in (("--recover",), ("--strict",), ())])  # fmt: skip
-    same([Options(pairing.words(("--recover",))).recover for pairing in read], [True, False, True])
+    same([Options.of_words(pairing.words(("--recover",))).recover for pairing in read], [True, False, True])
+    numbers = read_pairings(b"board,device,serial\n1,a,01234\n2,b,17\n3,c,AB-12\n4,d,\n").boards
+    same([pairing.serial for pairing in numbers], ["01234", "00017", "AB-12", ""])
     same(read_pairings(b"sep=;\nboard;device\n1;d\n").boards, (Pairing(3, 1, "d"),))
     same(read_pairings(b"board,device,elo\n1,d,2000\n").remarks, ("the column 'elo' isn't known, and isn't used",))
     one = read_pairings(b"board,device,white,black\n1,a,Anna,\n2,b,,Ben\n3,c,,\n4,d,A,B\n")
@@ -40,6 +43,13 @@ def separators(_: pathlib.Path) -> None:
 
 def wrong_lines(_: pathlib.Path) -> None:
     """A line that is wrong says why, and stops no other."""
+    for number, why in (
+        ("123456", "serial is '123456': type its 5 characters, as dgt_live --devices lists them"),
+        ("AB12", "serial is 'AB12': type its 5 characters, as dgt_live --devices lists them"),
+        ("17", "00017 is the serial number of board 1: type another"),
+    ):
+        read = read_pairings(f"board,device,serial\n1,a,00017\n2,b,{number}\n".encode())
+        same(([pairing.board for pairing in read.boards], [line.why for line in read.wrong]), ([1], [why]))
     header = "board,device,white,black,rotated,first,name,result,recover"
     for line, board, part in (
         ("x,d", None, "no number of a board"),
@@ -51,6 +61,7 @@ def wrong_lines(_: pathlib.Path) -> None:
         ("3,d,A,B,,,,,maybe", 3, "recover is 'maybe'"),
         ("3,d,A,B,,red", 3, "first is 'red'"),
         ("3,d,A,B,,,../x", 3, "name is '../x'"),
+        ("3,d,A,B,,,round", 3, "name is 'round': the files of the round itself are called so"),
         ("3,d,A,B,,,,2-0", 3, "result is '2-0'"),
         ("3,d,A,B,,,,,,more", 3, "it has 10 fields, and the first line has 9"),
         ('3,d,"A', 3, "a quote isn't closed"),
@@ -63,6 +74,60 @@ def wrong_lines(_: pathlib.Path) -> None:
         same([pairing.board for pairing in read.boards], [1, 4])
         same([(wrong.line, wrong.board) for wrong in read.wrong], [(3, board)])
         assert part in read.wrong[0].why, (line, read.wrong)
+
+
+def tags(_: pathlib.Path) -> None:
+    """Columns with the names of tags, in any order and case. A value that is malformed is named with its line and column, and the
+    board is recorded without it."""
+    read = read_pairings(
+        "blackelo,WhiteTitle,BOARD,device,White,WhiteElo,WhiteFideId,whiteteam,black,TimeControl\n"
+        "1987,gm,3,d,Ünal,2O50,1503014,\"SC \"\"Turm\"\" \\ 2\",王浩,90+30\n"
+        "-,,4,e,A,0,15x,,B,\n".encode()
+    )
+    same((read.wrong, [pairing.board for pairing in read.boards]), ((), [3, 4]))
+    same(read.boards[0].tags, (
+        ("BlackElo", "1987"), ("TimeControl", "5400+30"), ("WhiteFideId", "1503014"), ("WhiteTeam", 'SC "Turm" \\ 2'), ("WhiteTitle", "GM"),
+    ))  # fmt: skip
+    same((read.boards[0].white, read.boards[0].black, read.boards[1].tags), ("Ünal", "王浩", ()))
+    same(read.remarks, (
+        "line 2, column WhiteElo: '2O50' is no rating: type up to four digits, as 2050, or nothing; the board is recorded without it",
+        "line 3, column WhiteFideId: '15x' is no FIDE id: type its digits alone, as 1503014, or nothing; the board is recorded without it",
+    ))  # fmt: skip
+    same(refusal(b"board,device,WhiteElo,whiteelo\n"), "its first line has the column whiteelo twice: take one out")
+
+
+def too_much(_: pathlib.Path) -> None:
+    """A table has 1,000 lines at most, and 256 kB; what is wrong with a long value is told in a short line."""
+    boards = [f"{number},d{number}" for number in range(1, 1000)]
+    full = "\n".join(["board,device", *boards])
+    same(len(read_pairings(full.encode()).boards), 999)
+    same(len(read_pairings((full + "\n,,\n\n").encode()).boards), 999)
+    same(refusal(full.encode() + b"\nx,y\n"), "it has 1001 lines, and may have 1000: take out those that are no board's")
+    same(refusal(b"board,device\n" + b"x,y\n" * 50_000), "it has 50001 lines, and may have 1000: take out those that are no board's")
+    begins = b"board,device\n1,a\n"
+    one = read_pairings(begins + b"\n" * (262_144 - len(begins)))
+    same((len(one.boards), one.wrong), (1, ()))
+    large = refusal(begins + b"\n" * (262_145 - len(begins)))
+    same(large, "it has more than 256 kB, and a table has a line for each board: save it as CSV")
+    long = "x" * 60_000
+    wrong = read_pairings(f"board,device,first,white\n{long},d\n2,d,{long}\n3,d,,{long}\n4,d,,{long[:1000]}\n".encode())
+    same([line.why for line in wrong.wrong], [
+        f"'{long[:40]}..' is no number of a board: type 1 to 999",
+        "first has more than 1000 characters: type it anew",
+        "white has more than 1000 characters: type it anew",
+    ])  # fmt: skip
+    columns = "".join(f",c{number}" for number in range(20_000))
+    remarks = read_pairings(f"board,device{columns}\n".encode()).remarks
+    same((len(remarks), remarks[-1]), (6, "19995 more columns aren't known, and aren't used"))
+
+
+def refusal(content: bytes) -> str:
+    """With what a table is refused."""
+    try:
+        read_pairings(content)
+    except Refused as refused:
+        return refused.lines[0]
+    raise AssertionError(f"not refused: {content[:20]!r}")
 
 
 def no_table(_: pathlib.Path) -> None:
@@ -150,3 +215,19 @@ def what_is_counted(_: pathlib.Path) -> None:
     ):
         assert screen("t", rows_shown, [], 9, 24)[0].endswith("t" + " " * (77 - len(tail)) + " " + tail), screen("t", rows_shown, [], 9, 24)
     same(" ".join(line.strip() for line in row(wrong, 9)).replace("!  9 ", ""), wrong.state)
+
+
+def room_for_readers(_: pathlib.Path) -> None:
+    """Of the descriptors that there may be, others have some and keep as many free, and 64 more; an eighth tells readers
+    that there are too many."""
+    for most, others, readers, turned_away in (
+        (1024, 100, 696, 64),
+        (1024, 448, 0, 64),
+        (1024, 447, 2, 64),
+        (1024, 1000, 0, 3),
+        (1024, 1024, 0, 0),
+        (1024, 1100, 0, 0),
+        (256, 56, 55, 25),
+        (1048576, 600, 1047248, 64),
+    ):
+        same((most, others, room(most, others)), (most, others, Room(readers, turned_away)))

@@ -1,0 +1,137 @@
+/**
+ * A folder to save to: what a user would choose in the browser's window, which a browser without a screen can't show.
+ *
+ * The handle is a real one, of a folder that the test drops on the page, so that the page can keep it in its database. What is
+ * written goes to the test by the binding `tellBoards`: {what: "file", name, bytes in base64}, {what: "move", name, to},
+ * {what: "remove", name}. `folder.permission` is what the page is told and given: "granted", "prompt" or "denied"; `folder.fails`
+ * is the name of the error with which a file can't be written, if it can't.
+ */
+function provideFolder(start) {
+  const tell = (message) => window.tellBoards(JSON.stringify(message));
+  const files = new Map(start.files); // what is there: its name and its text
+  let handle = null;
+  window.folder = { permission: start.permission, fails: "", get has() { return handle?.name ?? ""; } };
+
+  addEventListener("dragover", (event) => event.preventDefault(), { capture: true });
+  addEventListener(
+    "drop",
+    async (event) => {
+      event.preventDefault();
+      event.stopImmediatePropagation();
+      handle = await event.dataTransfer.items[0].getAsFileSystemHandle();
+    },
+    { capture: true },
+  );
+  window.showDirectoryPicker = async () => {
+    if (!handle) {
+      throw new DOMException("The user aborted a request.", "AbortError");
+    }
+    window.folder.permission = "granted"; // the window asks for that too
+    return handle;
+  };
+
+  const base64Of = (bytes) => {
+    const letters = [];
+    for (let at = 0; at < bytes.length; at += 4096) {
+      letters.push(String.fromCharCode(...bytes.subarray(at, at + 4096)));
+    }
+    return btoa(letters.join(""));
+  };
+
+  function check() {
+    if (window.folder.permission !== "granted") {
+      throw new DOMException("The request is not allowed by the user agent or the platform in the current context.", "NotAllowedError");
+    }
+    if (window.folder.fails) {
+      throw new DOMException("The file can't be written.", window.folder.fails);
+    }
+  }
+
+  function put(name, bytes) {
+    files.set(name, bytes);
+    tell({ what: "file", name, bytes: base64Of(bytes) });
+  }
+
+  class Writable {
+    #name;
+    #parts = [];
+
+    constructor(name) {
+      this.#name = name;
+    }
+
+    async write(given) {
+      check();
+      const data = given?.type === "write" ? given.data : given;
+      this.#parts.push(data);
+    }
+
+    async close() {
+      check();
+      put(this.#name, new Uint8Array(await new Blob(this.#parts).arrayBuffer()));
+    }
+
+    async abort() {
+      this.#parts = [];
+    }
+  }
+
+  class FileHandle {
+    kind = "file";
+
+    constructor(name) {
+      this.name = name;
+    }
+
+    async createWritable() {
+      check();
+      return new Writable(this.name);
+    }
+
+    async getFile() {
+      return new File([files.get(this.name)], this.name);
+    }
+
+    async move(to) {
+      check();
+      files.set(to, files.get(this.name));
+      files.delete(this.name);
+      tell({ what: "move", name: this.name, to });
+      this.name = to;
+    }
+  }
+
+  const permission = async () => window.folder.permission;
+  const request = async () => {
+    if (!navigator.userActivation.isActive) {
+      throw new DOMException("User activation is required to request permissions.", "SecurityError");
+    }
+    window.folder.permission = "granted";
+    return "granted";
+  };
+  Object.assign(FileSystemHandle.prototype, { queryPermission: permission, requestPermission: request });
+  Object.assign(FileSystemDirectoryHandle.prototype, {
+    queryPermission: permission,
+    requestPermission: request,
+    async getFileHandle(name, options = {}) {
+      if (!name || name === "." || name === ".." || /[\/\\]/.test(name)) {
+        throw new TypeError("Name is not allowed.");
+      }
+      if (!files.has(name)) {
+        if (!options.create) {
+          throw new DOMException("A requested file or directory could not be found at the time an operation was processed.", "NotFoundError");
+        }
+        check();
+        put(name, new Uint8Array());
+      }
+      return new FileHandle(name);
+    },
+    async removeEntry(name) {
+      check();
+      if (!files.delete(name)) {
+        throw new DOMException("A requested file or directory could not be found at the time an operation was processed.", "NotFoundError");
+      }
+      tell({ what: "remove", name });
+    },
+  });
+}

@@ -1,0 +1,166 @@
+"""A folder that the page saves to: its files are the games at each move, and what can't be written is said."""
+
+import base64
+import json
+import pathlib
+import time
+from typing import Dict, List, Tuple
+
+from browsed.games import QUEENS, QUEENS_SANS, RUY, RUY_SANS, of_record, play, until_agrees
+from browsed.hall import Hall, Port
+from browsed.page import Page
+from browsed.stage import with_chromium
+from paged.devtools import Json
+from played.stage import same
+
+SCRIPT = pathlib.Path(__file__).with_name("folder.js")
+
+
+class Chosen:
+    """The folder: what the page has written into it."""
+
+    def __init__(self, stage: Hall) -> None:
+        self.path = stage.folder / "chosen"
+        self.path.mkdir()
+        self.files: Dict[str, bytes] = {}
+        stage.others = self.told
+
+    def script(self, permission: str = "granted") -> str:
+        return f"{SCRIPT.read_text()}\nprovideFolder({json.dumps({'permission': permission, 'files': []})});"
+
+    def told(self, message: Json) -> None:
+        if message["what"] == "file":
+            self.files[message["name"]] = base64.b64decode(message["bytes"])
+        elif message["what"] == "move":
+            self.files[message["to"]] = self.files.pop(message["name"])
+        else:
+            del self.files[message["name"]]
+
+    def choose(self, stage: Hall, page: Page) -> None:
+        """The folder is dropped for the window that a click opens."""
+        data = {"items": [], "files": [str(self.path)], "dragOperationsMask": 1}
+        for kind in ("dragEnter", "dragOver", "drop"):
+            page.tab.call("Input.dispatchDragEvent", type=kind, x=20, y=20, data=data)
+        stage.until(lambda: page.value("folder.has") == "chosen", "the folder that is dropped")
+        page.click("#folder")
+
+
+def until_text(stage: Hall, chosen: Chosen, name: str, movetext: str) -> None:
+    """The folder's text of a game has these moves."""
+
+    def text() -> str:
+        parts = chosen.files.get(name, b"").decode().split("\n\n")
+        return parts[1].replace("\n", " ") if len(parts) > 1 else ""
+
+    stage.until(lambda: text() == movetext, f"{movetext} in {name}, among {sorted(chosen.files)}")
+
+
+def names_of(chosen: Chosen, suffix: str) -> List[str]:
+    return sorted(name for name in chosen.files if name.endswith(suffix) and name != "round.pgn")
+
+
+@with_chromium
+def folder_chosen(folder: pathlib.Path) -> None:
+    """A folder has the text and the capture of each game at each move, and the round; they are those of the buttons."""
+    with Hall(folder) as stage:
+        chosen = Chosen(stage)
+        page, port = begin_in(stage, chosen)
+        chosen.choose(stage, page)
+        play(stage, page, port, RUY[:2], RUY_SANS[:2])
+        stage.until(lambda: names_of(chosen, ".pgn"), "a text in the folder")
+        name = names_of(chosen, ".pgn")[0]
+        until_text(stage, chosen, name, "1. e4 e5 *")
+        play(stage, page, port, RUY[2:3], RUY_SANS[2:3])
+        until_text(stage, chosen, name, "1. e4 e5 2. Nf3 *")
+        stage.until(lambda: chosen.files.get("round.pgn") == chosen.files[name], "the round with the game")
+        text, capture = stage.saved(page, "#save-game"), stage.saved(page, "#save-capture")
+        same(text, chosen.files[name])
+        same(text, of_record(text, capture))
+        kept = chosen.files[name.replace(".pgn", ".dgt")]
+        same((capture[: len(kept)], of_record(text, kept)), (kept, text))
+        same({name.rpartition(".")[2] for name in chosen.files}, {"pgn", "dgt"})
+
+
+@with_chromium
+def folder_again(folder: pathlib.Path) -> None:
+    """Opened again, the page asks for the folder by one click; what was played meanwhile is written then."""
+    with Hall(folder) as stage:
+        chosen = Chosen(stage)
+        page, port = begin_in(stage, chosen)
+        chosen.choose(stage, page)
+        play(stage, page, port, RUY[:2], RUY_SANS[:2])
+        stage.until(lambda: names_of(chosen, ".pgn"), "a text in the folder")
+        name = names_of(chosen, ".pgn")[0]
+        until_text(stage, chosen, name, "1. e4 e5 *")
+        stage.close(page)
+        page = stage.tab([chosen.script("prompt")])
+        stage.until(lambda: page in port.holders, "the board to be opened by itself")
+        stage.enlarge(page, 1)
+        stage.until_moves(page, RUY_SANS[:2])
+        play(stage, page, port, RUY[2:4], RUY_SANS[2:4])
+        stage.until_part(page, "#notices", "chosen")
+        page.click("#notices button")
+        until_text(stage, chosen, name, "1. e4 e5 2. Nf3 Nc6 *")
+
+
+@with_chromium
+def folder_full(folder: pathlib.Path) -> None:
+    """A folder whose disk is full: the page says so, records on, and writes all when there is room."""
+    with Hall(folder) as stage:
+        chosen = Chosen(stage)
+        page, port = begin_in(stage, chosen)
+        chosen.choose(stage, page)
+        play(stage, page, port, RUY[:2], RUY_SANS[:2])
+        stage.until(lambda: names_of(chosen, ".pgn"), "a text in the folder")
+        name = names_of(chosen, ".pgn")[0]
+        until_text(stage, chosen, name, "1. e4 e5 *")
+        page.value("folder.fails = 'QuotaExceededError'")
+        play(stage, page, port, RUY[2:4], RUY_SANS[2:4])
+        stage.until(lambda: "can't be written" in page_text(page), "a word on the full disk")
+        until_text(stage, chosen, name, "1. e4 e5 *")
+        page.value("folder.fails = ''")
+        until_text(stage, chosen, name, "1. e4 e5 2. Nf3 Nc6 *")
+
+
+def page_text(page: Page) -> str:
+    """What the page says of itself."""
+    return " ".join(page.text(where) for where in ("#line", "#notices", "#alarms", "#state", "#messages"))
+
+
+@with_chromium
+def hostile_names(folder: pathlib.Path) -> None:
+    """Names with scripts, slashes and signs are shown as they are typed, harm nothing, and give files that a disk takes."""
+    script = "<img src=x onerror=\"window.harmed = 1\"><script>window.harmed = 1</script>"
+    with Hall(folder) as stage:
+        chosen = Chosen(stage)
+        page, port = begin_in(stage, chosen)
+        chosen.choose(stage, page)
+        for where in ("#white", "#black", "#event-name", "#site", "#round"):
+            page.type(script, where)
+        page.type("../../a:b*c?<d>|\u202ee\\f", "#name")
+        play(stage, page, port, RUY[:2], RUY_SANS[:2])
+        other = stage.board()
+        page.click("#back")
+        stage.add(page, other)
+        stage.enlarge(page, 2)
+        page.type("../../a:b*c?<d>|\u202ee\\f", "#name")
+        play(stage, page, other, QUEENS[:2], QUEENS_SANS[:2])
+        stage.until(lambda: len(names_of(chosen, ".dgt")) >= 2, "a file for each game")
+        stage.until(lambda: any(b"1. d4 d5" in text for text in chosen.files.values()), "the second game in the folder")
+        stage.until(lambda: any(b"1. e4 e5" in text for text in chosen.files.values()), "the first game in the folder")
+        for name in chosen.files:
+            assert not set(name) & set('\\/:*?"<>|\u202e') and name.isprintable() and not name.startswith("."), name
+        time.sleep(0.2)
+        same((page.value("window.harmed ?? 0"), page.value("document.querySelectorAll('img, script[src]').length")), (0, 0))
+        game = next(text for name, text in chosen.files.items() if b"1. e4 e5" in text and name.endswith(".pgn"))
+        assert b"onerror=\\\"window" in game, game
+        same(page.tab.printed(), [])
+
+
+def begin_in(stage: Hall, chosen: Chosen) -> Tuple[Page, Port]:
+    port = stage.board()
+    page = stage.tab([chosen.script()])
+    stage.add(page, port)
+    stage.enlarge(page, 1)
+    until_agrees(stage, page)
+    return page, port

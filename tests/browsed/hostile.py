@@ -1,0 +1,130 @@
+"""What isn't as it should be: files that are no captures, a browser that lacks something, storage that runs out, and a page
+that somebody would have call home."""
+
+import pathlib
+import random
+
+from browsed import TOP
+from browsed.games import RUY, RUY_SANS, begin, of_record, play, until_agrees
+from browsed.hall import Hall
+from browsed.page import Page
+from browsed.stage import with_chromium
+from played.stage import same
+
+SAMPLES = TOP / "samples"
+LIMIT = 64 * 1024 * 1024  # bytes of a capture
+NO_SERIAL = "delete Navigator.prototype.serial;"
+NO_MEMORY = """
+for (const name of ['compile', 'instantiate', 'compileStreaming', 'validate']) {
+  WebAssembly[name] = () => (name === 'validate' ? false : Promise.reject(new WebAssembly.CompileError('invalid memory limits')));
+}
+"""
+
+CALLS = (  # home, which nobody answers
+    "fetch('http://127.0.0.1:9/').then(() => 'sent', (error) => error.name)",
+    "new Promise((done) => { const sent = new Image(); sent.onerror = () => done('refused'); sent.src = 'http://127.0.0.1:9/'; })",
+    "new Promise((done) => { try { new WebSocket('ws://127.0.0.1:9/').onerror = () => done('refused'); }"
+    " catch { done('refused'); } })",
+)
+
+
+def said(page: Page) -> str:
+    """All that the page says of itself."""
+    return " ".join(page.text(where) for where in ("#line", "#notices", "#messages", "#answer", "#state"))
+
+
+@with_chromium
+def odd_captures(folder: pathlib.Path) -> None:
+    """A sample is shown with its game; random bytes, a text, an empty file and one that is too large are told, and change
+    nothing."""
+    with Hall(folder) as stage:
+        page = stage.tab()
+        stage.until(lambda: page.shows("#add"), "the page")
+        page.click("#sample")
+        stage.until(lambda: len(page.moves) > 3, "the game of the sample")
+        print(f"  the sample: {page.describe()}")
+        contents = {
+            "random.dgt": random.Random(1).randbytes(5000),
+            "text.dgt": (SAMPLES / "short-game.pgn").read_bytes(),
+            "empty.dgt": b"",
+            "<b>bold</b>.dgt": b"\x86\x00\x43",
+        }
+        for name, content in contents.items():
+            (folder / name.replace("/", "")).write_bytes(content)
+            before = said(page)
+            page.give("#open", folder / name.replace("/", ""))
+            stage.until(lambda: said(page) != before, f"a word on {name}")
+            print(f"  {name}: {page.describe()}")
+        with open(folder / "large.dgt", "wb") as large:
+            large.truncate(LIMIT + 1)
+        page.give("#open", folder / "large.dgt")
+        stage.until(lambda: "64" in said(page), "a word on what is too large")
+        page.give("#open", SAMPLES / "long-game.dgt")
+        stage.until(lambda: len(page.moves) > 20, "the game of a sample after all that")
+        same([told for told in page.tab.printed() if "exceptionDetails" in told], [])
+
+
+@with_chromium
+def without_serial(folder: pathlib.Path) -> None:
+    """A browser without Web Serial: the page says which has it, and shows captures."""
+    with Hall(folder) as stage:
+        page = stage.tab([NO_SERIAL])
+        stage.until(lambda: "Chrome" in page.text("body") and "Edge" in page.text("body"), "which browser has it")
+        page.click("#sample")
+        stage.until(lambda: len(page.moves) > 3, "the game of the sample")
+        same([told for told in page.tab.printed() if "exceptionDetails" in told], [])
+
+
+@with_chromium
+def without_memory(folder: pathlib.Path) -> None:
+    """A browser that can't run the program, since it has no 64-bit memory: the page says so at once, and which browser can."""
+    with Hall(folder) as stage:
+        page = stage.tab([NO_MEMORY])
+        stage.until(lambda: "Chrome" in page.text("body") and "Edge" in page.text("body"), "which browser can")
+        print(f"  the page says: {page.text('#notices')} {page.text('#welcome')[:80]}")
+        same([told for told in page.tab.printed() if "exceptionDetails" in told], [])
+
+
+@with_chromium
+def asks_nobody(folder: pathlib.Path) -> None:
+    """The page asks nobody for anything, and its policy refuses what a script would ask for."""
+    with Hall(folder) as stage:
+        page, port = begin(stage)
+        until_agrees(stage, page)
+        play(stage, page, port, RUY[:2], RUY_SANS[:2])
+        own = page.value("location.href.split('#')[0]")
+        asked = [url for url in page.tab.requests() if url.split("#")[0] != own and not url.startswith("blob:")]
+        same(asked, [])
+        for call in CALLS:
+            assert page.value(call) in ("TypeError", "refused"), call
+        violated = [told for told in page.tab.printed() if "Content Security Policy" in str(told)]
+        assert len(violated) >= 3, violated
+        same([url for url in page.tab.requests() if "127.0.0.1" in url and not refused_by_policy(page, url)], [])
+
+
+def refused_by_policy(page: Page, url: str) -> bool:
+    """Whether what was asked for was stopped by the page's own policy before it went out."""
+    asked = {told["params"]["requestId"]: told["params"]["request"]["url"] for told in page.tab.events
+             if told["method"] == "Network.requestWillBeSent"}  # fmt: skip
+    return any(told["params"].get("blockedReason") == "csp" and asked.get(told["params"]["requestId"]) == url
+               for told in page.tab.events if told["method"] == "Network.loadingFailed")  # fmt: skip
+
+
+@with_chromium
+def storage_full(folder: pathlib.Path) -> None:
+    """The browser has no room: the page says so as an alarm, loses nothing, and keeps all when there is room again."""
+    with Hall(folder) as stage:
+        page, port = begin(stage)
+        until_agrees(stage, page)
+        play(stage, page, port, RUY[:2], RUY_SANS[:2])
+        page.tab.call("Storage.overrideQuotaForOrigin", origin="file:///", quotaSize=1)
+        for move in RUY[2:4]:
+            port.board.play(move)
+        stage.until(lambda: any(word in said(page) for word in ("DISK FULL", "NOT WRITTEN", "no room")), "the alarm")
+        print(f"  the page says: {page.describe()}")
+        page.tab.call("Storage.overrideQuotaForOrigin", origin="file:///")
+        stage.until_moves(page, RUY_SANS[:4])
+        stage.until(lambda: "DISK FULL" not in page.text("#state"), "no alarm any more")
+        text, capture = stage.saved(page, "#save-game"), stage.saved(page, "#save-capture")
+        same(text, of_record(text, capture))
+        same(port.delivered[: len(capture)], capture)

@@ -1,0 +1,164 @@
+"""bin/recorder.html in a tab, read and used as its users do."""
+
+from __future__ import annotations
+
+import base64
+import json
+import os
+import pathlib
+from dataclasses import dataclass
+from typing import Any, Dict, List, Protocol, Sequence
+
+from browsed import TOP
+from paged.devtools import Json, Tab
+
+# Another page may be put to the test: RECORDER_PAGE is its path.
+RECORDER = pathlib.Path(os.environ.get("RECORDER_PAGE") or TOP / "bin" / "recorder.html").resolve()
+SERIAL = pathlib.Path(__file__).with_name("serial.js")
+MOVES = "[...document.querySelectorAll('#moves button .san')].map((san) => san.textContent)"
+CENTRE = """
+(() => {{
+  const element = document.querySelector({where});
+  if (!element) return null;
+  const folded = element.closest('details');
+  if (folded) folded.open = true;
+  element.scrollIntoView({{ block: 'center', inline: 'center' }});
+  const {{ left, top, width, height }} = element.getBoundingClientRect();
+  return width && height ? [left + width / 2, top + height / 2] : null;
+}})()
+"""
+FOCUS = """
+(() => {{
+  const field = document.querySelector({where});
+  const folded = field?.closest('details');
+  if (folded) folded.open = true;
+  field?.focus();
+  field?.select?.();
+  return document.activeElement === field;
+}})()
+"""
+
+
+@dataclass(frozen=True)
+class Device:
+    """A port as a page finds it when it is opened."""
+
+    number: int
+    is_granted: bool
+    is_plugged: bool
+
+
+class Hears(Protocol):
+    """Who hears what a page does with its ports."""
+
+    def told(self, page: Page, message: Json) -> None: ...
+
+
+class Page:
+    """A tab. `before` are scripts that are evaluated before those of the page."""
+
+    def __init__(self, tab: Tab, hears: Hears, before: Sequence[str] = ()) -> None:
+        self.tab = tab
+        self._hears = hears
+        self._before = before
+        self._scripts: List[str] = []
+        self._taken = 0
+        self.tab.call("Runtime.addBinding", name="tellBoards")
+        self.tab.call("Inspector.enable")
+
+    def open(self, devices: Sequence[Device], path: pathlib.Path = RECORDER) -> None:
+        """Opens it anew, with these ports."""
+        for identifier in self._scripts:
+            self.tab.call("Page.removeScriptToEvaluateOnNewDocument", identifier=identifier)
+        told = [{"number": one.number, "isGranted": one.is_granted, "isPlugged": one.is_plugged} for one in devices]
+        serial = f"{SERIAL.read_text()}\nprovideSerial({json.dumps(told)});"
+        added = [self.tab.call("Page.addScriptToEvaluateOnNewDocument", source=source) for source in (serial, *self._before)]
+        self._scripts = [one["identifier"] for one in added]
+        self.tab.open(path.as_uri())
+
+    def hear(self) -> None:
+        """Takes what the page has done with its ports."""
+        self.tab.listen()
+        while self._taken < len(self.tab.events):
+            event = self.tab.events[self._taken]
+            self._taken += 1
+            if event["method"] == "Runtime.bindingCalled":
+                self._hears.told(self, json.loads(event["params"]["payload"]))
+
+    @property
+    def downloads(self) -> List[str]:
+        """The files that it has given, whole, by their names on the disk."""
+        self.tab.listen()
+        told = [event["params"] for event in self.tab.events if event["method"] == "Browser.downloadProgress"]
+        return [pathlib.Path(one["filePath"]).name for one in told if one["state"] == "completed"]
+
+    # What is read on it.
+
+    def value(self, expression: str) -> Any:
+        return self.tab.value(expression)
+
+    def text(self, where: str) -> str:
+        """What stands in an element; nothing if it isn't there."""
+        return str(self.value(f"document.querySelector({json.dumps(where)})?.textContent.trim() ?? ''"))
+
+    def field(self, where: str) -> object:
+        """What a field has."""
+        return self.value(f"document.querySelector({json.dumps(where)})?.value")
+
+    def shows(self, where: str) -> bool:
+        """Whether an element is there and can be seen."""
+        return bool(self.value(f"document.querySelector({json.dumps(where)})?.checkVisibility({{ visibilityProperty: true }})"))
+
+    @property
+    def moves(self) -> List[str]:
+        """The moves of the large board."""
+        return list(self.value(MOVES) or [])
+
+    @property
+    def messages(self) -> List[str]:
+        """The newest first."""
+        return list(self.value("[...document.querySelectorAll('#messages li')].map((line) => line.textContent)") or [])
+
+    def describe(self) -> str:
+        """How it stands, for whom a case has failed."""
+        words = {where: self.text(where)[:300] for where in ("#line", "#alarms", "#notices", "#title", "#state", "#answer")}
+        errors = [json.dumps(told)[:900] for told in self.tab.printed()[:2]]
+        return f"{words}, moves {self.moves}, messages {self.messages[:8]}, on the console {errors}"
+
+    # What is done on it.
+
+    def click(self, where: str) -> None:
+        """With the mouse, in the middle of an element."""
+        point = self.value(CENTRE.format(where=json.dumps(where)))
+        assert point, f"{where} can't be clicked: {self.describe()}"
+        at = {"x": point[0], "y": point[1], "button": "left", "clickCount": 1}
+        for kind in ("mousePressed", "mouseReleased"):
+            self.tab.call("Input.dispatchMouseEvent", type=kind, **at)
+
+    def type(self, text: str, where: str = "#typed") -> None:
+        """Types a line into a field, and Enter; what stood there is typed over. A part that is folded up is opened first."""
+        focused = self.value(FOCUS.format(where=json.dumps(where)))
+        assert focused, f"{where} takes no text: {self.describe()}"
+        self.tab.call("Input.insertText", text=text)
+        self.tab.press("Enter")
+
+    def give(self, where: str, path: pathlib.Path) -> None:
+        """Chooses a file for a field that takes one."""
+        found = self.tab.call("Runtime.evaluate", expression=f"document.querySelector({json.dumps(where)})")
+        self.tab.call("DOM.setFileInputFiles", files=[str(path)], objectId=found["result"]["objectId"])
+
+    # The other end of its ports.
+
+    def deliver(self, number: int, sent: bytes) -> None:
+        self.value(f"boards.deliver({number}, '{base64.b64encode(sent).decode()}')")
+
+    def crash(self) -> None:
+        """Its process is gone from one moment to the next."""
+        self.tab.send("Page.crash")
+        self.tab.until_event("Inspector.targetCrashed")
+        self.tab.line.close()
+
+
+def asked(told: Dict[str, Any]) -> bytes:
+    """The bytes that the page has written."""
+    return base64.b64decode(told["bytes"])

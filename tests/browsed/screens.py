@@ -1,0 +1,171 @@
+"""The page on screens of three sizes, light and dark, by keys alone, and as those have it who don't see it."""
+
+import os
+import pathlib
+from typing import Dict, List, Set
+
+from browsed.games import QUEENS, RUY, RUY_SANS, begin, play, until_agrees
+from browsed.hall import Hall
+from browsed.page import Page
+from browsed.stage import with_chromium
+from played.stage import same
+
+PICTURES = os.environ.get("PICTURES")  # a folder that takes pictures of the screens
+SIZES = ((390, 844), (1366, 768), (1920, 1080))
+CONTROLS = {"button", "link", "textbox", "checkbox", "combobox", "spinbutton", "switch", "radio", "slider", "searchbox"}
+# What can be seen and used: the name of each, by its id where it has one.
+FOCUSABLE = """
+[...document.querySelectorAll('a[href], button, input, select, textarea, summary, [tabindex="0"]')]
+  .filter((one) => !one.disabled && one.tabIndex >= 0 && one.checkVisibility({ visibilityProperty: true }))
+  .filter((one) => one.getClientRects().length > 0)
+  .map((one) => one.id || one.getAttribute('href') || one.textContent.trim())
+"""
+FOCUSED = """
+(() => {
+  const one = document.activeElement;
+  return one.id || one.getAttribute('href') || one.textContent.trim();
+})()
+"""
+WIDER = """
+[...document.querySelectorAll('body *')]
+  .filter((one) => one.checkVisibility() && one.getBoundingClientRect().right > document.documentElement.clientWidth + 1)
+  .map((one) => one.id || one.className || one.tagName).slice(0, 8)
+"""
+SMALL = """
+[...document.querySelectorAll('a[href]:not(p a), button, input, select')]
+  .filter((one) => one.checkVisibility({ visibilityProperty: true }) && one.getClientRects().length > 0)
+  .filter((one) => ![one, ...(one.labels ?? [])].some((part) => {
+    const { width, height } = part.getBoundingClientRect();
+    return width >= 20 && height >= 20;
+  }))
+  .map((one) => one.id || one.textContent.trim())
+"""
+
+
+def unnamed(page: Page) -> List[str]:
+    """Controls that a screen reader finds without a name."""
+    nodes = page.tab.call("Accessibility.getFullAXTree")["nodes"]
+    controls = [node for node in nodes if not node.get("ignored") and node.get("role", {}).get("value") in CONTROLS]
+    assert controls, "no control is there"
+    return [str(node["role"]["value"]) for node in controls if not node.get("name", {}).get("value", "").strip()]
+
+
+def walk(page: Page) -> Set[str]:
+    """What Tab comes to, from the top of the page on, until it is there again."""
+    page.value("document.activeElement.blur()")
+    seen: List[str] = []
+    for _ in range(200):
+        page.tab.press("Tab")
+        at = str(page.value(FOCUSED))
+        if seen and at == seen[0]:
+            break
+        seen.append(at)
+    return set(seen)
+
+
+def looked_at(stage: Hall, page: Page, name: str) -> None:
+    """On each screen: nothing is wider than it, each control has a name, is large enough to be hit, and Tab comes to it."""
+    wrong: Dict[str, object] = {}
+    for width, height in SIZES:
+        for dark in (False, True):
+            page.tab.look(width, height, dark)
+            stage.rest(0.1)
+            if PICTURES:
+                page.tab.picture(pathlib.Path(PICTURES) / f"{name}-{width}-{'dark' if dark else 'light'}.png")
+            if page.value("document.documentElement.scrollWidth > innerWidth"):
+                wrong[f"{width} px: wider than the screen"] = page.value(WIDER)
+        if small := page.value(SMALL):
+            wrong[f"{width} px: too small to hit"] = small
+    if lacking := unnamed(page):
+        wrong["without a name"] = lacking
+    if missed := set(page.value(FOCUSABLE)) - walk(page):
+        wrong["Tab doesn't come to"] = sorted(missed)
+    if wrong:
+        print(f"  {name}: {wrong}")
+    same((name, wrong), (name, {}))
+
+
+@with_chromium
+def sizes(folder: pathlib.Path) -> None:
+    """390, 1366 and 1920 pixels wide, light and dark: nothing overflows, and every control has a name and can be reached."""
+    with Hall(folder) as stage:
+        first, second = stage.board(), stage.board()
+        page = stage.tab()
+        stage.until(lambda: page.shows("#add"), "the page")
+        looked_at(stage, page, "empty")
+        page.tab.look(1366, 768)
+        stage.add(page, first)
+        stage.enlarge(page, 1)
+        until_agrees(stage, page)
+        play(stage, page, first, RUY, RUY_SANS)
+        page.type("Anna-Katharina von Hohenstein-Breitenfeld", "#white")
+        page.type("Jörg", "#black")
+        looked_at(stage, page, "board")
+        page.tab.look(1366, 768)
+        page.click("#back")
+        stage.add(page, second)
+        stage.until_part(page, "a.tile[href='#2']", "agrees")
+        for move in QUEENS:
+            second.board.play(move)
+        page.value("location.hash = ''")
+        stage.until_text(page, "a.tile[href='#2'] .last", "3... Nf6")
+        stage.pull(second)
+        stage.until(lambda: "UNPLUGGED" in page.text("a.tile[href='#2']"), "the alarm")
+        looked_at(stage, page, "boards")
+        same(page.tab.printed(), [])
+
+
+def to(page: Page, name: str) -> None:
+    """By Tab to a control."""
+    for _ in range(100):
+        if page.value(FOCUSED) == name:
+            return
+        page.tab.press("Tab")
+    raise AssertionError(f"Tab never comes to {name}")
+
+
+@with_chromium
+def by_keys(folder: pathlib.Path) -> None:
+    """By keys alone: a board is added, its game looked at, a result typed, a name given, and the game saved."""
+    with Hall(folder) as stage:
+        port = stage.board()
+        page = stage.tab()
+        stage.until(lambda: page.shows("#add"), "the page")
+        to(page, "add")
+        page.value(f"boards.choose({port.number})")
+        page.tab.press("Enter")
+        stage.until(lambda: page in port.holders, "the board to be opened")
+        stage.until(lambda: page.shows("a.tile[href='#1']"), "the board")
+        to(page, "#1")
+        page.tab.press("Enter")
+        until_agrees(stage, page)
+        play(stage, page, port, RUY[:4], RUY_SANS[:4])
+        to(page, "typed")
+        page.tab.press(*"1-0", "Enter")
+        stage.until_part(page, "#at", "1\u20130")
+        to(page, "Names and options")
+        page.tab.press("Enter")
+        to(page, "white")
+        page.tab.press(*"Anna", "Tab")
+        stage.until(lambda: "Anna" in page.text("#lower") + page.text("#upper"), "the name beside the board")
+        to(page, "save-game")
+        before = set(stage.downloads.iterdir())
+        page.tab.press("Enter")
+        stage.until(lambda: set(stage.downloads.iterdir()) - before, "the file")
+
+
+@with_chromium
+def shown_again(folder: pathlib.Path) -> None:
+    """A board that was turned, the steps through a game, and a game that follows: what the arbiter's page has."""
+    with Hall(folder) as stage:
+        page, port = begin(stage)
+        until_agrees(stage, page)
+        play(stage, page, port, RUY[:4], RUY_SANS[:4])
+        page.value("document.activeElement.blur()")
+        page.tab.press("ArrowLeft")
+        stage.until_text(page, "#at", "2. Nf3 (1 move back)")
+        port.board.play(RUY[4])
+        stage.until_moves(page, RUY_SANS[:5])
+        same(page.text("#at"), "2. Nf3 (2 moves back)")
+        page.tab.press("End")
+        stage.until_text(page, "#at", "3. Bb5")

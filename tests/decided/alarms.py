@@ -1,0 +1,69 @@
+"""When a board has gone on without its game for too long, when the clock stood, and when moves are made after the end."""
+
+import math
+from typing import Any, List
+
+from live.game.after_the_end import AfterTheEnd
+from live.board.agreement import Agreement
+from live.game.stopped_clock import StoppedClock, runs
+from live.device.protocol import picture_of_placement
+from live.game.report import Event, Move, event_of
+
+from decided.cases import bytes_of, cases
+from decided.table import same
+
+INITIAL = picture_of_placement("rnbqkbnr/pppppppp/8/8/8/8/PPPPPPPP/RNBQKBNR")
+
+
+def agreements() -> None:
+    for name, pictures, expected in cases("alarms", "agreements"):
+        agreement, left = Agreement(), list(pictures)
+        seen: List[List[Any]] = []
+        for now, _ in expected:
+            while left and left[0][0] < now:
+                when, squares = left.pop(0)
+                agreement.differs(when, squares) if squares else agreement.agrees()
+            due = agreement.due()
+            seen.append([now, None if due == math.inf else due])
+        same(name, seen, expected)
+    agreement = Agreement()
+    agreement.agrees()
+    agreement.differs(5, 2)
+    same("at 15 s, and not before", (agreement.is_overdue(19.9), agreement.is_overdue(20)), (False, True))
+
+
+def move_of(words: str) -> Move:
+    """That of a line, of its words behind the offset."""
+    move = event_of(words)
+    assert isinstance(move, Move), words
+    return move
+
+
+def clocks() -> None:
+    for data, running in cases("alarms", "runs"):
+        same(data, runs(bytes_of(data)), running)
+    for name, happenings, expected in cases("alarms", "clocks"):
+        clock = StoppedClock()
+        seen: List[str] = []
+        for now, what in happenings:
+            if what.startswith("time "):
+                clock.time(now, bytes_of(what[len("time ") :]))
+            elif what in ("gone", "ok"):
+                clock.gone() if what == "gone" else clock.acknowledged()
+            else:
+                look = clock.moved(now, move_of(what))
+                seen += [look.text] if look else []
+        same(name, seen, expected)
+
+
+def afterwards() -> None:
+    for name, lines, expected in cases("alarms", "afterwards"):
+        after = AfterTheEnd(INITIAL, "38. Kf2", "1-0")
+        events: List[Event] = [event for event in map(event_of, lines) if event]
+        same(f"{name}: all can be read", len(events), len(lines))
+        looks = [look for look in map(after.take, events) if look]
+        same(name, [look.text for look in looks],
+             [f"LOOK after 38. Kf2: {count} moves were made, and the game is over: 1-0" for count in expected])  # fmt: skip
+
+
+TABLES = [agreements, clocks, afterwards]

@@ -1,0 +1,285 @@
+"""What goes out of a round: what of a game is shown when, what a restart still hides, clocks that run, when a command is run."""
+
+import contextlib
+import pathlib
+import sys
+import tempfile
+import time
+from typing import List, Optional, Tuple
+
+from live.broadcast import kept
+from live.broadcast.going_out import GoingOut, delay_of, read_command, read_delay
+from live.broadcast.history import ALWAYS, NOTHING, History, Shot, due
+from live.broadcast.late import Late
+from live.broadcast.publishing import Plan, last_line, run
+from live.broadcast.running import Clocks, Running, seconds_of, side_between
+from live.broadcast.view import Player, SpectatorBoard
+from live.game.files import Paths
+from live.game.report import Clock
+from live.refused import Refused
+from live.web.view import Ply
+
+from decided.table import refused, same
+
+START, AFTER_E4, AFTER_E5 = "start", "after e4", "after e5"
+QUIET = Shot(positions=(START,), text=b"[White]\n\n*\n\n")
+E4 = Shot("*", (Ply("e4", "1:29:55"),), (START, AFTER_E4), b"[White]\n\n1. e4 *\n\n", Clocks("1:29:55", "1:30:00", "b", 100.0))
+E5 = Shot("*", (Ply("e4", "1:29:55"), Ply("e5")), (START, AFTER_E4, AFTER_E5), b"[White]\n\n1. e4 e5 *\n\n")
+WON = Shot("1-0", E5.moves, E5.positions, b"[White]\n\n1. e4 e5 1-0\n\n")
+
+
+def shown_when() -> None:
+    """Entries that came at these times; at a time, with a delay and so many shown before: how many are shown."""
+    cases: List[Tuple[List[float], float, float, int, int]] = [
+        ([], 1000.0, 900.0, 0, 0),
+        ([100.0], 999.9, 900.0, 0, 0),
+        ([100.0], 1000.0, 900.0, 0, 1),
+        ([100.0, 200.0, 300.0], 1099.0, 900.0, 0, 1),
+        ([100.0, 200.0, 300.0], 1100.0, 900.0, 0, 2),
+        ([100.0, 200.0, 300.0], 9999.0, 900.0, 0, 3),
+        ([ALWAYS, 200.0], 0.0, 900.0, 0, 1),
+        ([100.0, 200.0], 150.0, 0.0, 0, 1),
+        ([100.0, 200.0], 200.0, 0.0, 0, 2),
+        ([100.0, 200.0, 300.0], 400.0, 900.0, 2, 2),  # what was shown stays, with a longer delay too
+        ([100.0, 200.0], 400.0, 900.0, 7, 2),
+        ([500.0, 200.0], 1101.0, 900.0, 0, 0),  # none before one that came before it
+    ]
+    for came, now, delay, before, expected in cases:
+        same(f"{came} at {now}, {delay} late, {before} before", due(came, now, delay, before), expected)
+
+
+def game_goes_by() -> None:
+    """A game with a delay of 15 minutes: what is taken when, what is shown then, and when the next one is."""
+    history = History(900.0)
+    seen: List[Tuple[float, bytes, str, Optional[float]]] = []
+    for now, shot in [(0.0, QUIET), (60.0, E4), (100.0, E5), (959.9, None), (960.0, None), (1000.0, WON), (1899.0, None), (1900.0, None)]:
+        if shot:
+            history.take(now, shot)
+        history.look(now)
+        seen.append((now, history.shot.text.split(b"\n")[2], history.shot.result, history.next_at))
+    same("what is shown", seen, [
+        (0.0, b"*", "*", None),
+        (60.0, b"*", "*", 960.0),
+        (100.0, b"*", "*", 960.0),
+        (959.9, b"*", "*", 960.0),
+        (960.0, b"1. e4 *", "*", 1000.0),
+        (1000.0, b"1. e4 e5 *", "*", 1900.0),
+        (1899.0, b"1. e4 e5 *", "*", 1900.0),
+        (1900.0, b"1. e4 e5 1-0", "1-0", None),
+    ])  # fmt: skip
+    same("nothing is hidden at the end", (history.is_hidden, history.ends_at, len(history.entries)), (False, None, 1))
+    history = History(900.0)
+    history.take(0.0, E4)
+    history.look(0.0)
+    same("a game with moves of which nothing is known is hidden", (history.shot, history.ends_at), (NOTHING, 900.0))
+    history.take(0.0, E4)
+    same("the same shot is no news", len(history.entries), 1)
+    history = History(900.0)
+    for now, shot in ((0.0, Shot()), (1.0, QUIET), (2.0, Shot(positions=(START,), text=QUIET.text, clocks=E4.clocks)), (3.0, E4)):
+        history.take(now, shot)
+        history.look(now)
+    same("a text that comes before the first move is shown, and no clock", (history.shot, history.next_at), (QUIET, 903.0))
+    plain = History(0.0)
+    plain.take(5.0, E4)
+    plain.look(5.0)
+    same("without a delay it is shown at once", plain.shot, E4)
+
+
+def restarts() -> None:
+    """What a process kept before it was killed, read by the next one, at any moment, as far as it was written."""
+    whole = History(900.0)
+    for now, shot in ((0.0, QUIET), (60.0, E4), (100.0, E5), (130.0, WON)):
+        whole.take(now, shot)
+    content = kept.content_of(whole, "this start")
+    again = kept.read(content, "this start", 140.0, 900.0)
+    same("all of it", (again.entries, again.shown), (whole.entries, 0))
+    for now, text in ((140.0, QUIET), (959.0, QUIET), (960.0, E4), (1000.0, E5), (1030.0, WON)):
+        again = kept.read(content, "this start", now, 900.0)
+        again.look(now)
+        same(f"killed, and read at {now}", again.shot, text)
+    again = kept.read(content + kept.shown_line(2), "another start", 5.0, 900.0)
+    again.look(5.0)
+    same("after a start of the computer what was shown stays", again.shot.text, E4.text)
+    same("its clock stands", again.shot.clocks, Clocks("1:29:55", "1:30:00"))
+    same("and the rest came just now", [entry.came for entry in again.entries], [ALWAYS, 5.0, 5.0])
+    again = kept.read(content, "this start", 50.0, 900.0)
+    same("times that are still to come are another clock's", [entry.came for entry in again.entries], [50.0] * 4)
+    sizes = []
+    for size in range(len(content)):
+        cut = kept.read(content[:size], "this start", 2000.0, 900.0)
+        same(f"the first {size} bytes are the first entries", cut.entries, whole.entries[: len(cut.entries)])
+        sizes.append(len(cut.entries))
+    same("one more for each line", sorted(set(sizes)), [0, 1, 2, 3, 4])
+    for damaged in (b"", b"\x00\xff\n", b"{}\n", b"[]\n", b'{"boot":1}\n{"came":"x"}\n', content.replace(b'"moves":[1', b'"moves":["1"')):
+        same(f"what can't be read: {damaged[:20]!r}", len(kept.read(damaged, "this start", 2000.0, 900.0).entries) < 4, True)
+
+
+def on_the_disk() -> None:
+    """A process takes shots, is killed, and the next one shows each at the second at which it would have been shown."""
+    with tempfile.TemporaryDirectory() as folder:
+        paths = Paths(f"{folder}/01")
+        late = Late(paths, 900.0, 0.0)
+        for now, shot in ((0.0, QUIET), (60.0, E4)):
+            late.take(now, shot)
+        same("the first process", (late.shot, late.history.next_at), (QUIET, 960.0))
+        late = Late(paths, 900.0, 500.0)
+        same("the next one", (late.shot, late.history.next_at), (QUIET, 960.0))
+        late.take(520.0, E5)
+        late = Late(paths, 900.0, 1000.0)
+        same("and one more", (late.shot, late.history.next_at), (E4, 1420.0))
+        late.look(1420.0)
+        same("up to the end", (late.shot, late.history.is_hidden), (E5, False))
+        late = Late(paths, 900.0, 1430.0)
+        same("what was shown is shown", late.shot, E5)
+        late = Late(paths, 3600.0, 1430.0)
+        same("with a longer delay too", late.shot, E5)
+        paths.delayed.unlink()
+        late = Late(paths, 900.0, 1500.0)
+        late.take(1500.0, WON)
+        same("without its file all is hidden", (late.shot, late.history.next_at), (NOTHING, 2400.0))
+        late = Late(paths, 0.0, 1600.0)
+        late.take(1600.0, WON)
+        same("without a delay all is shown", (late.shot, paths.delayed.exists()), (WON, False))
+
+
+def kept_delays() -> None:
+    with tempfile.TemporaryDirectory() as folder:
+        paths = Paths(f"{folder}/round")
+        seen = [delay_of(paths, given) for given in (None, 900.0, None, 30.0, None, 0.0, None)]
+        same("a delay stays until another is given", seen, [0.0, 900.0, 900.0, 30.0, 30.0, 0.0, 0.0])
+        paths.delay.write_bytes(b"soon\n")
+        said = refused("a file without a number", Refused, delay_of, paths, None)
+        same("says what to do", said.endswith("give --delay, or remove it"), True)
+        same("a delay that is given takes its place", delay_of(paths, 60.0), 60.0)
+    for text, seconds in (("15", 900.0), ("0", 0.0), ("0.5", 30.0), (".5", 30.0), ("1440", 86400.0)):
+        same(f"--delay {text}", read_delay(text), seconds)
+    for text in ("", "-1", "1e3", "x", "15m", "1441", "nan", "inf", "٣", "0x5", "1 5", "."):
+        refused(f"--delay {text}", Refused, read_delay, text)
+    same("--publish", read_command("curl --config '/home/anna/my file' -T"), ("curl", "--config", "/home/anna/my file", "-T"))
+    for text in ("", "  ", "cp '"):
+        refused(f"--publish {text!r}", Refused, read_command, text)
+    same("nothing is said", GoingOut(), GoingOut(0.0, ()))
+
+
+def clocks_run() -> None:
+    """Readings at these times, and what a browser is told to count from."""
+    for before, now, side in [
+        (("1:30:00", "1:30:00"), ("1:29:59", "1:30:00"), "w"),
+        (("1:30:00", "1:30:00"), ("1:30:00", "1:29:58"), "b"),
+        (("1:29:10", "1:30:00"), ("1:29:40", "1:30:00"), "b"),  # White was given time for his move
+        (("1:29:10", "1:30:00"), ("1:29:40", "1:29:59"), "b"),
+        (("1:29:10", "1:30:00"), ("1:29:10", "1:30:00"), ""),
+        (("1:30:00", "1:30:00"), ("0:05:00", "0:05:00"), ""),  # set anew
+    ]:
+        same(f"{before}, then {now}", side_between(Clock(*before), Clock(*now)), side)
+    same("times", [seconds_of(text) for text in ("1:29:55", "0:00:09", "", "x", "1:-2:03")], [5395, 9, None, None, None])
+    running = Running()
+    told = []
+    for at, white, black, goes_on in [
+        (0.0, "1:30:00", "1:30:00", True),
+        (10.0, "1:30:00", "1:30:00", True),
+        (11.0, "1:29:59", "1:30:00", True),
+        (12.0, "1:29:58", "1:30:00", True),
+        (50.0, "1:29:20", "1:30:00", True),  # as counted
+        (51.0, "1:29:20", "1:29:59", True),  # White has pressed
+        (52.0, "1:29:20", "1:29:58", True),
+        (56.0, "1:29:20", "1:29:58", True),  # the clock was stopped
+        (60.0, "1:29:20", "1:29:57", True),
+        (61.0, "1:29:20", "1:29:57", False),
+    ]:
+        told.append(running.look(at, Clock(white, black), goes_on))
+    same("what is told", told, [
+        Clocks("1:30:00", "1:30:00"),
+        Clocks("1:30:00", "1:30:00"),
+        *[Clocks("1:29:59", "1:30:00", "w", 11.0)] * 3,
+        *[Clocks("1:29:20", "1:29:59", "b", 51.0)] * 2,
+        Clocks("1:29:20", "1:29:58"),
+        Clocks("1:29:20", "1:29:57", "b", 60.0),
+        Clocks("1:29:20", "1:29:57"),
+    ])  # fmt: skip
+    same("no clock", Running().look(5.0, None, True), Clocks())
+
+
+def is_alive(process: int) -> bool:
+    """Whether it is there, and no zombie of somebody else's."""
+    with contextlib.suppress(OSError):
+        return pathlib.Path(f"/proc/{process}/stat").read_text().rpartition(")")[2].split()[0] != "Z"
+    return False
+
+
+def runs_of_a_command() -> None:
+    """The file changes and runs end at these times: when the next run begins."""
+    plan = Plan()
+    same("nothing to do", plan.begins_at, None)
+    plan.changed()
+    same("at once", plan.begins_at is not None and plan.begins_at <= 0.0, True)
+    plan.begun(100.0)
+    plan.changed()
+    same("one at a time", plan.begins_at, None)
+    plan.ended(101.0, True)
+    same("not before five seconds", plan.begins_at, 105.0)
+    plan.begun(105.0)
+    plan.ended(106.0, True)
+    same("no change, no run", plan.begins_at, None)
+    plan.changed()
+    now, waits = 200.0, []
+    for _ in range(7):
+        plan.begun(now)
+        plan.ended(now + 30.0, False)
+        plan.changed()  # which makes no run come sooner
+        assert plan.begins_at is not None
+        waits.append(plan.begins_at - now - 30.0)
+        now = plan.begins_at
+    same("after failures", waits, [5.0, 10.0, 20.0, 40.0, 60.0, 60.0, 60.0])
+    plan.begun(now)
+    plan.ended(now + 1.0, True)
+    same("it went well", (plan.fails, plan.begins_at), (0, None))
+    plan.changed()
+    plan.begun(now + 10.0)
+    plan.ended(now + 11.0, False)
+    same("a first failure again", plan.begins_at, now + 16.0)
+    python = [sys.executable, "-c"]
+    with tempfile.TemporaryDirectory() as folder:
+        path = pathlib.Path(folder) / "broadcast.pgn"
+        for program, said in [
+            ("import sys; print('out'); assert sys.argv[1].endswith('/broadcast.pgn')", ""),
+            ("import sys; print('first\\nlast \\x1b[0m \\n\\n', file=sys.stderr); print('a secret'); sys.exit(3)", "last ?[0m"),
+            ("import sys; sys.exit(3)", "it ended with status 3"),
+            ("import os; os.kill(os.getpid(), 9)", "it was ended by signal 9"),
+            ("import sys; print('warning', file=sys.stderr)", ""),
+            ("import sys; sys.stderr.write('x' * 1000000 + '\\nend'); sys.exit(1)", "end"),
+            ("import os; os.close(2); os._exit(4)", "it ended with status 4"),
+            ("import signal, sys; sys.exit(len(signal.pthread_sigmask(signal.SIG_BLOCK, [])))", ""),
+        ]:
+            same(program, run([*python, program], path, 60.0), said)
+        same("no such program", run(["/nowhere"], path, 60.0), "it can't be started: No such file or directory")
+        number = pathlib.Path(folder) / "number"
+        slow = f"import os, subprocess, time; open({str(number)!r}, 'w').write(str(subprocess.Popen(['sleep', '99']).pid)); time.sleep(99)"
+        same("one that is too slow", run([*python, slow], path, 3.0), "it took more than 3 s, and was ended")
+        ends = time.monotonic() + 60
+        while number.exists() and is_alive(int(number.read_text() or 0)) and time.monotonic() < ends:
+            time.sleep(0.01)
+        same("and what it has started", time.monotonic() < ends, True)
+        stays = "import subprocess, sys; subprocess.Popen([sys.executable, '-c', 'import time; time.sleep(5)'])"
+        same("what it leaves behind isn't waited for", run([*python, stays], path, 60.0), "")
+    same("no line", (last_line(b""), last_line(b"\n \r\n")), ("", ""))
+    same("a progress bar", last_line(b"10 %\r50 %\rconnection lost\r\n"), "connection lost")
+
+
+def for_spectators() -> None:
+    """A board in JSON for the spectators' page: the whole of it, and what is new."""
+    white = Player.of_tags({"WhiteTitle": "GM", "WhiteElo": "2701", "WhiteTeam": "Club"}, "White", "Ünal, Ü")
+    board = SpectatorBoard(3, white, Player.of_tags({}, "Black", "?"), E4, b"", 900.0)
+    same("whole", board.text(5.0, None), (
+        b'{"number":3,"white":"\\u00dcnal, \\u00dc","black":"","titles":["GM",""],"ratings":["2701",""],"teams":["Club",""],'
+        b'"result":"*","clocks":["1:29:55","1:30:00"],"runs":"b","at":1005.0,"pgn":"/03.pgn",'
+        b'"moves":[{"san":"e4","clock":"1:29:55"}],"positions":["start","after e4"]}'
+    ))  # fmt: skip
+    after = SpectatorBoard(3, white, Player(), E5, b"", 900.0).text(5.0, board)
+    same("news", after[after.index(b'"runs"') :], (
+        b'"runs":"","at":null,"pgn":"/03.pgn","moves":[{"san":"e5","clock":""}],"positions":["after e5"],'
+        b'"kept":{"moves":1,"positions":2}}'
+    ))  # fmt: skip
+
+
+TABLES = [shown_when, game_goes_by, restarts, on_the_disk, kept_delays, clocks_run, runs_of_a_command, for_spectators]

@@ -1,0 +1,263 @@
+"""Tables of pairings as programs write them, in five languages, and the pairs that are read of them; reports of tournaments; the
+hall's boards that go with them. The files are written after the programs' pages, by hand."""
+
+from typing import Dict, List, Tuple
+
+from live.refused import Refused
+from live.round.joining import joined, placed
+from live.round.pairings import Pairing, Pairings, Wrong, read_pairings
+from live.round.settings import words_of
+from live.round.trf import Head, head_of, is_report, read_report
+
+from decided.table import refused, same
+
+Seen = Tuple[int, str, str, str, Dict[str, str]]
+
+# What stands above, headings, two pairs, a bye and a last line that is no board's.
+ENGLISH = """\
+From the Tournament-Database of Chess-Results http://chess-results.com;;;;;;;;;;;
+Basel Open 2024;;;;;;;;;;;
+
+Round 3 on 2024/06/01 at 10:00;;;;;;;;;;;
+Bo.;No.;;White;Rtg;Pts.;Result;Pts.;;Black;Rtg;No.
+1;1;GM;Kern, Anna;2512;2;½ - ½;2;IM;Ünal, Ben;2431;4
+2;7;;Roth, Carl;1987;1½;;1½;WFM;Lund, Åse;2102;3
+3;9;;Ott, Dora;0;1;1;;;bye;;
+Program Swiss-Manager;;;;;;;;;;;
+"""
+GERMAN = """\
+Tisch\tTNr\tTitel\tWeiß\tElo\tVerein\tPkt.\tErgebnis\tPkt.\tTitel\tSchwarz\tElo\tVerein\tTNr
+1\t1\tGM\tKern,Anna\t2512\tSC Turm\t2\t1:0\t2\tIM\tÜnal,Ben\t2431\tSK Läufer\t4
+2\t7\t\tRoth,Carl\t1987\t\t1½\t- : -\t1½\tWFM\tLund,Åse\t2102\t\t3
+3\t9\t\tOtt,Dora\t\t\t1\t+ : -\t\t\tspielfrei\t\t\t
+"""
+FRENCH = """\
+"Échiquier","Blancs","Elo","Résultat","Noirs","Elo","Féd. Blancs"
+"1","KERN Anna","2512","","ÜNAL Ben","2431","SUI"
+"2","ROTH Carl","1987","0-1","LUND Åse","2102","SUI"
+"3","OTT Dora","1500","","Exempt","",""
+"""
+SPANISH = """\
+Tablero;Blancas;Elo Blancas;FIDE ID Blancas;Negras;Elo Negras;Res.;Mesa de honor
+1;Kern, Anna;2512;1503014;Ünal, Ben;2431;0,5 - 0,5;
+2;Roth, Carl;19x7;;Lund, Åse;2102;+ - -;
+3;Ott, Dora;1500;;Descansa;;;
+"""
+ITALIAN = """\
+Tav.,Tit,Bianco,Elo,Tit,Nero,Elo,Ris.
+1,GM,"Kern, Anna",2512,IM,"Ünal, Ben",2431,*
+2,,"Roth, Carl",1987,WFM,"Lund, Åse",2102,1-0
+3,,"Ott, Dora",1500,,riposa,,
+"""
+NAMES = """\
+Bo.;No.;Name;Rtg;Pts.;Result;Pts.;Name;Rtg;No.
+1;1;Kern, Anna;2512;2;;2;Ünal, Ben;2431;4
+"""
+FIRST = (1, "Kern, Anna", "Ünal, Ben")
+SECOND = (2, "Roth, Carl", "Lund, Åse")
+RATED = {"WhiteElo": "2512", "BlackElo": "2431"}
+LOWER = {"WhiteElo": "1987", "BlackElo": "2102"}
+TITLED = {**RATED, "WhiteTitle": "GM", "BlackTitle": "IM"}
+BLACK_TITLED = {**LOWER, "BlackTitle": "WFM"}
+TABLES_READ = [
+    ("English", ENGLISH, ("utf-8", "utf-8-sig", "cp1252", "utf-16"), [(*FIRST, "1/2-1/2", TITLED), (*SECOND, "", BLACK_TITLED)], [
+        "lines 1 to 4 stand above the headings, and aren't used",
+        "line 8: board 3: Ott, Dora has no opponent (bye), and no game is recorded",
+        "line 9 has no board's number, and isn't used: 'Program Swiss-Manager'",
+    ]),
+    ("German", GERMAN, ("utf-8", "cp1252", "utf-16", "utf-16-le", "utf-16-be"), [
+        (1, "Kern,Anna", "Ünal,Ben", "1-0", {**TITLED, "WhiteTeam": "SC Turm", "BlackTeam": "SK Läufer"}),
+        (2, "Roth,Carl", "Lund,Åse", "", BLACK_TITLED),
+    ], ["line 4: board 3: Ott,Dora has no opponent (spielfrei), and no game is recorded"]),
+    ("French", FRENCH, ("utf-8-sig", "latin-1", "utf-16"), [
+        (1, "KERN Anna", "ÜNAL Ben", "", {**RATED, "WhiteFed": "SUI"}), (2, "ROTH Carl", "LUND Åse", "0-1", {**LOWER, "WhiteFed": "SUI"}),
+    ], ["line 4: board 3: OTT Dora has no opponent (Exempt), and no game is recorded"]),
+    ("Spanish", SPANISH, ("utf-8", "cp1252"), [(*FIRST, "1/2-1/2", {**RATED, "WhiteFideId": "1503014"})], [
+        "the column 'mesa de honor' isn't known, and isn't used",
+        "line 3: board 2: Roth, Carl - Lund, Åse isn't played (+--), and no game is recorded",
+        "line 4: board 3: Ott, Dora has no opponent (Descansa), and no game is recorded",
+    ]),
+    ("Italian", ITALIAN, ("utf-8", "utf-16"), [(*FIRST, "", TITLED), (*SECOND, "1-0", BLACK_TITLED)], [
+        "line 4: board 3: Ott, Dora has no opponent (riposa), and no game is recorded",
+    ]),
+    ("two names", NAMES, ("utf-8",), [(*FIRST, "", RATED)], []),
+]  # fmt: skip
+
+
+def of(pairing: Pairing) -> Seen:
+    return pairing.board, pairing.white, pairing.black, pairing.result, dict(pairing.tags)
+
+
+def tables_of_programs() -> None:
+    """Headings in five languages, separators, quotes, encodings, lines above and below, results, byes and players who don't come."""
+    for name, text, encodings, pairs, remarks in TABLES_READ:
+        for encoding in encodings:
+            for ends in ("\n", "\r\n"):
+                content = text.replace("\n", ends)
+                content = content.replace("½ - ½", "1/2-1/2") if encoding == "latin-1" else content
+                read = read_pairings(content.encode(encoding))
+                same(f"{name}, {encoding}", ([of(pairing) for pairing in read.boards], list(read.remarks)), (pairs, remarks))
+                same(f"{name}, {encoding}, lines that are wrong", (read.wrong, read.has_devices), ((), False))
+
+
+WRONG_PAIRS = """\
+Board;White;Black;White Elo;Result
+x;Anna;Ben;;
+1;Anna;"Ben;;
+2;Anna;Ben;2O50;2-0
+2;Carl;Dora;;
+3;;;;
+4;Emil;;;
+"""
+
+
+def what_is_not_understood() -> None:
+    """Each value and line that isn't understood is named, with its line and column; a pair that has a board is recorded all the same."""
+    read = read_pairings(WRONG_PAIRS.encode())
+    same("pairs", [of(pairing) for pairing in read.boards], [(2, "Anna", "Ben", "", {})])
+    same("wrong", read.wrong, (
+        Wrong(2, None, "'x' is no number of a board: type 1 to 999"),
+        Wrong(3, 1, "a quote isn't closed, or stands in the midst of a field"),
+        Wrong(5, 2, "board 2 stands in line 4 already: type another"),
+    ))  # fmt: skip
+    same("said", read.remarks, (
+        "line 4, column WhiteElo: '2O50' is no rating: type up to four digits, as 2050, or nothing; the board is recorded without it",
+        "line 4, column result: result is '2-0': type 1-0, 0-1 or 1/2-1/2; it isn't used",
+        "line 6: board 3: nobody has no opponent (nobody), and no game is recorded",
+        "line 7: board 4: Emil has no opponent (nobody), and no game is recorded",
+    ))  # fmt: skip
+
+
+HALL = b"board;device;serial;rotated;recover\n1;/dev/a;;yes;\n2;;00007;;yes\n3;/dev/c;;;\n5;;;;\n"
+
+
+def boards_of_the_hall() -> None:
+    """The pairs of a round get the devices of their boards. A board without a device or without a game is named, and nothing fails."""
+    hall = read_pairings(HALL)
+    pairs = Pairings(tuple(Pairing(number + 1, number, "", f"W{number}", f"B{number}") for number in (1, 2, 4, 5, 6, 7, 8)), (), ("said",), False)
+    read = joined(hall, "boards.csv", pairs, "round3.csv")
+    same("boards", read.boards, (
+        Pairing(2, 1, "/dev/a", "W1", "B1", rotated=True), Pairing(3, 2, "", "W2", "B2", recover=True, serial="00007"),
+    ))  # fmt: skip
+    same("wrong", read.wrong, (Wrong(5, 5, "it names no device: type /dev/ttyUSB0, or what dgt_live --devices lists", "boards.csv"),))
+    same("said", read.remarks, (
+        "round3.csv: said",
+        "boards 4 and 6 to 8 have no device in boards.csv, and aren't recorded",
+        "board 3 has no game in round3.csv",
+    ))  # fmt: skip
+    why = "the board with the number 00007 isn't plugged in, or is switched off: put that right, and type r"
+    absent = placed(read, {})
+    same("a board that isn't plugged in", ([pairing.board for pairing in absent.boards], absent.wrong[1:]), ([1], (Wrong(3, 2, why),)))
+    same("one that is", [pairing.device for pairing in placed(read, {"00007": "/dev/b"}).boards], ["/dev/a", "/dev/b"])
+
+
+def player(number: int, title: str, name: str, rating: str, fed: str, fide_id: str, points: str, *games: str) -> str:
+    """A line of TRF16, by the columns in which each value stands."""
+    line = f"001 {number:>4} m{title:>3} {name:<33} {rating:>4} {fed:>3} {fide_id:>11} 1990/01/01 {points:>4} {number:>4}"
+    return line + "".join(f"  {game}" for game in games)
+
+
+# Round 3. Before it Anna has 2 points, Ben 1.5, Carl 1.5, Dora 1, Emil 1, Finn 0.5, Gerd 0.5, Hans 0 (he hasn't come).
+# Its pairs: Ben - Anna (2 and 1.5), Carl - Dora (1.5 and 1), Finn - Emil (1 and 0.5). Gerd has the bye.
+REPORT = "\n".join([
+    "012 Basel Open", "022 Basel", "032 SUI", "122 90+30", "999 of later", "XXR 5", "what is this",
+    "132" + " " * 88 + "24/05/30  24/05/31  24/06/01",
+    player(1, "GM", "Kern, Anna", "2512", "SUI", "1503014", "2.0", "   8 w 1", "   4 w 1", "   2 b  "),
+    player(2, "IM", "Ünal, Ben", "2431", "TUR", "6300000", "1.5", "   7 w =", "   6 b 1", "   1 w  "),
+    player(3, "", "Roth, Carl", "2300", "SUI", "", "1.5", "   6 w =", "   7 b 1", "   4 w 1"),
+    player(4, "", "Ott, Dora", "2250", "GER", "0", "1.0", "   5 w 1", "   1 b 0", "   3 b 0"),
+    player(5, "", "Roth, Emil", "2200", "SUI", "", "1.0", "   4 b 0", "   8 w 1", "   6 b  "),
+    player(6, "X", "Sand, Finn", "2100", "SUI", "", "0.5", "   3 b =", "   2 w 0", "   5 w  "),
+    player(7, "", "Tau, Gerd", "2000", "SUI", "", "0.5", "   2 b =", "   3 w 0", "0000 - U"),
+    player(8, "", "Uhl, Hans", "1900", "SUI", "", "0.0", "   1 b 0", "   5 b 0"),
+    "013 SC Turm                             1    3",
+])  # fmt: skip
+SWISS, GERMANS = {"WhiteFed": "SUI"}, {"BlackFed": "GER"}
+
+
+def reports() -> None:
+    """A round of a tournament's report: the boards in the order of FIDE's rules, byes, byes of half a point, who isn't there, tags."""
+    content = REPORT.encode()
+    same("a report", (is_report(content), is_report(ENGLISH.encode()), is_report(b"\xef\xbb\xbf" + content)), (True, False, True))
+    read = read_report(content, 3)
+    boards: List[Seen] = [of(pairing) for pairing in read.boards]
+    same("boards", boards, [
+        (1, "Ünal, Ben", "Kern, Anna", "", {
+            "WhiteElo": "2431", "WhiteTitle": "IM", "WhiteFed": "TUR", "WhiteFideId": "6300000",
+            "BlackElo": "2512", "BlackTitle": "GM", "BlackFed": "SUI", "BlackFideId": "1503014", "BlackTeam": "SC Turm",
+        }),
+        (2, "Roth, Carl", "Ott, Dora", "1-0", {"WhiteElo": "2300", **SWISS, "WhiteTeam": "SC Turm", "BlackElo": "2250", **GERMANS}),
+        (3, "Sand, Finn", "Roth, Emil", "", {"WhiteElo": "2100", **SWISS, "BlackElo": "2200", "BlackFed": "SUI"}),
+    ])  # fmt: skip
+    same("said", read.remarks, (
+        "line 7 isn't known, and isn't used: 'what is this'",
+        "line 14, WhiteTitle: 'X' is no title: type one of GM, IM, FM, CM, WGM, WIM, WFM, WCM, or nothing; the board is recorded without it",
+        "no opponent in round 3: Tau, Gerd (the bye), Uhl, Hans (absent)",
+    ))  # fmt: skip
+    same("wrong", read.wrong, ())
+    same("round 1", [pairing.white for pairing in read_report(content, 1).boards], ["Kern, Anna", "Ünal, Ben", "Roth, Carl", "Ott, Dora"])
+    same("round 4", refused("4", Refused, read_report, content, 4), "it has no pairs of round 4: it has rounds 1 to 3")
+    no_number = "it is the report of a tournament: say which round is played, as --round 3"
+    same("no round", refused("none", Refused, read_report, content, None), no_number)
+    same("head", head_of(content, 3), Head("Basel Open", "Basel", "2024.06.01", "5400+30"))
+    same("cp1252", [of(pairing) for pairing in read_report(REPORT.encode("cp1252"), 3).boards], boards)
+    # A program that counts the bytes of a name, and not its letters: Ü has two.
+    by_bytes = REPORT.replace("Ünal, Ben" + " " * 24, "Ünal, Ben" + " " * 23)
+    same("by bytes", [of(pairing) for pairing in read_report(by_bytes.encode(), 3).boards], boards)
+
+
+def pairs_that_differ() -> None:
+    """Two lines that don't have each other, a player twice, a line without a number: each is named, and the other pairs are read."""
+    content = "\n".join([
+        player(1, "", "A", "", "", "", "0.0", "   2 w  "), player(2, "", "B", "", "", "", "0.0", "   1 b  "),
+        player(3, "", "C", "", "", "", "0.0", "   4 w  "), player(4, "", "D", "", "", "", "0.0", "   9 b  "),
+        player(2, "", "B", "", "", "", "0.0", "   1 b  "), "001    x m    E",
+        player(5, "", "F", "", "", "", "0.0", "   6 w +"), player(6, "", "G", "", "", "", "0.0", "   5 b -"),
+    ]).encode()  # fmt: skip
+    read = read_report(content, 1)
+    same("pairs", [(pairing.board, pairing.white) for pairing in read.boards], [(1, "A")])
+    same("wrong", [(line.line, line.why.partition(":")[0]) for line in read.wrong], [
+        (5, "it has the number 2 of line 2"),
+        (6, "it is no player's"),
+        (3, "C has 4 in round 1, and that one has another opponent or colour"),
+        (4, "D has 9 in round 1, and that one has another opponent or colour"),
+    ])  # fmt: skip
+    same("said", read.remarks, ("board 2: F - G isn't played, and no game is recorded",))
+
+
+OPTIONS = ("--event", "--site", "--date", "--round", "--tag", "--linger", "--page", "--delay", "--publish")
+SETTINGS = """\
+# a tournament
+Event = Basel Open: "A"
+place = Basel
+date = 2024.05.30
+date 3 = 2024.06.01
+Date 4 = 2024.06.02
+
+time control = 90+30
+page = 0.0.0.0:8000
+delay = 15
+publish =
+recover = yes
+BlackTeam = =B=
+"""
+NO_SETTINGS = {
+    "dealy = 15": "line 1: there is no setting 'dealy': there are date, delay, event, linger, page, publish, site, recover, and tags as TimeControl",
+    "\ndelay 15": "line 2 is 'delay 15': type NAME = VALUE, as event = Club cup",
+    "round = 3": "line 1: there is no setting 'round': there are date, delay, event, linger, page, publish, site, recover, and tags as TimeControl",
+    "recover = perhaps": "line 1, recover: 'perhaps': type yes or no",
+}
+
+
+def settings() -> None:
+    """What a tournament's settings say for a round, as words of a command line; a line that isn't understood is refused."""
+    same("round 3", words_of(SETTINGS.encode(), 3, OPTIONS), [
+        '--event=Basel Open: "A"', "--site=Basel", "--date=2024.06.01", "--tag=TimeControl=90+30", "--page=0.0.0.0:8000", "--delay=15",
+        "--recover", "--tag=BlackTeam==B=",
+    ])  # fmt: skip
+    same("round 1", words_of(SETTINGS.encode("utf-16"), 1, OPTIONS)[2], "--date=2024.05.30")
+    for text, why in NO_SETTINGS.items():
+        same(text, refused(text, Refused, words_of, text.encode(), 1, OPTIONS), why)
+
+
+TABLES = [tables_of_programs, what_is_not_understood, boards_of_the_hall, reports, pairs_that_differ, settings]

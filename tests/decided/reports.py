@@ -1,0 +1,150 @@
+"""Lines of the program's report: what each is, what they come to, and which of many are enough. And the words of options."""
+
+import dataclasses
+import json
+import random
+from typing import Any, Dict, List, Optional, Sequence
+
+from live.device.protocol import SQUARES, picture_of_placement
+from live.game.course import Course, clocks_of
+from live.game.ending import game_end
+from live.game.options import Options
+from live.game.reading import wanted
+from live.game.report import Line, Move, Recovered, line_of
+from live.refused import Refused
+
+from decided.cases import cases
+from decided.table import refused, same
+
+START = "rnbqkbnr/pppppppp/8/8/8/8/PPPPPPPP/RNBQKBNR"
+NO_KNIGHT = "rnbqkbnr/pppppppp/8/8/8/8/PPPPPPPP/RNBQKB1R"
+FAR = "rnbqkbnr/pppppppp/8/8/8/8/8/RNBQKBNR"
+
+
+def told(line: Optional[Line]) -> Optional[List[Any]]:
+    """A line as JSON has it."""
+    if line is None:
+        return None
+    event = {"kind": type(line.event).__name__.lower(), **dataclasses.asdict(line.event)}
+    return [line.offset, json.loads(json.dumps(event))]
+
+
+def a_line(text: str) -> Line:
+    """A line that is one."""
+    line = line_of(text)
+    assert line, text
+    return line
+
+
+def lines() -> None:
+    for text, line in cases("reports", "lines"):
+        same(text[:60], told(line_of(text)), line)
+    for digit, count, rest in cases("reports", "long lines"):
+        same(f"{count} times {digit}", line_of(digit * count + rest), None)
+    for text, shown in cases("reports", "shown"):
+        same(f"{text} as it is shown", getattr(a_line(text).event, "shown"), shown)
+
+
+def course_of(texts: Sequence[str], seconds: float = 1.0) -> Course:
+    """The course of a game that begins at the start, of lines that come one after the other."""
+    course = Course(picture_of_placement(START))
+    for number, text in enumerate(texts):
+        line = line_of(text)
+        if line:
+            course.take(line, number * seconds)
+    return course
+
+
+def looked_at(course: Course) -> Dict[str, object]:
+    """What cases look at."""
+    return {
+        "moves": [ply.san for ply in course.plies],
+        "positions": course.fens,
+        "result": course.result,
+        "changed at": course.changed_at,
+        "standing": [getattr(event, "words") for event in course.standing()],
+        "news": [event.words for event in course.news if not isinstance(event, Recovered)],
+        "stands at start": course.stands_at_start,
+        "has agreed": course.has_agreed,
+        "stood again": course.stood_again,
+    }
+
+
+def courses() -> None:
+    """Moves, corrections and results, with the positions behind them."""
+    for name, texts, expected in cases("reports", "courses"):
+        seen_so = looked_at(course_of(texts))
+        for what, value in expected.items():
+            same(f"{name}: {what}", seen_so[what], value)
+    for plies, clocks in cases("reports", "clocks"):
+        same(f"the clocks after {len(plies)} plies", list(clocks_of([Move(*ply) for ply in plies])), clocks)
+
+
+def seen(course: Course) -> object:
+    """What the course of a game comes to."""
+    lines = course.lines()
+    return (
+        course.placement, course.result, course.has_agreed, course.stood_again, course.changed_at, course.standing(),
+        lines[-1:], game_end(lines, course.start),
+    )  # fmt: skip
+
+
+def enough() -> None:
+    """Of lines in a row that change no game those are taken that a course asks for: it comes to the same."""
+    chance = random.Random(7)
+    pictures = [START, NO_KNIGHT, FAR]
+    squares = [" ".join(chance.sample(SQUARES, count)) for count in (1, 2, 9)]
+    fewer = 0
+    for trial in range(400):
+        texts, offset = [f"66 picture {START}", "66 agrees", "70 move 1. e4", "75 move 1... Nc6"], 80
+        parts = []
+        for _ in range(chance.randrange(1, 5)):
+            part = []
+            for _ in range(chance.randrange(1, 40)):
+                offset += 5
+                kind = chance.choice(["picture", "differs", "agrees", "clock"])
+                what = {"picture": chance.choice(pictures[: chance.choice((2, 2, 3))]), "differs": chance.choice(squares)}
+                part.append(f"{offset} {kind} {what.get(kind, '1:00 2:00' if kind == 'clock' else '')}".rstrip())
+            if chance.random() < 0.3:
+                part.append(f"{offset} move 2. Nf3")
+            parts.append(part)
+        few = [text for part in parts for text in wanted(part, picture_of_placement(START))]
+        fewer += sum(map(len, parts)) - len(few)
+        all_of = course_at([*texts, *(text for part in parts for text in part)])
+        same(f"trial {trial}", seen(course_at([*texts, *few])), seen(all_of))
+    same("they are fewer", fewer > 4000, True)
+
+
+def course_at(texts: Sequence[str]) -> Course:
+    """As lines of which each comes at the time of its byte."""
+    course = Course(picture_of_placement(START))
+    for text in texts:
+        line = a_line(text)
+        course.take(line, line.offset / 50)
+    return course
+
+
+WORDS = {
+    (): (),
+    ("--rotated",): ("--rotated",),
+    ("--white=Anna", "--first", "black"): ("--first", "black", "--white", "Anna"),
+    ("--fen", "", "--recover"): ("--recover", "--fen", ""),
+    ("--white", "--rotated"): ("--white", "--rotated"),
+    ("--event=a=b",): ("--event", "a=b"),
+    ("--recover", "--strict"): ("--strict",),
+}
+NO_WORDS = [("--rotated", "--rotated"), ("--white", "A", "--white=B"), ("--what",), ("Anna",), ("--white",), ("--rotated=yes",)]
+
+
+def options() -> None:
+    """Words that are read are written so, and are read again."""
+    for words, written in WORDS.items():
+        read = Options.of_words(words)
+        same(f"{words}", read.words(), written)
+        same(f"{words}, again", (Options.of_words(read.words()), Options.of_text(read.text())), (read, read))
+    for words in NO_WORDS:
+        refused(f"{words}", Refused, Options.of_words, words)
+    refused("a NUL", Refused, Options.of_text, "--white\nAn\0na\n")
+
+
+TABLES = [lines, courses, enough, options]

@@ -1,0 +1,68 @@
+/** When a board has gone on without its game, when the clock stood, and when moves are made after the end. */
+import { Agreement } from "/web/board/agreement.js";
+import { pictureOfPlacement } from "/web/device/protocol.js";
+import { AfterTheEnd } from "/web/game/after_the_end.js";
+import { textOfLook } from "/web/game/looks.js";
+import { eventOf } from "/web/game/report.js";
+import { StoppedClock, runs as runsBy } from "/web/game/stopped_clock.js";
+import { bytesOf } from "./table.mjs";
+
+const INITIAL = pictureOfPlacement("rnbqkbnr/pppppppp/8/8/8/8/PPPPPPPP/RNBQKBNR");
+const TIME = "time ";
+
+export function agreements(counts, cases) {
+  for (const [name, pictures, expected] of cases("agreements")) {
+    const agreement = new Agreement();
+    const left = [...pictures];
+    const seen = expected.map(([now]) => {
+      while (left.length && left[0][0] < now) {
+        const [when, squares] = left.shift();
+        if (squares) {
+          agreement.differs(when, squares);
+        } else {
+          agreement.agrees();
+        }
+      }
+      return [now, agreement.due()];
+    });
+    counts.same(name, seen, expected);
+  }
+  const agreement = new Agreement();
+  agreement.agrees();
+  agreement.differs(5, 2);
+  counts.same("at 15 s, and not before", [agreement.isOverdue(19.9), agreement.isOverdue(20)], [false, true]);
+}
+
+export function clocks(counts, cases) {
+  for (const [data, running] of cases("runs")) {
+    counts.same(data, runsBy(bytesOf(data)), running);
+  }
+  for (const [name, happenings, expected] of cases("clocks")) {
+    const clock = new StoppedClock();
+    const seen = [];
+    for (const [now, what] of happenings) {
+      if (what.startsWith(TIME)) {
+        clock.time(now, bytesOf(what.slice(TIME.length)));
+      } else if (what === "gone") {
+        clock.gone();
+      } else if (what === "ok") {
+        clock.acknowledged();
+      } else {
+        const look = clock.moved(now, eventOf(what));
+        seen.push(...(look ? [textOfLook(look)] : []));
+      }
+    }
+    counts.same(name, seen, expected);
+  }
+}
+
+export function afterwards(counts, cases) {
+  for (const [name, lines, expected] of cases("afterwards")) {
+    const after = new AfterTheEnd(INITIAL, "38. Kf2", "1-0");
+    const events = lines.map(eventOf).filter(Boolean);
+    counts.same(`${name}: all can be read`, events.length, lines.length);
+    const seen = events.map((event) => after.take(event)).filter(Boolean).map(textOfLook);
+    const told = (count) => `LOOK after 38. Kf2: ${count} moves were made, and the game is over: 1-0`;
+    counts.same(name, seen, expected.map(told));
+  }
+}

@@ -1,0 +1,51 @@
+/** Which news of a game somebody is to look at. */
+import { Doubts, isLate } from "/web/game/doubts.js";
+import { eventOf } from "/web/game/report.js";
+
+const AFTER_GAP = "it is the first news after a time in which the board wasn't heard: moves may be missing";
+
+export function told(counts, cases) {
+  for (const [name, lines, expected] of cases("told")) {
+    const taken = new Doubts();
+    const seen = [];
+    for (const line of lines) {
+      const at = line.indexOf(" ");
+      const [when, words] = [line.slice(0, at), line.slice(at + 1)];
+      if (when === "away" || when === "restart") {
+        taken.away(Number(words), when === "restart");
+        continue;
+      }
+      const look = words === "stands" ? taken.stands(Number(when)) : taken.take(Number(when), eventOf(words));
+      seen.push(...(look ? [[look.what, look.why]] : []));
+    }
+    counts.same(name, seen, expected);
+  }
+}
+
+/** A gap hides a move if it is as long as a ply: the median of the last eight. */
+export function paces(counts) {
+  const position = eventOf("position k7/8/8/8/8/8/8/K7 w - - 0 1");
+  for (const [gap, expected] of [[9.9, []], [10, [["at 6... Kb8", AFTER_GAP]]]]) {
+    const taken = new Doubts();
+    const seen = [];
+    taken.take(0, position);
+    let now = 0;
+    for (let ply = 0; ply < 12; ply += 1) {
+      now += ply < 3 ? 3 : ply < 6 ? 90 : 10; // of the last eight three took 90 s, and five 10 s
+      if (ply === 11) {
+        taken.away(gap);
+      }
+      const number = `${1 + Math.floor(ply / 2)}${ply % 2 ? "..." : "."}`;
+      const look = taken.take(now, eventOf(`move ${number} Kb${ply % 2 ? 8 : 1}`));
+      taken.take(now, position);
+      seen.push(...(look ? [[look.what, look.why]] : []));
+    }
+    counts.same(`a gap of ${gap} s at 10 s a ply`, seen, expected);
+  }
+}
+
+export function limits(counts, cases) {
+  for (const [seconds, expected] of cases("late")) {
+    counts.same(`a correction after ${seconds} s is late`, isLate(seconds), expected);
+  }
+}

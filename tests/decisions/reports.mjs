@@ -1,0 +1,57 @@
+/** Lines of the program's report: what each is, and what they come to. */
+import { pictureOfPlacement } from "/web/device/protocol.js";
+import { Course, clocksOf } from "/web/game/course.js";
+import { lineOf, shownOf, wordsOf } from "/web/game/report.js";
+
+const START = pictureOfPlacement("rnbqkbnr/pppppppp/8/8/8/8/PPPPPPPP/RNBQKBNR");
+
+export function lines(counts, cases) {
+  for (const [text, expected] of cases("lines")) {
+    const line = lineOf(text);
+    counts.same(text, line && [line.offset, line.event], expected);
+  }
+  for (const [digit, count, rest] of cases("long lines")) {
+    counts.same(`${count} times ${digit}`, lineOf(digit.repeat(count) + rest), null);
+  }
+  for (const [text, shown] of cases("shown")) {
+    counts.same(`${text} as it is shown`, shownOf(lineOf(text).event), shown);
+  }
+}
+
+function courseOf(texts) {
+  const course = new Course(START);
+  texts.forEach((text, at) => {
+    const line = lineOf(text);
+    if (line) {
+      course.take(line, at);
+    }
+  });
+  return course;
+}
+
+function lookedAt(course) {
+  return {
+    moves: course.plies.map((ply) => ply.san),
+    positions: course.fens,
+    result: course.result,
+    "changed at": course.changedAt,
+    standing: course.standing().map(wordsOf),
+    news: course.news.filter((event) => event.kind !== "recovered").map(wordsOf),
+    "stands at start": course.standsAtStart,
+    "has agreed": course.hasAgreed,
+    "stood again": course.stoodAgain,
+  };
+}
+
+export function courses(counts, cases) {
+  for (const [name, texts, expected] of cases("courses")) {
+    const seen = lookedAt(courseOf(texts));
+    for (const [what, value] of Object.entries(expected)) {
+      counts.same(`${name}: ${what}`, seen[what], value);
+    }
+  }
+  for (const [plies, clocks] of cases("clocks")) {
+    const moves = plies.map(([number, san, clock]) => ({ kind: "move", number, san, clock, corrects: false }));
+    counts.same(`the clocks after ${plies.length} plies`, clocksOf(moves), clocks);
+  }
+}

@@ -1,0 +1,204 @@
+"""The spectators' page: what it is served, and the page itself in a browser."""
+
+import re
+import time
+from typing import List
+
+from decided.table import same
+
+from paged.browsers import NAME, Page, skipped
+from paged.devtools import Shared
+from paged.web import Events, Site, a_board
+
+from live.web.page import FOLDER, SPECTATORS
+
+TABS = 12
+TIMES = 20  # that a reader goes back and forward
+BOARDS = 24
+READERS = 200
+WORDS = (b"alarm", b"WRONG", b"UNPLUGGED", b"NOT RECORDED", b"NOT PUBLISHED", b"/dev", b"the recorder's", b"Look at board")
+FONT = "parseFloat(getComputedStyle(document.querySelector({!r})).fontSize)"
+
+
+def a_spectators_board(number: int, plies: int, **more: object) -> "dict[str, object]":
+    """That game, with titles, ratings and a clock that runs where they are given."""
+    own = {name: more.pop(name) for name in ("titles", "ratings", "runs", "ago") if name in more}
+    return {**a_board(number, plies, **more), **own}  # type: ignore[arg-type]  # what a_board takes by name
+
+
+def opened(site: Site, width: int = 1366, height: int = 768) -> Page:
+    page = Page(Shared.tab())
+    page.tab.look(width, height)
+    page.tab.open(site.url)
+    page.reads("the page is there", "#line", "Live")
+    return page
+
+
+def closed(site: Site, *pages: Page) -> None:
+    """Nothing went wrong on them, and they asked nobody else for anything."""
+    for page in pages:
+        same("no error of the page", [told for told in page.tab.printed() if "exceptionDetails" in told], [])
+        same("asked of this machine alone", [url for url in page.tab.requests() if not url.startswith(site.url)], [])
+        page.tab.close()
+
+
+def nothing_of_the_recorder() -> None:
+    """No file that spectators are served has a word of alarms, and none of the arbiter's page is served."""
+    for name in (SPECTATORS.index, *SPECTATORS.files):
+        content = (FOLDER / name).read_bytes()
+        same(f"{name} has no such word", [word for word in WORDS if word in content], [])
+    with Site(spectators=1) as site:
+        site.show(a_spectators_board(1, 2, titles=["GM", ""], ratings=["2701", "1804"]))
+        text = site.until("/state.json", lambda content: b"GM" in content)
+        same("what is told of a board", [word for word in (*WORDS, b"state", b"since", b"differing", b"kind") if word in text], [])
+        for path in ("/tile.js", "/large.js", "/page.js", "/arbiter.css", "/index.html", "/spectators.html"):
+            same(f"no {path}", site.get(path)[0], 404)
+        for path in ("/", "/spectators.js", "/game.js", "/card.js", "/round.pgn", "/01.pgn"):
+            same(path, site.get(path)[0], 200)
+
+
+def watched() -> None:
+    """Players, clocks that run, moves, what is late, results; by keys and by name."""
+    if skipped("watched"):
+        return
+    with Site(spectators=1) as site:
+        site.said = {"round": "3"}
+        first = a_spectators_board(1, 3, white=NAME, titles=["WGM", ""], ratings=["2441", ""], runs="b", ago=20,
+                                   clocks=["1:29:41", "1:29:48"])  # fmt: skip
+        site.show(first, a_spectators_board(2, 2), a_spectators_board(4, 7, result="1/2-1/2", runs="w", ago=50), event="Äpfel")
+        page = opened(site)
+        tile = ".tile[href='#1'] "
+        page.reads("event and round", "h1", "Äpfel, round 3")
+        page.says("in the title too", "document.title", "Äpfel, round 3")
+        page.reads("title, name, rating", tile + ".player.w", f"WGM {NAME} 2441")
+        page.says("a name with markup is no markup", "document.querySelectorAll('img, b, script:not([src])').length", 0)
+        page.reads("without them", ".tile[href='#2'] .player.w", "White 2")
+        page.reads("White's clock stands", tile + ".seat .w + .clock", "1:29:41")
+        runs = f"{page.text(tile + '.seat .b + .clock')} <= '1:29:26' && {page.text(tile + '.seat .b + .clock')} > '1:27:00'"
+        page.says("Black's runs, for twenty seconds already", runs, True)
+        page.tab.press("ArrowRight", "Enter")
+        page.reads("it is large", "#title", "Board 1")
+        page.says("its address", "location.hash", "#1")
+        page.says("its clock runs", f"{page.text('#upper .clock')} < '1:29:27'", True)
+        page.says("its name for a reader of the screen", "document.getElementById('large').getAttribute('aria-labelledby')", "title")
+        page.reads("the player", "#lower .player", f"White: WGM {NAME} 2441")
+        page.says("each button has a name", "[...document.querySelectorAll('#large button:not([data-ply])')]"
+                  ".every((one) => (one.getAttribute('aria-label') || one.textContent).trim())", True)  # fmt: skip
+        page.tab.press("ArrowLeft")
+        page.reads("one back", "#at", "1... e5 (1 move back)")
+        page.reads("that isn't live", "#line", "Looking back")
+        page.says("nor marked so", "document.body.classList.contains('live')", False)
+        page.reads("the clock of then", "#upper .clock", "1:29:48")
+        page.tab.press("End")
+        page.reads("it follows the game again", "#line", "Live")
+        page.says("the board before", "document.getElementById('board-before').hidden", True)
+        page.reads("the next board", "#board-after", "Board 2 →")
+        page.tab.press("n", "n")
+        page.reads("two boards on", "#title", "Board 4")
+        page.reads("its result", "#at", "4. O-O   ½–½")
+        page.reads("its clock stands", "#lower .clock", "1:29:02")
+        page.says("there is none behind it", "document.getElementById('board-after').hidden", True)
+        page.says("its game", "document.getElementById('own').getAttribute('href')", "/04.pgn")
+        page.tab.press("p")
+        page.reads("one board back", "#title", "Board 2")
+        page.tab.press("Escape")
+        page.says("all boards", "location.hash", "")
+        page.tab.value("document.getElementById('to-results').click()")
+        rows = "[...document.querySelectorAll('#result-rows tr')].map((row) => [...row.cells].map((cell) => cell.textContent).join(' '))"
+        page.says("the results", f"{rows}.join('; ')",
+                  f"1 WGM {NAME} 2441 playing Black 1; 2 White 2 playing Black 2; 4 White 4 ½–½ Black 4")  # fmt: skip
+        page.says("they have the focus", "document.activeElement.id", "results")
+        site.show(a_spectators_board(2, 2, result="0-1"))
+        page.reads("a new one", "#result-rows tr:nth-child(2) .result", "0–1")
+        page.says("is read out", "document.getElementById('said').textContent", "Board 2: result 0–1")
+        page.tab.press("Escape")
+        page.says("all boards again", "document.getElementById('boards').hidden", False)
+        site.said = {"round": "3", "late": "15 minutes"}
+        site.show()
+        page.reads("how late it is", "#line", "15 minutes late")
+        closed(site, page)
+
+
+def sizes() -> None:
+    """On a laptop all boards are in sight, and no text is too small; nowhere does anything stand to the side."""
+    if skipped("sizes"):
+        return
+    with Site(spectators=1) as site:
+        site.show(*[a_spectators_board(number, 4, titles=["GM", "IM"], ratings=["2700", "2500"]) for number in range(1, BOARDS + 1)])
+        page = opened(site)
+        page.says("all boards", "document.querySelectorAll('.tile').length", BOARDS)
+        page.says("in sight", "document.getElementById('boards').getBoundingClientRect().bottom <= innerHeight + 1", True)
+        small = [where for where in (".tile .player", ".tile .clock", ".tile .last", "#line", "#pgn", "#to-results")
+                 if float(str(page.tab.value(FONT.format(where)))) < 13]  # fmt: skip
+        same("no small text at 1366 x 768", small, [])
+        for hash_of, where in (("#3", ["#upper", "#at", "#moves .san", "#moves .time", "#keys", "#back"]), ("#results", ["#results td"])):
+            page.tab.value(f"location.hash = '{hash_of}'")
+            page.says(f"{hash_of} is there", f"document.querySelector({where[0]!r}).offsetHeight > 0", True)
+            small = [one for one in where if float(str(page.tab.value(FONT.format(one)))) < 12.5]
+            same(f"no small text at {hash_of}", small, [])
+            for width, height in ((1366, 768), (400, 860), (860, 400), (1920, 1080), (320, 600)):
+                page.tab.look(width, height)
+                page.says(f"{hash_of}, {width} px: nothing to the side", "document.documentElement.scrollWidth <= innerWidth", True)
+            page.tab.look(1366, 768)
+        closed(site, page)
+
+
+def back_and_forward() -> None:
+    """Board after board, and back and forward twenty times: the page follows, with one stream and nothing lost."""
+    if skipped("back_and_forward"):
+        return
+    with Site(spectators=1) as site:
+        site.show(*[a_spectators_board(number, 2) for number in range(1, 5)])
+        page = opened(site)
+        for number in range(1, 5):
+            page.tab.value(f"location.hash = '#{number}'")
+            page.reads(f"board {number}", "#title", f"Board {number}")
+        for time_round in range(TIMES):
+            page.tab.value("history.back()")
+            page.reads(f"back, time {time_round + 1}", "#title", "Board 3")
+            page.tab.value("history.forward()")
+            page.reads(f"forward, time {time_round + 1}", "#title", "Board 4")
+        site.show(a_spectators_board(4, 3))
+        page.reads("the next move", "#at", "2. Nf3")
+        closed(site, page)
+
+
+def twelve_tabs() -> None:
+    """Twelve tabs of a browser have the boards, and all have the next move."""
+    if skipped("twelve_tabs"):
+        return
+    with Site(spectators=1, IDLE=0.2) as site:
+        site.show(a_spectators_board(1, 2), a_spectators_board(2, 2))
+        pages: List[Page] = []
+        for number in range(TABS):
+            page = Page(Shared.tab())
+            page.tab.open(f"{site.url}?{number}#{number % 2 + 1}")
+            page.reads(f"tab {number + 1}", "#title", f"Board {number % 2 + 1}")
+            pages.append(page)
+        site.show(a_spectators_board(1, 3), a_spectators_board(2, 4))
+        for number, page in enumerate(pages):
+            page.reads(f"a move, in tab {number + 1}", "#at", "2. Nf3" if number % 2 == 0 else "2... Nc6")
+        closed(site, *pages)
+
+
+def crowd() -> None:
+    """200 spectators have each change, whole."""
+    with Site(spectators=1) as site:
+        site.show(*[a_spectators_board(number, 2) for number in range(1, 9)])
+        site.until("/state.json", lambda content: content.count(b'"e4"') == 8)
+        readers = [Events(site) for _ in range(READERS)]
+        for reader in readers:
+            reader.until(lambda: len(reader.boards) == 8)
+        for plies in range(3, 8):
+            site.show(a_spectators_board(plies, plies, runs="w"))
+            time.sleep(0.12)
+        for reader in readers:
+            reader.until(lambda: len(reader.boards[7]["moves"]) == 7)
+        same("all have all", {len(reader.boards[number]["moves"]) for reader in readers for number in range(3, 8)}, {3, 4, 5, 6, 7})
+        raw = re.findall(rb'"runs":"w","at":[0-9.]+', site.get("/state.json")[2])
+        same("and whose clock runs", len(raw), 5)
+        for reader in readers:
+            reader.close()
+
+
+TABLES = [nothing_of_the_recorder, watched, sizes, back_and_forward, twelve_tabs, crowd]

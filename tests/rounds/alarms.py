@@ -1,0 +1,138 @@
+"""Records of a round that somebody is to look at: in the row, on the page and in the files, until he has."""
+
+import pathlib
+
+from played import words
+from played.recorder import Live
+from played.stage import bytes_of, rest, same, stop, until, until_line
+from rounds.hall import Hall
+from rounds.rounds import boards_of, free_port
+
+LOOK = "LOOK at 1... e6"
+
+
+def says(live: Live, number: int, answer: str) -> None:
+    """What is answered to a board's number comes to begin so."""
+    seen = len(live.lines())
+
+    def asked() -> bool:
+        live.type(str(number))
+        return f"{number}: {answer}" in live.lines()[seen:]
+
+    until(asked, f"{number}: {answer}", 0.3)
+
+
+def looked_at(folder: pathlib.Path) -> None:
+    """The cable of a board is out while its last move is corrected. The board's row and the page say LOOK while the game goes
+    on, after a restart and when the game is over, until somebody types ok; the other board has none."""
+    hall = Hall(folder, 2)
+    port = free_port()
+    live = hall.record("--arbiter-page", str(port), typed=True)
+    hall.begun(live)
+    for board in hall.boards:
+        board.play("e2e4")
+        board.play("e7e5")
+    for number in (1, 2):
+        hall.until_text(number, "1. e4 e5 *")
+    hall.boards[0].pull()
+    until_line(live, f"  1  {words.UNPLUGGED}")
+    hall.boards[0].play("e5e6")
+    hall.boards[0].plug()
+    until_line(live, f"  1  {LOOK}; agrees")
+    until_line(live, "Look at it, and type 1 ok")
+    says(live, 1, f"{LOOK}; agrees; {LOOK}: it is the first news")
+    until(lambda: [board["alarm"] for board in boards_of(port)] == [True, False], "an alarm on the page", 0.05)
+    assert LOOK in str(boards_of(port)[0]), boards_of(port)[0]
+    assert f"{LOOK}: " in bytes_of(hall.name(1) + ".log").decode()
+    same(stop(live), 0)
+    again = hall.record("--arbiter-page", str(port), typed=True)
+    until_line(again, f"  1  {LOOK}; agrees")
+    again.type("1 1-0")
+    hall.until_text(1, "1. e4 e6 1-0")
+    says(again, 1, f"{LOOK}; over 1-0; {LOOK}: ")
+    until(lambda: [board["alarm"] for board in boards_of(port)] == [True, False], "an alarm on the page", 0.05)
+    again.type("1 ok")
+    until_line(again, f"1: acknowledged: {LOOK}")
+    says(again, 1, "over 1-0; ")
+    until(lambda: [board["alarm"] for board in boards_of(port)] == [False, False], "no alarm on the page", 0.05)
+    same(bytes_of(hall.name(1) + ".look"), b"")
+    same(stop(again), 0)
+
+
+def result_of_another_board(folder: pathlib.Path) -> None:
+    """A result is typed for the wrong board: it is said that moves are made there, and the game goes on with them. The pieces
+    of another board, whose game is over, are set up: nothing is said, and its device is free then."""
+    hall = Hall(folder, 2)
+    live = hall.record(typed=True)
+    hall.begun(live)
+    hall.play(0, 2)
+    live.type("1 1-0")
+    hall.until_over(live, 1, "1-0")
+    rest(1.5)  # until the next dump
+    for move in ("g1f3", "b8c6"):
+        hall.boards[0].play(move)
+        rest(0.3)
+    until_line(live, "  1  LOOK after 1... e5: 2 moves were made, and the game is over: 1-0. Look at it, and type 1 ok")
+    says(live, 1, "LOOK after 1... e5; over 1-0; ")
+    same(hall.text(1), "1. e4 e5 1-0")
+    live.type("1 *")
+    hall.until_text(1, "1. e4 e5 2. Nf3 Nc6 *")
+    until_line(live, "1: ")
+    live.type("1 ok")
+    says(live, 1, "agrees; ")
+    hall.boards[0].play("f1b5")
+    hall.until_text(1, "1. e4 e5 2. Nf3 Nc6 3. Bb5 *")
+    live.type("2 *")
+    until_line(live, "2 refused: *: the game has no result")
+    live.type("2 0-1")
+    hall.until_over(live, 2, "0-1")
+    rest(1.5)
+    for _ in hall.boards[1].homecoming():
+        rest(0.05)
+    rest(1)
+    other = Live(hall.boards[1].device, folder / "other")
+    until_line(other, words.AGREES)
+    says(live, 2, "over 0-1; ")
+    same(stop(other), 0)
+    live.type("2 *")
+    hall.until_text(2, "1. d4 d5 *")
+    same(stop(live), 0)
+
+
+def wrong_records(folder: pathlib.Path) -> None:
+    """Moves that were typed for another board are taken off; a game that was over by a typed result is put right, and goes on
+    to its end."""
+    hall = Hall(folder, 3)
+    live = hall.record(typed=True)
+    hall.begun(live)
+    hall.play(0, 2)
+    live.type("1 Nf3 Nc6 Bc4")
+    hall.until_text(1, "1. e4 e5 2. Nf3 Nc6 3. Bc4 *")
+    rest(1.5)  # until the next dump
+    live.type("1 help")
+    until_line(live, "1: behind the number, type 1-0, 0-1, 1/2-1/2, moves (Nf3 Nc6), back")
+    live.type("1 back 1... e5")
+    until_line(live, "1: takes off 3 plies, from 2. Nf3: type it again")
+    live.type("1 back 1... e5")
+    hall.until_text(1, "1. e4 e5 *")
+    until_line(live, "back to 1... e5; taken off: 2. Nf3 Nc6 3. Bc4. What the board had sent is kept in")
+    hall.boards[0].play("g1f3")
+    hall.until_text(1, "1. e4 e5 2. Nf3 *")
+    hall.boards[2].play("g1f3")
+    hall.until_text(3, "1. e4 c5 2. Nf3 *")
+    live.type("3 1-0")
+    hall.until_over(live, 3, "1-0")
+    live.type("3 back")
+    until_line(live, "3 refused: back: the board still shows 2. Nf3. Set the pieces as after 1... c5")
+    hall.boards[2].play("f3g1")
+    rest(1.5)
+    live.type("3 back")
+    hall.until_text(3, "1. e4 c5 *")
+    until_line(live, "3: ", 2)
+    hall.boards[2].play("c2c3")
+    hall.until_text(3, "1. e4 c5 2. c3 *")
+    live.type("3 1/2-1/2")
+    hall.until_over(live, 3, "1/2-1/2")
+    same(hall.text(3), "1. e4 c5 2. c3 1/2-1/2")
+    hall.until_round()
+    same(stop(live), 0)

@@ -1,0 +1,78 @@
+"""Pipes in the place of a round's files, and a table that is full of wrong lines."""
+
+import os
+import pathlib
+import signal
+
+from played.recorder import Live
+from played.stage import ended, refuses, same, stop, until, until_line
+from rounds.hall import ROUND, Hall
+
+LARGEST = 256 * 1024  # bytes of a table
+
+
+
+def pipes(folder: pathlib.Path) -> None:
+    """A pipe stands in the place of the table, and of each file of a game: the table is refused, such a board isn't recorded and
+    says why, the others play on, and TERM is heard."""
+    hall = Hall(folder, 5)
+    table = folder / "table"
+    os.mkfifo(table)
+    refuses(Live(table, hall.games, program=ROUND), 3, "table is no regular file")
+    hall.games.mkdir()
+    endings = ("dgt", "options", "end")
+    for number, ending in enumerate(endings, 1):
+        os.mkfifo(f"{hall.name(number)}.{ending}")
+        if ending == "options":
+            pathlib.Path(f"{hall.name(number)}.dgt").write_bytes(b"\x93\x00\x03")
+    os.mkfifo(f"{hall.name(4)}.log")
+    os.mkfifo(f"{hall.name(4)}.pgn")
+    pathlib.Path(f"{hall.name(4)}.dgt").touch()
+    live = hall.record()
+    for number, ending in enumerate(endings, 1):
+        until_line(live, f"  {number}  isn't recorded: ")
+        until_line(live, f"{number:02}.{ending}")
+    for number in (4, 5):
+        until_line(live, f"  {number}  agrees")
+    hall.play(0, 2, [3, 4])
+    os.rename(hall.file, folder / "kept.csv")
+    os.mkfifo(hall.file)
+    live.send(signal.SIGHUP)
+    until_line(live, "round.csv is no regular file): nothing is changed")
+    hall.play(2, 4, [3, 4])
+    for number in range(1, len(endings) + 1):
+        for ending in endings:
+            pathlib.Path(f"{hall.name(number)}.{ending}").unlink(missing_ok=True)
+        pathlib.Path(f"{hall.name(number)}.pgn").unlink(missing_ok=True)
+    hall.play(0, 4, [0, 1, 2])
+    hall.until_round()
+    same(stop(live, signal.SIGTERM), 0)
+
+
+def bytes_read(live: Live) -> int:
+    """How many bytes a call has read so far, of files and of all else."""
+    words = pathlib.Path(f"/proc/{live.process.pid}/io").read_text().split()
+    return int(words[words.index("rchar:") + 1])
+
+
+def full_of_wrong_lines(folder: pathlib.Path) -> None:
+    """As many wrong lines as a table may have, on a screen that is drawn again and again: the table is read once. One with 500,000
+    more isn't read to its end and is refused, and the boards play on."""
+    hall = Hall(folder, 1)
+    hall.write(*("x,y,z " + "w" * 200 for _ in range(998)))
+    live = hall.record(terminal=True)
+    until(lambda: hall.boards[0].asked_for_updates, "a request for updates")
+    before = bytes_read(live)
+    hall.play(0, 4)
+    once = bytes_read(live) - before
+    hall.write(*("x,y,z" for _ in range(500_000)))
+    live.send(signal.SIGHUP)
+    hall.play(4, 8)
+    until(lambda: "kB, and a table has a line for each board" in " ".join(live.lines().split()), "that the table is refused")
+    again = bytes_read(live) - before - once
+    print(f"   bytes read for four plies: {once}; and with a table of {hall.file.stat().st_size}: {again}", flush=True)
+    assert once < LARGEST // 2, "the table is read for each move, or each time that it is shown"
+    assert again < LARGEST * 3 // 2, "more of a table is read than one may have"
+    live.type("q")
+    same(ended(live), 0)
+    same(hall.text(1), "1. e4 e5 2. Nf3 Nc6 3. Bb5 a6 4. Ba4 Nf6 *")
