@@ -1,7 +1,7 @@
 #!/usr/bin/env python3
 """Results and moves that an arbiter adds, tried on captures of random games at random moments, through the real program.
 
-To each capture the bytes of live/added.py are appended, and then what a board may send after them. The moves that `record` gives
+To each capture the bytes of live/game/added.py are appended, and then what a board may send after them. The moves that `record` gives
 must be those of before and the added ones, the result the added one, and nothing else; `follow` must tell the same. Boards lie
 both ways; the capture ends after a whole move, with a picture that waits, with a piece in a hand, inside a frame, after a fault.
 Last line: 'N passed, M failed'.  additions.py [--games N] [--seed N] [--positions COMMAND]
@@ -16,12 +16,12 @@ import subprocess
 import sys
 from concurrent.futures import ProcessPoolExecutor
 from dataclasses import dataclass
-from typing import Any, List, Optional, Tuple
+from typing import List, Optional, Tuple
 
-from hands import EMPTY, PROGRAM, Game, hand, movetext, moves_of, program
+from hands import EMPTY, PROGRAM, Game, Way, hand, movetext, moves_of, program
 
-from live.added import check_result, dumps_of_moves, dumps_of_result  # noqa: E402  (hands has put its folder on the path)
-from live.protocol import Picture, dump, picture_of_placement  # noqa: E402
+from live.game.added import STRAY, check_result, dumps_of_moves, dumps_of_result  # noqa: E402  (hands has put its folder on the path)
+from live.device.protocol import Picture, dump, picture_of_placement  # noqa: E402
 
 INITIAL_FEN = "rnbqkbnr/pppppppp/8/8/8/8/PPPPPPPP/RNBQKBNR w KQkq - 0 1"
 # Kings and other pieces in the centre; each side has moves for a while.
@@ -61,9 +61,9 @@ class Played:
         return dump(tuple(self.board), self.rotated)
 
 
-def game_at(fen: str) -> Any:
+def game_at(fen: str) -> Game:
     """The position, for the random moves."""
-    game: Any = Game()
+    game = Game()
     game.board = list(picture_of_placement(fen))
     game.side = 0 if fen.split()[1] == "w" else 1
     if fen != INITIAL_FEN:
@@ -71,12 +71,12 @@ def game_at(fen: str) -> Any:
     return game
 
 
-def legal(game: Any) -> List[Any]:
+def legal(game: Game) -> List[Way]:
     """The moves of the position, as the squares that they change."""
     return [way for way in game.ways() if game.is_legal(way)]
 
 
-def play(played: Played, game: Any, chance: random.Random, plies: int) -> Any:
+def play(played: Played, game: Game, chance: random.Random, plies: int) -> Game:
     """Plays so many moves, or as many as there are."""
     for _ in range(plies):
         ways = legal(game)
@@ -89,7 +89,7 @@ def play(played: Played, game: Any, chance: random.Random, plies: int) -> Any:
     return game
 
 
-def end(played: Played, game: Any, chance: random.Random, kind: str) -> None:
+def end(played: Played, game: Game, chance: random.Random, kind: str) -> None:
     """Ends the capture in one of the ways."""
     own = [square for square in range(64) if played.board[square] != EMPTY]
     if kind == "waits":
@@ -194,7 +194,7 @@ def one(arguments: Tuple[str, str, bool, str, str]) -> List[str]:
             as_seen = dump(picture_of_placement(shown[-1]), rotated)
             expect(f"{outcome}, the board again", with_result + unseen + as_seen, (moves, outcome))
     words, fens = added_moves(chance, command, fen, chance.randrange(1, 5))
-    with_moves = sent + dumps_of_moves(fens, rotated)
+    with_moves = sent + dumps_of_moves(fens, rotated) + STRAY
     mated = not program(["moves", "--fen", fens[-1]], b"").split()
     outcome = told(options, with_moves)[1] if mated else "*"
     expect("moves", with_moves, (moves + words, outcome))

@@ -1,9 +1,14 @@
 #!/usr/bin/env python3
-"""What a line that loses updates costs, by simulation: whole games in a hundred, with live/asking.py and at a fault alone.
+"""What a line that loses updates costs, by simulation: whole games in a hundred, with live/device/asking.py and at a fault alone.
 
 A simulated board sends 960 bytes a second. One update in ten is cut off, or lost whole; a clock runs, or none is there; the
 other side lifts a piece so many seconds after a move stands. Each figure is of so many games of 40 plies at random. A game is
-whole where `record` of what came gives the moves that were played.  asking.py [--games N] [--seed N]
+whole where `record` of what came gives the moves that were played.
+
+A second table is of boards that answer 0.3 to 1.8 s late, with what they showed when they were asked, while updates go on;
+and of plies that begin 1.2, 2 and 3 s after one another. There the board is asked each second, or in quiet, as asking.py does.
+
+asking.py [--games N] [--seed N]
 """
 
 from __future__ import annotations
@@ -14,12 +19,12 @@ import random
 import sys
 from concurrent.futures import ProcessPoolExecutor
 from dataclasses import dataclass, field
-from typing import Any, List, Tuple
+from typing import Callable, Dict, List, Protocol, Tuple, Union
 
-from hands import INITIAL, Hands, Way, moves_of, program, random_game, updates
+from hands import INITIAL, Change, Hands, Way, hand, moves_of, program, random_game, updates
 
-from live.asking import Asking  # noqa: E402  (hands has put its folder on the path)
-from live.protocol import DUMP_REQUEST, START_REQUEST, FrameKind, Frames, dump  # noqa: E402
+from live.device.asking import QUIET, Asking  # noqa: E402  (hands has put its folder on the path)
+from live.device.protocol import DUMP_REQUEST, START_REQUEST, FrameKind, Frames, dump  # noqa: E402
 
 RATE = 960  # bytes a second
 PLIES = 40
@@ -28,6 +33,43 @@ LOST = 0.1  # of the updates
 REQUEST_TAKES = 0.003
 TIME = bytes((0x8D, 0x00, 0x0A, 1, 0x30, 0, 1, 0x29, 0x59, 0))
 NEVER = float("inf")
+PERIODS = (1.2, 2.0, 3.0)
+LATE = (0.3, 1.8)
+PROMPT = (0.0, 0.0)
+
+
+@dataclass(frozen=True)
+class Troubles:
+    """What a line and its board do to a game."""
+
+    name: str
+    lost: float = 0.0  # of the updates
+    cut: bool = False  # and not lost whole
+    late: Tuple[float, float] = PROMPT  # seconds that an answer takes
+
+
+OVERTAKEN = (
+    Troubles("answers 0.3 to 1.8 s late", late=LATE),
+    Troubles("late, and 1 of 10 updates cut off", LOST, True, LATE),
+    Troubles("1 of 10 updates cut off", LOST, True),
+    Troubles("1 of 10 updates lost whole", LOST),
+)
+
+
+class Rule(Protocol):
+    """When a board is asked, as `Asking` says it."""
+
+    def connected(self, now: float) -> None:
+        """The line is open."""
+
+    def came(self, now: float, sent: bytes) -> object:
+        """The board has sent this."""
+
+    def due(self) -> float:
+        """When `request` is to be called, where nothing comes before."""
+
+    def request(self, now: float) -> bytes:
+        """What the board is to be sent now, if anything."""
 
 
 @dataclass
@@ -57,6 +99,9 @@ class FaultAlone:
         return sent
 
 
+RULES: Dict[str, Callable[[], Rule]] = {"fault alone": FaultAlone, "live": Asking}
+
+
 @dataclass
 class Line:
     """The board's line: what is sent waits for what was sent before it."""
@@ -67,14 +112,14 @@ class Line:
     dumps: int = 0
 
 
-def simulated(rule: Any, hands: Hands, chance: random.Random, cut: bool, clock: bool) -> Line:
+def simulated(rule: Rule, hands: Hands, chance: random.Random, troubles: Troubles, clock: bool) -> Line:
     """What came of the board's changes, where the rule asks."""
     line = Line()
     board = list(INITIAL)
     ends = hands.now
-    happenings: List[Tuple[float, int, str, Any]] = []  # in the order of their times
+    happenings: List[Tuple[float, int, str, Union[bytes, Change]]] = []  # in the order of their times
 
-    def happens(when: float, what: str, value: Any) -> None:
+    def happens(when: float, what: str, value: Union[bytes, Change]) -> None:
         heapq.heappush(happenings, (when, len(happenings) + 1_000_000 * (what == "came"), what, value))
 
     def sends(now: float, frame: bytes) -> None:
@@ -93,25 +138,26 @@ def simulated(rule: Any, hands: Hands, chance: random.Random, cut: bool, clock: 
             now = max(now, rule.due())
             if now > ends:
                 break
-            if rule.request(now).startswith(DUMP_REQUEST):
-                happens(now + REQUEST_TAKES, "asked", None)
+            if DUMP_REQUEST in rule.request(now):
+                happens(now + REQUEST_TAKES, "asked", b"")
             continue
         now, _, what, value = heapq.heappop(happenings)
-        if what == "came":
+        if isinstance(value, tuple):
+            _, square, code = value
+            board[square] = code
+            frame = bytes((0x8E, 0x00, 0x05, square, code))
+            if chance.random() < troubles.lost:
+                frame = frame[: chance.randrange(1, 5)] if troubles.cut else b""
+            if frame:
+                sends(now, frame)
+        elif what == "came":
             line.sent += value
             rule.came(now, value)
         elif what == "asked":
             line.dumps += 1
-            sends(now, dump(tuple(board), False))
-        elif what == "time":
-            sends(now, value)
+            happens(now + chance.uniform(*troubles.late), "answers", dump(tuple(board), False))
         else:
-            board[value[1]] = value[2]
-            frame = bytes((0x8E, 0x00, 0x05, value[1], value[2]))
-            if chance.random() < LOST:
-                frame = frame[: chance.randrange(1, 5)] if cut else b""
-            if frame:
-                sends(now, frame)
+            sends(now, value)
     return line
 
 
@@ -126,20 +172,41 @@ def one(arguments: Tuple[str, str, float, bool, bool]) -> Tuple[bool, float, flo
     hands.wait(5)
     truth = moves_of(program(["record"], updates(hands.changes)[0]))
     assert len(truth) == PLIES
-    line = simulated(Asking() if rule == "live" else FaultAlone(), hands, chance, cut, clock)
+    line = simulated(RULES[rule](), hands, chance, Troubles("", LOST, cut), clock)
     whole = moves_of(program(["record"], bytes(line.sent))) == truth
     return whole, line.dumps * 67 * 3.6 / hands.now, line.longest_wait
 
 
+def hurried(arguments: Tuple[str, float, float, Troubles]) -> Tuple[bool, int]:
+    """Whether a game whose plies begin so many seconds after one another is whole, and how many plies of it are kept."""
+    seed, quiet, period, troubles = arguments
+    chance = random.Random(seed)
+    ways: List[Way] = random_game(chance, PLIES)
+    hands = Hands(chance)
+    hands.wait(2)
+    for way in ways:
+        begins = hands.now
+        for at, (square, code) in enumerate(hand(chance, hands.board, way)):
+            hands.wait(chance.uniform(0.08, min(0.6, period / 4)) if at else 0)
+            hands.show(square, code)
+        hands.now = max(hands.now + 0.15, begins + period)
+    hands.wait(5)
+    truth = moves_of(program(["record"], updates(hands.changes)[0]))
+    line = simulated(Asking(quiet), hands, chance, troubles, False)
+    moves = moves_of(program(["record"], bytes(line.sent)))
+    same = [one == other for one, other in zip(moves, truth)]
+    return moves == truth, same.index(False) if False in same else len(same)
+
+
 def main() -> int:
-    """Prints the table."""
+    """Prints the tables."""
     parser = argparse.ArgumentParser(description=__doc__)
     parser.add_argument("--games", type=int, default=20, help="for each figure")
     parser.add_argument("--seed", type=int, default=1)
     words = parser.parse_args()
     print(f"whole games in 100 of {words.games}, the reply after {'/'.join(f'{reply:g}' for reply in REPLIES)} s")
     with ProcessPoolExecutor(4) as pool:
-        for rule in ("fault alone", "live"):
+        for rule in RULES:
             for cut in (True, False):
                 for clock in (False, True):
                     cases = [
@@ -160,6 +227,16 @@ def main() -> int:
                         f"longest wait for the line {waits:.0f} ms",
                         flush=True,
                     )
+        print(f"whole games of {words.games}, and the plies kept in 100; plies of {'/'.join(f'{at:g}' for at in PERIODS)} s")
+        for troubles in OVERTAKEN:
+            for name, quiet in (("each second", 0.0), ("in quiet", QUIET)):
+                cells = []
+                for period in PERIODS:
+                    games = [(f"{words.seed} {period} {game}", quiet, period, troubles) for game in range(words.games)]
+                    came = list(pool.map(hurried, games))
+                    kept = 100 * sum(kept for _, kept in came) / PLIES / words.games
+                    cells.append(f"{sum(whole for whole, _ in came)}, {kept:.0f} %")
+                print(f"{troubles.name}: asked {name}: {'; '.join(cells)}", flush=True)
     return 0
 
 

@@ -10,12 +10,16 @@ import resource
 import subprocess
 import sys
 import time
+from typing import Dict, Iterable, Iterator, List, Optional, Tuple
 
 TICK = os.sysconf("SC_CLK_TCK")
 FROM_NOTHING = "(from nothing)"
 
+Started = Tuple[int, int]  # a process: its number, and its start, since numbers are given anew
+Check = Tuple[int, str, str, float]  # its start, its crate, what it proves, its processor seconds
 
-def processes():
+
+def processes() -> Dict[int, Tuple[int, int, float]]:
     """Each process by its number: its parent, its start, its processor seconds with those of children that have ended."""
     found = {}
     for name in os.listdir("/proc"):
@@ -29,7 +33,7 @@ def processes():
     return found
 
 
-def check_of(pid):
+def check_of(pid: int) -> Optional[Tuple[str, str]]:
     """The crate of a check and what it proves, or None for another process."""
     try:
         words = pathlib.Path(f"/proc/{pid}/cmdline").read_bytes().decode(errors="replace").split("\0")
@@ -43,9 +47,10 @@ def check_of(pid):
     return crate, kind
 
 
-def watch(command, folder, log):
+def watch(command: List[str], folder: str, log: str) -> Tuple[int, List[Check]]:
     """Runs a command. Its status, and each check in the order of their starts: (start, crate, kind, seconds)."""
-    checks, known = {}, {}
+    checks: Dict[Started, float] = {}
+    known: Dict[Started, Optional[Tuple[str, str]]] = {}
     with open(log, "wb") as out:
         running = subprocess.Popen(command, cwd=folder, stdin=subprocess.DEVNULL, stdout=out, stderr=subprocess.STDOUT)
     while running.poll() is None:
@@ -53,7 +58,7 @@ def watch(command, folder, log):
         for pid, (_, start, _) in found.items():
             if not known.get((pid, start)):
                 known[pid, start] = check_of(pid)
-        seconds = {}
+        seconds: Dict[Started, float] = {}
         for pid, (_, _, spent) in found.items():
             line = [pid]
             while line[-1] in found and found[line[-1]][0] in found:
@@ -65,14 +70,14 @@ def watch(command, folder, log):
         for key, spent in seconds.items():
             checks[key] = max(spent, checks.get(key, 0))
         time.sleep(0.25)
-    rows = [(start, *known[pid, start], spent) for (pid, start), spent in checks.items()]
-    return running.returncode, sorted(rows)
+    named = [(start, known[pid, start], spent) for (pid, start), spent in checks.items()]
+    return running.returncode, sorted((start, *check, spent) for start, check, spent in named if check)
 
 
-def named(rows, clone):
+def named(rows: Iterable[Check], clone: str) -> Iterator[Tuple[str, str, str, float]]:
     """The edits of each crate by name: a crate is checked from nothing, where it has several edits; then these are tried in the
     order of their names, and the crate as it is last."""
-    left = {}
+    left: Dict[str, List[str]] = {}
     for _, crate, kind, seconds in rows:
         name = ""
         if kind == "edit":
@@ -83,7 +88,7 @@ def named(rows, clone):
         yield crate, kind, name, seconds
 
 
-def main(clone, folder):
+def main(clone: str, folder: str) -> int:
     began = time.monotonic()
     status, rows = watch(["tests/run"], clone, f"{folder}/log")
     wall = time.monotonic() - began
@@ -97,7 +102,7 @@ def main(clone, folder):
     print("Processor seconds of each crate:\n")
     print("| Crate | Proof | Proof with tests | Edits | the first, a check from nothing | number | the five slowest of the others |")
     print("|---|---|---|---|---|---|---|")
-    sums = {"proof": 0, "tests": 0, "edit": 0}
+    sums = {"proof": 0.0, "tests": 0.0, "edit": 0.0}
     for crate in dict.fromkeys(it[0] for it in checks):
         of = {kind: [(seconds, name) for at, it, name, seconds in checks if (at, it) == (crate, kind)] for kind in sums}
         spent = {kind: sum(seconds for seconds, _ in it) for kind, it in of.items()}

@@ -10,21 +10,21 @@ import pathlib
 import random
 import subprocess
 import sys
-from typing import Any, Callable, List, Sequence, Tuple
+from typing import Callable, List, Sequence, Tuple
 
 BENCH = pathlib.Path(__file__).resolve().parent
 sys.dont_write_bytecode = True
 sys.path[:0] = [str(BENCH), str(BENCH.parent)]
 import streams  # noqa: E402
 
-from live.protocol import dump  # noqa: E402
+from live.device.protocol import dump  # noqa: E402
 
-Game: Any = streams.Game
+Game = streams.Game
 INITIAL: List[int] = list(streams.INITIAL)
 EMPTY = 0
 KINGS = (5, 11)
 Change = Tuple[float, int, int]
-Way = Sequence[Tuple[int, int]]
+Way = streams.Way
 
 
 def program_path() -> str:
@@ -60,7 +60,7 @@ def random_game(chance: random.Random, plies: int) -> List[Way]:
     At random, but captures are preferred, sides castle mostly where they may, and kings are moved seldom, as players do.
     """
     while True:
-        game: Any = Game()
+        game = Game()
         ways: List[Way] = []
         while len(ways) < plies:
             legal = [way for way in game.ways() if game.is_legal(way)]

@@ -25,7 +25,7 @@ from typing import List, Sequence, Tuple
 
 from hands import EMPTY, INITIAL, KINGS, PROGRAM, lognormal, moves_of, program
 
-from live.protocol import UPDATE_ID, dump, picture_of_placement  # noqa: E402  (hands has put its folder on the path)
+from live.device.protocol import UPDATE_ID, dump, picture_of_placement  # noqa: E402  (hands has put its folder on the path)
 
 GAMES = pathlib.Path(__file__).with_name("hurried_games.txt")
 THINKS = (2.0, 0.8)  # seconds, the median, and how far they spread
@@ -94,7 +94,7 @@ class Counts:
 
 def read_games(count: int) -> List[Game]:
     """The first games of the file, by what the program makes of them."""
-    games = []
+    games: List[Game] = []
     for line in GAMES.read_text().splitlines():
         if line.startswith("#") or len(games) == count:
             continue

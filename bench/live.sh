@@ -1,7 +1,8 @@
 #!/usr/bin/env bash
 # Measures the live recorder over simulated boards (bench/live_boards.py), each of which makes a move every two seconds (one alone:
-# every half a second): 1, 16 and 48 with a dgt_live each, then 48 with one dgt_round, and the same while 200 read its page. With 48
-# the median of the time to a move's line and to its game is to be under 20 ms, and 99 of 100 under 200 ms.
+# every half a second): 1, 16 and 48 with a dgt_live each, then 48 with one dgt_round, and the same while 200 spectators read its
+# page, as it is and late. With 48 the median of the time to a move's line and to its game is to be under 20 ms, and 99 of 100 under
+# 200 ms.
 set -euo pipefail
 
 cd "$(dirname "$0")/.."
@@ -14,7 +15,7 @@ uptime | sed 's/.*load/load/'
 printf '%-22s %6s %6s %16s %16s %10s %8s %12s %10s\n' '' '' '' 'line, ms' 'game, ms' processes memory 'processor ms' ''
 printf '%-22s %6s %6s %8s %7s %8s %7s %10s %8s %12s %10s\n' recorded\ by boards moves median 99th median 99th 'a board' 'MiB' 'a second' 'a move'
 
-# row NAME BOARDS MOVES PAUSE [round [READERS]]
+# row NAME BOARDS MOVES PAUSE [round [READERS [DELAY]]]
 row() {
     name=$1
     shift
@@ -37,4 +38,5 @@ row 'a dgt_live each' 16 "$moves" 2
 row 'a dgt_live each' 48 "$moves" 2
 row 'one dgt_round' 48 "$moves" 2 round
 row 'it, 200 read its page' 48 "$moves" 2 round 200
+row 'they, 6 s late' 48 "$moves" 2 round 200 0.1
 verdicts

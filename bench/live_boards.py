@@ -2,13 +2,14 @@
 """Plays so many simulated boards at once, and measures what bench/live.sh tells.
 
 `live_boards.py BOARDS MOVES PAUSE` plays MOVES moves in all, a board one each PAUSE seconds on average, at random moments, with a
-clock. Each board has a dgt_live of its own; with `round` behind these words one dgt_round has all, and with `round READERS` so many
-read its page meanwhile, from another process. For each move it takes the time from its last byte to its line, and to a NAME.pgn
-that has it. One line comes out: boards, moves, the median and the 99th of 100 of both in ms, processes, memory (PSS, MiB) and
-processor time (ms a second, and ms a move) of a board.
+clock. Each board has a dgt_live of its own; with `round` behind these words one dgt_round has all, with `round READERS` so many
+spectators read its page meanwhile, from another process, and with `round READERS DELAY` they see it so many minutes late. For each
+move it takes the time from its last byte to its line, and to a NAME.pgn that has it. One line comes out: boards, moves, the median
+and the 99th of 100 of both in ms, processes, memory (PSS, MiB) and processor time (ms a second, and ms a move) of a board.
 """
 
 import contextlib
+import ctypes
 import dataclasses
 import multiprocessing
 import os
@@ -20,7 +21,7 @@ import socket
 import sys
 import tempfile
 import time
-from typing import Any, Dict, List, Optional, Sequence, Tuple
+from typing import Dict, List, Optional, Sequence, Tuple
 
 sys.dont_write_bytecode = True
 TOP = pathlib.Path(__file__).resolve().parents[1]
@@ -130,13 +131,13 @@ def all_processes() -> List[int]:
     return [process for live in Live.all for process in processes(live.process.pid)]
 
 
-def read_page(port: int, count: int, told: Any) -> None:
+def read_page(port: int, count: int, told: ctypes.c_int) -> None:
     """So many read the events of a page, all that comes, and one more fetches the games each two seconds. `told` is how many
     have had something."""
     selector = selectors.DefaultSelector()
     for _ in range(count):
         line = socket.create_connection(("127.0.0.1", port))
-        line.sendall(b"GET /events HTTP/1.1\r\nHost: x\r\n\r\n")
+        line.sendall(b"GET /events HTTP/1.1\r\nHost: localhost\r\n\r\n")
         line.setblocking(False)
         selector.register(line, selectors.EVENT_READ, [])
     poller = socket.create_connection(("127.0.0.1", port))
@@ -145,20 +146,21 @@ def read_page(port: int, count: int, told: Any) -> None:
     asks_at = 0.0
     while True:
         for key, _ in selector.select(0.5):
-            if not key.fileobj.recv(1 << 20):  # type: ignore[union-attr]
+            assert isinstance(key.fileobj, socket.socket)
+            if not key.fileobj.recv(1 << 20):
                 raise SystemExit("the page has hung up on a reader")
             if not key.data:
                 key.data.append(True)
                 told.value += 1
         if time.monotonic() >= asks_at:
             asks_at = time.monotonic() + 2
-            poller.sendall(b"GET /round.pgn HTTP/1.1\r\nHost: x\r\n\r\n")
+            poller.sendall(b"GET /round.pgn HTTP/1.1\r\nHost: localhost\r\n\r\n")
 
 
 class Hall:
     """All tables, and what waits for something from them."""
 
-    def __init__(self, folder: pathlib.Path, boards: int, in_a_round: bool, readers: int) -> None:
+    def __init__(self, folder: pathlib.Path, boards: int, in_a_round: bool, readers: int, delay: str = "0") -> None:
         self.tables: List[Table] = []
         self.selector = selectors.DefaultSelector()
         self.said: Dict[int, Tuple[Said, Optional[Table]]] = {}
@@ -177,7 +179,7 @@ class Hall:
             lines = [f"{number},{table.board.device}" for number, table in enumerate(self.tables, 1)]
             (folder / "round.csv").write_text("\n".join(["board,device", *lines, ""]))
             port = free_port()
-            page = ["--page", str(port)] if readers else []
+            page = ["--page", str(port), "--delay", delay] if readers else []
             self.hear(Said(Live(folder / "round.csv", folder / "round", *page, program=TOP / "bin" / "dgt_round")), None)
             if readers:
                 self.page = (port, readers)
@@ -212,7 +214,7 @@ class Hall:
             self.turn(0.01)
         if self.page:
             port, count = self.page
-            served = multiprocessing.Value("i", 0)
+            served = multiprocessing.RawValue(ctypes.c_int, 0)  # which the reader alone writes
             multiprocessing.Process(target=read_page, args=(port, count, served), daemon=True).start()
             while served.value < count:
                 self.turn(0.01)
@@ -258,7 +260,7 @@ def main() -> None:
         (pathlib.Path(folder) / "room").mkdir()
         Live.scratch_folder = pathlib.Path(folder) / "room"
         try:
-            hall = Hall(pathlib.Path(folder), boards, in_a_round, readers)
+            hall = Hall(pathlib.Path(folder), boards, in_a_round, readers, *sys.argv[6:7])
             hall.begin()
             before, start = sum(map(processor_time, all_processes())), time.monotonic()
             lines, games = hall.play(moves, pause)

@@ -8,12 +8,8 @@ runs=${1:-21}
 . bench/timing.sh
 
 program=$(bin/program)
-extract=$(command -v pgn-extract || command -v /usr/games/pgn-extract || true)
-if [ -z "$extract" ]; then
-    apt-get update > "$work/apt.log"
-    apt-get install -y pgn-extract >> "$work/apt.log"
-    extract=$(command -v pgn-extract || command -v /usr/games/pgn-extract)
-fi
+tests/outside.py install pgn-extract
+extract=$(tests/outside.py path pgn-extract)
 
 # a game of so many moves by the four knights, in export form
 long_game() {

@@ -8,12 +8,8 @@ count=${1:-100}
 work=$(mktemp -d)
 trap 'rm -rf "$work"' EXIT
 
-extract=$(command -v pgn-extract || command -v /usr/games/pgn-extract || true)
-if [ -z "$extract" ]; then
-    apt-get update > "$work/apt.log"
-    apt-get install -y pgn-extract >> "$work/apt.log"
-    extract=$(command -v pgn-extract || command -v /usr/games/pgn-extract)
-fi
+tests/outside.py install pgn-extract
+extract=$(tests/outside.py path pgn-extract)
 (cd crates/bench_calls && rt run -- games texts 1 > "$work/build.log")
 program=crates/bench_calls/out/bench_calls
 

@@ -2,7 +2,7 @@
 """Simulated set-ups after games without a result: where the recorder takes the game to have ended, and whether that is right.
 
 A random game of so many plies is given up; after a while the pieces are carried home, one at a time, and the start stands.
-What the board sent goes through the real `follow`; live/ending.py says how many bytes are the game's; `record` of these must
+What the board sent goes through the real `follow`; live/game/ending.py says how many bytes are the game's; `record` of these must
 give the game that was played.  set_ups.py [--games N] [--seed N] [--show]
 """
 
@@ -17,7 +17,8 @@ from typing import Callable, Dict, List, Sequence, Tuple
 
 from hands import EMPTY, INITIAL, KINGS, Hands, lognormal, moves_of, program, random_game, updates
 
-from live.ending import Line, game_end  # noqa: E402  (hands has put its folder on the path)
+from live.game.ending import Line, game_end  # noqa: E402  (hands has put its folder on the path)
+from live.game.report import Agrees, Differs, Move, Result, line_of  # noqa: E402
 
 
 @dataclass
@@ -160,9 +161,9 @@ def trial(seed: str, plies: int, order: str) -> Trial:
     assert len(truth) == plies, (seed, plies, truth)
     lines = []
     for line in program(["follow"], sent).splitlines():
-        offset, text = line.split(" ", 1)
-        if offset != "rest":
-            lines.append(Line(int(offset), times[int(offset)], text))
+        told = line_of(line)
+        if told and isinstance(told.event, (Move, Result, Differs, Agrees)):
+            lines.append(Line(told.offset, times[told.offset], told.event))
     return Trial(sent, played, truth, lines)
 
 
@@ -170,7 +171,7 @@ def three_seconds(lines: Sequence[Line]) -> int:
     """A rule to compare with: where the board last agreed with the game for three seconds."""
     size = 0
     for line, following in zip(lines, lines[1:]):
-        if not line.text.startswith("differs") and following.at - line.at >= 3:
+        if not isinstance(line.event, Differs) and following.at - line.at >= 3:
             size = line.offset + 1
     return size
 
@@ -195,7 +196,7 @@ def one(arguments: Tuple[str, int, str]) -> Tuple[List[str], bool, str]:
     case = trial(*arguments)
     end = game_end(case.lines, tuple(INITIAL))
     verdicts = [verdict(case, size) for size in (everything(case.lines), three_seconds(case.lines), end.size)]
-    tail = [f"{line.at:.1f} {line.text}" for line in case.lines if line.offset >= case.played - 12][:9]
+    tail = [f"{line.at:.1f} {line.event}" for line in case.lines if line.offset >= case.played - 12][:9]
     return verdicts, end.sure, f"{arguments} {end} {tail}"
 
 

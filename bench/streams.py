@@ -12,6 +12,7 @@ lifted   64 MiB: after a move two queens of each side are in hand, and a third o
 import pathlib
 import random
 import sys
+from typing import Callable, Dict, Iterator, List, Optional, Sequence, Set, Tuple
 
 SIZE = 48_000_000
 MOVE_EACH = 24_000
@@ -24,25 +25,27 @@ HEADER = bytes([0x86, 0x00, 0x43])
 CLOCK = bytes([0x8D, 0x00, 0x0A, 0x01, 0x29, 0x59, 0x01, 0x30, 0x00, 0x00])
 UPDATES = [[bytes([0x8E, 0x00, 0x05, field, code]) for code in range(13)] for field in range(64)]
 
+Way = Sequence[Tuple[int, int]]  # a way to move: the squares that it changes, each with the code that it shows then
+
 STRAIGHT = [(0, 1), (0, -1), (1, 0), (-1, 0)]
 DIAGONAL = [(1, 1), (1, -1), (-1, 1), (-1, -1)]
 JUMPS = [(1, 2), (2, 1), (-1, 2), (-2, 1), (1, -2), (2, -1), (-1, -2), (-2, -1)]
 DIRECTIONS = {ROOK: STRAIGHT, BISHOP: DIAGONAL, QUEEN: STRAIGHT + DIAGONAL, KING: STRAIGHT + DIAGONAL, KNIGHT: JUMPS}
 
 
-def side_of(code):
+def side_of(code: int) -> Optional[int]:
     return None if code == 0 else WHITE if code < 7 else BLACK
 
 
-def kind_of(code):
+def kind_of(code: int) -> int:
     return code if code < 7 else code - 6
 
 
-def code_of(side, kind):
+def code_of(side: int, kind: int) -> int:
     return kind if side == WHITE else kind + 6
 
 
-def targets(board, square, directions, far):
+def targets(board: Sequence[int], square: int, directions: Sequence[Tuple[int, int]], far: bool) -> Iterator[int]:
     """The squares that lie open from a square; each way ends with the first piece on it."""
     rank, file = divmod(square, 8)
     for up, right in directions:
@@ -54,7 +57,7 @@ def targets(board, square, directions, far):
             r, f = r + up, f + right
 
 
-def is_attacked(board, square, by):
+def is_attacked(board: Sequence[int], square: int, by: int) -> bool:
     for kind, directions in DIRECTIONS.items():
         for there in targets(board, square, directions, kind not in (KING, KNIGHT)):
             if board[there] == code_of(by, kind):
@@ -64,13 +67,13 @@ def is_attacked(board, square, by):
 
 
 class Game:
-    def __init__(self):
+    def __init__(self) -> None:
         self.board = list(INITIAL)
         self.side = WHITE
-        self.unmoved = {0, 4, 7, 56, 60, 63}
-        self.passed = None
+        self.unmoved: Set[int] = {0, 4, 7, 56, 60, 63}
+        self.passed: Optional[int] = None
 
-    def ways(self):
+    def ways(self) -> Iterator[Way]:
         """Each way to move, before it is looked at whether the king is attacked: a list of (square, code) to be shown."""
         board, side = self.board, self.side
         for square in range(64):
@@ -86,7 +89,7 @@ class Game:
             if kind == KING:
                 yield from self.castlings(square)
 
-    def pawn_ways(self, square):
+    def pawn_ways(self, square: int) -> Iterator[Way]:
         board, side = self.board, self.side
         ahead = -8 if side == WHITE else 8
         last = 0 if side == WHITE else 7
@@ -104,15 +107,19 @@ class Game:
             for kind in (QUEEN, ROOK, BISHOP, KNIGHT) if to // 8 == last else (PAWN,):
                 yield [(square, 0), (to, code_of(side, kind))]
 
-    def castlings(self, king):
+    def castlings(self, king: int) -> Iterator[Way]:
         board, other = self.board, 1 - self.side
         home = 60 if self.side == WHITE else 4
-        for rook, between, over, to in ((home + 3, (1, 2), home + 1, home + 2), (home - 4, (-1, -2, -3), home - 1, home - 2)):
+        wings: List[Tuple[int, Sequence[int], int, int]] = [
+            (home + 3, (1, 2), home + 1, home + 2),
+            (home - 4, (-1, -2, -3), home - 1, home - 2),
+        ]
+        for rook, between, over, to in wings:
             if {home, rook} <= self.unmoved and all(board[home + step] == 0 for step in between):
                 if not any(is_attacked(board, square, other) for square in (home, over)):
                     yield [(king, 0), (to, board[king]), (rook, 0), (over, board[rook])]
 
-    def after(self, way):
+    def after(self, way: Way) -> "Game":
         new = Game()
         new.board = list(self.board)
         for square, code in way:
@@ -124,15 +131,15 @@ class Game:
             new.passed = (start + end) // 2
         return new
 
-    def is_legal(self, way):
+    def is_legal(self, way: Way) -> bool:
         new = self.after(way)
         return not is_attacked(new.board, new.board.index(code_of(self.side, KING)), new.side)
 
-    def goes_on(self):
+    def goes_on(self) -> bool:
         return any(self.is_legal(way) for way in self.ways())
 
 
-def moves(count):
+def moves(count: int) -> Iterator[Way]:
     """A game of so many moves, each as the squares that it changes: a capture each hundred moves at most, a move of a pawn each
     twenty at most, castling, en passant and promotions where they come; other pieces else. It never ends."""
     chance = random.Random(SEED)
@@ -162,7 +169,7 @@ def moves(count):
         yield way
 
 
-def hands(fumbles):
+def hands(fumbles: bool) -> bytes:
     """The dump of the initial position; then what a board sends while it is played on."""
     chance = random.Random(SEED)
     pick, draw = chance.random, chance.choice
@@ -197,10 +204,10 @@ def hands(fumbles):
                         stream += UPDATES[other][code]
                         stream += UPDATES[other][0]
             stream += UPDATES[square][code]
-    return stream[:SIZE]
+    return bytes(stream[:SIZE])
 
 
-def idle():
+def idle() -> bytes:
     """The knights of both sides go out and back: g1 f3, g8 f6, f3 g1, f6 g8."""
     board = bytearray(INITIAL)
     round_trip = bytearray()
@@ -221,9 +228,9 @@ PROMOTED = "4k2r/6P1/8/8/8/8/P7/4K3 w - -"
 LIFTED = "k1q1q1q1/pp6/8/8/8/8/PP6/K1Q1Q1Q1 w - -"
 
 
-def toggled(fen, before, there_and_back):
+def toggled(fen: str, before: Way, there_and_back: Way) -> bytes:
     """The dump of a position; updates; and then two more again and again."""
-    board = []
+    board: List[int] = []
     for letter in fen.split(" ")[0].replace("/", ""):
         board += [0] * int(letter) if letter.isdigit() else [".PRNBKQprnbkq".index(letter)]
     stream = HEADER + bytes(board) + b"".join(UPDATES[square][code] for square, code in before)
@@ -231,17 +238,17 @@ def toggled(fen, before, there_and_back):
     return (stream + twice * (WORST // len(twice)))[:WORST]
 
 
-def promoted():
+def promoted() -> bytes:
     """g7 promotes on g8, the rook takes it, and the pawn of a2 is lifted and put back."""
     return toggled(PROMOTED, [(14, 0), (7, 0), (6, 8)], [(48, 0), (48, 1)])
 
 
-def lifted():
+def lifted() -> bytes:
     """1. a3, and then the queens of c1, e1, c8 and e8 are in hand; that of g1 is lifted and put back."""
     return toggled(LIFTED, [(48, 0), (40, 1), (58, 0), (60, 0), (2, 0), (4, 0)], [(62, 0), (62, 6)])
 
 
-STREAMS = {
+STREAMS: Dict[str, Callable[[], bytes]] = {
     "idle": idle,
     "played": lambda: hands(False),
     "fumbled": lambda: hands(True),

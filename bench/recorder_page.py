@@ -1,0 +1,214 @@
+#!/usr/bin/env python3
+"""How fast bin/recorder.html is, in Chromium, with boards that the page itself plays (bench/recorder_boards.js).
+
+Prints the file's size; the time from opening the file to the first board being asked; and for 1 and for 16 boards whose
+captures have an hour of play: from a move's last byte to its line on the screen, and to its text on the disk. The files are
+in the browser's private folder, since nobody is there to choose one; so the page comes from a server of this machine for
+that. A machine on which nothing else runs is needed: elsewhere the times are waits for a processor.
+"""
+
+from __future__ import annotations
+
+import http.server
+import pathlib
+import re
+import statistics
+import sys
+import threading
+import time
+from typing import Dict, List, Sequence, Tuple, cast
+
+TOP = pathlib.Path(__file__).resolve().parent.parent
+sys.dont_write_bytecode = True
+sys.path[:0] = [str(TOP), str(TOP / "tests")]
+from paged.devtools import Browser, Tab  # noqa: E402
+
+PAGE = TOP / "bin" / "recorder.html"
+BOARDS = (TOP / "bench" / "recorder_boards.js").read_text()
+SECONDS = 3600  # of play that a capture has
+PLAYED = 60.0  # seconds of a measurement
+MOVES = (("g1", "f3", "Nf3"), ("g8", "f6", "Nf6"), ("f3", "g1", "Ng1"), ("f6", "g8", "Ng8"))
+EACH = 40  # seconds in which a ply is made before the measurement
+HOUR = """(async (count) => {
+  const START = [...'rnbqkbnrpppppppp................................PPPPPPPPRNBQKBNR'];
+  const codes = (squares) => squares.map((letter) => '.PRNBKQprnbkq'.indexOf(letter));
+  const database = await new Promise((done) => { indexedDB.open('dgt_recorder').onsuccess = ({ target }) => done(target.result); });
+  const change = database.transaction(['boards', 'games', 'chunks'], 'readwrite');
+  const at = Date.now() / 1000 - %(seconds)d;
+  for (let id = 1; id <= count; id += 1) {
+    const options = { rotated: false, first: null, fen: null, recover: null, began: '2026.11.26', tags: {}, event: null, site: null,
+      date: null, round: null, white: null, black: null };
+    change.objectStore('boards').put({ id, serial: String(10000 + id), info: { usbVendorId: 0x0403, usbProductId: 0x6001 }, game: id });
+    change.objectStore('games').put({ id, board: id, name: `board ${id}`, options, end: null, looks: [] });
+    const squares = START.slice();
+    const number = (name) => 'abcdefgh'.indexOf(name[0]) + 8 * (8 - Number(name[1]));
+    const moves = %(moves)s;
+    let bytes = [];
+    for (let second = 0; second < %(seconds)d; second += 1) {
+      bytes.push(0x86, 0, 67, ...codes(squares));
+      const two = (value) => 16 * Math.floor(value / 10) + value %% 10;
+      const left = 5400 - second;
+      bytes.push(0x8d, 0, 10, Math.floor(left / 3600), two(Math.floor(left / 60) %% 60), two(left %% 60), 1, 0x30, 0, 1);
+      if (second %% %(each)d === %(each)d - 1) {
+        const [from, to] = moves[Math.floor(second / %(each)d) %% moves.length].map(number);
+        const code = codes(squares)[from];
+        squares[to] = squares[from];
+        squares[from] = '.';
+        bytes.push(0x8e, 0, 5, from, 0, 0x8e, 0, 5, to, code);
+      }
+      if (second %% 60 === 59) {
+        change.objectStore('chunks').put({ game: id, number: second, at: at + second, bytes: Uint8Array.from(bytes) });
+        bytes = [];
+      }
+    }
+  }
+  await new Promise((done) => { change.oncomplete = done; });
+  database.close();
+})(%(count)d)"""
+WATCHES = """
+window.seen = []; window.written = [];
+window.showDirectoryPicker = async () => {
+  const folder = await navigator.storage.getDirectory();
+  for await (const name of folder.keys()) await folder.removeEntry(name, { recursive: true });
+  return folder;
+};
+const begin = FileSystemFileHandle.prototype.createWritable;
+FileSystemFileHandle.prototype.createWritable = async function (...given) {
+  const stream = await begin.apply(this, given);
+  const { write, close } = stream;
+  let text = '';
+  stream.write = (content) => { text = content; return write.call(stream, content); };
+  stream.close = async () => { await close.call(stream); if (this.name.endsWith('.pgn')) written.push([this.name, performance.now(), text]); };
+  return stream;
+};
+window.watch = () => new MutationObserver(() => {
+  const now = performance.now();
+  document.querySelectorAll('#boards .last').forEach((last, at) => {
+    if (seen[at] !== last.textContent) { seen[at] = last.textContent; (window.shown ||= []).push([at + 1, now, last.textContent]); }
+  });
+}).observe(document.getElementById('boards'), { subtree: true, childList: true, characterData: true });
+"""
+
+
+def serving() -> http.server.ThreadingHTTPServer:
+    """A server of this machine alone, for the page."""
+
+    class Handler(http.server.BaseHTTPRequestHandler):
+        def do_GET(self) -> None:
+            self.send_response(200)
+            self.send_header("Content-Type", "text/html")
+            self.end_headers()
+            self.wfile.write(PAGE.read_bytes())
+
+        def log_message(self, format: str, *args: object) -> None:
+            """Nothing is printed of a request."""
+
+    return http.server.ThreadingHTTPServer(("127.0.0.1", 0), Handler)
+
+
+def opened(browser: Browser, url: str, before: str) -> Tab:
+    """The page in a tab, with this evaluated before its scripts."""
+    tab = browser.tab()
+    tab.call("Page.addScriptToEvaluateOnNewDocument", source=BOARDS + before)
+    tab.open(url)
+    return tab
+
+
+def press(tab: Tab, name: str) -> None:
+    tab.call("Runtime.evaluate", expression=f"document.getElementById('{name}').click()", userGesture=True)
+
+
+def first_asked() -> float:
+    """Milliseconds from opening the file to the first board being asked, where it was recorded before: the median of five."""
+    found: List[float] = []
+    with Browser() as browser:
+        tab = opened(browser, PAGE.as_uri(), "boards.add(1);")
+        tab.until("document.getElementById('add').disabled", False)
+        press(tab, "add")
+        tab.until("document.querySelector('#boards .state')?.textContent", "agrees")
+        tab.close()
+        for _ in range(5):
+            tab = opened(browser, PAGE.as_uri(), "boards.add(1, true);")
+            tab.until("boards.ports.get(1).asked !== null")
+            found.append(cast(float, tab.value("boards.ports.get(1).asked")))
+            tab.close()
+    return statistics.median(found)
+
+
+def told(name: str, seconds: Sequence[float]) -> None:
+    ordered = sorted(1000 * second for second in seconds)
+    worst = ordered[min(len(ordered) - 1, int(0.99 * len(ordered)))]
+    print(f"    {name}: median {statistics.median(ordered):.0f} ms, 99 of 100 within {worst:.0f} ms, {len(ordered)} moves")
+
+
+def last_move(pgn: str) -> str:
+    """The last move of a text, as `12... Nf6`."""
+    words = re.sub(r"\{[^}]*\}", "", pgn.partition("\n\n")[2]).split()
+    sans = [word for word in words[:-1] if "." not in word]
+    return f"{(len(sans) + 1) // 2}.{'' if len(sans) % 2 else '..'} {sans[-1]}" if sans else ""
+
+
+def play(browser: Browser, url: str, count: int) -> None:
+    """So many boards, each with a capture of an hour."""
+    tab = opened(browser, url, "")
+    tab.until("document.getElementById('add').disabled", False)
+    moves = str([[start, end] for start, end, _ in MOVES])
+    tab.value(HOUR % {"seconds": SECONDS, "moves": moves, "each": EACH, "count": count})
+    tab.close()
+    before = "".join(f"boards.add({number}, true, START_SQUARES);" for number in range(1, count + 1))
+    plies = SECONDS // EACH
+    squares = list("rnbqkbnrpppppppp................................PPPPPPPPRNBQKBNR")
+    for ply in range(plies):
+        left, reached = (("abcdefgh".index(name[0]) + 8 * (8 - int(name[1]))) for name in MOVES[ply % len(MOVES)][:2])
+        squares[reached], squares[left] = squares[left], "."
+    tab = opened(browser, url, f"const START_SQUARES = '{''.join(squares)}';" + before + WATCHES)
+    for number in range(1, count + 1):
+        tab.until(f"document.querySelectorAll('#boards .state')[{number - 1}]?.textContent.includes('waits')", False)
+    press(tab, "folder")
+    time.sleep(3)
+    tab.value("watch()")
+    played: List[Tuple[int, float, str]] = []
+    began = time.monotonic()
+    at: Dict[int, int] = dict.fromkeys(range(1, count + 1), plies)
+    while time.monotonic() < began + PLAYED:
+        for number in at:
+            start, end, san = MOVES[at[number] % len(MOVES)]
+            move = f"{at[number] // 2 + 1}.{'..' if at[number] % 2 else ''} {san}"
+            now = tab.value(f"boards.play({number}, '{start}', '{end}'); performance.now()")
+            played.append((number, cast(float, now), move))
+            at[number] += 1
+            time.sleep(2.0 / count)
+    time.sleep(3)
+    shown = cast(List[List[object]], tab.value("window.shown"))
+    written = cast(List[List[object]], tab.value("written"))
+    lines: List[float] = []
+    texts: List[float] = []
+    for number, then, move in played:
+        line = [cast(float, at_) for one, at_, text in shown if one == number and text == move and cast(float, at_) >= then - 1]
+        text = [
+            cast(float, at_)
+            for name, at_, content in written
+            if name == f"board {number}.pgn" and last_move(cast(str, content)) == move and cast(float, at_) >= then - 1
+        ]
+        lines += [(line[0] - then) / 1000] if line else []
+        texts += [(text[0] - then) / 1000] if text else []
+    print(f"{count} boards with an hour of play, {len(played)} moves in {PLAYED:.0f} s:")
+    told("to the line on the screen", lines)
+    told("to the text on the disk", texts)
+    tab.close()
+
+
+def main() -> int:
+    print(f"bin/recorder.html: {PAGE.stat().st_size / 1000:.0f} kB")
+    print(f"from opening the file to the first board being asked: {first_asked():.0f} ms")
+    server = serving()
+    threading.Thread(target=server.serve_forever, daemon=True).start()
+    for count in (1, 16):
+        with Browser() as browser:
+            play(browser, f"http://127.0.0.1:{server.server_address[1]}/", count)
+    server.shutdown()
+    return 0
+
+
+if __name__ == "__main__":
+    sys.exit(main())
