@@ -12,7 +12,7 @@ from live.refused import ARGUMENTS, Refused
 from live.web.doors import Pages, read_pages
 
 RECORDING = ("--linger", "--page", "--arbiter-page", "--delay", "--publish")  # options of a recording that have a value
-QUOTES = "is one argument too many. A text with blanks stands in quotes, as 'Anna Kern'"
+QUOTES = "is one argument too many. Put a text with blanks in quotes, as 'Anna Kern'"
 LINGER = 10  # seconds that a result stands before it ends a game
 LONGEST_LINGER = 10**6
 
@@ -76,7 +76,7 @@ def parse(arguments: Sequence[str]) -> Call:
     late, command = None if delay is None else read_delay(delay), () if publish is None else read_command(publish)
     if flags["--devices"]:
         if len(arguments) > 1:
-            raise Refused(ARGUMENTS, f"--devices stands alone: {SEE_HELP}")
+            raise Refused(ARGUMENTS, f"--devices takes nothing else: {SEE_HELP}")
         return Call(devices=True)
     options = Options.of_words(words)
     remakes = not typed and len(plain) == 1 and not flags["--series"] and bool(words) and options.fixed() == Options()

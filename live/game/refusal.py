@@ -21,7 +21,7 @@ OF_FEN: Dict[str, str] = {
 
 def reason(error: str) -> str:
     """What is to be told, of what the program has printed."""
-    first = (error.strip().splitlines() or ["no reason is told"])[0]
+    first = (error.strip().splitlines() or ["the program gave no reason"])[0]
     kind, _, why = first.partition(": ")
     if kind == "fen":
         return f"--fen is refused ({why}): {OF_FEN.get(why, SEE_HELP)}"

@@ -126,7 +126,7 @@ class Taken:
     def _twice(self, read: Pairing) -> Optional[Wrong]:
         if read.board in self.boards:
             line = self.boards[read.board].line
-            return Wrong(read.line, read.board, f"board {read.board} stands in line {line} already: type another")
+            return Wrong(read.line, read.board, f"board {read.board} is in line {line} already: type another")
         if read.device in self.devices:
             return device_twice(read, self.devices[read.device])
         if read.serial in self.serials:
@@ -166,7 +166,7 @@ def _read(number: int, line: str, sheet: Sheet) -> Union[Pairing, Wrong, LeftOut
     fields = fields_of(line, sheet.separator)
     if fields is None:
         board = _number(line.partition(sheet.separator)[0])
-        return Wrong(number, board, "a quote isn't closed, or stands in the midst of a field")
+        return Wrong(number, board, "a quotation mark isn't closed, or is inside a field")
     values = dict.fromkeys(COLUMNS, "")
     values.update((role, cleaned(field)) for role, field in zip(roles, fields) if role)
     board = _number(values["board"])

@@ -76,7 +76,7 @@ def all_ways(numbers: Sequence[int]) -> str:
     """What can be typed."""
     number = example(numbers)
     here = f"{number} 1-0, {number} Nf3 Nc6, {number} back, {number} help"
-    return f"type {here}, {number} (how board {number} stands), r (read the file again) or q (end)"
+    return f"type {here}, {number} (the state of board {number}), r (read the file again) or q (end)"
 
 
 def ways(text: str, numbers: Sequence[int]) -> str:
@@ -196,7 +196,7 @@ class Round:
         for number in sorted(set(self.rows) - {number for number in named if number}):
             # A line whose number can't be read may be this one's.
             if None in named:
-                self.say(f"{number}: no line names it; as a line without a number stands there, it goes on")
+                self.say(f"{number}: no line names it, but one line has no board number: it goes on")
             else:
                 pgn = self.rows[number].board.paths.pgn
                 self.say(f"{number}: no line names it any more: it ends, and its game stays in {pgn}")

@@ -95,5 +95,5 @@ def told_of_above(above: Sequence[int]) -> List[str]:
     """What is said of lines above the headings."""
     if not above:
         return []
-    return [f"line {above[0]} stands above the headings, and isn't used" if len(above) == 1 else
-            f"lines {above[0]} to {above[-1]} stand above the headings, and aren't used"]  # fmt: skip
+    return [f"line {above[0]} is above the headings, and isn't used" if len(above) == 1 else
+            f"lines {above[0]} to {above[-1]} are above the headings, and aren't used"]  # fmt: skip

@@ -74,7 +74,7 @@ def read_names(texts: Iterable[str]) -> Names:
     given = [name.strip().lower().rstrip(".") for text in texts for name in text.split(",")]
     for name in given:
         if len(name) > LONGEST_NAME or not NAME.fullmatch(name):
-            reason = "it is a name as it stands in the browser, without http:// and a port, as chess.example.org"
+            reason = "write the name as the browser shows it, without http:// and a port, as chess.example.org"
             raise Refused(ARGUMENTS, f"--page-host {name!r}: {reason}")
     return names_of(socket.gethostname(), given)
 
@@ -95,7 +95,7 @@ def read_address(text: str, option: str = "--page") -> Address:
         raise _refused(option, text, "it is [ADDRESS:]PORT, as 8000 or 192.168.1.5:8000")
     bracketed, plain, port = match.group("bracketed", "plain", "port")
     if bracketed is None and plain and ":" in plain:
-        raise _refused(option, text, "an address with colons stands in brackets, as [::1]:8000")
+        raise _refused(option, text, "put an address with colons in brackets, as [::1]:8000")
     if not (port.isascii() and port.isdigit() and len(port) <= 5 and 1 <= int(port) <= HIGHEST_PORT):
         raise _refused(option, text, f"the port is a number from 1 to {HIGHEST_PORT}, as 8000")
     return Address(HERE if bracketed is None and plain is None else _host(option, text, (bracketed, plain)), int(port))
@@ -109,7 +109,7 @@ def _host(option: str, text: str, host: Tuple[str, str]) -> str:
         return str(ipaddress.IPv4Address(plain) if bracketed is None else ipaddress.IPv6Address(bracketed))
     except ValueError:
         kind = "four numbers, as 192.168.1.5:8000" if bracketed is None else "an IPv6 address in brackets, as [::1]:8000"
-        raise _refused(option, text, f"before the port stands {kind}, or nothing") from None
+        raise _refused(option, text, f"before the port comes {kind}, or nothing") from None
 
 
 def _refused(option: str, text: str, reason: str) -> Refused:

@@ -423,7 +423,7 @@ def _listening(address: Address) -> socket.socket:
             line.close()
         reasons = {
             errno.EADDRINUSE: f"another program has port {address.port}: give another one, or end that program",
-            errno.EADDRNOTAVAIL: f"this computer has no address {address.host}: 0.0.0.0 stands for all that it has",
+            errno.EADDRNOTAVAIL: f"this computer has no address {address.host}: 0.0.0.0 means all that it has",
             errno.EACCES: f"port {address.port} is kept for the system: give one from 1024 on",
         }
         reason = reasons.get(error.errno or 0, error.strerror or str(error))

@@ -36,7 +36,7 @@ REASONS = {
     "fen: another\n": "dgt_live --help",
     "error: the side after '--first' is white or black\n\nUsage: dgt_replay <COMMAND>\n": "'--first' is white or black. See",
     "tag White: long\n": "tag White: long. See",
-    "": "no reason is told",
+    "": "the program gave no reason",
 }
 NAMES = {
     "game.dgt": "game",
@@ -63,8 +63,8 @@ NO_BOARD = [
     ("back", [1, 2], "of which board? Type its number first, as 2 back"),
     ("back  2... Nc6", [1, 2], "of which board? Type its number first, as 2 back 2... Nc6"),
     ("*", [1, 2], "of which board? Type its number first, as 2 *"),
-    ("hello", [1, 2], "type 2 1-0, 2 Nf3 Nc6, 2 back, 2 help, 2 (how board 2 stands), r (read the file again) or q (end)"),
-    ("Nf3 1-0", [1, 2, 3], "type 3 1-0, 3 Nf3 Nc6, 3 back, 3 help, 3 (how board 3 stands), r (read the file again) or q (end)"),
+    ("hello", [1, 2], "type 2 1-0, 2 Nf3 Nc6, 2 back, 2 help, 2 (the state of board 2), r (read the file again) or q (end)"),
+    ("Nf3 1-0", [1, 2, 3], "type 3 1-0, 3 Nf3 Nc6, 3 back, 3 help, 3 (the state of board 3), r (read the file again) or q (end)"),
 ]
 FOLDERS = {
     "round3": "round4",

@@ -61,7 +61,7 @@ TITLED = {**RATED, "WhiteTitle": "GM", "BlackTitle": "IM"}
 BLACK_TITLED = {**LOWER, "BlackTitle": "WFM"}
 TABLES_READ = [
     ("English", ENGLISH, ("utf-8", "utf-8-sig", "cp1252", "utf-16"), [(*FIRST, "1/2-1/2", TITLED), (*SECOND, "", BLACK_TITLED)], [
-        "lines 1 to 4 stand above the headings, and aren't used",
+        "lines 1 to 4 are above the headings, and aren't used",
         "line 8: board 3: Ott, Dora has no opponent (bye), and no game is recorded",
         "line 9 has no board's number, and isn't used: 'Program Swiss-Manager'",
     ]),
@@ -117,8 +117,8 @@ def what_is_not_understood() -> None:
     same("pairs", [of(pairing) for pairing in read.boards], [(2, "Anna", "Ben", "", {})])
     same("wrong", read.wrong, (
         Wrong(2, None, "'x' is no number of a board: type 1 to 999"),
-        Wrong(3, 1, "a quote isn't closed, or stands in the midst of a field"),
-        Wrong(5, 2, "board 2 stands in line 4 already: type another"),
+        Wrong(3, 1, "a quotation mark isn't closed, or is inside a field"),
+        Wrong(5, 2, "board 2 is in line 4 already: type another"),
     ))  # fmt: skip
     same("said", read.remarks, (
         "line 4, column WhiteElo: '2O50' is no rating: type up to four digits, as 2050, or nothing; the board is recorded without it",

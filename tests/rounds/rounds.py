@@ -78,9 +78,9 @@ def troubles(folder: pathlib.Path) -> None:
         "  3  UNPLUGGED",
         f"  4  isn't recorded: {folder}/file is no device",
         f"line 6 of round.csv is wrong: {folder}/board2 is the device of board 2, line 3: each has its own",
-        "line 7 of round.csv is wrong: board 2 stands in line 3 already: type another",
+        "line 7 of round.csv is wrong: board 2 is in line 3 already: type another",
         "line 8 of round.csv is wrong: 'x' is no number of a board",
-        "line 9 of round.csv is wrong: a quote isn't closed",
+        "line 9 of round.csv is wrong: a quotation mark isn't closed",
         "  7  UNPLUGGED",
         f"line 11 of round.csv is wrong: {folder}/other is the device of board 1, line 2",
     ):
@@ -340,7 +340,7 @@ def a_wrong_line(folder: pathlib.Path) -> None:
     hall.file.write_text(hall.file.read_text().replace("White 2", '"White 2') + "9,,nobody,nobody\n")
     live.type("r")
     until_line(live, "2 boards, no alarm, 2 lines are wrong")
-    until_line(live, "!  2 line 3 is wrong: a quote isn't closed")
+    until_line(live, "!  2 line 3 is wrong: a quotation mark isn't closed")
     until_line(live, "board 2 goes on as it was begun")
     until_line(live, "!  9 line 4 is wrong: it names no device")
     hall.boards[1].play("d2d4")
@@ -411,7 +411,7 @@ def refused(folder: pathlib.Path) -> None:
     hall.write()
     refuses(Live(folder, hall.games, program=ROUND), 3, "type the FILE of the table first")
     refuses(Live(hall.file, folder / "no" / "folder", program=ROUND), 3, "choose another FOLDER")
-    refuses(Live(hall.file, hall.games, "--event", "Club", "cup", program=ROUND), 2, "stands in quotes")
+    refuses(Live(hall.file, hall.games, "--event", "Club", "cup", program=ROUND), 2, "in quotes, as")
     live = hall.record()
     hall.begun(live)
     refuses(hall.record(), 1, "another dgt_round")

@@ -64,9 +64,9 @@ def wrong_lines(_: pathlib.Path) -> None:
         ("3,d,A,B,,,round", 3, "name is 'round': the files of the round itself are called so"),
         ("3,d,A,B,,,,2-0", 3, "result is '2-0'"),
         ("3,d,A,B,,,,,,more", 3, "it has 10 fields, and the first line has 9"),
-        ('3,d,"A', 3, "a quote isn't closed"),
+        ('3,d,"A', 3, "a quotation mark isn't closed"),
         ("3,d,A\x00,B", 3, "can't be seen"),
-        ("1,d", 1, "board 1 stands in line 2 already: type another"),
+        ("1,d", 1, "board 1 is in line 2 already: type another"),
         ("3,/dev/a", 3, "/dev/a is the device of board 1, line 2: each has its own"),
         ("3,d,A,B,,,01", 3, "01 is the name of the game of board 1: type another"),
     ):
@@ -156,8 +156,8 @@ def rows(_: pathlib.Path) -> None:
     same(row(alarm, 280), ["! 12 Anna         Ben          3. Bb5                         WRONG 3m: e2 d5"])
     waits = RowView(2, "Anna", "Ben", state="waits for the board")
     same(row(waits, 280), ["   2 Anna         Ben                                         waits for the b.."])
-    wrong = RowView(None, state="line 9 is wrong: a quote isn't closed", alarm=True, is_board=False)
-    same(row(wrong, 0), ["!  ? line 9 is wrong: a quote isn't closed"])
+    wrong = RowView(None, state="line 9 is wrong: a quotation mark isn't closed", alarm=True, is_board=False)
+    same(row(wrong, 0), ["!  ? line 9 is wrong: a quotation mark isn't closed"])
     shown = screen("10:00:00  Club", [calm] * 30 + [alarm], ["a message"], 280, 24)
     same(len(shown) < 24, True)
     assert all(len(line) < 80 for line in shown), shown

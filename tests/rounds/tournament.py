@@ -154,7 +154,7 @@ def three_rounds(folder: pathlib.Path) -> None:
     (cup.folder / "round1.csv").write_text(ENGLISH, encoding="utf-8-sig")
     live = cup.round(1)
     for part in (
-        "round1.csv: line 1 stands above the headings, and isn't used",
+        "round1.csv: line 1 is above the headings, and isn't used",
         "round1.csv: line 5, column BlackElo: '2O50' is no rating: type up to four digits, as 2050, or nothing; the board is recorded",
         "round1.csv: line 7: board 5: Uhl, Hans has no opponent (bye), and no game is recorded",
         "board 4 has no device in boards.csv, and isn't recorded",

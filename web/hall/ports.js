@@ -101,7 +101,7 @@ export class Ports {
         connection.close();
         this.unknown.add(port);
         const isAwaited = this.hears.awaited().length > 0;
-        if (isAwaited) this.hears.says("a board is there, and it can't be told which one it is: open its card, and choose its device");
+        if (isAwaited) this.hears.says("a board is connected, and the page can't see which one it is: open its card, and choose its device");
       };
       const connection = new Connection(guard, port, {
         came: (bytes, ended) => {
