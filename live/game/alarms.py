@@ -57,7 +57,7 @@ class Alarms:
     def __init__(self, paths: Paths, course: Course) -> None:
         self._paths = paths
         self._doubts = Doubts.going_on(course.fens, course.plies[-1] if course.plies else None, list(course.moved_at))
-        self._clock = StoppedClock(has_run(course.plies))
+        self._clock = StoppedClock(has_run(course.plies), course.plies[-1].short if course.plies else "")
         self.looks = kept_looks(paths)
         self._since: Dict[str, int] = {}  # at which byte each of this call came
         self.trouble: Optional[OSError] = None  # why they can't be kept
@@ -79,7 +79,9 @@ class Alarms:
         """The next line of the game: what is to be looked at, if anything. What was added by hand is not."""
         event = line.event
         look = self._doubts.take(now, event)
-        if isinstance(event, Move) and not by_hand:
+        if isinstance(event, Move) and by_hand:
+            self._clock.added(event)
+        elif isinstance(event, Move):
             look = self._clock.moved(now, event) or look
         if look:
             self._since[look.what] = line.offset

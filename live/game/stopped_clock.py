@@ -36,21 +36,23 @@ def has_run(plies: Sequence[Move]) -> bool:
 
 @dataclass
 class StoppedClock:
-    """Counts the moves of a game that are made one after the other while its clock stands, once it has run in this game."""
+    """Counts the moves of a game that are made one after the other while its clock stands, once it has run in this game. They
+    count from the one on that is seen after the stop; but they are an alarm only where the last one comes STANDS after it."""
 
     has_run: bool = False
+    last: str = ""  # the last move
     count: int = 0
     _stands_since: float = math.inf
-    _last: str = ""  # the last move
-    _first: str = ""  # the last one before those that are counted
+    _before: str = ""  # the last one before those that are counted
 
     def time(self, now: float, data: bytes) -> None:
         """A time message has come, with these seven bytes."""
         state = runs(data)
         if state:
             self.has_run, self._stands_since = True, math.inf
-        elif state is False:
-            self._stands_since = min(self._stands_since, now)
+            self.acknowledged()
+        elif state is False and self._stands_since == math.inf:
+            self._stands_since = now
 
     def gone(self) -> None:
         """The board isn't heard: nobody knows whether the clock runs."""
@@ -60,17 +62,22 @@ class StoppedClock:
         """Somebody has looked at what was counted: later moves are counted anew."""
         self.count = 0
 
+    def added(self, move: Move) -> None:
+        """Somebody has typed this move: it was played."""
+        self.last = move.short
+
     def moved(self, now: float, move: Move) -> Optional[Look]:
         """A move or a correction was reported: what is to be looked at, if anything."""
-        stands = self.has_run and now >= self._stands_since + STANDS
-        before, self._last = self._last, move.short
+        before, self.last = self.last, move.short
         if move.corrects:
             return None
-        if not stands:
+        if not self.has_run or self._stands_since == math.inf:
             self.count = 0
             return None
         if not self.count:
-            self._first = before or "the start"
+            self._before = before or "the start"
         self.count += 1
+        if now < self._stands_since + STANDS:
+            return None
         moves = "a move was" if self.count == 1 else f"{self.count} moves were"
-        return Look(f"since {self._first}", f"{moves} made while the clock stood", f"{ABOUT} {self._first}")
+        return Look(f"since {self._before}", f"{moves} made while the clock stood", f"{ABOUT} {self._before}")

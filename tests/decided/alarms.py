@@ -50,6 +50,8 @@ def clocks() -> None:
                 clock.time(now, bytes_of(what[len("time ") :]))
             elif what in ("gone", "ok"):
                 clock.gone() if what == "gone" else clock.acknowledged()
+            elif what.startswith("typed "):
+                clock.added(move_of(what.replace("typed", "move")))
             else:
                 look = clock.moved(now, move_of(what))
                 seen += [look.text] if look else []

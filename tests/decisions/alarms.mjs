@@ -47,6 +47,8 @@ export function clocks(counts, cases) {
         clock.gone();
       } else if (what === "ok") {
         clock.acknowledged();
+      } else if (what.startsWith("typed ")) {
+        clock.added(eventOf(what.replace("typed", "move")));
       } else {
         const look = clock.moved(now, eventOf(what));
         seen.push(...(look ? [textOfLook(look)] : []));

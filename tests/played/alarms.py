@@ -230,7 +230,7 @@ def start_never_shown(folder: pathlib.Path) -> None:
 
 
 def clock_stands(folder: pathlib.Path) -> None:
-    """The players stop the clock, and go on trying moves."""
+    """The players stop the clock and try moves, the first at once: the last move before is named, also after a restart."""
     board = a_board(folder)
     live = Live(board.device, folder / "game", typed=True)
     begun(live)
@@ -250,4 +250,18 @@ def clock_stands(folder: pathlib.Path) -> None:
     board.play("f1b5")
     until_line(live, "3. Bb5")
     until(lambda: last_state(live).endswith(words.AGREES), "that it agrees")
+    board.clock(600, 580, runs=False)
+    board.play("a7a6")  # at once
+    until_line(live, "3... a6")
+    rest(3.5)
+    board.play("b5a4")
+    until_line(live, "LOOK since 3. Bb5: 2 moves were made while the clock stood")
+    seen(live)
     same(stop(live), 0)
+    again = go_on(board, live)
+    begun(again)
+    board.clock(600, 580, runs=False)
+    rest(3.5)
+    board.play("g8f6")
+    until_line(again, "LOOK since 4. Ba4: a move was made while the clock stood")
+    same(stop(again), 0)

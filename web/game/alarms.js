@@ -3,6 +3,7 @@
 
 import { Doubts } from './doubts.js';
 import { Looks } from './looks.js';
+import { shortOf } from './report.js';
 import { StoppedClock, hasRun } from './stopped_clock.js';
 
 /** What is told of what was acknowledged. */
@@ -14,8 +15,9 @@ export function acknowledged(seen) {
 export class Alarms {
   constructor(course, open = []) {
     const { fens, plies, movedAt } = course;
-    this.doubts = Doubts.goingOn(fens, plies.length > 0 ? plies[plies.length - 1] : null, movedAt);
-    this.clock = new StoppedClock(hasRun(plies));
+    const last = plies.length > 0 ? plies[plies.length - 1] : null;
+    this.doubts = Doubts.goingOn(fens, last, movedAt);
+    this.clock = new StoppedClock(hasRun(plies), last ? shortOf(last) : '');
     this.looks = new Looks(open);
     this.since = new Map(); // at which byte each of this call came
   }
@@ -39,7 +41,8 @@ export class Alarms {
   /** The next line of the game: what is to be looked at, if anything. What was added by hand is not. */
   take(now, { offset, event }, byHand) {
     let look = this.doubts.take(now, event);
-    if (event.kind === 'move' && !byHand) look = this.clock.moved(now, event) || look;
+    if (event.kind === 'move' && byHand) this.clock.added(event);
+    else if (event.kind === 'move') look = this.clock.moved(now, event) || look;
     if (look) this.since.set(look.what, offset);
     return byHand ? null : this.add(look);
   }

@@ -30,14 +30,16 @@ export function hasRun(plies) {
 
 /**
  * Counts the moves of a game that are made one after the other while its clock stands, once it has run in this game.
+ * They count from the one on that is seen after the stop; but they are an alarm only where the last one comes STOOD_FOR
+ * after it.
  */
 export class StoppedClock {
-  constructor(hasRunBefore = false) {
+  constructor(hasRunBefore = false, last = '') {
     this.hasRun = hasRunBefore;
+    this.last = last; // the last move
     this.count = 0;
     this.standsSince = Infinity;
-    this.last = ''; // the last move
-    this.first = ''; // the last one before those that are counted
+    this.before = ''; // the last one before those that are counted
   }
 
   /** A time message has come, with these seven bytes. */
@@ -46,8 +48,9 @@ export class StoppedClock {
     if (state) {
       this.hasRun = true;
       this.standsSince = Infinity;
-    } else if (state === false) {
-      this.standsSince = Math.min(this.standsSince, now);
+      this.acknowledged();
+    } else if (state === false && this.standsSince === Infinity) {
+      this.standsSince = now;
     }
   }
 
@@ -61,19 +64,24 @@ export class StoppedClock {
     this.count = 0;
   }
 
+  /** Somebody has typed this move: it was played. */
+  added(move) {
+    this.last = shortOf(move);
+  }
+
   /** A move or a correction was reported: what is to be looked at, if anything. */
   moved(now, move) {
-    const stands = this.hasRun && now >= this.standsSince + STOOD_FOR;
     const before = this.last;
     this.last = shortOf(move);
     if (move.corrects) return null;
-    if (!stands) {
+    if (!this.hasRun || this.standsSince === Infinity) {
       this.count = 0;
       return null;
     }
-    if (this.count === 0) this.first = before || 'the start';
+    if (this.count === 0) this.before = before || 'the start';
     this.count += 1;
+    if (now < this.standsSince + STOOD_FOR) return null;
     const moves = this.count === 1 ? 'a move was' : `${this.count} moves were`;
-    return lookAt(`since ${this.first}`, `${moves} made while the clock stood`, `${ABOUT_THE_CLOCK} ${this.first}`);
+    return lookAt(`since ${this.before}`, `${moves} made while the clock stood`, `${ABOUT_THE_CLOCK} ${this.before}`);
   }
 }
