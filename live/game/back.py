@@ -120,13 +120,14 @@ def words_of(plies: Sequence[Move], stays: int, result: str) -> str:
 
 
 def not_so(plies: Sequence[Move], stays: int, after: Sequence[Move], result: str) -> str:
-    """Why it can't be: with the board as it stands the game would have these plies and this result."""
-    wanted = reached(plies[:stays])
-    hint = f"Set the pieces as after {wanted}, or keep a king in your hand, and type it again"
-    if stays == 0:
-        hint = "Set the pieces as at the start, or keep a king in your hand, and type it again"
+    """Why it can't be, and what to do: with the board as it stands the game would have these plies and this result."""
     if result != "*" and len(after) == stays:
-        return f"the result stays {result} with the board as it stands. {hint}"
+        return f"the result stays {result} with the board as it stands. Put the kings where they belong, and type it again"
+    place = f"as after {reached(plies[:stays])}" if stays else "at the start"
+    hint = (
+        "If other moves were played, lift a king, type it again, then these moves, and hold the king until all is typed. "
+        f"If the players go back, set the pieces {place}, and type it again"
+    )
     if len(after) > stays:
-        return f"the board still shows {after[stays].short}. {hint}"
+        return f"the board still shows {after[stays].short}: it would come back at once. {hint}"
     return f"with the board as it stands the game would be another one. {hint}"

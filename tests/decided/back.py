@@ -36,6 +36,8 @@ def plies() -> None:
         same(f"{stays} stay", back.question(PLIES[stays:]), asked)
     for stays, result, expected in cases("back", "told"):
         same(expected, back.words_of(PLIES, stays, result), expected)
+    for stays, has, result, expected in cases("back", "not so"):
+        same(expected[:40], back.not_so(PLIES, stays, PLIES[:has], result), expected)
 
 
 def looks() -> None:

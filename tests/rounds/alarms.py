@@ -123,7 +123,7 @@ def wrong_records(folder: pathlib.Path) -> None:
     live.type("3 1-0")
     hall.until_over(live, 3, "1-0")
     live.type("3 back")
-    until_line(live, "3 refused: back: the board still shows 2. Nf3. Set the pieces as after 1... c5")
+    until_line(live, "3 refused: the board still shows 2. Nf3: it would come back at once. If other moves were played, lift a king")
     hall.boards[2].play("f3g1")
     rest(1.5)
     live.type("3 back")
