@@ -1,5 +1,5 @@
-"""A board whose game is over by a typed result: it is listened to until its pieces are set up, since the result may have been
-meant for another board. What comes is kept behind the game."""
+"""A board whose game has a result: it is listened to until its pieces are set up, since the result may have been meant for
+another board, or kings may have stood in the centre by mistake. What comes is kept behind the game."""
 
 from __future__ import annotations
 
@@ -93,7 +93,7 @@ class Listening:
             self.looks = self.looks.with_one_more(look)
             self._screen.say(
                 f"{look.text}. Look at it, and type {self._screen.ok()};",
-                f"if the result was meant for another board, type {self._screen.reopens()}: the game goes on",
+                f"if the game isn't over, type {self._screen.reopens()}: it goes on with these moves",
             )
             try:
                 keep_looks(self._game.paths, self.looks)

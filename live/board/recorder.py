@@ -105,7 +105,7 @@ class Recorder(TakesOff):
         if self._ending or self._closing or not isinstance(self._now, Recording):
             return
         self._closing = True
-        listens = self._plan.board and self._reason is Reason.TYPED
+        listens = self._plan.rules.listens and self._reason in (Reason.TYPED, Reason.RESULT)
         if not self._plan.rules.series and not listens:
             self._ending = True
             self._cable.last_words()

@@ -46,10 +46,16 @@ class Reason(enum.Enum):
 
 @dataclass(frozen=True)
 class Rules:
-    """How long a result stands before it ends a game, and whether another game follows on the same board."""
+    """How long a result stands before it ends a game; whether another game follows on the same board; and whether the board is
+    listened to once its game has a result."""
 
     linger: int
     series: bool = False
+    listens: bool = False
+
+    def marks(self, reason: Reason) -> bool:
+        """Whether it is marked how many bytes are the game's, since others may come behind them."""
+        return self.series or reason in (Reason.TYPED, Reason.SET_UP) or (self.listens and reason is Reason.RESULT)
 
 
 class HearsRecording(Protocol):
@@ -375,7 +381,7 @@ class Recording:
             self.end = self.course.changed_at + 1
         elif reason is Reason.SET_UP:
             self._end_before_set_up()
-        self._marks = self._rules.series or reason in (Reason.TYPED, Reason.SET_UP)
+        self._marks = self._rules.marks(reason)
         self._is_over = True
         self._hears.over(reason)
 

@@ -54,7 +54,7 @@ class TakesOff:
         if isinstance(self._now, Recording):
             sent = self._sent()
             return DONE, self._put(without_result(self.game, sent, sent))
-        said = self._change_closed(lambda: reopen(self.game))
+        said = self._change_closed(lambda: reopen(self.game, listens=True))
         self._go_on(said)
         return DONE, said
 

@@ -6,9 +6,10 @@ import os
 from typing import List, Sequence, Tuple
 
 from live.device import protocol
-from live.game import added
+from live.game import added, back
 from live.game.alarms import acknowledge
 from live.game.clocks import Reading, without_clock
+from live.game.course import Course
 from live.game.edited import told_of_edit
 from live.game.files import Paths, log_once, open_game, text_of
 from live.game.game import Game, end_mark, kept_options, mark_end
@@ -147,9 +148,10 @@ def _made(game: Game, made: Made) -> str:
     return f"; {told_of_edit(game.paths.pgn, made.edited)}" if made.edited else ""
 
 
-def reopen(game: Game) -> str:
-    """Takes the result off a game; where it is over by a typed one, what came after it is the game's from here on. What is told
-    of that. Refused where it has none, or one by mate; OSError where a file can't be written."""
+def reopen(game: Game, listens: bool = False) -> str:
+    """Takes the result off a game; where it is over, what was played after it is the game's from here on. What is told of that.
+    Refused where it has none, or one by mate, or one that the board shows, where that is listened to; OSError where a file
+    can't be written."""
     mark = end_mark(game.paths)
     sent = game.capture.bytes(0, mark)
     course = game_of(game.program, game.options, sent)
@@ -159,13 +161,20 @@ def reopen(game: Game) -> str:
         if shorter == front:
             break
         front = shorter
-    if mark is None or front == sent:
-        return f"{game.paths.name} goes on: {take_result_off(game)}"
+    if mark is None or (front == sent and not _went_on(game, course)):
+        return f"{game.paths.name} goes on: {take_result_off(game, listens)}"
     text = Text(game)
     text.look(mark)
-    game.capture.renew(front + game.capture.bytes(mark))
+    if front != sent:
+        game.capture.renew(front + game.capture.bytes(mark))
     os.unlink(game.paths.end)
     return f"{game.paths.name} goes on, without the result" + _made(game, text.make(None))
+
+
+def _went_on(game: Game, course: Course) -> bool:
+    """Whether the board has taken the result of a game back after its end, as kings do that leave the centre."""
+    whole = game_of(game.program, game.options, game.capture.bytes())
+    return back.went_on(course.plies, course.result, whole.plies, whole.result)
 
 
 def add_by_name(program: Program, paths: Paths, text: str, patience: float) -> Answer:

@@ -1,4 +1,5 @@
-"""Moves on a board whose game is over: its result may have been typed for the wrong board. Pure: events come in.
+"""Moves on a board whose game is over: its result may have been typed for the wrong board, or shown by mistake. Pure: events
+come in.
 
 The pieces are set up again, too. Of what is carried home the first piece may look like a move, seldom the second one; so it
 takes two moves, and one of them that brings no piece home.

@@ -119,6 +119,12 @@ def words_of(plies: Sequence[Move], stays: int, result: str) -> str:
     return "; ".join(parts)
 
 
+def went_on(plies: Sequence[Move], result: str, after: Sequence[Move], result_after: str) -> bool:
+    """Whether a game that ended so went on to be this one, without its result."""
+    front = [ply.san for ply in after[: len(plies)]] == [ply.san for ply in plies]
+    return result != "*" and front and (result_after == "*" or len(after) > len(plies))
+
+
 def not_so(plies: Sequence[Move], stays: int, after: Sequence[Move], result: str) -> str:
     """Why it can't be, and what to do: with the board as it stands the game would have these plies and this result."""
     if result != "*" and len(after) == stays:

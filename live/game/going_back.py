@@ -165,10 +165,11 @@ def go_back_closed(game: Game, typed: added.Back, is_over: bool = False, listens
     return _put_closed(game, way, is_over or way.course.result == "*")
 
 
-def take_result_off(game: Game) -> str:
-    """Takes off a result that was not typed, of a game that nobody records now; it goes on. What was done."""
+def take_result_off(game: Game, listens: bool = False) -> str:
+    """Takes off a result that was not typed, of a game that nobody records now; it goes on, with the board as it stands where
+    that is listened to. What was done."""
     sent = game.capture.bytes(0, end_mark(game.paths))
-    return _put_closed(game, without_result(game, sent), False)
+    return _put_closed(game, without_result(game, sent, game.capture.bytes() if listens else b""), False)
 
 
 def _put_closed(game: Game, way: Way, is_over: bool) -> str:

@@ -189,7 +189,7 @@ class Row:
             serial_line.check(device, may_wait=True)
             return of_a_line(given, name)
 
-        plan = Plan(device, name, Rules(hall.linger), board=str(pairing.board), serial=pairing.serial)
+        plan = Plan(device, name, Rules(hall.linger, listens=True), board=str(pairing.board), serial=pairing.serial)
         return Wanted(plan, lambda: Opening(hall.program, plan.paths, prepares, 0))
 
     def changed(self) -> None:

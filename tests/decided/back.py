@@ -36,6 +36,9 @@ def plies() -> None:
         same(f"{stays} stay", back.question(PLIES[stays:]), asked)
     for stays, result, expected in cases("back", "told"):
         same(expected, back.words_of(PLIES, stays, result), expected)
+    for ended, result, has, after, expected in cases("back", "went on"):
+        same(f"{ended} {result}, {has} {after}", back.went_on(PLIES[:ended], result, PLIES[:has], after), expected)
+    same("another game", back.went_on(PLIES[:2], "1-0", PLIES[1:5], "*"), False)
     for stays, has, result, expected in cases("back", "not so"):
         same(expected[:40], back.not_so(PLIES, stays, PLIES[:has], result), expected)
 

@@ -1,6 +1,6 @@
 /** The way back: which ply is meant, what is asked and told, and the capture that is made anew. */
 import { pictureOfPlacement } from "/web/device/protocol.js";
-import { captureOf, notSo, pliesThatStay, question, readings, settled, wordsOfBack } from "/web/game/back.js";
+import { captureOf, notSo, pliesThatStay, question, readings, settled, wentOn, wordsOfBack } from "/web/game/back.js";
 import { readingOfClock, timeMessage, withoutClock } from "/web/game/clocks.js";
 import { Looks } from "/web/game/looks.js";
 import { bytesOf } from "./table.mjs";
@@ -30,6 +30,11 @@ export function plies(counts, cases) {
   for (const [stays, result, expected] of cases("told")) {
     counts.same(expected, wordsOfBack(game, stays, result), expected);
   }
+  for (const [ended, result, has, after, expected] of cases("went on")) {
+    const name = `${ended} ${result}, ${has} ${after}`;
+    counts.same(name, wentOn(game.slice(0, ended), result, game.slice(0, has), after), expected);
+  }
+  counts.same("another game", wentOn(game.slice(0, 2), "1-0", game.slice(1, 5), "*"), false);
   for (const [stays, has, result, expected] of cases("not so")) {
     counts.same(expected.slice(0, 40), notSo(game, stays, game.slice(0, has), result), expected);
   }

@@ -99,6 +99,48 @@ def result_of_another_board(folder: pathlib.Path) -> None:
     same(stop(live), 0)
 
 
+def kings_in_the_centre(folder: pathlib.Path) -> None:
+    """The kings stood in the centre by mistake, and that ended a game; the players go on: LOOK says so until the game goes on
+    with their moves. While the kings stand there, it can't. The pieces of another board are set up: nothing is said."""
+    hall = Hall(folder, 2)
+    live = hall.record("--linger", "1", typed=True)
+    hall.begun(live)
+    one, other = hall.boards
+    for board in hall.boards:
+        board.play("e2e4")
+        board.play("e7e5")
+    for number in (1, 2):
+        hall.until_text(number, "1. e4 e5 *")
+    rest(1.5)  # until the next dump
+    for board in hall.boards:
+        board.kings_in_centre("d4", "d5")
+    for number in (1, 2):
+        hall.until_over(live, number, "1/2-1/2")
+        hall.until_text(number, "1. e4 e5 1/2-1/2")
+    rest(1.5)
+    live.type("1 *")
+    until_line(live, "1 refused: *: the result stays 1/2-1/2 with the board as it stands. Put the kings where they belong")
+    for origin, target in (("d4", "e1"), ("d5", "e8")):
+        one.play(origin + target)
+    for move in ("g1f3", "b8c6"):
+        one.play(move)
+        rest(1.5)
+    until_line(live, "  1  LOOK after 1... e5: 2 moves were made, and the game is over: 1/2-1/2. Look at it, and type 1 ok")
+    says(live, 1, "LOOK after 1... e5; over 1/2-1/2; ")
+    same(hall.text(1), "1. e4 e5 1/2-1/2")
+    live.type("1 *")
+    hall.until_text(1, "1. e4 e5 2. Nf3 Nc6 *")
+    live.type("1 ok")
+    says(live, 1, "agrees; ")
+    one.play("f1b5")
+    hall.until_text(1, "1. e4 e5 2. Nf3 Nc6 3. Bb5 *")
+    for _ in other.homecoming():
+        rest(0.05)
+    says(live, 2, "over 1/2-1/2; ")
+    same(hall.text(2), "1. e4 e5 1/2-1/2")
+    same(stop(live), 0)
+
+
 def wrong_records(folder: pathlib.Path) -> None:
     """Moves that were typed for another board are taken off; a game that was over by a typed result is put right, and goes on
     to its end."""

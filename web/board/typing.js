@@ -3,7 +3,9 @@
 import { joined } from '../device/protocol.js';
 import { Refused, readWords, withoutTypedResult } from '../game/added.js';
 import { addition, refusal } from '../game/adding.js';
+import { wentOn } from '../game/back.js';
 import { wayBack, withoutResult } from '../game/going_back.js';
+import { gameOf } from '../game/reading.js';
 
 export class Typing {
   constructor(recorder) {
@@ -94,10 +96,17 @@ export class Typing {
     const shorter = (bytes) => withoutTypedResult(bytes, recorder.course.position, recorder.options.rotated);
     let front = sent;
     while (shorter(front).length < front.length) front = shorter(front);
-    if (recorder.isOver && front.length < sent.length) {
+    if (recorder.isOver && (front.length < sent.length || (await this.wentOn(sent, shown)))) {
       await recorder.renew(joined(front, shown.slice(sent.length)), true, { end: null });
       return `${recorder.game.name} goes on, without the result`;
     }
     return this.goBack(await withoutResult(recorder.program, recorder.options, { sent, shown }));
+  }
+
+  /** Whether the board has taken the result of a game back after its end, as kings do that leave the centre. */
+  async wentOn(sent, shown) {
+    const { program, options } = this.recorder;
+    const [course, whole] = [await gameOf(program, options, sent), await gameOf(program, options, shown)];
+    return wentOn(course.plies, course.result, whole.plies, whole.result);
   }
 }

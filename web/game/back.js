@@ -104,6 +104,12 @@ export function settled(plies, stays) {
   return [...gone.map((ply) => `at ${ply}`), ...[reached(plies.slice(0, stays)), ...gone].map((ply) => `since ${ply}`)];
 }
 
+/** Whether a game that ended so went on to be this one, without its result. */
+export function wentOn(plies, result, after, resultAfter) {
+  const isFront = after.length >= plies.length && plies.every((ply, at) => ply.san === after[at].san);
+  return result !== '*' && isFront && (resultAfter === '*' || after.length > plies.length);
+}
+
 /** Why it can't be, and what to do: with the board as it stands the game would have these plies and this result. */
 export function notSo(plies, stays, after, result) {
   if (result !== '*' && after.length === stays) {
