@@ -129,7 +129,7 @@ class Board:
         if anew:
             self._screen.say(self._screen.anew(str(self._paths.pgn), "; ".join(anew)))
         self.is_over = opened.is_over
-        if opened.is_over and plan.board:  # in a round it stays so
+        if opened.is_over and (plan.board or plan.shows):  # it stays so
             self._release(None)
         else:
             self._recorder = Recorder(guard, worker, self._screen, plan, opened, self)

@@ -29,7 +29,8 @@ def last_number(name: str) -> int:
 @dataclass(frozen=True)
 class Plan:
     """What is to be recorded, and how: a device, and the name of a game or of a series. `board` is its number in a round, and
-    `serial` the number of the board itself, where it is said."""
+    `serial` the number of the board itself, where it is said. Of a game that is over it `shows` what there is, and hears no
+    board."""
 
     device: str
     name: str
@@ -37,6 +38,7 @@ class Plan:
     once: bool = False
     board: str = ""
     serial: str = ""
+    shows: bool = False
 
     @property
     def paths(self) -> Paths:

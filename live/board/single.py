@@ -23,13 +23,17 @@ from live.loop import Loop
 from live.refused import FAILED, REFUSED, Refused
 from live.terminal.screen import Screen
 
+QUITS = ("q", "quit")
+
 
 @dataclass(frozen=True)
 class Choice:
-    """The options that were given, and what is told of those that were turned into what PGN takes."""
+    """The options that were given, what is told of those that were turned into what PGN takes, and whether a game that is over
+    may be opened, since spectators haven't seen all of it."""
 
     given: Options
     told: Tuple[str, ...] = ()
+    is_unseen: bool = False
 
 
 class Single:
@@ -43,9 +47,11 @@ class Single:
         self.board = Board(loop, program, self._screen, plan.paths, self)
         self.refused: Optional[Refused] = None
         self.on_change: Callable[[], None] = lambda: None
-        self.leaves: Callable[[], None] = loop.stop  # what is called when its recording has ended
+        self.over: Callable[[], None] = loop.stop  # what is called when its recording has ended
+        self.asked: Callable[[], None] = loop.stop  # and where somebody wants that
+        self.goes_on: Callable[[], None] = lambda: None  # and where it is recorded again
         self.greeting: Tuple[str, ...] = ()  # what is said once it is recorded
-        self._begun = False  # whether it has been recorded
+        self.is_open = False  # whether its game has been opened
         self._is_faulty = False  # whether an error has ended that
 
     def begin(self) -> None:
@@ -58,35 +64,43 @@ class Single:
 
     def _stop(self) -> None:
         self.refused = self.board.refused
-        self.leaves()
+        self.asked()
 
     def wanted(self) -> Wanted:
         """What the call says."""
         plan, choice = self._plan, self._choice
         paths = plan.paths
+        shows = (choice.is_unseen or self.is_open) and not plan.rules.series and end_mark(paths) is not None
 
         def prepares() -> Chooses:
-            serial_line.check(plan.device, may_wait=size_of(paths.capture) > 0)
-            serial_line.check_free(plan.device)
+            if not shows:
+                serial_line.check(plan.device, may_wait=size_of(paths.capture) > 0)
+                serial_line.check_free(plan.device)
             strict = strictly(choice.given, paths.name, choice.told)
 
             def chooses(kept: Optional[Options], has_moves: Callable[[], bool]) -> Chosen:
-                if not plan.rules.series:
+                if not (plan.rules.series or shows):
                     refuse_over(paths, choice.given)
                 return strict(kept, has_moves)
 
             return chooses
 
-        return Wanted(plan, lambda: Opening(self._program, paths, prepares))
+        return Wanted(dataclasses.replace(plan, shows=shows), lambda: Opening(self._program, paths, prepares))
 
     def changed(self) -> None:
         """What it shows is another."""
         if self.board.is_recorded:
-            self._begun, self._is_faulty = True, False
-            greeting, self.greeting = self.greeting, ()
-            for line in greeting:
-                self._screen.say(line)
+            self._opened()
+            self._is_faulty = False
+            self.goes_on()
         self.on_change()
+
+    def _opened(self) -> None:
+        """Its game is open."""
+        self.is_open = True
+        greeting, self.greeting = self.greeting, ()
+        for line in greeting:
+            self._screen.say(line)
 
     def remade(self) -> None:
         """The text of its game is another."""
@@ -94,12 +108,14 @@ class Single:
 
     def ended(self, why: Optional[Exception]) -> bool:
         """Its recording has ended, or couldn't be begun. Whether it is to be tried again."""
-        if why and self._begun and (self._is_faulty or not isinstance(why, Refused)):
+        if why is None:
+            self._opened()
+        elif self.is_open and (self._is_faulty or not isinstance(why, Refused)):
             self._is_faulty = True
             self._screen.state("NOT RECORDED", why)
             return True
         self.refused = why if isinstance(why, Refused) or why is None else Refused(FAILED, reason_of(why))
-        self.leaves()
+        self.over()
         return False
 
     def owner(self, number: str) -> Optional[Board]:
@@ -107,7 +123,7 @@ class Single:
 
     def typed(self, text: str) -> None:
         """A line of the terminal."""
-        if text in ("q", "quit") and not self.board.is_recorded:
+        if text in QUITS and not self.board.is_recorded:
             self.end()
             return
         status, answer = self.board.typed(text)

@@ -125,6 +125,8 @@ class Broadcast:
         try:
             self._begin()
             self._guard.call(self._look)
+            if self._file and self.boards:
+                self._file.changed()
         except Exception as error:
             self._guard.end()
             self._broke(error)
@@ -145,6 +147,11 @@ class Broadcast:
         self._guard.after(TICK, self._each_second)
         if self._is_known:
             self._look()
+
+    def look(self) -> None:
+        """The games are taken as they are now."""
+        if self._is_known:
+            self._guard.call(self._look)
 
     def _look(self) -> None:
         """Looks at all games, and shows what is due."""
@@ -201,6 +208,12 @@ class Broadcast:
         times = [one.late.history.ends_at for one in self._of.values()]
         last = max((at for at in times if at is not None), default=None)
         return None if last is None else max(0.0, last - self._loop.now())
+
+    @property
+    def is_out(self) -> bool:
+        """Whether all that is shown is written, and was carried away."""
+        is_written = self._file is None or not self.boards or self._file.is_written
+        return is_written and (self._publisher is None or self._publisher.is_idle)
 
     # How it is carried away.
 

@@ -5,11 +5,11 @@ from __future__ import annotations
 import contextlib
 import functools
 import os
-from typing import Optional
+from typing import Callable, Optional
 
 from live.broadcast import kept
 from live.broadcast.history import NOTHING, History, Shot
-from live.game.files import Paths, existing, new_of, open_new
+from live.game.files import NO_SUCH_FILE, Paths, existing, new_of, open_new
 
 BOOT = "/proc/sys/kernel/random/boot_id"
 
@@ -21,6 +21,24 @@ def this_start() -> str:
         with open(BOOT, encoding="ascii", errors="replace") as file:
             return file.read().strip()
     return os.urandom(16).hex()
+
+
+def is_hidden(paths: Paths) -> bool:
+    """Whether a game goes out late, and spectators haven't seen it as it is now."""
+    try:
+        content = existing(paths.delayed)
+        history = kept.read(content, "", 0.0, 0.0)
+        return bool(content) and (history.is_hidden or history.shot.text != existing(paths.pgn))
+    except OSError as error:
+        return error.errno not in NO_SUCH_FILE
+
+
+def is_unseen(paths: Paths, published: Callable[[bytes], bytes]) -> bool:
+    """Whether that is so, or its last text was never put in place. `published` makes of a text what goes out."""
+    with contextlib.suppress(OSError):
+        if existing(paths.delayed):
+            return is_hidden(paths) or existing(paths.broadcast) != published(existing(paths.pgn))
+    return False
 
 
 class Late:

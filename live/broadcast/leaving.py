@@ -1,12 +1,17 @@
-"""How a call of `dgt_live` ends while spectators haven't seen the last moves: it waits until they have."""
+"""How a call of `dgt_live` ends while spectators haven't seen the last moves: it goes on until they have. One call alone shows
+a game late."""
 
 from __future__ import annotations
 
 import datetime
-from typing import Callable
+import os
+from typing import Callable, Optional
 
 from live.broadcast.broadcast import Broadcast
+from live.game.files import LOCK_PATIENCE, Paths, open_regular
+from live.lock import locked
 from live.loop import Loop
+from live.refused import REFUSED, Refused
 
 LOOK = 0.5  # seconds
 
@@ -17,33 +22,73 @@ def clock_in(seconds: float) -> str:
     return f"{at:%H:%M}"
 
 
+def hold(paths: Paths) -> Optional[int]:
+    """The lock of the only call that shows a game late; None where there is no file to lock. Refused where another call has
+    it. The log is locked, which nobody puts another file in the place of."""
+    try:
+        number = open_regular(paths.log, os.O_WRONLY | os.O_APPEND | os.O_CREAT)
+    except OSError:
+        return None
+    if not locked(number, LOCK_PATIENCE):
+        os.close(number)
+        raise Refused(REFUSED, f"another dgt_live shows {paths.name} to spectators: leave it running, or Ctrl-C there first")
+    return number
+
+
 class Leaving:
-    """Ends the loop when all is shown and published. A second call waits for no move, a third one for nothing."""
+    """Ends the loop when all is shown and published. Whoever ends it before is told first what is hidden. A second time ends it
+    with that hidden, a third one waits for nothing."""
 
     def __init__(self, loop: Loop, broadcast: Broadcast, says: Callable[[str], None]) -> None:
         self._loop, self._broadcast, self._says = loop, broadcast, says
-        self._waits = self._ends = False
+        self._waits = self._was_asked = False
+        self.ends = False  # it waits for nothing but the last run of the command
 
-    def leave(self) -> None:
-        """What was recorded has ended."""
-        left = self._broadcast.hidden_for
-        if self._ends:
+    def over(self) -> None:
+        """What was recorded has ended by itself."""
+        left = self._left()
+        if left is None and not self._waits:
+            self._finish()
+        elif left is not None and not self.ends:
+            self._says(f"spectators see the last moves at {clock_in(left)}: it goes on until then")
+            self._wait()
+
+    def asked(self) -> None:
+        """Somebody ends it, and what was recorded has ended."""
+        left = self._left()
+        if self.ends:
             self._loop.stop()
-        elif left is None or self._waits:
+        elif left is None or self._was_asked:
             self._finish()
         else:
+            self._was_asked = True
+            when = f"spectators see the last moves at {clock_in(left)}"
+            self._says(f"{when}: leave it running until then. To end it now, Ctrl-C again")
+            self._wait()
+
+    def goes_on(self) -> None:
+        """The game is recorded again."""
+        self._waits = self._was_asked = False
+
+    def _left(self) -> Optional[float]:
+        """For how many seconds something of the game as it is now is hidden."""
+        self._broadcast.look()
+        return self._broadcast.hidden_for
+
+    def _wait(self) -> None:
+        if not self._waits:
             self._waits = True
-            self._says(f"spectators see the last moves at {clock_in(left)}: it ends then. Ctrl-C ends it now")
             self._look()
 
     def _look(self) -> None:
-        if self._ends:
+        if not self._waits or self.ends:
             return
-        if self._broadcast.hidden_for is None:
+        if self._broadcast.hidden_for is None and self._broadcast.is_out:
             self._finish()
         else:
             self._loop.after(LOOK, self._look)
 
     def _finish(self) -> None:
-        self._ends = True
-        self._broadcast.finish(self._loop.stop)
+        if not self.ends:
+            self.ends = True
+            self._broadcast.finish(self._loop.stop)

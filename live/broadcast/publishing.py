@@ -171,6 +171,11 @@ class Publisher:
         else:
             self._wait()
 
+    @property
+    def is_idle(self) -> bool:
+        """Whether the file has gone out as it is now."""
+        return not (self._plan.running or self._plan.wanted)
+
     def finish(self, done: Callable[[], None]) -> None:
         """Calls this when the file has gone out as it is now, or couldn't: a run that has failed is tried once more, at once."""
         self._done = done

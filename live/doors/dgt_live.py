@@ -8,10 +8,11 @@ from typing import Sequence
 
 from live.board.plan import Plan, last_number, numbered
 from live.board.recording import Rules
-from live.board.single import Choice, Single
+from live.board.single import QUITS, Choice, Single
 from live.broadcast.broadcast import Broadcast
 from live.broadcast.going_out import GoingOut, delay_of, minutes
-from live.broadcast.leaving import Leaving
+from live.broadcast.late import is_hidden, is_unseen
+from live.broadcast.leaving import Leaving, clock_in, hold
 from live.device import serial_line
 from live.device.numbers import numbers_of
 from live.doors import calls
@@ -20,7 +21,7 @@ from live.doors.door import Outcome, through
 from live.game import control, files, refusal
 from live.game.adding import add_by_name
 from live.game.files import LOCK_PATIENCE, Paths
-from live.game.game import kept_options
+from live.game.game import end_mark, kept_options
 from live.game.names import today
 from live.game.opening import Opening, checked, read_otherwise
 from live.game.options import Options
@@ -32,6 +33,7 @@ from live.terminal.screen import Screen
 from live.terminal.terminal import Terminal, Typed
 from live.web.doors import Title, TwoPages
 from live.web.round_page import ArbiterView
+from live.web.view import round_pgn
 
 HELP = """\
 usage: dgt_live [--series] [--once] [--linger SECONDS] DEVICE NAME [OPTION..]
@@ -65,6 +67,9 @@ def record(call: Call, program: Program, signals: Signals) -> Outcome:
     """Records a game, or a series of them."""
     given = checked(program, call.options)
     paths = Paths(call.name)
+    if not call.series and (call.delay is not None or os.path.lexists(paths.delay) or os.path.lexists(paths.delayed)):
+        hold(paths)
+    shows = not call.series and is_unseen(paths, lambda text: published_of(paths, text)) and end_mark(paths) is not None
     delay = delay_of(paths, call.delay)
     late = minutes(delay) if delay else ""
     loop = Loop()
@@ -72,10 +77,12 @@ def record(call: Call, program: Program, signals: Signals) -> Outcome:
     pages = TwoPages(loop, call.pages, Title(given.event or event, given.round or "", late))
     terminal = Terminal(loop)
     plan = Plan(call.device, call.name, Rules(call.linger, call.series), call.once)
-    choice = Choice(given, tuple(given.told_of_turned(call.options)))
+    choice = Choice(given, tuple(given.told_of_turned(call.options)), shows)
     single = Single(loop, program, Screen(terminal), plan, choice)
-    place = paths.broadcast if delay or call.publish or has_tags(paths, given) else None
-    broadcast = Broadcast(loop, GoingOut(delay, call.publish), place, lambda: [single], lambda game: paths, single)
+    goes_out = delay or call.publish or has_tags(paths, given) or os.path.lexists(paths.broadcast)
+    place = paths.broadcast if goes_out else None
+    out = GoingOut(delay, call.publish)
+    broadcast = Broadcast(loop, out, place, lambda: [single] if single.is_open else [], lambda game: paths, single)
     pages.trouble = single.trouble
     pages.show(ArbiterView(event, lambda: [single], single.trouble), broadcast)
 
@@ -85,19 +92,29 @@ def record(call: Call, program: Program, signals: Signals) -> Outcome:
             broadcast.changed()
 
     single.on_change = changed
-    single.leaves = Leaving(loop, broadcast, single.say).leave
+    def typed(text: str) -> None:
+        if not leaving.ends or text in QUITS:
+            single.typed(text)
+
+    leaving = Leaving(loop, broadcast, single.say)
+    single.over, single.asked, single.goes_on = leaving.over, leaving.asked, leaving.goes_on
     single.greeting = tuple(pages.told("the game"))
+    if shows:
+        single.greeting += (f"{paths.name} is over: spectators get what they haven't seen of it",)
     if late:
         stays = " as before; --delay 0 ends that" if call.delay is None else ""
         single.greeting += (f"spectators see the game {late} late{stays}",)
     single.begin()
     signals.tell(loop, single.end)
-    reader = Typed(loop, single.typed, single.refuses)
+    reader = Typed(loop, typed, single.refuses)
     loop.run()
     reader.close()
     pages.close()
+    left = broadcast.hidden_for
     complaints = broadcast.close()
     terminal.clear()
+    if left is not None:
+        single.say(f"spectators haven't seen all moves. Start it again to show them, the last ones at {clock_in(left)}")
     if single.refused is None:
         terminal.line(f"dgt_live: what was played is in {single.board.paths.pgn}")
     terminal.end(PRINTED)
@@ -115,9 +132,18 @@ def has_tags(paths: Paths, given: Options) -> bool:
     return bool(given.tags or (kept and kept.tags))
 
 
+def published_of(paths: Paths, text: bytes) -> bytes:
+    """What goes out of a game that has this text."""
+    try:
+        kept = kept_options(paths)
+    except Refused:
+        kept = None
+    return round_pgn([published(text, dict(kept.tags) if kept else {})])
+
+
 def publish_anew(paths: Paths, given: Options = Options()) -> None:
     """The published text of a game that nobody records, where it has one or gets tags; not while a part of it is hidden."""
-    if not (given.tags or os.path.lexists(paths.broadcast)) or os.path.lexists(paths.delayed):
+    if not (given.tags or os.path.lexists(paths.broadcast)) or is_hidden(paths):
         return
     kept = kept_options(paths)
     try:
@@ -150,7 +176,7 @@ def remake(call: Call, program: Program) -> Outcome:
     said = [f"{options.side.capitalize()}'s time comes first"] if call.options.first else []
     if given.tags:
         publish_anew(paths, given)
-        said.append(f"{paths.broadcast} has its tags")
+        said.append(f"{paths.broadcast} {'gets its tags as the rest of it is shown' if is_hidden(paths) else 'has its tags'}")
     pairs = opened.old.course.recovered
     what = "; ".join([*(said + pairs or ["nothing recovered"]), *opened.results, *opened.told])
     files.log_once(paths, f"made anew: {what}")

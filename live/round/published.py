@@ -70,6 +70,11 @@ class Published:
             self._says(f"{what}: {self.path} can't be written ({made.trouble}); it is tried again each second")
         self._trouble = made.trouble
 
+    @property
+    def is_written(self) -> bool:
+        """Whether the file has the text as it is now."""
+        return self._written == self._text()
+
     def stop(self) -> None:
         """It is written no more."""
         if self._timer:

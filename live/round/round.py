@@ -351,6 +351,7 @@ class Round:
 
     def _may_end(self) -> bool:
         """Whether nobody waits for what is still hidden, or whoever ends it has been told of that."""
+        self.broadcast.look()
         left = None if self._was_asked else self.broadcast.hidden_for
         if left is None:
             return True

@@ -1,0 +1,224 @@
+"""A single game that goes out late: what is still hidden as it ends is shown at its times, by the same call or by the next one.
+The case controls the recorder's clock: fifteen minutes take no time."""
+
+import pathlib
+import re
+from typing import List
+
+from played import words
+from played.boards import Board
+from played.recorder import Live
+from played.stage import RUY, RUY_TEXT, a_board, begun, bytes_of, ended, holds_within, kill, refuses, same, stop, until, until_line
+from rounds.going_out import Clock
+from rounds.hall import plain
+
+from live.broadcast import kept
+
+LAST = "spectators see the last moves at "
+WAITS, AGAIN = "it goes on until then", "To end it now, Ctrl-C again"
+REST = "spectators get what they haven't seen of it"
+LEFT = "spectators haven't seen all moves. Start it again to show them, the last ones at "
+WON = RUY_TEXT.replace("*", "1-0")
+DRAWN = RUY_TEXT.replace("*", "1/2-1/2")
+
+
+class Game:
+    """A board whose game goes out fifteen minutes late, to a file and by a copy of it."""
+
+    def __init__(self, folder: pathlib.Path) -> None:
+        self.folder, self.name, self.clock = folder, folder / "game", Clock(folder)
+        self.board: Board = a_board(folder)
+        self.www = folder / "www"
+        self.www.mkdir()
+
+    def record(self, *options: str, delay: str = "--delay 15") -> Live:
+        """The command, the same each time."""
+        command = ["--linger", "0", *delay.split(), "--publish", f"cp -t {self.www}", *options]
+        return Live(self.board.device, self.name, *command, typed=True, start=self.clock.start)
+
+    def play(self, live: Live) -> None:
+        """Five plies, with a clock; they are kept."""
+        begun(live)
+        self.until_shown("*")
+        for number, move in enumerate(RUY):
+            self.board.clock(5400 - number, 5400 - number)
+            self.board.play(move)
+        self.until_kept(RUY_TEXT)
+
+    def until_kept(self, text: str) -> None:
+        """This is what is kept for spectators."""
+        until(lambda: self._kept()[-1:] == [text], f"{text}, kept", 0.02)
+
+    def _kept(self) -> List[str]:
+        entries = kept.read(bytes_of(f"{self.name}.delayed"), "", 0.0, 0.0).entries
+        return [text_of(entry.shot.text) for entry in entries]
+
+    @property
+    def shown(self) -> List[str]:
+        """What spectators have: the file and its copy."""
+        return [text_of(bytes_of(path)) for path in (f"{self.name}.broadcast.pgn", self.www / "game.broadcast.pgn")]
+
+    def until_shown(self, text: str) -> None:
+        until(lambda: self.shown == [text] * 2, f"{text}, shown; there is {self.shown}", 0.02)
+
+
+def text_of(content: bytes) -> str:
+    """The movetext, without clocks."""
+    return plain(" ".join((content.split(b"\n\n") + [b""])[1].decode().split()))
+
+
+def rest_is_shown(folder: pathlib.Path) -> None:
+    """After its result a game is shown to its end, each part at its time, and the call ends by itself. Another call doesn't show
+    it beside that; a result that is typed meanwhile is shown fifteen minutes after it."""
+    game = Game(folder)
+    live = game.record()
+    game.play(live)
+    game.clock.be(600)
+    live.type("1-0")
+    until_line(live, WAITS)
+    game.until_kept(WON)
+    refuses(game.record(delay="--delay 0"), 1, "another dgt_live shows ")
+    same((game.shown, bytes_of(f"{game.name}.delay")), (["*", "*"], b"15\n"))
+    game.clock.be(910)
+    game.until_shown(RUY_TEXT)
+    live.type("1/2-1/2")
+    game.until_kept(DRAWN)
+    until_line(live, LAST, 2)
+    game.clock.be(1510)
+    game.until_shown(WON)
+    game.clock.be(2420)
+    same(ended(live), 0)
+    same((game.shown, text_of(bytes_of(f"{game.name}.pgn"))), ([DRAWN] * 2, DRAWN))
+    same((AGAIN in live.lines(), LEFT in live.lines()), (False, False))
+    refuses(game.record(), 1, "is over: choose another name")
+
+
+def rest_after_a_kill(folder: pathlib.Path) -> None:
+    """It is killed as it waits, and the board is taken away: the same command shows the rest at the minute at which it would have
+    been shown, and then says that the game is over."""
+    game = Game(folder)
+    live = game.record()
+    game.play(live)
+    game.clock.be(450)
+    live.type("1-0")
+    until_line(live, WAITS)
+    game.until_kept(WON)
+    kill(live)
+    game.board.pull()
+    game.clock.be(600)
+    live = game.record(delay="")
+    until_line(live, REST)
+    until_line(live, "15 minutes late as before; --delay 0 ends that")
+    until_line(live, WAITS)
+    same(game.shown, ["*", "*"])
+    game.clock.be(910)
+    game.until_shown(RUY_TEXT)
+    kill(live)
+    game.clock.be(1000)
+    live = game.record(delay="")
+    until_line(live, WAITS)
+    same(game.shown, [RUY_TEXT] * 2)
+    game.clock.be(1360)
+    same(ended(live), 0)
+    same(game.shown, [WON] * 2)
+    refuses(game.record(delay=""), 1, "is over: choose another name")
+
+
+def killed_until_after(folder: pathlib.Path) -> None:
+    """What became due while no call was there is shown at once, and nothing waits."""
+    game = Game(folder)
+    live = game.record()
+    game.play(live)
+    live.type("1-0")
+    until_line(live, WAITS)
+    game.until_kept(WON)
+    kill(live)
+    game.clock.be(5000)
+    live = game.record()
+    same(ended(live), 0)
+    same((game.shown, LAST in live.lines()), ([WON] * 2, False))
+
+
+def second_ctrl_c(folder: pathlib.Path) -> None:
+    """A first Ctrl-C says what is hidden, whether the game has a result or not; a second one ends it with that hidden. The same
+    command goes on with it, and one with --delay 0 shows all."""
+    game = Game(folder)
+    live = game.record()
+    game.play(live)
+    game.clock.be(600)
+    live.send(2)
+    until_line(live, AGAIN)
+    same((game.shown, WAITS in live.lines()), (["*"] * 2, False))
+    same(stop(live), 0)
+    same((game.shown, LEFT in live.lines()), (["*"] * 2, True))
+
+    live = game.record()
+    begun(live)
+    live.type("1-0")
+    until_line(live, WAITS)
+    game.until_kept(WON)
+    same(AGAIN in live.lines(), False)
+    live.type("q")
+    until_line(live, AGAIN)
+    game.clock.be(910)
+    game.until_shown(RUY_TEXT)
+    live.send(2)
+    same(ended(live), 0)
+    same((game.shown, LEFT in live.lines()), ([RUY_TEXT] * 2, True))
+
+    live = game.record()
+    until_line(live, WAITS)
+    same(game.shown, [RUY_TEXT] * 2)
+    same([stop_twice(live), *game.shown], [0, RUY_TEXT, RUY_TEXT])
+    live = game.record(delay="--delay 0")
+    same(ended(live), 0)
+    same(game.shown, [WON] * 2)
+    refuses(game.record(delay=""), 1, "is over: choose another name")
+
+
+def stop_twice(live: Live) -> int:
+    live.send(2)
+    until_line(live, AGAIN)
+    return stop(live)
+
+
+def goes_on_meanwhile(folder: pathlib.Path) -> None:
+    """The result is taken off while the rest is to be shown: the game is recorded again, and the call stays."""
+    game = Game(folder)
+    live = game.record()
+    game.play(live)
+    live.type("1-0")
+    until_line(live, WAITS)
+    game.until_kept(WON)
+    live.type("*")
+    until_line(live, words.RECORDS, 2)
+    game.until_kept(RUY_TEXT)
+    game.clock.be(1000)
+    game.until_shown(RUY_TEXT)
+    game.board.play("a7a6")
+    game.until_kept("1. e4 e5 2. Nf3 Nc6 3. Bb5 a6 *")
+    same(live.runs, True)
+    live.type("0-1")
+    until_line(live, WAITS, 2)
+    game.clock.be(2000)
+    same(ended(live), 0)
+    same(game.shown, ["1. e4 e5 2. Nf3 Nc6 3. Bb5 a6 0-1"] * 2)
+
+
+def away_at_the_end(folder: pathlib.Path) -> None:
+    """The command fails as the last moves are shown: the call stays until they are out."""
+    game = Game(folder)
+    live = game.record()
+    game.play(live)
+    live.type("1-0")
+    until_line(live, WAITS)
+    game.until_kept(WON)
+    away = game.www.rename(folder / "away")
+    game.clock.be(1000)
+    until(lambda: game.shown[0] == WON, "the result in the file", 0.02)
+    until_line(live, "NOT PUBLISHED: ")
+    same(holds_within(lambda: not live.runs, 2.0), False)
+    away.rename(game.www)
+    same(ended(live), 0)
+    same(game.shown, [WON] * 2)
+    same(re.findall("isn't published", live.complaint()), [])
