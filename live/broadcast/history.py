@@ -6,6 +6,7 @@ All times are those of a clock that never goes back and that all processes have 
 from __future__ import annotations
 
 import math
+import re
 from dataclasses import dataclass, field
 from typing import List, Optional, Sequence, Tuple
 
@@ -13,6 +14,7 @@ from live.broadcast.running import STANDING, Clocks
 from live.web.view import Ply
 
 ALWAYS = -math.inf  # when something came that was never hidden
+RESULT = re.compile(rb'^\[Result "[^"]*"\]$', re.MULTILINE)
 
 
 @dataclass(frozen=True)
@@ -32,6 +34,12 @@ class Shot:
 
 
 NOTHING = Shot()
+
+
+def unplayed(shot: Shot) -> Shot:
+    """The game as it was before its first move."""
+    head = RESULT.sub(b'[Result "*"]', shot.text.partition(b"\n\n")[0])
+    return Shot(positions=shot.positions[:1], text=head + b"\n\n*\n\n" if shot.text else b"")
 
 
 @dataclass(frozen=True)
@@ -62,7 +70,9 @@ class History:
 
     def take(self, now: float, shot: Shot) -> bool:
         """The game is this now. Whether that is news. A game that has had no move yet is shown at once, but for its clocks: its
-        players are no secret."""
+        players are no secret. One that is seen first with moves is shown without them."""
+        if self.delay and not self.entries and not shot.says_nothing:
+            self.entries.append(Entry(ALWAYS, unplayed(shot)))
         if shot.says_nothing and all(entry.shot.says_nothing for entry in self.entries):
             entry = Entry(ALWAYS, Shot(positions=shot.positions, text=shot.text))
         else:

@@ -9,7 +9,7 @@ from typing import List, Optional, Tuple
 
 from live.broadcast import kept
 from live.broadcast.going_out import GoingOut, delay_of, read_command, read_delay
-from live.broadcast.history import ALWAYS, NOTHING, History, Shot, due
+from live.broadcast.history import ALWAYS, History, Shot, due
 from live.broadcast.late import Late
 from live.broadcast.publishing import Plan, last_line, run
 from live.broadcast.running import Clocks, Running, seconds_of, side_between
@@ -71,9 +71,14 @@ def game_goes_by() -> None:
     history = History(900.0)
     history.take(0.0, E4)
     history.look(0.0)
-    same("a game with moves of which nothing is known is hidden", (history.shot, history.ends_at), (NOTHING, 900.0))
+    same("a game that is seen first with moves is shown without them", (history.shot, history.ends_at), (QUIET, 900.0))
     history.take(0.0, E4)
-    same("the same shot is no news", len(history.entries), 1)
+    same("the same shot is no news", len(history.entries), 2)
+    history = History(900.0)
+    history.take(0.0, Shot("0-1", E5.moves, E5.positions, b'[White]\n[Result "0-1"]\n[FEN "x"]\n\n1. e4 e5 0-1\n\n'))
+    history.look(899.9)
+    quiet = Shot(positions=(START,), text=b'[White]\n[Result "*"]\n[FEN "x"]\n\n*\n\n')
+    same("and without its result", history.shot, quiet)
     history = History(900.0)
     for now, shot in ((0.0, Shot()), (1.0, QUIET), (2.0, Shot(positions=(START,), text=QUIET.text, clocks=E4.clocks)), (3.0, E4)):
         history.take(now, shot)
@@ -136,7 +141,7 @@ def on_the_disk() -> None:
         paths.delayed.unlink()
         late = Late(paths, 900.0, 1500.0)
         late.take(1500.0, WON)
-        same("without its file all is hidden", (late.shot, late.history.next_at), (NOTHING, 2400.0))
+        same("without its file all is hidden but the players", (late.shot, late.history.next_at), (QUIET, 2400.0))
         late = Late(paths, 0.0, 1600.0)
         late.take(1600.0, WON)
         same("without a delay all is shown", (late.shot, paths.delayed.exists()), (WON, False))
