@@ -27,7 +27,7 @@ use Rattle.dgt_replay.specs.Refusals.{RefusesSetup}
 use Rattle.text_subcommands.specs.Streams.{Streams}
 use Rattle.dgt_replay.proofs.EndLemmas.{ends_for_memory, none_read, not_both}
 use Rattle.text_subcommands.proofs.MessageLemmas.{tells_alike, tells_memory}
-use Rattle.dgt_replay.proofs.RefusalLemmas.{refuses_alike, refuses_start_alike}
+use Rattle.dgt_replay.proofs.RefusalLemmas.{refuses_alike}
 use Rattle.dgt_replay.proofs.SetupLemmas.{meets_nothing}
 use Rattle.dgt_replay.proofs.SubcommandLemmas.{chooses_check, chooses_follow, chooses_pictures, chooses_record, chooses_recover, chooses_show, chooses_watch, follow_chosen, moves_chosen, positions_chosen, record_chosen, recover_chosen, watch_chosen}
 
@@ -141,6 +141,11 @@ refuses_too May Might status s too refuses = record {
   tells = tells_alike status May Might s.said s.said' false false s.err_failed too refuses.tells;
 }
 
+-- A start is refused for what the option says.
+refuses_start : (fen : Option Text) (rows : List Row) (status : ℕ) (s : Streams) → fen ≡ first_of (codes "fen") rows → (HasNoStart fen → Refuses (RefusesStart fen) status s)
+    → HasNoStart (first_of (codes "fen") rows) → Refuses (RefusesStart (first_of (codes "fen") rows)) status s
+refuses_start fen rows status s same refuses = let P : Option Text → Type 0 = λ f. HasNoStart f → Refuses (RefusesStart f) status s in subst P same refuses
+
 does_as : (subcommand chosen : Subcommand) (status : ℕ) (s : Streams) → subcommand ≡ chosen → Does subcommand status s → Does chosen status s
 does_as subcommand chosen status s is does = let P : Subcommand → Type 0 = λ w. Does w status s in subst P is does
 
@@ -184,11 +189,7 @@ pub does_refuse_start : (arguments : List Text) (subcommand : Subcommand) (statu
     → (rows : List Row) → Asks arguments (codes "follow") rows → HasNoStart (first_of (codes "fen") rows) → Refuses (RefusesStart (first_of (codes "fen") rows)) status s
 does_refuse_start arguments subcommand status s asked does rows asks none =
     let chosen = follow_chosen arguments rows subcommand asks asked in
-    let fen = given chosen.0.fen in
-    let same = chosen.2.fen in
-    refuses_too (RefusesStart fen) (RefusesStart (first_of (codes "fen") rows)) status s
-    (λ message refuses. refuses_start_alike fen (first_of (codes "fen") rows) message same refuses)
-    ((does_as subcommand _ status s chosen.1 does).1 (subst HasNoStart (sym same) none))
+    refuses_start (given chosen.0.fen) rows status s chosen.2.fen (does_as subcommand _ status s chosen.1 does).1 none
 
 pub does_watch : (arguments : List Text) (subcommand : Subcommand) (status : ℕ) (s : Streams) → AsksFor arguments subcommand → Does subcommand status s
     → (setting : Setting) → AsksToWatch arguments setting → Lists (Watched setting.start setting.first setting.rotated) status s
@@ -200,11 +201,7 @@ pub does_refuse_watch : (arguments : List Text) (subcommand : Subcommand) (statu
     → (rows : List Row) → Asks arguments (codes "watch") rows → HasNoStart (first_of (codes "fen") rows) → Refuses (RefusesStart (first_of (codes "fen") rows)) status s
 does_refuse_watch arguments subcommand status s asked does rows asks none =
     let chosen = watch_chosen arguments rows subcommand asks asked in
-    let fen = given chosen.0.fen in
-    let same = chosen.2.fen in
-    refuses_too (RefusesStart fen) (RefusesStart (first_of (codes "fen") rows)) status s
-    (λ message refuses. refuses_start_alike fen (first_of (codes "fen") rows) message same refuses)
-    ((does_as subcommand _ status s chosen.1 does).1 (subst HasNoStart (sym same) none))
+    refuses_start (given chosen.0.fen) rows status s chosen.2.fen (does_as subcommand _ status s chosen.1 does).1 none
 
 pub does_recover : (arguments : List Text) (subcommand : Subcommand) (status : ℕ) (s : Streams) → AsksFor arguments subcommand → Does subcommand status s
     → (setting : Setting) → AsksToRecover arguments setting → RecoversPairs setting status s
@@ -216,11 +213,7 @@ pub does_refuse_recover : (arguments : List Text) (subcommand : Subcommand) (sta
     → (rows : List Row) → Asks arguments (codes "recover") rows → HasNoStart (first_of (codes "fen") rows) → Refuses (RefusesStart (first_of (codes "fen") rows)) status s
 does_refuse_recover arguments subcommand status s asked does rows asks none =
     let chosen = recover_chosen arguments rows subcommand asks asked in
-    let fen = given chosen.0.fen in
-    let same = chosen.2.fen in
-    refuses_too (RefusesStart fen) (RefusesStart (first_of (codes "fen") rows)) status s
-    (λ message refuses. refuses_start_alike fen (first_of (codes "fen") rows) message same refuses)
-    ((does_as subcommand _ status s chosen.1 does).1 (subst HasNoStart (sym same) none))
+    refuses_start (given chosen.0.fen) rows status s chosen.2.fen (does_as subcommand _ status s chosen.1 does).1 none
 
 pub does_moves : (arguments : List Text) (subcommand : Subcommand) (status : ℕ) (s : Streams) → AsksFor arguments subcommand → Does subcommand status s
     → (rows : List Row) → Asks arguments (codes "moves") rows → Prints (first_of (codes "fen") rows) status s
@@ -239,8 +232,4 @@ pub does_refuse_positions : (arguments : List Text) (subcommand : Subcommand) (s
     → (rows : List Row) → Asks arguments (codes "positions") rows → HasNoStart (first_of (codes "fen") rows) → Refuses (RefusesStart (first_of (codes "fen") rows)) status s
 does_refuse_positions arguments subcommand status s asked does rows asks none =
     let chosen = positions_chosen arguments rows subcommand asks asked in
-    let fen = given chosen.0 in
-    let same = chosen.2 in
-    refuses_too (RefusesStart fen) (RefusesStart (first_of (codes "fen") rows)) status s
-    (λ message refuses. refuses_start_alike fen (first_of (codes "fen") rows) message same refuses)
-    ((does_as subcommand _ status s chosen.1 does).1 (subst HasNoStart (sym same) none))
+    refuses_start (given chosen.0) rows status s chosen.2 (does_as subcommand _ status s chosen.1 does).1 none

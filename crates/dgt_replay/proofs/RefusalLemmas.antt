@@ -69,7 +69,7 @@ says_memory (Fen error) said said' err_failed memory says = absurd memory
 says_memory (OfTag tag error) said said' err_failed memory says = let P : TagError → Type 0 = λ e. Says said said' err_failed (tag_message tag e) in subst P memory says
 
 -- The same reasons where the texts are the same.
-pub refuses_start_alike : (fen fen' : Option Text) (arguments : List ℕ) → fen ≡ fen' → RefusesStart fen arguments → RefusesStart fen' arguments
+refuses_start_alike : (fen fen' : Option Text) (arguments : List ℕ) → fen ≡ fen' → RefusesStart fen arguments → RefusesStart fen' arguments
 refuses_start_alike fen fen' arguments same refuses = let P : Option Text → Type 0 = λ f. RefusesStart f arguments in subst P same refuses
 
 pub refuses_alike : (fen fen' : Option Text) (text text' : Tag → Option Text) → fen ≡ fen' → ((tag : Tag) → text tag ≡ text' tag) → (arguments : List ℕ) → RefusesSetup fen text arguments → RefusesSetup fen' text' arguments
