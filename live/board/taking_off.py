@@ -13,7 +13,7 @@ from live.game import added
 from live.game.added import STRAY
 from live.game.adding import Answer, reopen
 from live.game.game import Game, end_mark
-from live.game.going_back import Way, go_back_closed, put_way, way_back, without_result
+from live.game.going_back import Way, go_back_closed, go_back_over, put_way, way_back, without_result
 from live.game.opening import Opened
 from live.game.reading import read_game
 from live.guard import Guard
@@ -59,18 +59,28 @@ class TakesOff:
         return DONE, said
 
     def _go_back(self, typed: added.Back) -> Answer:
-        """Plies are taken off. A game that was over by a typed result goes on; between two games of a series it stays over."""
+        """Plies are taken off, and a game that was over goes on; between two games of a series it stays over where the board
+        still shows what was taken off."""
         if isinstance(self._now, Recording):
             sent = self._sent()
             return DONE, self._put(way_back(self.game, typed, sent, sent))
-        is_over = isinstance(self._now, SettingUp)
-        done = self._change_closed(lambda: go_back_closed(self.game, typed, is_over, listens=not is_over))
-        if is_over:
+        done = self._change_closed(lambda: self._go_back_closed(typed))
+        if end_mark(self.game.paths) is None:
+            self._go_on(done)
+        else:
             self._screen.say(done)
             self._look_for_start(self._end())
-        else:
-            self._go_on(done)
         return DONE, f"{self.game.paths.name}: {done}"
+
+    def _go_back_closed(self, typed: added.Back) -> str:
+        try:
+            return go_back_closed(self.game, typed, listens=True)
+        except added.Asked:
+            raise
+        except added.Refused:
+            if not isinstance(self._now, SettingUp):
+                raise
+        return f"{go_back_over(self.game, typed)}. The game stays over"
 
     def _sent(self) -> bytes:
         """What the board has sent. Refused where the capture of a game that is recorded can't be made anew."""

@@ -149,9 +149,9 @@ def _made(game: Game, made: Made) -> str:
 
 
 def reopen(game: Game, listens: bool = False) -> str:
-    """Takes the result off a game; where it is over, what was played after it is the game's from here on. What is told of that.
-    Refused where it has none, or one by mate, or one that the board shows, where that is listened to; OSError where a file
-    can't be written."""
+    """Takes the result off a game; where it is over by one, what was played after it is the game's from here on. What is told of
+    that. Refused where it has none and isn't over, or one by mate, or one that the board shows, where that is listened to;
+    OSError where a file can't be written."""
     mark = end_mark(game.paths)
     sent = game.capture.bytes(0, mark)
     course = game_of(game.program, game.options, sent)
@@ -161,7 +161,7 @@ def reopen(game: Game, listens: bool = False) -> str:
         if shorter == front:
             break
         front = shorter
-    if mark is None or (front == sent and not _went_on(game, course)):
+    if mark is None or course.result == "*" or (front == sent and not _went_on(game, course)):
         return f"{game.paths.name} goes on: {take_result_off(game, listens)}"
     text = Text(game)
     text.look(mark)

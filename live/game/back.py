@@ -44,12 +44,14 @@ class Stays:
 
 
 def capture_of(stays: Stays, rotated: bool, black_first: bool) -> bytes:
-    """The bytes of a board that shows it. The stray byte is a fault: a frame of the board's may be under way."""
+    """The bytes of a board that shows it. The stray byte is a fault: a frame of the board's may be under way. Without a ply it is
+    a game that begins: the start is shown where the board shows it."""
     pictures = [dump(picture_of_placement(fen), rotated) for fen in stays.fens]
     times = [time_message(reading, black_first) for reading in readings(stays.plies)]
     game = b"".join(time + picture for time, picture in zip(times, pictures[1:]))
     board = b"" if stays.board is None else dump(stays.board, rotated)
-    return pictures[0] + game + time_message(stays.present, black_first) + board + STRAY
+    start = pictures[0] if stays.plies or not board else b""
+    return start + game + time_message(stays.present, black_first) + board + STRAY
 
 
 def plies_that_stay(plies: Sequence[Move], typed: Back) -> int:

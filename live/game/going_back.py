@@ -11,7 +11,7 @@ import errno
 import os
 import pathlib
 from dataclasses import dataclass
-from typing import List, Sequence
+from typing import Callable, List, Sequence
 
 from live.game import added, back
 from live.game.alarms import keep_looks, kept_looks
@@ -57,7 +57,7 @@ def way_back(game: Game, typed: added.Back, sent: bytes, shown: bytes = b"") -> 
     none. Refused with what is to be typed; with a question, where many plies would go and that wasn't asked just before."""
     course = game_of(game.program, game.options, sent)
     stays = back.plies_that_stay(course.plies, typed)
-    if stays == len(course.plies) and course.result == "*":
+    if stays == len(course.plies) and course.result == "*" and end_mark(game.paths) is None:
         raise added.Refused(f"the game ends with {back.reached(course.plies)} already" if stays else "the game has no move")
     way = _checked(game, course, stays, sent, shown)
     asked = back.question(course.plies[stays:])
@@ -67,9 +67,9 @@ def way_back(game: Game, typed: added.Back, sent: bytes, shown: bytes = b"") -> 
 
 
 def without_result(game: Game, sent: bytes, shown: bytes = b"") -> Way:
-    """All plies, without the result. Refused where there is none."""
+    """All plies, without the result. Refused where there is none, and the game isn't over."""
     course = game_of(game.program, game.options, sent)
-    if course.result == "*":
+    if course.result == "*" and end_mark(game.paths) is None:
         raise added.Refused("the game has no result")
     return _checked(game, course, len(course.plies), sent, shown)
 
@@ -157,22 +157,47 @@ def _settle(paths: Paths, way: Way) -> str:
     return f"Settled: {', '.join(look.short for look in before.open if look not in left.open)}. "
 
 
-def go_back_closed(game: Game, typed: added.Back, is_over: bool = False, listens: bool = False) -> str:
-    """Takes plies off a game that nobody records now, and makes its text. One that was over by a result goes on, unless it is
-    to stay over: with the board as it stands, where that is listened to. What was done."""
+def go_back_closed(game: Game, typed: added.Back, listens: bool = False) -> str:
+    """Takes plies off a game that nobody records now, and makes its text. One that was over goes on: with the board as it
+    stands, where that is listened to. What was done."""
     sent = game.capture.bytes(0, end_mark(game.paths))
-    way = way_back(game, typed, sent, game.capture.bytes() if listens else b"")
-    return _put_closed(game, way, is_over or way.course.result == "*")
+    stood = listens or typed.all or _has_no_result(game, sent)
+    return _put_closed(game, _with_board(game, lambda shown: way_back(game, typed, sent, shown), stood, listens))
+
+
+def go_back_over(game: Game, typed: added.Back) -> str:
+    """Takes plies off a game that nobody records now, and that stays over. What was done."""
+    sent = game.capture.bytes(0, end_mark(game.paths))
+    return _put_closed(game, way_back(game, typed, sent), is_over=True)
 
 
 def take_result_off(game: Game, listens: bool = False) -> str:
-    """Takes off a result that was not typed, of a game that nobody records now; it goes on, with the board as it stands where
-    that is listened to. What was done."""
+    """Takes off a result that was not typed, of a game that nobody records now, and opens one that is over without a result; it
+    goes on, with the board as it stands where that is listened to. What was done."""
     sent = game.capture.bytes(0, end_mark(game.paths))
-    return _put_closed(game, without_result(game, sent, game.capture.bytes() if listens else b""), False)
+    stood = listens or _has_no_result(game, sent)
+    return _put_closed(game, _with_board(game, lambda shown: without_result(game, sent, shown), stood, listens))
 
 
-def _put_closed(game: Game, way: Way, is_over: bool) -> str:
+def _has_no_result(game: Game, sent: bytes) -> bool:
+    return game_of(game.program, game.options, sent).result == "*"
+
+
+def _with_board(game: Game, way_with: Callable[[bytes], Way], stood: bool, listens: bool) -> Way:
+    """With the board as it stood last, where that is wanted: a start that ended the game ends it no second time. Where it isn't
+    listened to, and may stand otherwise now, the game needn't allow for it."""
+    if stood:
+        try:
+            return way_with(game.capture.bytes())
+        except added.Asked:
+            raise
+        except added.Refused:
+            if listens:
+                raise
+    return way_with(b"")
+
+
+def _put_closed(game: Game, way: Way, is_over: bool = False) -> str:
     text = Text(game)
     text.look(end_mark(game.paths))
     told = put_way(game, way, is_over)

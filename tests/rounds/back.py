@@ -1,9 +1,11 @@
-"""A round is killed on the way back of one of its boards."""
+"""Games of a round that the start has ended go on; a round is killed on the way back of one of its boards."""
 
 import pathlib
 
+from played import words
 from played.back_killed import OnTheWay
-from played.stage import movetext, rest, same, stop
+from played.stage import bytes_of, movetext, rest, same, stop, until_line
+from rounds.alarms import says
 from rounds.hall import Hall
 
 
@@ -21,3 +23,54 @@ def killed_going_back(folder: pathlib.Path) -> None:
     way = OnTheWay(hall.name(1), "1 ", "3. Bb5")
     way.kill("dgt_round", 2, lambda start: hall.record(start=start, typed=True))
     same(movetext(hall.name(2)), other)
+
+
+def set_up_and_back(folder: pathlib.Path) -> None:
+    """The pieces of three boards were set up at the start, and that has ended their games. One game begins anew, as if it were the
+    first; one goes on with all its plies, and one without the last, once their pieces stand so. It is so when it is started again."""
+    hall = Hall(folder, 3)
+    live = hall.record(typed=True)
+    hall.begun(live)
+    for board in hall.boards:
+        for move in ("e2e4", "e7e5", "g1f3"):
+            board.play(move)
+    for number in (1, 2, 3):
+        hall.until_text(number, "1. e4 e5 2. Nf3 *")
+    rest(1.5)  # until the next dump
+    for board in hall.boards:
+        board.set_up([])
+    for number in (1, 2, 3):
+        until_line(live, f"{number:>3}  {hall.name(number)} is over: the pieces stand at the start again")
+        says(live, number, "over, no result; ")
+    live.type("1 back 0")
+    until_line(live, "1: takes off 3 plies, from 1. e4: type it again")
+    live.type("1 back 0")
+    until_line(live, "back to the start; taken off: 1. e4 e5 2. Nf3. What the board had sent is kept in")
+    says(live, 1, "agrees; ")
+    hall.until_text(1, "*")
+    live.type("2 *")
+    until_line(live, f"{hall.name(2)} goes on: back to 2. Nf3; no ply is taken off")
+    live.type("3 back")
+    until_line(live, "back to 1... e5; taken off: 2. Nf3. What the board had sent is kept in")
+    rest(1.5)
+    same([bytes_of(hall.name(number) + ".end") for number in (1, 2, 3)], [b"", b"", b""])
+    hall.boards[0].play("d2d4")
+    hall.until_text(1, "1. d4 *")
+    for board in hall.boards[1:]:
+        for move in ("e2e4", "e7e5"):
+            board.play(move)
+    hall.boards[1].play("g1f3")
+    for number in (2, 3):
+        says(live, number, "agrees; ")
+    same(stop(live), 0)
+    again = hall.record(typed=True)
+    hall.begun(again)
+    hall.boards[1].play("b8c6")
+    hall.until_text(2, "1. e4 e5 2. Nf3 Nc6 *")
+    hall.boards[2].play("f1c4")
+    hall.until_text(3, "1. e4 e5 2. Bc4 *")
+    hall.boards[0].play("d7d5")
+    hall.until_text(1, "1. d4 d5 *")
+    hall.until_round()
+    same(stop(again), 0)
+    assert words.WRONG not in again.lines(), again.lines()

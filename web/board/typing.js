@@ -68,7 +68,7 @@ export class Typing {
     if (typed.kind === 'reopened') return this.reopen(sent, shown);
     if (typed.kind === 'back') {
       try {
-        return await this.goBack(await wayBack(recorder.program, recorder.options, { sent, shown }, typed, asked));
+        return await this.goBack(await wayBack(recorder.program, recorder.options, { sent, shown, isOver: recorder.isOver }, typed, asked));
       } catch (error) {
         this.asked = error.message;
         throw error;
@@ -100,7 +100,7 @@ export class Typing {
       await recorder.renew(joined(front, shown.slice(sent.length)), true, { end: null });
       return `${recorder.game.name} goes on, without the result`;
     }
-    return this.goBack(await withoutResult(recorder.program, recorder.options, { sent, shown }));
+    return this.goBack(await withoutResult(recorder.program, recorder.options, { sent, shown, isOver: recorder.isOver }));
   }
 
   /** Whether the board has taken the result of a game back after its end, as kings do that leave the centre. */

@@ -26,14 +26,15 @@ export function readings(plies) {
 /**
  * The bytes of a board that shows what a game keeps: its plies, the positions at its start and after each, what the
  * clocks show now, and what the board shows, where that is known. The stray byte is a fault: a frame of the board's may
- * be under way.
+ * be under way. Without a ply it is a game that begins: the start is shown where the board shows it.
  */
 export function captureOf({ plies, fens, present, board }, rotated, blackFirst) {
   const pictures = fens.map((fen) => dump(pictureOfPlacement(fen), rotated));
   const times = readings(plies).map((reading) => timeMessage(reading, blackFirst));
   const game = pictures.slice(1).flatMap((picture, at) => [times[at], picture]);
   const stands = board === null ? [] : [dump(board, rotated)];
-  return joined(pictures[0], ...game, timeMessage(present, blackFirst), ...stands, STRAY);
+  const start = plies.length > 0 || board === null ? [pictures[0]] : [];
+  return joined(...start, ...game, timeMessage(present, blackFirst), ...stands, STRAY);
 }
 
 /**

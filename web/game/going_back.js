@@ -8,14 +8,14 @@ import { sideOf } from './options.js';
 import { gameOf, movetextOf } from './reading.js';
 
 /**
- * Back to the ply that was typed, of the game of the bytes `sent`; it goes on with a board that has sent `shown`, or
- * with none. What comes of it is { course, stays, content, what }. Refused with what is to be typed; with a question,
+ * Back to the ply that was typed, of the game of the bytes `sent`, which may be over; it goes on with a board that has
+ * sent `shown`, or with none. What comes of it is { course, stays, content, what }. Refused with what is to be typed; with a question,
  * where many plies would go and `asked` is another one than that.
  */
-export async function wayBack(program, options, { sent, shown }, typed, asked) {
+export async function wayBack(program, options, { sent, shown, isOver }, typed, asked) {
   const course = await gameOf(program, options, sent);
   const stays = pliesThatStay(course.plies, typed);
-  if (stays === course.plies.length && course.result === '*') {
+  if (stays === course.plies.length && course.result === '*' && !isOver) {
     throw new Refused(`the game ends with ${reached(course.plies)} already`);
   }
   const way = await checked(program, options, { sent, shown }, course, stays);
@@ -24,10 +24,10 @@ export async function wayBack(program, options, { sent, shown }, typed, asked) {
   return way;
 }
 
-/** All plies, without the result. Refused where there is none. */
-export async function withoutResult(program, options, { sent, shown }) {
+/** All plies, without the result. Refused where there is none, and the game isn't over. */
+export async function withoutResult(program, options, { sent, shown, isOver }) {
   const course = await gameOf(program, options, sent);
-  if (course.result === '*') throw new Refused('the game has no result');
+  if (course.result === '*' && !isOver) throw new Refused('the game has no result');
   return checked(program, options, { sent, shown }, course, course.plies.length);
 }
 
