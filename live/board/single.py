@@ -177,7 +177,7 @@ def refuse_over(paths: Paths, given: Options) -> None:
     if end_mark(paths) is not None:
         what = [
             f"{paths.name} is over: choose another name. To add to it: dgt_live --add 1-0 {paths.name}.",
-            f"To go on with it all the same, remove {paths.end}",
+            f'To go on with it all the same: dgt_live --add "*" {paths.name}',
         ]
         reading = " ".join(given.reading().words())
         if reading:

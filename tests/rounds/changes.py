@@ -7,7 +7,7 @@ from typing import List
 from played import words
 from played.recovered import PAIR, hurried
 from played.stage import bytes_of, movetext, refuses, run, same, stop, until, until_line
-from rounds.hall import Hall, games_of
+from rounds.hall import Hall, games_of, text
 
 
 def another_round(folder: pathlib.Path) -> None:
@@ -57,6 +57,56 @@ def another_round(folder: pathlib.Path) -> None:
     live = hall.record("--round", "4")
     until_line(live, "  2  its round is now 4, and was ?\n")
     same(stop(live), 0)
+
+
+def players_exchanged(folder: pathlib.Path) -> None:
+    """Boards without serial numbers, whose cables were swapped before the first start: each game has the players of another
+    board. They are exchanged in the table while the games are played, and one is over: all are whole with their own players, in
+    their files and in round.pgn, also after a new start."""
+    hall = Hall(folder, 4, clocks=(0, 1))
+
+    def write(*players: int) -> None:
+        lines = [f"{board},{folder}/board{board},White {one},Black {one},{2000 + one}" for board, one in enumerate(players, 1)]
+        hall.file.write_text("\n".join(["board,device,white,black,WhiteElo", *lines, ""]))
+
+    def players(game: bytes) -> List[str]:
+        return [line.split('"')[1] for line in game.decode().splitlines() if line.startswith(("[White ", "[Black "))]
+
+    def until_players(*wanted: int) -> None:
+        games = [[f"White {one}", f"Black {one}"] for one in wanted]
+        until(lambda: [players(bytes_of(hall.name(number) + ".pgn")) for number in (1, 2, 3, 4)] == games, f"{games}")
+        until(lambda: list(map(players, games_of(bytes_of(hall.games / "round.pgn")))) == games, f"{games} in round.pgn")
+
+    write(1, 2, 3, 4)
+    live = hall.record(typed=True)
+    hall.begun(live)
+    hall.play(0, 3)
+    live.type("4 1-0")
+    hall.until_over(live, 4, "1-0")
+    until_players(1, 2, 3, 4)
+    before = [hall.text(number) for number in (1, 2, 3, 4)]
+    for board in hall.boards:
+        board.asked_for_updates = False
+    write(2, 1, 4, 3)
+    live.type("r")
+    until_line(live, "  1  its game is now White 2 - Black 2, and was White 1 - Black 1\n")
+    until_line(live, "  4  its game is now White 3 - Black 3, and was White 4 - Black 4\n")
+    until_players(2, 1, 4, 3)
+    same([hall.text(number) for number in (1, 2, 3, 4)], before)
+    until(lambda: all(board.asked_for_updates for board in hall.boards[:3]), "a request on each board")
+    hall.play(3, 6, [0, 1, 2])
+    same(stop(live), 0)
+    live = hall.record(typed=True)
+    for number in (1, 2, 3):
+        until_line(live, f"{number:>3}  {words.AGREES}")
+    hall.play(6, 10, [0, 2])
+    live.type("2 0-1")
+    hall.until_text(2, text(1).replace("*", "0-1"))
+    same([hall.text(number) for number in (1, 3, 4)], [text(0), text(2), before[3]])
+    until_players(2, 1, 4, 3)
+    same(stop(live), 0)
+    write(1, 2, 3, 4)
+    refuses(hall.record(), 1, f"dgt_round: {hall.games}/01 has moves of White 2 - Black 2")
 
 
 def edited_in_a_round(folder: pathlib.Path) -> None:
