@@ -108,6 +108,30 @@ def looked_at(folder: pathlib.Path) -> None:
 
 
 @with_chromium
+def kings_by_mistake(folder: pathlib.Path) -> None:
+    """The kings stood in the centre, and that ended a game; the players go on: LOOK says so, and `*` goes on with their moves."""
+    with Hall(folder) as stage:
+        page, port = begin(stage)
+        until_agrees(stage, page)
+        play(stage, page, port, RUY[:2], RUY_SANS[:2])
+        stage.rest(1.5)
+        port.board.kings_in_centre("d4", "d5")
+        stage.until(lambda: page.text("#state").startswith("over"), "the end of the game")
+        for move in ("d4e1", "d5e8", *RUY[2:4]):
+            port.board.play(move)
+            stage.rest(1.5)
+        stage.until_part(page, "#state", "LOOK after 1... e5")
+        same(page.moves, RUY_SANS[:2])
+        page.type("*")
+        stage.until_moves(page, RUY_SANS[:4])
+        page.click("#ok")
+        stage.until(lambda: "LOOK" not in page.text("#state"), "no alarm any more")
+        play(stage, page, port, RUY[4:5], RUY_SANS[4:5])
+        game, capture = stage.saved(page, "#save-game"), stage.saved(page, "#save-capture")
+        same((movetext_of(game), game), ("1. e4 e5 2. Nf3 Nc6 3. Bb5 *", of_record(game, capture)))
+
+
+@with_chromium
 def many_boards(folder: pathlib.Path) -> None:
     """Four boards at once, each with its own game and clock: each text is what was played, and the program makes it so."""
     with Hall(folder) as stage:
