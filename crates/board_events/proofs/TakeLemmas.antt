@@ -31,9 +31,6 @@ pub entries_updated : (first : First) (rotated : Bool) (field code : ℕ) (past 
     → entries first rotated (MessageEvent (Update field code) ∷ past) ≡ entry_at first rotated (MessageEvent (Update field code) ∷ past) ∷ entries first rotated past
 entries_updated first rotated field code past h = rw h refl
 
-pub some_same : {a b : List ℕ} → Some a ≡ Some b → a ≡ b
-some_same h = cc
-
 -- The old session with this settler: trusted after a dump, else as it was.
 abbrev pub trusting : Sheet → State → State
 trusting settler old = record { settler = settler; first = old.first; rotated = old.rotated; trusted = true; reading = old.reading }

@@ -4,6 +4,7 @@ use Rattle.std.specs.Str.{bytes_eq}
 use Rattle.std.proofs.lemmas.Bool.{false_from_ne_true, cases_Bool}
 use Rattle.std.proofs.lemmas.List.{get_or-replicate, set-get_or}
 use Rattle.std.proofs.lemmas.Slice.Eq.{bytes_eq-Decides}
+use Rattle.std.proofs.lemmas.Option.{same_Some}
 use Rattle.dgt_frame.specs.declared.events.Message.TheVariants.{Update}
 use Rattle.dgt_frame.specs.declared.events.Event.{Event}
 use Rattle.dgt_frame.specs.declared.events.Event.TheVariants.{Message as MessageEvent}
@@ -17,7 +18,7 @@ use Rattle.board_events.specs.declared.view.Change.TheVariants.{Nothing, Square,
 use Rattle.board_events.specs.Pictures.{ChangesPictures, IsLast, pictures}
 use Rattle.board_events.specs.View.{Views, last_of}
 use Rattle.board_events.proofs.PictureLemmas.{length-picture_of, updated_picture}
-use Rattle.board_events.proofs.TakeLemmas.{entries_updated, seen_before, some_same}
+use Rattle.board_events.proofs.TakeLemmas.{entries_updated, seen_before}
 
 abbrev pictures_in : List Entry → List (List ℕ)
 pictures_in past = map (λ entry. entry.picture) (deduplicated past)
@@ -49,13 +50,13 @@ adds_next entry (before ∷ past) picture (Some shown) is answered =
 -- The last picture is among those that differ from the one before.
 at_head : (past : List Entry) (picture : List ℕ) → last_picture past ≡ Some picture → (earlier : List (List ℕ)) × (pictures_in past ≡ picture ∷ earlier)
 at_head [] picture is = absurd (cc)
-at_head (entry ∷ []) picture is = ([], ap (λ p. p ∷ []) (some_same is))
+at_head (entry ∷ []) picture is = ([], ap (λ p. p ∷ []) (same_Some _ _ is))
 at_head (entry ∷ before ∷ past) picture is = elim (cases_Bool (bytes_eq entry.picture before.picture)) [
   | inl same ↦
       let d = bytes_eq-Decides entry.picture before.picture in
       let more = at_head (before ∷ past) picture (ap Some (sym (d.0 same)) ∙ is) in
       (more.0, rw same more.1)
-  | inr other ↦ (pictures_in (before ∷ past), rw other (ap (λ p. p ∷ pictures_in (before ∷ past)) (some_same is)))
+  | inr other ↦ (pictures_in (before ∷ past), rw other (ap (λ p. p ∷ pictures_in (before ∷ past)) (same_Some _ _ is)))
 ]
 
 none_before : (past : List Entry) → last_picture past ≡ None → past ≡ []
@@ -64,7 +65,7 @@ none_before (entry ∷ past) is = absurd (cc)
 
 -- A picture that was seen.
 pub was_seen : (seen : Bool) (picture shown : List ℕ) → (if seen then Some picture else None) ≡ Some shown → (seen ≡ true) × (picture ≡ shown)
-was_seen true picture shown is = (refl, some_same is)
+was_seen true picture shown is = (refl, same_Some _ _ is)
 was_seen false picture shown is = absurd (cc)
 
 last_by : (seen : Bool) (picture : List ℕ) (past : List Entry) → (if seen then Some picture else None) ≡ last_picture past → IsLast picture (pictures_in past)

@@ -3,6 +3,7 @@ use Rattle.std.proofs.Common.{◌≡◌, ◌∙◌, inl, inr, ℕ, Bool, true, f
 use Rattle.std.specs.Str.{bytes_eq}
 use Rattle.std.proofs.lemmas.Bool.{cases_Bool}
 use Rattle.std.proofs.lemmas.Slice.Eq.{bytes_eq-Decides}
+use Rattle.std.proofs.lemmas.Option.{same_Some}
 use Rattle.chess_text.specs.declared.placement_text.PlacementText.{PlacementText}
 use Rattle.chess_text.specs.KeptRanks.{picture_in}
 use Rattle.dgt_frame.specs.declared.First.{First}
@@ -18,7 +19,7 @@ use Rattle.board_events.specs.Pictures.{pictures}
 use Rattle.board_events.specs.Session.{entries_in}
 use Rattle.board_events.specs.Settings.{Setting}
 use Rattle.board_events.proofs.PictureLemmas.{plain_dump, rotated_dump, updated_picture}
-use Rattle.board_events.proofs.TakeLemmas.{seen_before, some_same}
+use Rattle.board_events.proofs.TakeLemmas.{seen_before}
 use Rattle.board_listing.specs.Drawing.{Draws, drawn, is_time}
 use Rattle.board_listing.proofs.FollowLemmas.{clash, entries_new, entries_same}
 
@@ -67,7 +68,7 @@ draws_none placement setting past event other draws = λ picture last.
 
 last_new : (setting : Setting) (past : List Event) (event : Event) (picture : List ℕ) → is_entry event past ≡ true
     → last_picture (entries_in setting (event ∷ past)) ≡ Some picture → picture_of setting.rotated (event ∷ past) ≡ picture
-last_new setting past event picture entered last = some_same (sym (ap last_picture (entries_new setting event past entered)) ∙ last)
+last_new setting past event picture entered last = same_Some _ _ (sym (ap last_picture (entries_new setting event past entered)) ∙ last)
 
 repeated_last : (seen : List ℕ) (past : List Entry) → repeats seen past ≡ true → last_picture past ≡ Some seen
 repeated_last seen [] is = absurd (cc)

@@ -2,6 +2,7 @@
 use Rattle.std.proofs.Common.{inl, inr, ◌≡◌, ℕ, ◌==◌, Bool, true, false, if◌then◌else◌, List, [], ◌∷◌, ◌++◌, get_or, Option, Some, bytes_eq, refl, sym, ap, ◌∙◌}
 use Rattle.std.proofs.lemmas.List.{append-nil}
 use Rattle.std.proofs.lemmas.Slice.Eq.{bytes_eq-Decides}
+use Rattle.std.proofs.lemmas.Option.{same_Some}
 use Rattle.std.specs.List.{AllByRecursion}
 use Rattle.dgt_frame.specs.declared.events.Message.TheVariants.{Dump, Update, Time, Other}
 use Rattle.dgt_frame.specs.declared.events.Event.{Event}
@@ -20,7 +21,7 @@ use Rattle.board_events.specs.Game.{IsGameOf}
 use Rattle.board_events.specs.Commands.{asked, asks}
 use Rattle.board_session.specs.Laws.{FaultsAskOnce, FaultsBeforeDumpsCanGo, IdleEventsCanGo, IsQuiet, IsTextOf, TellTheSame, Thins}
 use Rattle.board_events.proofs.PictureLemmas.{length-picture_of, picture_at, picture_is}
-use Rattle.board_events.proofs.TakeLemmas.{entries_updated, seen_before, some_same}
+use Rattle.board_events.proofs.TakeLemmas.{entries_updated, seen_before}
 
 -- The two lists leave a session alike.
 record Alike (first : First) (rotated : Bool) (a b : List Event) : Type 0 where
@@ -37,11 +38,11 @@ repeats-last_picture : (picture : List ℕ) (a b : List Entry) → last_picture 
 repeats-last_picture picture [] [] h = refl
 repeats-last_picture picture [] (y ∷ b) h = absurd (let never : ⊥ = cc in never)
 repeats-last_picture picture (x ∷ a) [] h = absurd (let never : ⊥ = cc in never)
-repeats-last_picture picture (x ∷ a) (y ∷ b) h = ap (bytes_eq picture) (some_same h)
+repeats-last_picture picture (x ∷ a) (y ∷ b) h = ap (bytes_eq picture) (same_Some _ _ h)
 
 last_repeats : (picture : List ℕ) (past : List Entry) → Some picture ≡ last_picture past → repeats picture past ≡ true
 last_repeats picture [] h = absurd (let never : ⊥ = cc in never)
-last_repeats picture (before ∷ past) h = let d = bytes_eq-Decides picture before.picture in d.1 (some_same h)
+last_repeats picture (before ∷ past) h = let d = bytes_eq-Decides picture before.picture in d.1 (same_Some _ _ h)
 
 repeats_last : (picture : List ℕ) (past : List Entry) → repeats picture past ≡ true → Some picture ≡ last_picture past
 repeats_last picture [] h = absurd (let never : ⊥ = cc in never)
@@ -69,7 +70,7 @@ same_picture first rotated a b h t =
     let there = seen_before first rotated b (sym h.trust ∙ t) in
     let last : Some here.0.picture ≡ Some there.0.picture = ap last_picture (sym here.2) ∙ sym (last_deduplicated (entries first rotated a))
     ∙ ap last_picture h.pictures ∙ last_deduplicated (entries first rotated b) ∙ ap last_picture there.2 in
-    sym here.3 ∙ some_same last ∙ there.3
+    sym here.3 ∙ same_Some _ _ last ∙ there.3
 
 same_updated : (rotated : Bool) (field code : ℕ) (a b : List Event) → picture_of rotated a ≡ picture_of rotated b
     → picture_of rotated (MessageEvent (Update field code) ∷ a) ≡ picture_of rotated (MessageEvent (Update field code) ∷ b)

@@ -2,6 +2,7 @@
 use Rattle.std.proofs.Common.{◌≡◌, ◌≢◌, ◌⊎◌, inl, inr, ℕ, ◌+◌, ◌*◌, ◌<◌, ◌≤◌, suc, Bool, true, false, List, [], ◌∷◌, ◌++◌, drop, get_or, length, Some, refl, sym, ap, subst, ◌∙◌, arith, length-append}
 use Rattle.std.proofs.lemmas.Bool.Decides.{eqb_tells}
 use Rattle.std.proofs.lemmas.List.{length-reverse}
+use Rattle.std.proofs.lemmas.Option.{same_Some}
 use Rattle.chess_rules.specs.declared.chess_move.Move.{Move}
 use Rattle.chess_rules.specs.declared.parts.Parts.{Parts}
 use Rattle.chess_rules.specs.After.{after}
@@ -30,7 +31,7 @@ use Rattle.board_session.specs.Sizes.{FramesAreWithin, MovesTakeTenBytes, Writte
 use Rattle.board_session.proofs.HonestLemmas.{past_on}
 use Rattle.board_session.proofs.LeftLemmas.{start_valid}
 use Rattle.board_events.proofs.PictureLemmas.{picture_at, turned_twice}
-use Rattle.board_events.proofs.TakeLemmas.{entries_updated, seen_before, some_same}
+use Rattle.board_events.proofs.TakeLemmas.{entries_updated, seen_before}
 
 -- ---- frames
 
@@ -226,7 +227,7 @@ updated setting field code past score true t v bound f =
           valid_reached setting.start (moves_of (b.before).plies) v (folds_played setting.start (deduplicated (entries_in setting past)) b.before b.folds) in
           elim (new_update setting field code past b.before score b.seen valid t (bound b.before b.folds) b.shown b.is) [
             | inl more ↦ inl more
-            | inr same ↦ inr (same.0, λ seen e. some_same (sym e ∙ last) ∙ same.1)
+            | inr same ↦ inr (same.0, λ seen e. same_Some _ _ (sym e ∙ last) ∙ same.1)
           ]
     ]
 

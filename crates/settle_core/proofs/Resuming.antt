@@ -2,6 +2,7 @@
 use Rattle.std.proofs.Common.{◌≡◌, ◌⊎◌, inl, inr, List, [], ◌∷◌, ◌++◌, None, Some, reverse, refl, sym, ap, subst, ◌∙◌, append_assoc}
 use mathlib.Core.List.{reverse_aux}
 use Rattle.std.proofs.lemmas.List.{reverse-append, reverse-reverse}
+use Rattle.std.proofs.lemmas.Option.{same_Some}
 use Rattle.chess_rules.specs.declared.chess_move.Move.{Move}
 use Rattle.chess_rules.specs.declared.parts.Parts.{Parts}
 use Rattle.chess_rules.specs.Picture.{picture}
@@ -24,12 +25,9 @@ pub onto : {X : Type 0} (xs ys : List X) → reverse_aux xs ys ≡ reverse xs ++
 onto [] ys = refl
 onto (x ∷ xs) ys = onto xs (x ∷ ys) ∙ sym (append_assoc (reverse xs) (x ∷ []) ys) ∙ ap (λ l. l ++ ys) (sym (onto xs (x ∷ [])))
 
-some_same : {X : Type 0} (x y : X) → Some x ≡ Some y → x ≡ y
-some_same x y e = cc
-
 at_end : (p : Parts) (past : List Entry) → last_picture past ≡ Some (picture p) → EndsAt p past
 at_end p [] e = tt
-at_end p (entry ∷ past) e = some_same _ _ e
+at_end p (entry ∷ past) e = same_Some _ _ e
 
 -- the line that is added
 resumed :

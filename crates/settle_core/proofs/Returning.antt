@@ -5,6 +5,7 @@ use Rattle.std.specs.Str.{bytes_eq}
 use Rattle.std.proofs.lemmas.Bool.{cases_Bool, cond-true, cond-false}
 use Rattle.std.proofs.lemmas.List.{reverse-reverse}
 use Rattle.std.proofs.lemmas.Slice.Eq.{bytes_eq-Decides}
+use Rattle.std.proofs.lemmas.Option.{same_Some}
 use Rattle.chess_clock.specs.declared.times.Reading.{Reading}
 use Rattle.chess_rules.specs.declared.chess_move.Move.{Move}
 use Rattle.chess_rules.specs.declared.parts.Parts.{Parts}
@@ -144,9 +145,6 @@ whole_entry start earlier m past entry s l e coming score f =
           subst M (sym g.4) (whole_step start earlier m g.0 entry.picture entry.reading g.1 s l e (coming.open_so_far g.0 g.2) g.3)
     ]
 
-some_same : (x y : List ℕ) → Some x ≡ Some y → x ≡ y
-some_same x y e = cc
-
 -- one more entry on the way
 coming_on :
     (start : Parts) (earlier : List Ply) (m : Move) (past : List Entry) (entry : Entry)
@@ -157,7 +155,7 @@ coming_on :
     → Coming start earlier m (entry ∷ past)
 coming_on start earlier m past entry s l pass coming = record {
   open_so_far = entry_open start earlier Any past entry s pass tt coming.open_so_far;
-  whole = λ e. whole_entry start earlier m past entry s l (some_same _ _ e) coming;
+  whole = λ e. whole_entry start earlier m past entry s l (same_Some _ _ e) coming;
 }
 
 -- the entries of one move
@@ -185,7 +183,7 @@ ends_coming start earlier m past s l ends = record {
     never : (entries : List Entry) → EndsAt (reached start (moves_of earlier)) entries
         → last_picture entries ≡ Some (picture (after (reached start (moves_of earlier)) m)) → ⊥
     never [] at e = cc
-    never (entry ∷ entries) at e = picture_moves (reached start (moves_of earlier)) m (now start earlier s) l (sym (some_same _ _ e) ∙ at)
+    never (entry ∷ entries) at e = picture_moves (reached start (moves_of earlier)) m (now start earlier s) l (sym (same_Some _ _ e) ∙ at)
 
 -- what was folded before
 record FoldedBefore (start : Parts) (past : List Entry) : Type 0 where

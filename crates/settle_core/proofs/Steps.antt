@@ -4,7 +4,7 @@ use Rattle.std.specs.Str.{bytes_eq}
 use Rattle.std.specs.List.{slice_get}
 use Rattle.std.proofs.lemmas.Slice.Eq.{bytes_eq-Decides}
 use Rattle.std.proofs.lemmas.List.{reverse-append, reverse-reverse, set-get_or, set-set}
-use Rattle.std.proofs.lemmas.Option.{get_or_from_slice_get}
+use Rattle.std.proofs.lemmas.Option.{get_or_from_slice_get, same_Some}
 use Rattle.std.proofs.lemmas.Bool.{cond-true, cond-false, false_from_ne_true}
 use Rattle.chess_clock.specs.declared.times.Reading.{Reading}
 use Rattle.chess_rules.specs.declared.chess_move.Move.{Move}
@@ -44,15 +44,12 @@ settled_from p seen m m' m'' next shot tell v e l e' n s same =
     let shows : seen ≡ picture (after p m) = sym (d.0 same) ∙ s ∙ ap picture (n ∙ ap (after p) e') in
     record { legal = l'; shows = shows; alone = λ k lk ek. tell p k m v lk l' (sym ek ∙ shows) }
 
-pub some_same : {A : Type 0} {a b : A} → Some a ≡ Some b → a ≡ b
-some_same e = cc
-
 pub none_some : {A : Type 0} {a : A} → None ≡ Some a → ⊥
 none_some e = cc
 
 -- the picture that was seen last
 pub last_is : (seen : Bool) (kept picture : List ℕ) → last_of seen kept ≡ Some picture → kept ≡ picture
-last_is true kept picture e = some_same e
+last_is true kept picture e = same_Some _ _ e
 last_is false kept picture e = absurd (none_some e)
 
 pub seen_is : (seen : Bool) (kept picture : List ℕ) → last_of seen kept ≡ Some picture → seen ≡ true
@@ -69,7 +66,7 @@ pub replaces_but :
     × (((k : Move) → Settles b.position seen k → k ≡ last.mv) → (m : Move) → ¬ Replaces start (moves_of turned) seen m)
 replaces_but start before b seen [] last s h l = absurd (none_some (sym s ∙ ap position_in h))
 replaces_but start before b seen (other ∷ earlier) last s h l =
-    let at : b.position ≡ reached start (moves_of earlier) = some_same (sym (ap position_in h) ∙ s) in
+    let at : b.position ≡ reached start (moves_of earlier) = same_Some _ _ (sym (ap position_in h) ∙ s) in
     let same : last ≡ other = l earlier other refl in (
       λ k t. (let S : Parts → Type 0 = λ x. Settles x seen k in subst S at t.0, λ q. t.1 (q ∙ ap (λ (x : Ply). x.mv) (sym same))),
       λ alone m r. r.1 (alone m (let S : Parts → Type 0 = λ x. Settles x seen m in subst S (sym at) r.0) ∙ ap (λ (x : Ply). x.mv) same),
@@ -106,7 +103,7 @@ pub before_of :
     → CanReplace start (moves_of plies) m
     → b.position ≡ reached start (moves_of (drop 1 plies))
 before_of start before b [] m s h can = absurd can
-before_of start before b (last ∷ earlier) m s h can = some_same (sym (ap position_in h) ∙ s)
+before_of start before b (last ∷ earlier) m s h can = same_Some _ _ (sym (ap position_in h) ∙ s)
 
 pub can_replace :
     (start : Parts) (plies : List Ply) (m : Move) → CanReplace start (moves_of plies) m → Legal (reached start (moves_of (drop 1 plies))) m
@@ -188,7 +185,7 @@ pub same_stands :
     → StandsFor old start (entry_of picture reading ∷ past)
 same_stands old start [] picture reading st e = absurd (none_some (sym st.last ∙ e))
 same_stands old start (before ∷ past) picture reading st e =
-    let same : before.picture ≡ picture = some_same (sym st.last ∙ e) in
+    let same : before.picture ≡ picture = same_Some _ _ (sym st.last ∙ e) in
     let d = bytes_eq-Decides picture before.picture in
     let F : List Entry → Type 0 = λ es. Folds start es old.score in
     record {
@@ -201,7 +198,7 @@ pub same_answers :
     (old : Sheet) (start : Parts) (past : List Entry) (picture : List ℕ) → StandsFor old start past → old.last ≡ Some picture → repeats picture past ≡ true
 same_answers old start [] picture st e = absurd (none_some (sym st.last ∙ e))
 same_answers old start (before ∷ past) picture st e =
-    let same : before.picture ≡ picture = some_same (sym st.last ∙ e) in
+    let same : before.picture ≡ picture = same_Some _ _ (sym st.last ∙ e) in
     let d = bytes_eq-Decides picture before.picture in d.1 (sym same)
 
 -- a picture that is not the last one is new

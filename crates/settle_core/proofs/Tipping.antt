@@ -3,6 +3,7 @@ use Rattle.std.proofs.Common.{◌≡◌, ℕ, ◌+◌, ◌-◌, ◌<◌, List, [
 use Rattle.std.specs.Str.{bytes_eq}
 use Rattle.std.proofs.lemmas.List.{reverse-append, take_more}
 use Rattle.std.proofs.lemmas.Bool.{cond-true, cond-false}
+use Rattle.std.proofs.lemmas.Option.{same_Some}
 use Rattle.chess_rules.specs.declared.chess_move.Move.{Move}
 use Rattle.chess_rules.specs.declared.parts.Parts.{Parts}
 use Rattle.chess_rules.specs.After.{after}
@@ -17,7 +18,7 @@ use Rattle.settle_core.specs.Settling.{Settles, reached}
 use Rattle.settle_core.specs.Sign.{IsSign}
 use Rattle.settle_core.specs.Folding.{Score, Folds, Replaces, SeenAs, moves_of, score_after}
 use Rattle.settle_core.specs.Tips.{IsTip, IsOther, LeadsTo, FoldsTo, moves_after}
-use Rattle.settle_core.proofs.Steps.{some_same, none_some}
+use Rattle.settle_core.proofs.Steps.{none_some}
 
 abbrev NoMove : Parts → List ℕ → Type 0
 NoMove p seen = (m : Move) → ¬ Settles p seen m
@@ -65,7 +66,7 @@ pub no_other :
     → (m : Move) → ¬ Replaces start moves seen m
 no_other start [] seen tip last it e none m r = r
 no_other start (x ∷ earlier) seen tip last it e none m r =
-    let same : last ≡ record { before = reached start earlier; mv = x } = some_same (sym e ∙ it.last) in
+    let same : last ≡ record { before = reached start earlier; mv = x } = same_Some _ _ (sym e ∙ it.last) in
     let O : Last → Type 0 = λ l. IsOther l seen m in
     none m (subst O (sym same) r)
 
@@ -97,7 +98,7 @@ pub tip_replaced :
     → LeadsTo start moves seen new
 tip_replaced start [] seen m p tip new last it at none no_sign e other h l = absurd (none_some (sym it.last ∙ e))
 tip_replaced start (x ∷ earlier) seen m p tip new last it at none no_sign e other h l =
-    let same : last ≡ record { before = reached start earlier; mv = x } = some_same (sym e ∙ it.last) in
+    let same : last ≡ record { before = reached start earlier; mv = x } = same_Some _ _ (sym e ∙ it.last) in
     let N : Parts → Type 0 = λ y. NoMove y seen in
     let S : Parts → Type 0 = λ y. NoSign y seen in
     let R : Last → Type 0 = λ y. IsOther y seen m in

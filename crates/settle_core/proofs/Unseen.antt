@@ -1,6 +1,7 @@
 -- Where two plies were not seen: the picture after them settles no move, and none in the place of the last one.
 use Rattle.std.proofs.Common.{◌≡◌, ◌≢◌, ◌⊎◌, ◌+◌, ◌/◌, ℕ, Bool, true, false, inl, inr, List, [], ◌∷◌, Option, Some, None, IsTrue, if◌then◌else◌, unwrap_or, refl, sym, ap, subst, ◌∙◌}
 use Rattle.std.proofs.lemmas.Bool.{cases_eq, and_parts}
+use Rattle.std.proofs.lemmas.Option.{same_Some}
 use Rattle.chess_rules.specs.declared.pieces.Side.{Side}
 use Rattle.chess_rules.specs.declared.pieces.Side.TheVariants.{White, Black}
 use Rattle.chess_rules.specs.declared.pieces.Kind.{Kind}
@@ -115,9 +116,6 @@ right_before p m side wing h = (and_parts _ _ (sym (right_of p m side wing) ∙ 
 some_if : (b : Bool) (x t : ℕ) → (if b then Some x else None) ≡ Some t → x ≡ t
 some_if true x t e = ap (λ (o : Option ℕ). unwrap_or o 0) e
 some_if false x t e = absurd (let never : ⊥ = cc in never)
-
-some_same : (o : Option ℕ) (x y : ℕ) → o ≡ Some x → o ≡ Some y → x ≡ y
-some_same o x y a b = ap (λ (q : Option ℕ). unwrap_or q 0) (sym a ∙ b)
 
 -- Three moves, one after the other, give the board that another move gives in the place of the first.
 pub record Rounds (g : Parts) (l m n k : Move) : Type 0 where
@@ -349,7 +347,7 @@ passant_third g l m n k w x r e =
                 (λ q. x.one.free t.taken.one.kind (ap (on g.board) (e ∙ sym q) ∙ t.taken.one.stands))
             | inr y ↦
                 let A : ℕ → Type 0 = λ s. Ahead (forward (other g.side)) 1 s m.to in
-                let same : l.to ≡ k.to = some_same g.target l.to k.to (y.1).target x.takes.target in
+                let same : l.to ≡ k.to = same_Some l.to k.to (sym (y.1).target ∙ x.takes.target) in
                 not_beside (other g.side) k.to m.from m.to x.ahead x.advances (subst A same y.3)
           ]
     ]

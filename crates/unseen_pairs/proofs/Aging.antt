@@ -3,6 +3,7 @@ use Rattle.std.proofs.Common.{◌≡◌, ◌≢◌, ◌↔◌, ℕ, zero, suc, �
 use Rattle.std.proofs.lemmas.Bool.{cases_Bool, cases_eq}
 use Rattle.std.proofs.lemmas.List.{get_or_default}
 use Rattle.std.proofs.lemmas.List.Elements.{Contains-append_left, Contains-push, Contains-push_cases}
+use Rattle.std.proofs.lemmas.Option.{same_Some}
 use Rattle.chess_clock.specs.declared.times.Reading.{Reading}
 use Rattle.chess_rules.specs.declared.chess_move.Move.{Move}
 use Rattle.chess_rules.specs.declared.parts.Parts.{Parts}
@@ -143,9 +144,6 @@ added_all corrects p seen reading xs n old new end lists h = record {
       h.whole x at.0 (rw end at.1) at.2;
 }
 
-same_entry : (entry other : Entry) → Some entry ≡ Some other → entry ≡ other
-same_entry entry other e = cc
-
 -- a candidate, one entry later
 gone_more :
     (start : Parts) (moves : List Move) (waiting : List Entry) (entry : Entry) (pair : Pair) (n : ℕ)
@@ -154,7 +152,7 @@ gone_more :
     → (k : ℕ) (later : Entry) → k < n + 1 → slice_get (entry ∷ waiting) k ≡ Some later
     → ¬ IsBack (reached start moves) (ends start moves pair) later.picture
 gone_more start moves waiting entry pair n now before zero later low e =
-    let same : entry ≡ later = same_entry entry later e in
+    let same : entry ≡ later = same_Some entry later e in
     subst (λ (z : Entry). ¬ IsBack (reached start moves) (ends start moves pair) z.picture) same now
 gone_more start moves waiting entry pair n now before (suc k) later low e = before k later (omega arith) e
 
@@ -287,7 +285,7 @@ new_whole :
     → ExplainsAt start moves (entry ∷ waiting) pair 0 other
     → (c : Candidate) × Contains new c × (c.pair ≡ pair) × (c.age ≡ 0)
 new_whole corrects start moves waiting entry old new pair other is add at =
-    let e : entry ≡ other = same_entry entry other at.waits in
+    let e : entry ≡ other = same_Some entry other at.waits in
     let x : TwoPlies = record { first = pair.first; second = pair.second } in
     let given : Explains start moves other.picture pair = at.explains in
     let two : IsAfterTwo (reached start (root corrects moves)) entry.picture pair.first pair.second =

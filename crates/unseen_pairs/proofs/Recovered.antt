@@ -1,7 +1,8 @@
 -- What entries give where unseen pairs are recovered, beside what they fold to without.
-use Rattle.std.proofs.Common.{◌≡◌, ℕ, inl, inr, List, [], ◌∷◌, Option, Some, slice_get, reverse, refl, sym, ap, subst, ◌∙◌, arith}
+use Rattle.std.proofs.Common.{◌≡◌, ℕ, inl, inr, List, [], ◌∷◌, Option, slice_get, reverse, refl, sym, ap, subst, ◌∙◌, arith}
 use Rattle.std.proofs.lemmas.Bool.{cases_lt}
 use Rattle.std.proofs.lemmas.List.{reverse-reverse}
+use Rattle.std.proofs.lemmas.Option.{same_Some}
 use Rattle.chess_rules.specs.declared.chess_move.Move.{Move}
 use Rattle.chess_rules.specs.declared.parts.Parts.{Parts}
 use Rattle.chess_rules.specs.After.{after}
@@ -144,9 +145,6 @@ recovery_is r s a b c d e f =
     ∙ ap (λ (x : Option Reading). record r { pair = s.pair; before = s.before; middle = s.middle; after = s.after; reading = x }) e
     ∙ ap (λ (x : Seen). record r { pair = s.pair; before = s.before; middle = s.middle; after = s.after; reading = s.reading; sequel = x }) f
 
-same_entry : (entry other : Entry) → Some entry ≡ Some other → entry ≡ other
-same_entry entry other e = cc
-
 -- a picture confirms one pair at most
 confirms_once :
     (start : Parts) (moves : List Move) (waiting : List Entry) (seen : List ℕ) (r s : Recovery)
@@ -167,7 +165,7 @@ confirms_once start moves waiting seen r s v played g h =
           ]
     ] in
     let entry : g.entry ≡ h.entry =
-    same_entry g.entry h.entry (sym (g.explains).waits ∙ ap (λ k. slice_get waiting k) low ∙ (h.explains).waits) in
+    same_Some g.entry h.entry (sym (g.explains).waits ∙ ap (λ k. slice_get waiting k) low ∙ (h.explains).waits) in
     let two = ((g.explains).explains).after_two in
     let u : Valid (begins start moves r.pair) = valid_root r.pair.corrects start moves v played in
     let um : Valid (after (begins start moves r.pair) r.pair.first) = moves_stay_valid _ r.pair.first u two.first in

@@ -1,8 +1,9 @@
 use Rattle.std.proofs.Common.{◌≡◌, ◌≢◌, ℕ, ◌∷◌, List, Some, true, set, refl, sym, ap, subst, ◌∙◌}
+use Rattle.std.proofs.lemmas.Option.{same_Some}
 use Rattle.chess_rules.specs.declared.chess_move.Move.{Move}
 use Rattle.settle_core.specs.Settling.{Settles}
 use Rattle.settle_core.specs.Settler.{Sheet, has_seen, position_of}
-use Rattle.settle_core.proofs.Steps.{fresh, judged, taken_stands, taken_answers, same_stands, same_answers, field_same, field_differs, restored, seen_last, last_is, some_same, refused_gives}
+use Rattle.settle_core.proofs.Steps.{fresh, judged, taken_stands, taken_answers, same_stands, same_answers, field_same, field_differs, restored, seen_last, last_is, refused_gives}
 use Rattle.settle_core.proofs.settler.Settler.see_field.Goals as goal
 
 pub returns-then-last-code-clause-stands : goal.returns-then-last-code-clause-stands
@@ -23,7 +24,7 @@ returns-in-Ok-clause-stands c start before past st =
     let shown : List ℕ = set before.picture c.args.square c.args.code in
     let kept : c.self.inside.picture ≡ before.picture = last_is c.self.inside.seen c.self.inside.picture before.picture (ap (λ (s : Sheet). s.last) c.self.view_is ∙ st.last) in
     let differs : shown ≢ before.picture = field_differs c.self.inside.picture before.picture c.number-at.result c.args.square c.args.code kept c.number-at.ensures.number c.self.told c.number-at.ensures.in_range c.if-last-code.false in
-    let new = fresh now start (before ∷ past) shown st (λ e. differs (some_same (sym e ∙ st.last))) in
+    let new = fresh now start (before ∷ past) shown st (λ e. differs (same_Some _ _ (sym e ∙ st.last))) in
     let changed : c.change.new.self ≡ record { start = now.start; score = now.score; last = Some shown } =
     c.change.ensures before.picture st.last ∙ ap (λ k. record { start = now.start; score = now.score; last = Some (set before.picture k c.args.code) }) c.number-at.ensures.number in
     let j = judged now c.change.new.self c.judge.new.self shown c.args.clock c.in-Ok.answer changed (c.in-Ok.ensures.ok shown (ap (λ (s : Sheet). s.last) changed)) in
@@ -35,7 +36,7 @@ returns-in-Ok-clause-answer c start before past st =
     let shown : List ℕ = set before.picture c.args.square c.args.code in
     let kept : c.self.inside.picture ≡ before.picture = last_is c.self.inside.seen c.self.inside.picture before.picture (ap (λ (s : Sheet). s.last) c.self.view_is ∙ st.last) in
     let differs : shown ≢ before.picture = field_differs c.self.inside.picture before.picture c.number-at.result c.args.square c.args.code kept c.number-at.ensures.number c.self.told c.number-at.ensures.in_range c.if-last-code.false in
-    let new = fresh now start (before ∷ past) shown st (λ e. differs (some_same (sym e ∙ st.last))) in
+    let new = fresh now start (before ∷ past) shown st (λ e. differs (same_Some _ _ (sym e ∙ st.last))) in
     let changed : c.change.new.self ≡ record { start = now.start; score = now.score; last = Some shown } =
     c.change.ensures before.picture st.last ∙ ap (λ k. record { start = now.start; score = now.score; last = Some (set before.picture k c.args.code) }) c.number-at.ensures.number in
     let j = judged now c.change.new.self c.judge.new.self shown c.args.clock c.in-Ok.answer changed (c.in-Ok.ensures.ok shown (ap (λ (s : Sheet). s.last) changed)) in
@@ -75,7 +76,7 @@ returns-in-Err-clause-memory c start before past st =
     let shown : List ℕ = set before.picture c.args.square c.args.code in
     let kept : c.self.inside.picture ≡ before.picture = last_is c.self.inside.seen c.self.inside.picture before.picture (ap (λ (s : Sheet). s.last) c.self.view_is ∙ st.last) in
     let differs : shown ≢ before.picture = field_differs c.self.inside.picture before.picture c.number-at.result c.args.square c.args.code kept c.number-at.ensures.number c.self.told c.number-at.ensures.in_range c.if-last-code.false in
-    let new = fresh now start (before ∷ past) shown st (λ e. differs (some_same (sym e ∙ st.last))) in
+    let new = fresh now start (before ∷ past) shown st (λ e. differs (same_Some _ _ (sym e ∙ st.last))) in
     let changed : c.change.new.self ≡ record { start = now.start; score = now.score; last = Some shown } =
     c.change.ensures before.picture st.last ∙ ap (λ k. record { start = now.start; score = now.score; last = Some (set before.picture k c.args.code) }) c.number-at.ensures.number in
     let gives : (m : Move) × Settles (position_of c.change.new.self) shown m = c.in-Err.ensures.memory shown (ap (λ (s : Sheet). s.last) changed) in
