@@ -4,7 +4,7 @@ use Rattle.std.specs.Str.{bytes_eq}
 use Rattle.std.specs.List.{slice_get}
 use Rattle.std.proofs.lemmas.Slice.Eq.{bytes_eq-Decides}
 use Rattle.std.proofs.lemmas.List.{reverse-append, reverse-reverse, set-get_or, set-set}
-use Rattle.std.proofs.lemmas.Option.{get_or_from_slice_get, same_Some}
+use Rattle.std.proofs.lemmas.Option.{get_or_from_slice_get, none-some, same_Some}
 use Rattle.std.proofs.lemmas.Bool.{cond-true, cond-false, false_from_ne_true}
 use Rattle.chess_clock.specs.declared.times.Reading.{Reading}
 use Rattle.chess_rules.specs.declared.chess_move.Move.{Move}
@@ -44,17 +44,14 @@ settled_from p seen m m' m'' next shot tell v e l e' n s same =
     let shows : seen ≡ picture (after p m) = sym (d.0 same) ∙ s ∙ ap picture (n ∙ ap (after p) e') in
     record { legal = l'; shows = shows; alone = λ k lk ek. tell p k m v lk l' (sym ek ∙ shows) }
 
-pub none_some : {A : Type 0} {a : A} → None ≡ Some a → ⊥
-none_some e = cc
-
 -- the picture that was seen last
 pub last_is : (seen : Bool) (kept picture : List ℕ) → last_of seen kept ≡ Some picture → kept ≡ picture
 last_is true kept picture e = same_Some _ _ e
-last_is false kept picture e = absurd (none_some e)
+last_is false kept picture e = absurd (none-some _ e)
 
 pub seen_is : (seen : Bool) (kept picture : List ℕ) → last_of seen kept ≡ Some picture → seen ≡ true
 seen_is true kept picture e = refl
-seen_is false kept picture e = absurd (none_some e)
+seen_is false kept picture e = absurd (none-some _ e)
 
 -- the last move, and the position before it
 pub replaces_but :
@@ -64,7 +61,7 @@ pub replaces_but :
     → ((earlier : List Ply) (other : Ply) → turned ≡ other ∷ earlier → last ≡ other)
     → ((k : Move) → Settles b.position seen k × k ≢ last.mv → Replaces start (moves_of turned) seen k)
     × (((k : Move) → Settles b.position seen k → k ≡ last.mv) → (m : Move) → ¬ Replaces start (moves_of turned) seen m)
-replaces_but start before b seen [] last s h l = absurd (none_some (sym s ∙ ap position_in h))
+replaces_but start before b seen [] last s h l = absurd (none-some _ (sym s ∙ ap position_in h))
 replaces_but start before b seen (other ∷ earlier) last s h l =
     let at : b.position ≡ reached start (moves_of earlier) = same_Some _ _ (sym (ap position_in h) ∙ s) in
     let same : last ≡ other = l earlier other refl in (
@@ -183,7 +180,7 @@ pub same_stands :
     → StandsFor old start past
     → old.last ≡ Some picture
     → StandsFor old start (entry_of picture reading ∷ past)
-same_stands old start [] picture reading st e = absurd (none_some (sym st.last ∙ e))
+same_stands old start [] picture reading st e = absurd (none-some _ (sym st.last ∙ e))
 same_stands old start (before ∷ past) picture reading st e =
     let same : before.picture ≡ picture = same_Some _ _ (sym st.last ∙ e) in
     let d = bytes_eq-Decides picture before.picture in
@@ -196,7 +193,7 @@ same_stands old start (before ∷ past) picture reading st e =
 
 pub same_answers :
     (old : Sheet) (start : Parts) (past : List Entry) (picture : List ℕ) → StandsFor old start past → old.last ≡ Some picture → repeats picture past ≡ true
-same_answers old start [] picture st e = absurd (none_some (sym st.last ∙ e))
+same_answers old start [] picture st e = absurd (none-some _ (sym st.last ∙ e))
 same_answers old start (before ∷ past) picture st e =
     let same : before.picture ≡ picture = same_Some _ _ (sym st.last ∙ e) in
     let d = bytes_eq-Decides picture before.picture in d.1 (sym same)

@@ -3,7 +3,7 @@ use Rattle.std.proofs.Common.{◌≡◌, ℕ, ◌+◌, ◌-◌, ◌<◌, List, [
 use Rattle.std.specs.Str.{bytes_eq}
 use Rattle.std.proofs.lemmas.List.{reverse-append, take_more}
 use Rattle.std.proofs.lemmas.Bool.{cond-true, cond-false}
-use Rattle.std.proofs.lemmas.Option.{same_Some}
+use Rattle.std.proofs.lemmas.Option.{none-some, same_Some}
 use Rattle.chess_rules.specs.declared.chess_move.Move.{Move}
 use Rattle.chess_rules.specs.declared.parts.Parts.{Parts}
 use Rattle.chess_rules.specs.After.{after}
@@ -18,7 +18,6 @@ use Rattle.settle_core.specs.Settling.{Settles, reached}
 use Rattle.settle_core.specs.Sign.{IsSign}
 use Rattle.settle_core.specs.Folding.{Score, Folds, Replaces, SeenAs, moves_of, score_after}
 use Rattle.settle_core.specs.Tips.{IsTip, IsOther, LeadsTo, FoldsTo, moves_after}
-use Rattle.settle_core.proofs.Steps.{none_some}
 
 abbrev NoMove : Parts → List ℕ → Type 0
 NoMove p seen = (m : Move) → ¬ Settles p seen m
@@ -55,7 +54,7 @@ tip_signed start moves seen o p tip it at s =
 pub none_other :
     (start : Parts) (moves : List Move) (seen : List ℕ) (tip : Tip) → IsTip start moves tip → tip.last ≡ None → (m : Move) → ¬ Replaces start moves seen m
 none_other start [] seen tip it e m r = r
-none_other start (x ∷ earlier) seen tip it e m r = none_some (sym e ∙ it.last)
+none_other start (x ∷ earlier) seen tip it e m r = none-some _ (sym e ∙ it.last)
 
 -- there is one, in whose place the picture settles no other
 pub no_other :
@@ -96,7 +95,7 @@ pub tip_replaced :
     → new.here ≡ after last.before m
     → new.last ≡ Some (record { before = last.before; mv = m })
     → LeadsTo start moves seen new
-tip_replaced start [] seen m p tip new last it at none no_sign e other h l = absurd (none_some (sym it.last ∙ e))
+tip_replaced start [] seen m p tip new last it at none no_sign e other h l = absurd (none-some _ (sym it.last ∙ e))
 tip_replaced start (x ∷ earlier) seen m p tip new last it at none no_sign e other h l =
     let same : last ≡ record { before = reached start earlier; mv = x } = same_Some _ _ (sym e ∙ it.last) in
     let N : Parts → Type 0 = λ y. NoMove y seen in

@@ -6,7 +6,7 @@ use Rattle.std.specs.Prelude.{unwrap_or}
 use Rattle.std.proofs.lemmas.Bool.{both_ways, cases_Bool, cases_eq, cases_lt, cond-false, cond-true}
 use Rattle.std.proofs.lemmas.List.{get_or_past}
 use Rattle.std.proofs.lemmas.Slice.Eq.{bytes_eq-Decides}
-use Rattle.std.proofs.lemmas.Option.{same_Some}
+use Rattle.std.proofs.lemmas.Option.{none-some, same_Some}
 use Rattle.chess_rules.specs.declared.pieces.Side.{Side}
 use Rattle.chess_rules.specs.declared.pieces.Kind.{Kind}
 use Rattle.chess_rules.specs.declared.pieces.Kind.TheVariants.{Pawn, Rook, Knight, Bishop, King, Queen}
@@ -94,9 +94,6 @@ Linked p now (w ∷ ws) = PutsBack p w.picture now × Linked p w.picture ws
 abbrev FullAfter : Parts → Side → Kind → List Entry → ℕ → Type 0
 FullAfter p side k waiting place = (j : ℕ) × (later : Entry) × (j < place) × (slice_get waiting j ≡ Some later) × IsFull p side k later.picture
 
-no_entry : (entry : Entry) → None ≢ Some entry
-no_entry entry e = cc
-
 less_one : (j n : ℕ) → j < n → suc j < suc n
 less_one j n h = omega arith
 
@@ -112,7 +109,7 @@ came_back :
     → get_or entry.picture s 0 ≢ code_of_piece side k
     → get_or now s 0 ≡ code_of_piece side k
     → IsFull p side k now ⊎ FullAfter p side k waiting place
-came_back p s side k now [] place entry stands l e off on = absurd (no_entry entry e)
+came_back p s side k now [] place entry stands l e off on = absurd (none-some entry e)
 came_back p s side k now (w ∷ ws) zero entry stands l e off on =
     let O : Entry → Type 0 = λ x. get_or x.picture s 0 ≢ code_of_piece side k in
     inl (λ t j h like. l.0 s t side k j stands h like (subst O (sym (same_Some w entry e)) off) on)
@@ -265,7 +262,7 @@ record IsResting (start : Parts) (moves : List Move) (last : List ℕ) (now : Li
   pub whole : last ≡ picture (reached start moves) → waiting ≡ []
 
 none_stay : (p : Parts) → AllStay p []
-none_stay p place entry e = absurd (no_entry entry e)
+none_stay p place entry e = absurd (none-some entry e)
 
 stay_more : (p : Parts) (waiting : List Entry) (entry : Entry) → AllStay p waiting → MayStay p entry.picture → AllStay p (entry ∷ waiting)
 stay_more p waiting entry all stay zero other e = let S : Entry → Type 0 = λ x. MayStay p x.picture in subst S (same_Some entry other e) stay
