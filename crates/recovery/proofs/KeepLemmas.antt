@@ -168,10 +168,6 @@ kept_seen new setting past event picture written found views reading first rotat
     let S : List ℕ → Type 0 = λ p. Sees new.recoverer setting.start (entries_in setting past) written (entry_of p (reading_at setting.first (event ∷ past))) found in
     kept_now new setting past event written found views reading first rotated here.0 (subst S here.1 sees)
 
-pub map_ok : {T E : Type 0} (P Q : T → Type 0) (r : Result T E) → ((v : T) → P v → Q v) → IfOk r P → IfOk r Q
-map_ok P Q (Ok v) k h = k v h
-map_ok P Q (Err e) k h = tt
-
 -- The picture at an event at which a pair was recovered.
 pub picture_now : (setting : Setting) (past : List Event) (event : Event) (r : Recovery) (picture : List ℕ) → RecoversAt setting past event (Some r)
     → IsLast picture (pictures setting.rotated (event ∷ past)) → picture ≡ picture_of setting.rotated (event ∷ past)

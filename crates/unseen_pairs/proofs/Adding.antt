@@ -1,5 +1,5 @@
 -- Pairs are listed.
-use Rattle.std.proofs.Common.{◌≡◌, ◌↔◌, ◌⊎◌, ℕ, ◌<◌, ◌+◌, inl, inr, List, [], ◌∷◌, ◌++◌, Contains, None, Result, Ok, Err, IfOk, slice_index_or, length, sym, ap, subst, ◌∙◌, arith}
+use Rattle.std.proofs.Common.{◌≡◌, ◌↔◌, ◌⊎◌, ℕ, ◌<◌, ◌+◌, inl, inr, List, [], ◌∷◌, ◌++◌, Contains, None, slice_index_or, length, sym, ap, subst, ◌∙◌, arith}
 use Rattle.std.proofs.lemmas.Bool.{cases_eq}
 use Rattle.std.proofs.lemmas.List.{get_or_default}
 use Rattle.std.proofs.lemmas.List.Elements.{Contains-append_left, Contains-push, Contains-push_cases}
@@ -144,7 +144,3 @@ adds_between p from to tried added old new is t a l =
       keeps = one.keeps;
       whole = λ m these legal. one.whole m (same_move m added (these.1 ∙ sym a.0) (these.2 ∙ sym a.1) (these.0 ∙ sym a.2)) legal;
     }
-
-pub if_ok : {T E : Type 0} (P Q : T → Type 0) (r : Result T E) → ((v : T) → P v → Q v) → IfOk r P → IfOk r Q
-if_ok P Q (Ok v) through p = through v p
-if_ok P Q (Err e) through p = tt

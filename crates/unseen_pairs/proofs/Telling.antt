@@ -380,10 +380,6 @@ put_in_told desk new start past written entry one v w only st none =
       answer = (w.new, (before, w.waiting, w.folds, tells));
     }
 
-pub map_ok : {X E : Type 0} (P Q : X → Type 0) (r : Result X E) → ((x : X) → P x → Q x) → IfOk r P → IfOk r Q
-map_ok P Q (Ok x) f h = f x h
-map_ok P Q (Err e) f h = tt
-
 pub map_heard : {E : Type 0} (P Q : Told → Type 0) (r : Result Heard E) (found : Option Recovery) → ((told : Told) → P told → Q told)
     → IfOk r (λ heard. HoldsOf P heard found) → IfOk r (λ heard. HoldsOf Q heard found)
 map_heard P Q (Ok (Heard.Shown a)) found f h = f (Shown a) h

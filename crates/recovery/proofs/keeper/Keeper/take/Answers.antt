@@ -1,4 +1,5 @@
 use Rattle.std.proofs.Common.{◌≡◌, ◌<◌, ◌∷◌, ℕ, List, None, if◌then◌else◌, slice_index, slice_set, sym, ap, subst, ◌∙◌}
+use Rattle.std.proofs.lemmas.Result.{IfOk-weaker}
 use Rattle.dgt_frame.specs.declared.First.{First}
 use Rattle.settle_core.specs.Entries.{Entry, entry_of}
 use Rattle.unseen_pairs.specs.Recoverer.{Desk, StandsForRecovered}
@@ -11,7 +12,7 @@ use Rattle.board_events.specs.View.{Views}
 use Rattle.recovery.specs.declared.keeper.Keeper.{Keeper}
 use Rattle.recovery.specs.Keeping.{KeepsNext}
 use Rattle.recovery.specs.Seeing.{Sees}
-use Rattle.recovery.proofs.KeepLemmas.{another_here, entry_before, kept_same, kept_seen, map_ok, on_any_err, seen_before, shown_there}
+use Rattle.recovery.proofs.KeepLemmas.{another_here, entry_before, kept_same, kept_seen, on_any_err, seen_before, shown_there}
 use Rattle.recovery.proofs.keeper.Keeper.take.Goals as goal
 
 pub returns-in-Nothing-clause-next : goal.returns-in-Nothing-clause-next
@@ -64,8 +65,8 @@ returns-in-Square-clause-next c = λ setting past written k.
     let E : List Entry → Type 0 = λ es. StandsForRecovered c.hear.new.self.recoverer setting.start es written in
     let sees = c.see_square.ensures.sees setting.start e.0 e.1 written (subst E e.2 stands) shown in
     let new : Keeper = record c.hear.new.self { view = c.see.new.self; recoverer = c.see_square.new.recoverer; found = c.see_square.new.found } in
-    map_ok (λ is. Sees new.recoverer setting.start (e.0 ∷ e.1) written (entry_of picture c.hear.new.self.reading) (if is then new.found else None))
-    (λ is. KeepsNext new setting past event (if is then new.found else None) written) c.see_square.result
+    IfOk-weaker c.see_square.result (λ is. Sees new.recoverer setting.start (e.0 ∷ e.1) written (entry_of picture c.hear.new.self.reading) (if is then new.found else None))
+    (λ is. KeepsNext new setting past event (if is then new.found else None) written)
     (λ is sees. kept_seen new setting past event picture written (if is then new.found else None)
     views read (c.hear.ensures.first ∙ k.first) (c.hear.ensures.rotated ∙ k.rotated) more
     (subst (λ (es : List Entry). Sees new.recoverer setting.start es written (entry_of picture (reading_at setting.first (event ∷ past))) (if is then new.found else None)) (sym e.2)
@@ -89,8 +90,8 @@ returns-in-Picture-clause-next c = λ setting past written k.
     let more : pictures setting.rotated (event ∷ past) ≡ picture ∷ pictures setting.rotated past = changes.1 ∙ ap (λ p. p ∷ pictures setting.rotated past) (sym is) in
     let sees = c.see_whole.ensures setting.start (entries_in setting past) written stands in
     let new : Keeper = record c.hear.new.self { view = c.see.new.self; recoverer = c.see_whole.new.recoverer; found = c.see_whole.new.found } in
-    map_ok (λ is. Sees new.recoverer setting.start (entries_in setting past) written (entry_of picture c.hear.new.self.reading) (if is then new.found else None))
-    (λ is. KeepsNext new setting past event (if is then new.found else None) written) c.see_whole.result
+    IfOk-weaker c.see_whole.result (λ is. Sees new.recoverer setting.start (entries_in setting past) written (entry_of picture c.hear.new.self.reading) (if is then new.found else None))
+    (λ is. KeepsNext new setting past event (if is then new.found else None) written)
     (λ is sees. kept_seen new setting past event picture written (if is then new.found else None)
     views read (c.hear.ensures.first ∙ k.first) (c.hear.ensures.rotated ∙ k.rotated) more
     (subst (λ r. Sees new.recoverer setting.start (entries_in setting past) written (entry_of picture r) (if is then new.found else None)) read sees))

@@ -1,11 +1,12 @@
 use Rattle.std.proofs.Common.{◌∷◌, Option, sym, subst, ◌∙◌}
+use Rattle.std.proofs.lemmas.Result.{IfOk-weaker}
 use Rattle.chess_clock.specs.declared.times.Reading.{Reading}
 use Rattle.chess_rules.specs.Valid.{Valid}
 use Rattle.settle_core.specs.Entries.{Entry, entry_of}
 use Rattle.settle_core.specs.Settler.{ReturnsSeen, StandsFor}
 use Rattle.unseen_pairs.specs.declared.pair.Told.{Told}
 use Rattle.unseen_pairs.specs.Recoverer.{Desk, HasTold, IsWaiting, ReturnsTold, StandsForRecovered, written_after}
-use Rattle.unseen_pairs.proofs.Telling.{map_ok, shown_told, to_wait}
+use Rattle.unseen_pairs.proofs.Telling.{shown_told, to_wait}
 use Rattle.unseen_pairs.proofs.recoverer.Recoverer.see.Goals as goal
 
 pub returns-in-Waits-clause-stands : goal.returns-in-Waits-clause-stands
@@ -19,8 +20,8 @@ returns-in-Waits-clause-stands c = λ start past written st.
     let answer = c.in_ok-seen.ensures.answer start written stands.settles in
     let w : IsWaiting (record { settler = c.see.new.self; candidates = c.self.inside.candidates.items }) start past written entry =
     to_wait old c.see.new.self start past written entry valid stands next (subst (ReturnsSeen start written c.args.picture.now) c.in-Waits.is answer) in
-    map_ok (HasTold c.wait.new.self start past written entry) (λ (told : Told). StandsForRecovered c.wait.new.self start (entry ∷ past) (written_after entry told written))
-    c.wait.result (λ told h. h.stands) (c.wait.ensures start past written w)
+    IfOk-weaker c.wait.result (HasTold c.wait.new.self start past written entry) (λ (told : Told). StandsForRecovered c.wait.new.self start (entry ∷ past) (written_after entry told written))
+    (λ told h. h.stands) (c.wait.ensures start past written w)
 
 pub returns-in-Waits-clause-answer : goal.returns-in-Waits-clause-answer
 returns-in-Waits-clause-answer c = λ start past written st.
@@ -33,8 +34,8 @@ returns-in-Waits-clause-answer c = λ start past written st.
     let answer = c.in_ok-seen.ensures.answer start written stands.settles in
     let w : IsWaiting (record { settler = c.see.new.self; candidates = c.self.inside.candidates.items }) start past written entry =
     to_wait old c.see.new.self start past written entry valid stands next (subst (ReturnsSeen start written c.args.picture.now) c.in-Waits.is answer) in
-    map_ok (HasTold c.wait.new.self start past written entry) (ReturnsTold start past c.args.picture.now)
-    c.wait.result (λ told h. h.answer) (c.wait.ensures start past written w)
+    IfOk-weaker c.wait.result (HasTold c.wait.new.self start past written entry) (ReturnsTold start past c.args.picture.now)
+    (λ told h. h.answer) (c.wait.ensures start past written w)
 
 pub returns-in_default-clause-stands : goal.returns-in_default-clause-stands
 returns-in_default-clause-stands c = λ start past written st.
