@@ -1,8 +1,6 @@
 -- The pictures that events show, and the placement that is drawn.
 use Rattle.std.proofs.Common.{◌≡◌, ◌∙◌, inl, inr, ℕ, Bool, true, false, List, [], ◌∷◌, length, slice_set, Some, ap, refl, sym}
-use Rattle.std.specs.Str.{bytes_eq}
 use Rattle.std.proofs.lemmas.Bool.{cases_Bool}
-use Rattle.std.proofs.lemmas.Slice.Eq.{bytes_eq-Decides}
 use Rattle.std.proofs.lemmas.Option.{same_Some}
 use Rattle.chess_text.specs.declared.placement_text.PlacementText.{PlacementText}
 use Rattle.chess_text.specs.KeptRanks.{picture_in}
@@ -12,7 +10,8 @@ use Rattle.dgt_frame.specs.declared.events.Event.{Event}
 use Rattle.dgt_frame.specs.declared.events.Event.TheVariants.{Message, Fault}
 use Rattle.dgt_frame.specs.declared.events.Message.TheVariants.{Dump, Update, Time, Other}
 use Rattle.dgt_frame.specs.Streams.{HasFrame}
-use Rattle.settle_core.specs.Entries.{Entry, last_picture, repeats}
+use Rattle.settle_core.specs.Entries.{last_picture, repeats}
+use Rattle.settle_core.proofs.Repeats.{repeated_last, repeats_by}
 use Rattle.board_events.specs.Entries.{entries, is_entry}
 use Rattle.board_events.specs.History.{fields_of, picture_of, reading_at, turned}
 use Rattle.board_events.specs.Pictures.{pictures}
@@ -31,12 +30,6 @@ last_alike first rotated (event ∷ past) = elim (cases_Bool (is_entry event pas
   | inl entered ↦ rw entered refl
   | inr other ↦ rw other (last_alike first rotated past)
 ]
-
-repeats_by : (seen : List ℕ) (a b : List Entry) → last_picture a ≡ last_picture b → repeats seen a ≡ repeats seen b
-repeats_by seen [] [] same = refl
-repeats_by seen [] (y ∷ b) same = absurd (let n : ⊥ = cc in n)
-repeats_by seen (x ∷ a) [] same = absurd (let n : ⊥ = cc in n)
-repeats_by seen (x ∷ a) (y ∷ b) same = let alike : x.picture ≡ y.picture = cc in ap (bytes_eq seen) alike
 
 repeats_alike : (seen : List ℕ) (setting : Setting) (past : List Event)
     → repeats seen (entries White setting.rotated past) ≡ repeats seen (entries_in setting past)
@@ -69,10 +62,6 @@ draws_none placement setting past event other draws = λ picture last.
 last_new : (setting : Setting) (past : List Event) (event : Event) (picture : List ℕ) → is_entry event past ≡ true
     → last_picture (entries_in setting (event ∷ past)) ≡ Some picture → picture_of setting.rotated (event ∷ past) ≡ picture
 last_new setting past event picture entered last = same_Some _ _ (sym (ap last_picture (entries_new setting event past entered)) ∙ last)
-
-repeated_last : (seen : List ℕ) (past : List Entry) → repeats seen past ≡ true → last_picture past ≡ Some seen
-repeated_last seen [] is = absurd (cc)
-repeated_last seen (before ∷ past) is = let d = bytes_eq-Decides seen before.picture in ap Some (sym (d.0 is))
 
 pub draws_same : (placement : PlacementText) (setting : Setting) (past : List Event) (event : Event) → is_entry event past ≡ true
     → repeats (picture_of setting.rotated (event ∷ past)) (entries_in setting past) ≡ true

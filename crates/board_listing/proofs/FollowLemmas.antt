@@ -17,6 +17,7 @@ use Rattle.settle_core.specs.Folding.{Folds, Replaces, Score, SeenAs, moves_of, 
 use Rattle.settle_core.specs.Settling.{reached}
 use Rattle.settle_core.specs.Settler.{ReturnsSeen, ReturnsNewSeen, Sheet, StandsFor as Settled}
 use Rattle.settle_core.proofs.Once.{folds_once}
+use Rattle.settle_core.proofs.Repeats.{with_new}
 use Rattle.board_events.specs.declared.session.Taken.{Taken}
 use Rattle.board_events.specs.Entries.{entry_at, is_entry}
 use Rattle.board_events.specs.History.{is_fault, picture_of}
@@ -99,16 +100,13 @@ pub record News (sheet : Sheet) (start : Parts) (past : List Entry) (entry : Ent
   pub last : sheet.last ≡ Some entry.picture
   pub score_is : sheet.score ≡ score_after start before entry.reading seen
 
-pub without_repeats : (entry : Entry) (past : List Entry) → repeats entry.picture past ≡ false → deduplicated (entry ∷ past) ≡ entry ∷ deduplicated past
-without_repeats entry past new = ap (λ b. if b then deduplicated past else entry ∷ deduplicated past) new
-
 news_of : (sheet : Sheet) (start : Parts) (past : List Entry) (entry : Entry) (seen : Seen) → Valid start → Settled sheet start (entry ∷ past)
     → ReturnsNewSeen start past entry.picture seen → News sheet start past entry seen
 news_of sheet start past entry seen valid stands answer =
     let before = answer.1.0 in
     let after = score_after start before entry.reading seen in
     let P : List Entry → Type 0 = λ es. Folds start es sheet.score in
-    let folded : Folds start (entry ∷ deduplicated past) sheet.score = subst P (without_repeats entry past answer.0) stands.folds in
+    let folded : Folds start (entry ∷ deduplicated past) sheet.score = subst P (with_new entry past answer.0) stands.folds in
     let made : Folds start (entry ∷ deduplicated past) after = (before, seen, answer.1.1, answer.1.2, refl) in
     record {
       before = before;
@@ -257,7 +255,7 @@ added_news old new setting past x taken seen lines lines' followed stands tells 
     let E : List Entry → Type 0 = λ es. Folds start es after in
     let folds : Folds start (here ∷ deduplicated (entries_in setting past)) after = (fresh.before, seen, fresh.folds, fresh.shows, refl) in
     let entries_are : deduplicated (entries_in setting (x.event ∷ past)) ≡ here ∷ deduplicated (entries_in setting past) =
-    ap deduplicated (entries_new setting x.event past entry) ∙ without_repeats here (entries_in setting past) fresh.new in (
+    ap deduplicated (entries_new setting x.event past entry) ∙ with_new here (entries_in setting past) fresh.new in (
       record {
         stands = stands;
         score = after;

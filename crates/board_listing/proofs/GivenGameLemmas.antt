@@ -21,6 +21,7 @@ use Rattle.settle_core.specs.GameResult.{IsResult}
 use Rattle.settle_core.specs.Settling.{position_after, reached}
 use Rattle.settle_core.proofs.Lists.{position_in_order}
 use Rattle.settle_core.proofs.Once.{folds_once}
+use Rattle.settle_core.proofs.Repeats.{with_new}
 use Rattle.board_events.specs.Entries.{entry_at, is_entry}
 use Rattle.board_events.specs.History.{is_fault}
 use Rattle.board_events.specs.Settings.{Setting}
@@ -32,7 +33,7 @@ use Rattle.board_listing.specs.GivenGame.{AreInStream, GameLine, Gives, LinesGiv
 use Rattle.watched_streams.specs.Lines.{line}
 use Rattle.board_listing.specs.GameLines.{move_words, result_words, squares_text, waiting_words}
 use Rattle.board_listing.specs.EventLines.{kind_text, line_of}
-use Rattle.board_listing.proofs.FollowLemmas.{clash, entries_new, entries_same, fault_gives_none, without_repeats}
+use Rattle.board_listing.proofs.FollowLemmas.{clash, entries_new, entries_same, fault_gives_none}
 
 -- Lines of an event with this offset that are behind those before it, and give these plies and this result.
 record More (offset : ℕ) (start : Parts) (lines : List GameLine) (text : List ℕ) (plies : List Ply) (result : Option Outcome) : Type 0 where
@@ -157,7 +158,7 @@ entered setting events x before more text valid g tells is entry new =
     let e : TellsEntry x.offset start past here more = tells.entry entry new in
     let after = score_after start e.before here.reading e.seen in
     let entries_are : deduplicated (entries_in setting (events_of (x ∷ events))) ≡ here ∷ deduplicated past =
-    ap deduplicated (entries_new setting x.event (events_of events) entry) ∙ without_repeats here past new in
+    ap deduplicated (entries_new setting x.event (events_of events) entry) ∙ with_new here past new in
     let E : List Entry → Type 0 = λ es. Folds start es after in
     let same : g.score ≡ e.before = folds_once start (deduplicated past) g.score e.before valid g.folds e.folds in
     let P : Score → Type 0 = λ s. (outcome : Option Outcome) → HasResult start s outcome → Told start events before s.plies outcome in

@@ -20,6 +20,7 @@ use Rattle.settle_core.specs.Folding.{Folds, Replaces, Score, SeenAs, moves_of, 
 use Rattle.settle_core.specs.GameResult.{IsResult}
 use Rattle.settle_core.specs.Settling.{reached}
 use Rattle.settle_core.proofs.Once.{folds_once}
+use Rattle.settle_core.proofs.Repeats.{with_new}
 use Rattle.board_events.specs.Entries.{entry_at, is_entry}
 use Rattle.board_events.specs.History.{is_fault}
 use Rattle.board_events.specs.Limits.{limit}
@@ -34,7 +35,7 @@ use Rattle.board_listing.specs.GivenGame.{ChangesGame, GameLine, Gives, text_of}
 use Rattle.board_listing.specs.WatchLaws.{NamesPositions, WatchNamesThePositions, game_lines}
 use Rattle.board_listing.specs.WatchLines.{position_words, tells_change, tells_game, tells_picture, tells_position, tells_reading}
 use Rattle.board_listing.specs.WatchText.{IsGameLine, ShowsPicture, ShowsReading, Watches, WatchesEvent, line_with, with_position}
-use Rattle.board_listing.proofs.FollowLemmas.{clash, entries_new, entries_same, fault_gives_none, without_repeats}
+use Rattle.board_listing.proofs.FollowLemmas.{clash, entries_new, entries_same, fault_gives_none}
 use Rattle.board_listing.proofs.GivenGameLemmas.{made}
 use Rattle.board_listing.proofs.LineLemmas.{text_append}
 use Rattle.board_listing.proofs.OffsetLemmas.{all_append}
@@ -209,7 +210,7 @@ entry_step law setting events x lines score followed valid g low score_folds eac
     let e : TellsEntry x.offset start past here (text_of followed) = tells.entry entry new in
     let after = score_after start e.before here.reading e.seen in
     let entries_are : deduplicated (entries_in setting (events_of (x ∷ events))) ≡ here ∷ deduplicated past =
-    ap deduplicated (entries_new setting x.event (events_of events) entry) ∙ without_repeats here past new in
+    ap deduplicated (entries_new setting x.event (events_of events) entry) ∙ with_new here past new in
     let E : List Entry → Type 0 = λ es. Folds start es after in
     let folded : Folds start (deduplicated (entries_in setting (events_of (x ∷ events)))) after = subst E (sym entries_are) (e.before, e.seen, e.folds, e.shows, refl) in
     let same : g.score ≡ e.before = folds_once start (deduplicated past) g.score e.before valid g.folds e.folds in

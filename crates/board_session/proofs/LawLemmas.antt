@@ -1,5 +1,5 @@
 -- Lists of events that give the same game.
-use Rattle.std.proofs.Common.{inl, inr, ◌≡◌, ℕ, ◌==◌, Bool, true, false, if◌then◌else◌, List, [], ◌∷◌, ◌++◌, get_or, Option, Some, bytes_eq, refl, sym, ap, ◌∙◌}
+use Rattle.std.proofs.Common.{inl, inr, ◌≡◌, ℕ, ◌==◌, Bool, true, false, if◌then◌else◌, List, [], ◌∷◌, ◌++◌, get_or, Option, Some, refl, sym, ap, ◌∙◌}
 use Rattle.std.proofs.lemmas.List.{append-nil}
 use Rattle.std.proofs.lemmas.Slice.Eq.{bytes_eq-Decides}
 use Rattle.std.proofs.lemmas.Option.{same_Some}
@@ -11,6 +11,7 @@ use Rattle.dgt_frame.specs.declared.events.FaultKind.{FaultKind}
 use Rattle.dgt_frame.specs.declared.First.{First}
 use Rattle.chess_clock.specs.declared.Reading.{Reading}
 use Rattle.settle_core.specs.Entries.{Entry, entry_of, last_picture, repeats, deduplicated}
+use Rattle.settle_core.proofs.Repeats.{repeated_last, repeats_by}
 use Rattle.chess_game.specs.Games.{Content}
 use Rattle.chess_game.specs.Values.{TagValues}
 use Rattle.board_events.specs.Settings.{Setting}
@@ -33,24 +34,13 @@ record Alike (first : First) (rotated : Bool) (a b : List Event) : Type 0 where
 abbrev onto : Entry → List Entry → List Entry
 onto entry list = if repeats entry.picture list then list else entry ∷ list
 
--- only the last picture can be repeated
-repeats-last_picture : (picture : List ℕ) (a b : List Entry) → last_picture a ≡ last_picture b → repeats picture a ≡ repeats picture b
-repeats-last_picture picture [] [] h = refl
-repeats-last_picture picture [] (y ∷ b) h = absurd (let never : ⊥ = cc in never)
-repeats-last_picture picture (x ∷ a) [] h = absurd (let never : ⊥ = cc in never)
-repeats-last_picture picture (x ∷ a) (y ∷ b) h = ap (bytes_eq picture) (same_Some _ _ h)
-
 last_repeats : (picture : List ℕ) (past : List Entry) → Some picture ≡ last_picture past → repeats picture past ≡ true
 last_repeats picture [] h = absurd (let never : ⊥ = cc in never)
 last_repeats picture (before ∷ past) h = let d = bytes_eq-Decides picture before.picture in d.1 (same_Some _ _ h)
 
-repeats_last : (picture : List ℕ) (past : List Entry) → repeats picture past ≡ true → Some picture ≡ last_picture past
-repeats_last picture [] h = absurd (let never : ⊥ = cc in never)
-repeats_last picture (before ∷ past) h = let d = bytes_eq-Decides picture before.picture in ap (λ (p : List ℕ). Some p) (d.0 h)
-
 last_onto : (entry : Entry) (past : List Entry) (again : Bool) → repeats entry.picture past ≡ again → last_picture (deduplicated past) ≡ last_picture past
     → last_picture (deduplicated (entry ∷ past)) ≡ Some entry.picture
-last_onto entry past true h rest = rw h (rest ∙ sym (repeats_last entry.picture past h))
+last_onto entry past true h rest = rw h (rest ∙ repeated_last entry.picture past h)
 last_onto entry past false h rest = rw h refl
 
 last_deduplicated : (list : List Entry) → last_picture (deduplicated list) ≡ last_picture list
@@ -58,7 +48,7 @@ last_deduplicated [] = refl
 last_deduplicated (entry ∷ past) = last_onto entry past (repeats entry.picture past) refl (last_deduplicated past)
 
 deduplicated_onto : (entry : Entry) (list : List Entry) → deduplicated (entry ∷ list) ≡ onto entry (deduplicated list)
-deduplicated_onto entry list = rw (repeats-last_picture entry.picture (deduplicated list) list (last_deduplicated list)) refl
+deduplicated_onto entry list = rw (repeats_by entry.picture (deduplicated list) list (last_deduplicated list)) refl
 
 same_onto : (entry other : Entry) (list short : List Entry) → entry ≡ other → deduplicated list ≡ deduplicated short → deduplicated (entry ∷ list) ≡ deduplicated (other ∷ short)
 same_onto entry other list short e h = deduplicated_onto entry list ∙ rw (e, h) (sym (deduplicated_onto other short))

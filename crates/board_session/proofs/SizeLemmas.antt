@@ -22,6 +22,7 @@ use Rattle.settle_core.proofs.Growing.{one_more}
 use Rattle.settle_core.proofs.Once.{folds_played}
 use Rattle.settle_core.proofs.Stages.{valid_reached}
 use Rattle.settle_core.proofs.Twice.{DiffersTwice, moves_differ}
+use Rattle.settle_core.proofs.Repeats.{repeated_last}
 use Rattle.board_events.specs.Commands.{past_of}
 use Rattle.board_events.specs.Entries.{entry_at}
 use Rattle.board_events.specs.History.{code_of, is_trusted, picture_of, turned}
@@ -152,13 +153,6 @@ dumped setting codes past score bound f =
           ))
     ]
 
--- the picture of a repeated entry is the last one
-repeated : (seen : List ℕ) (past : List Entry) → repeats seen past ≡ true → last_picture past ≡ Some seen
-repeated seen [] e = absurd (let never : ⊥ = cc in never)
-repeated seen (one ∷ past) e =
-    let d = Rattle.std.proofs.lemmas.Slice.Eq.bytes_eq-Decides seen one.picture in
-    ap (λ (xs : List ℕ). Some xs) (sym (d.0 e))
-
 replaced_length : (start : Parts) (plies : List Ply) (seen : List ℕ) (m : Move) → Replaces start (moves_of plies) seen m
     → suc (length (drop 1 plies)) ≡ length plies
 replaced_length start [] seen m h = absurd h
@@ -220,7 +214,7 @@ updated setting field code past score true t v bound f =
       | inl same ↦
           elim (bound score same.1) [
             | inl more ↦ inl (omega (arith, more))
-            | inr rests ↦ inr (omega (arith, rests.0), λ seen e. rests.1 seen (repeated entry.picture (entries_in setting past) same.0 ∙ sym last ∙ e))
+            | inr rests ↦ inr (omega (arith, rests.0), λ seen e. rests.1 seen (repeated_last entry.picture (entries_in setting past) same.0 ∙ sym last ∙ e))
           ]
       | inr b ↦
           let valid : Valid (reached setting.start (moves_of (b.before).plies)) =

@@ -1,6 +1,5 @@
 -- What a keeper makes of an event.
 use Rattle.std.proofs.Common.{inl, inr, ◌≡◌, ◌<◌, ℕ, Bool, true, false, List, [], ◌∷◌, length, map, get_or, get_or-set_same, slice_index, slice_set, is_some, Option, Some, None, Result, Ok, Err, IfOk, OnErr, refl, sym, ap, subst, arith, ◌∙◌}
-use Rattle.std.specs.Str.{bytes_eq}
 use Rattle.std.proofs.lemmas.Bool.{cases_Bool}
 use Rattle.std.proofs.lemmas.List.{length-set}
 use Rattle.std.proofs.lemmas.Slice.Eq.{bytes_eq-Decides}
@@ -13,6 +12,7 @@ use Rattle.chess_rules.specs.Legal.{Legal}
 use Rattle.settle_core.specs.declared.plies.Seen.TheVariants.{Same}
 use Rattle.settle_core.specs.Entries.{Entry, deduplicated, entry_of, last_picture, repeats}
 use Rattle.settle_core.specs.Settler.{StandsFor, has_seen}
+use Rattle.settle_core.proofs.Repeats.{repeated_last, repeats_by}
 use Rattle.unseen_pairs.specs.declared.pair.Recovery.{Recovery}
 use Rattle.unseen_pairs.specs.declared.pair.Heard.{Heard}
 use Rattle.unseen_pairs.specs.Recoverer.{Desk, HoldsOf, ReturnsTold, StandsForRecovered, written_after}
@@ -36,12 +36,6 @@ last_alike first rotated (event ∷ past) = elim (cases_Bool (is_entry event pas
   | inl entered ↦ rw entered refl
   | inr other ↦ rw other (last_alike first rotated past)
 ]
-
-repeats_by : (seen : List ℕ) (a b : List Entry) → last_picture a ≡ last_picture b → repeats seen a ≡ repeats seen b
-repeats_by seen [] [] same = refl
-repeats_by seen [] (y ∷ b) same = absurd (let n : ⊥ = cc in n)
-repeats_by seen (x ∷ a) [] same = absurd (let n : ⊥ = cc in n)
-repeats_by seen (x ∷ a) (y ∷ b) same = let alike : x.picture ≡ y.picture = cc in ap (bytes_eq seen) alike
 
 repeats_alike : (seen : List ℕ) (first : First) (rotated : Bool) (past : List Event)
     → repeats seen (entries first rotated past) ≡ repeats seen (entries White rotated past)
@@ -182,12 +176,6 @@ entry_now setting past picture reading shown read =
     ap (λ (p : List ℕ). entry_of p reading) shown ∙ ap (λ (r : Option Reading). entry_of (picture_of setting.rotated past) r) read
 
 -- The entry before an event that changes its picture.
-repeats_last : (seen : List ℕ) (past : List Entry) (picture : List ℕ) → repeats seen past ≡ true → last_picture past ≡ Some picture → seen ≡ picture
-repeats_last seen [] picture again last = absurd (let n : ⊥ = cc in n)
-repeats_last seen (before ∷ past) picture again last =
-    let d = bytes_eq-Decides seen before.picture in
-    let is : before.picture ≡ picture = cc in
-    d.0 again ∙ is
 
 last_shown : (es : List Entry) (picture : List ℕ) (earlier : List (List ℕ)) → map (λ (e : Entry). e.picture) (deduplicated es) ≡ picture ∷ earlier
     → last_picture es ≡ Some picture
@@ -195,7 +183,7 @@ last_shown [] picture earlier shown = absurd (let n : ⊥ = cc in n)
 last_shown (entry ∷ past) picture earlier shown = elim (cases_Bool (repeats entry.picture past)) [
   | inl again ↦
       let before : map (λ (e : Entry). e.picture) (deduplicated past) ≡ picture ∷ earlier = rw again at shown in
-      ap Some (repeats_last entry.picture past picture again (last_shown past picture earlier before))
+      sym (repeated_last entry.picture past again) ∙ last_shown past picture earlier before
   | inr new ↦
       let both : entry.picture ∷ map (λ (e : Entry). e.picture) (deduplicated past) ≡ picture ∷ earlier = rw new at shown in
       let same : entry.picture ≡ picture = cc in

@@ -30,6 +30,7 @@ use Rattle.settle_core.proofs.Lists.{position_in_order}
 use Rattle.settle_core.proofs.Once.{folds_once, folds_played}
 use Rattle.settle_core.proofs.Pieces.{no_new_after, no_reply, picture_moves, quiet_unless}
 use Rattle.settle_core.proofs.Stages.{Ends, EndsAt, IsOpen, IsSound, Opens, bare, end_again, end_first, entry_open, now, opens, shows_at}
+use Rattle.settle_core.proofs.Repeats.{repeated_last}
 
 pub whole_move_is_in_hand : WholeMoveIsInHand
 whole_move_is_in_hand p m v l quiet = record {
@@ -118,12 +119,6 @@ record Coming (start : Parts) (earlier : List Ply) (m : Move) (past : List Entry
   whole : last_picture past ≡ Some (picture (after (reached start (moves_of earlier)) m))
       → (score : Score) → Folds start (deduplicated past) score → Made earlier m score
 
-repeated_picture : (picture : List ℕ) (past : List Entry) → repeats picture past ≡ true → last_picture past ≡ Some picture
-repeated_picture picture [] e = absurd (let never : ⊥ = cc in never)
-repeated_picture picture (before ∷ past) e =
-    let d = bytes_eq-Decides picture before.picture in
-    ap (λ (xs : List ℕ). Some xs) (sym (d.0 e))
-
 -- an entry with the whole picture
 whole_entry :
     (start : Parts) (earlier : List Ply) (m : Move) (past : List Entry) (entry : Entry)
@@ -136,7 +131,7 @@ whole_entry start earlier m past entry s l e coming score f =
     let F : List Entry → Type 0 = λ es. Folds start es score in
     elim (cases_Bool (repeats entry.picture past)) [
       | inl same ↦
-          coming.whole (repeated_picture entry.picture past same ∙ ap (λ (xs : List ℕ). Some xs) e) score
+          coming.whole (repeated_last entry.picture past same ∙ ap (λ (xs : List ℕ). Some xs) e) score
           (subst F (cond-true (repeats entry.picture past) (deduplicated past) (entry ∷ deduplicated past) same) f)
       | inr new ↦
           let g : Folds start (entry ∷ deduplicated past) score =

@@ -21,6 +21,7 @@ use Rattle.settle_core.proofs.Apart.{no_sign_valid}
 use Rattle.settle_core.proofs.Once.{folds_once, folds_played}
 use Rattle.settle_core.proofs.Pieces.{picture_moves}
 use Rattle.settle_core.proofs.Stages.{differ_false, valid_reached}
+use Rattle.settle_core.proofs.Repeats.{repeats_by, with_new, with_repeated}
 use Rattle.unseen_pairs.specs.declared.pair.Recovery.{Recovery}
 use Rattle.unseen_pairs.specs.declared.pair.Heard.{Heard}
 use Rattle.unseen_pairs.specs.declared.pair.Told.{Told}
@@ -42,18 +43,6 @@ no_candidates start moves = record {
   whole = λ pair place entry at. absurd (let n : ⊥ = cc (at.waits) in n);
 }
 
-repeats_as : (seen : List ℕ) (written past : List Entry) → last_picture written ≡ last_picture past → repeats seen written ≡ repeats seen past
-repeats_as seen [] [] e = refl
-repeats_as seen [] (b ∷ past) e = absurd (let n : ⊥ = cc in n)
-repeats_as seen (a ∷ written) [] e = absurd (let n : ⊥ = cc in n)
-repeats_as seen (a ∷ written) (b ∷ past) e = let same : a.picture ≡ b.picture = cc in ap (bytes_eq seen) same
-
-once_more : (entry : Entry) (past : List Entry) → repeats entry.picture past ≡ true → deduplicated (entry ∷ past) ≡ deduplicated past
-once_more entry past e = cond-true (repeats entry.picture past) (deduplicated past) (entry ∷ deduplicated past) e
-
-one_new : (entry : Entry) (past : List Entry) → repeats entry.picture past ≡ false → deduplicated (entry ∷ past) ≡ entry ∷ deduplicated past
-one_new entry past e = cond-false (repeats entry.picture past) (deduplicated past) (entry ∷ deduplicated past) e
-
 -- what a settler showed that was given one new entry
 shown_step :
     (old new : Sheet) (start : Parts) (written : List Entry) (entry : Entry) (a : Seen)
@@ -69,7 +58,7 @@ shown_step old new start written entry a v st after h =
     let F : List Entry → Type 0 = λ es. Folds start es new.score in (
       seen,
       folds_once start (entry ∷ deduplicated written) new.score (score_after start old.score entry.reading a) v
-          (subst F (one_new entry written h.0) after.folds) (old.score, a, st.folds, seen, refl),
+          (subst F (with_new entry written h.0) after.folds) (old.score, a, st.folds, seen, refl),
     )
 
 -- A move or a sign is told, and nothing waits.
@@ -85,7 +74,7 @@ shown_new :
     → StandsForRecovered new start (entry ∷ past) (entry ∷ written) × TellsNew start past entry.picture (Shown a)
 shown_new old new start past written entry a v st after none ne empty h =
     let step = shown_step old.settler new.settler start written entry a v st.settles after h in
-    let fresh : repeats entry.picture past ≡ false = sym (repeats_as entry.picture written past st.last) ∙ h.0 in
+    let fresh : repeats entry.picture past ≡ false = sym (repeats_by entry.picture written past st.last) ∙ h.0 in
     let tells : TellsAs start (moves_of old.settler.score.plies) st.waiting entry.picture (Shown a) = (step.0, λ e. absurd (ne e)) in
     let F : List Entry → Type 0 = λ es. FoldsRecovering start es new.settler.score [] in
     let C : List Candidate → Type 0 = λ cs. ListsCandidates start (moves_of new.settler.score.plies) [] cs in (
@@ -93,7 +82,7 @@ shown_new old new start past written entry a v st after none ne empty h =
         settles = after;
         last = refl;
         waiting = [];
-        folds = subst F (sym (one_new entry past fresh)) (old.settler.score, st.waiting, Shown a, st.folds, tells, step.1, sym empty);
+        folds = subst F (sym (with_new entry past fresh)) (old.settler.score, st.waiting, Shown a, st.folds, tells, step.1, sym empty);
         candidates = subst C (sym none) (no_candidates start (moves_of new.settler.score.plies));
       },
       (fresh, (old.settler.score, st.waiting, st.folds, tells)),
@@ -130,9 +119,9 @@ pub same_told :
     → ReturnsSeen start written entry.picture Same
     → HasTold (record { settler = new; candidates = old.candidates }) start past written entry (Shown Same)
 same_told old new start past written entry v st after h =
-    let again : repeats entry.picture past ≡ true = sym (repeats_as entry.picture written past st.last) ∙ h in
+    let again : repeats entry.picture past ≡ true = sym (repeats_by entry.picture written past st.last) ∙ h in
     let F : List Entry → Type 0 = λ es. Folds start es new.score in
-    let same : old.settler.score ≡ new.score = folds_once start (deduplicated written) old.settler.score new.score v (st.settles).folds (subst F (once_more entry written h) after.folds) in
+    let same : old.settler.score ≡ new.score = folds_once start (deduplicated written) old.settler.score new.score v (st.settles).folds (subst F (with_repeated entry written h) after.folds) in
     let R : List Entry → Type 0 = λ es. FoldsRecovering start es new.score st.waiting in
     let Q : Score → Type 0 = λ s. FoldsRecovering start (deduplicated past) s st.waiting in
     let C : Score → Type 0 = λ s. ListsCandidates start (moves_of s.plies) st.waiting old.candidates in
@@ -141,7 +130,7 @@ same_told old new start past written entry v st after h =
         settles = after;
         last = refl;
         waiting = st.waiting;
-        folds = subst R (sym (once_more entry past again)) (subst Q same st.folds);
+        folds = subst R (sym (with_repeated entry past again)) (subst Q same st.folds);
         candidates = subst C same st.candidates;
       };
       answer = again;
@@ -165,7 +154,7 @@ to_wait old new start past written entry v st after h =
     record {
       settles = after;
       folded = subst F same (st.settles).folds;
-      new = sym (repeats_as entry.picture written past st.last) ∙ h.0;
+      new = sym (repeats_by entry.picture written past st.last) ∙ h.0;
       same = h.0;
       waits = subst S same step.0;
       waiting = st.waiting;
@@ -194,7 +183,7 @@ kept_told desk candidates start past written entry w none lists =
         settles = w.settles;
         last = refl;
         waiting = next;
-        folds = subst F (sym (one_new entry past w.new)) (desk.settler.score, w.waiting, Shown Waits, w.folds, tells, refl, refl);
+        folds = subst F (sym (with_new entry past w.new)) (desk.settler.score, w.waiting, Shown Waits, w.folds, tells, refl, refl);
         candidates = lists;
       };
       answer = (w.new, (desk.settler.score, w.waiting, w.folds, tells));
@@ -353,13 +342,13 @@ put_in_told desk new start past written entry one v w only st none =
     picture_moves (after p r.pair.first) r.pair.second um (e.after_two).second (ap picture (sym conf.after_is) ∙ q ∙ ap picture conf.middle_is) in
     let three_differs : entry.picture ≢ picture r.after = λ q.
     goes_elsewhere (reached start moves) (ends start moves r.pair) entry.picture r.sequel ue conf.goes_on (q ∙ ap picture conf.after_is) in
-    let d0 = one_new entry written w.same in
+    let d0 = with_new entry written w.same in
     let d1 : deduplicated (first ∷ entry ∷ written) ≡ first ∷ entry ∷ deduplicated written =
-    one_new first (entry ∷ written) (differ_false _ _ one_differs) ∙ ap (λ es. first ∷ es) d0 in
+    with_new first (entry ∷ written) (differ_false _ _ one_differs) ∙ ap (λ es. first ∷ es) d0 in
     let d2 : deduplicated (second ∷ first ∷ entry ∷ written) ≡ second ∷ first ∷ entry ∷ deduplicated written =
-    one_new second (first ∷ entry ∷ written) (differ_false _ _ two_differs) ∙ ap (λ es. second ∷ es) d1 in
+    with_new second (first ∷ entry ∷ written) (differ_false _ _ two_differs) ∙ ap (λ es. second ∷ es) d1 in
     let d3 : deduplicated (entry ∷ second ∷ first ∷ entry ∷ written) ≡ entry ∷ second ∷ first ∷ entry ∷ deduplicated written =
-    one_new entry (second ∷ first ∷ entry ∷ written) (differ_false _ _ three_differs) ∙ ap (λ es. entry ∷ es) d2 in
+    with_new entry (second ∷ first ∷ entry ∷ written) (differ_false _ _ three_differs) ∙ ap (λ es. entry ∷ es) d2 in
     let F : List Entry → Type 0 = λ es. Folds start es before in
     let N : List Entry → Type 0 = λ es. Folds start es new.settler.score in
     let folds : Folds start (entry ∷ deduplicated written) before = subst F d0 (w.settles).folds in
@@ -374,7 +363,7 @@ put_in_told desk new start past written entry one v w only st none =
         settles = st;
         last = refl;
         waiting = [];
-        folds = subst R (sym (one_new entry past w.new)) (before, w.waiting, Recovered r, w.folds, tells, score, refl);
+        folds = subst R (sym (with_new entry past w.new)) (before, w.waiting, Recovered r, w.folds, tells, score, refl);
         candidates = subst C (sym none) (no_candidates start (moves_of new.settler.score.plies));
       };
       answer = (w.new, (before, w.waiting, w.folds, tells));
