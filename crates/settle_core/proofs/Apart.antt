@@ -14,10 +14,10 @@ use Rattle.chess_rules.specs.Legal.{Legal}
 use Rattle.chess_rules.specs.Valid.{Valid, HasOneKing}
 use Rattle.chess_rules.specs.Picture.{code_of_piece, picture}
 use Rattle.chess_rules.proofs.LawLemmas.{moves_stay_valid}
+use Rattle.chess_rules.proofs.Replacing.{king_no_pawn, other-other}
 use Rattle.settle_core.specs.declared.plies.Outcome.{Outcome}
 use Rattle.settle_core.specs.Sign.{InCentre, IsSign}
 use Rattle.settle_core.specs.HonestPlay.{HasKingsApart, IsPartial, IsUnderWay}
-use Rattle.settle_core.proofs.Boards.{other-other, king_no_pawn}
 use Rattle.settle_core.proofs.Pieces.{on_shown, shown_piece, theirs_stood}
 
 -- two squares of the centre are neighbours

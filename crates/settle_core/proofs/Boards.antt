@@ -1,60 +1,18 @@
 -- Pieces on a board, and what a legal move does with them.
-use Rattle.std.proofs.Common.{◌≡◌, ◌≢◌, ℕ, ◌<◌, inl, inr, None, Some, Option, length, refl, sym, ap, ◌∙◌}
-use Rattle.std.proofs.lemmas.Bool.{cases_eq, cases_lt}
-use Rattle.std.proofs.lemmas.List.{get_or_past}
+use Rattle.std.proofs.Common.{◌≡◌, ◌≢◌, ℕ, ◌<◌, inl, inr, None, sym, ap, ◌∙◌}
 use Rattle.chess_rules.specs.declared.pieces.Side.{Side}
-use Rattle.chess_rules.specs.declared.pieces.Side.TheVariants.{White, Black}
 use Rattle.chess_rules.specs.declared.pieces.Kind.{Kind}
-use Rattle.chess_rules.specs.declared.pieces.Kind.TheVariants.{Pawn, Rook, King}
-use Rattle.chess_rules.specs.declared.pieces.Piece.{Piece}
+use Rattle.chess_rules.specs.declared.pieces.Kind.TheVariants.{Rook, King}
 use Rattle.chess_rules.specs.declared.chess_move.Move.{Move}
 use Rattle.chess_rules.specs.declared.parts.Parts.{Parts}
 use Rattle.chess_rules.specs.Board.{Board, on, piece_of, other}
 use Rattle.chess_rules.specs.After.{after}
 use Rattle.chess_rules.specs.Laws.{MovesOnePiece, MovesKingAndRook}
-
--- a piece of this side stands on s
-pub record Own (side : Side) (board : Board) (s : ℕ) : Type 0 where
-  pub kind : Kind
-  pub stands : on board s ≡ piece_of side kind
-
--- the side and the kind of a piece, since `cc` does not look into records
-abbrev pub side_of : Option Piece → Side
-side_of (Some piece) = piece.side
-side_of None = White
-
-abbrev pub kind_of : Option Piece → Kind
-kind_of (Some piece) = piece.kind
-kind_of None = Pawn
-
-pub none_piece : {side : Side} {k : Kind} → None ≡ piece_of side k → ⊥
-none_piece e = cc
-
-pub sides_differ : (side : Side) → side ≢ other side
-sides_differ White e = cc
-sides_differ Black e = cc
-
-pub other-other : (side : Side) → other (other side) ≡ side
-other-other White = refl
-other-other Black = refl
-
-pub king_no_pawn : King ≢ Pawn
-king_no_pawn e = cc
+use Rattle.chess_rules.proofs.Shifts.{kind_of, side_of}
+use Rattle.chess_rules.proofs.Replacing.{none_piece, sides_differ}
 
 pub king_no_rook : King ≢ Rook
 king_no_rook e = cc
-
--- equal squares, where unequal ones are absurd
-pub same_unless : (a b : ℕ) → (a ≢ b → ⊥) → a ≡ b
-same_unless a b h = elim (cases_eq a b) [ inl e ↦ e | inr ne ↦ absurd (h ne) ]
-
--- what stands somewhere stands on the board
-pub on_board : (board : Board) (s : ℕ) (side : Side) (k : Kind) → on board s ≡ piece_of side k → s < length board
-on_board board s side k h =
-    elim (cases_lt s (length board)) [
-      | inl low ↦ low
-      | inr past ↦ let e : on board s ≡ None = get_or_past board s None past in cc
-    ]
 
 -- a piece and no piece, two sides, or two kinds stand on two squares
 pub empty_differs : (b : Board) (s t : ℕ) (side : Side) (k : Kind) → on b s ≡ piece_of side k → on b t ≡ None → s ≢ t
@@ -103,11 +61,3 @@ pub castled_quiet :
 castled_quiet p m c s k h =
     let b : Board = p.board in
     c.others s (side_differs b s _ p.side k _ h c.king) (empty_differs b s _ _ k h c.target_empty) (side_differs b s _ p.side k _ h c.rook) (empty_differs b s _ _ k h c.crossed_empty) ∙ h
-
--- moves of equal parts are equal
-pub same_move : (m n : Move) → m.from ≡ n.from → m.to ≡ n.to → m.promotion ≡ n.promotion → m ≡ n
-same_move m n f t k =
-    let a : m ≡ record m { from = n.from } = ap (λ (q : ℕ). record m { from = q }) f in
-    let b : record m { from = n.from } ≡ record m { from = n.from; to = n.to } = ap (λ (q : ℕ). record m { from = n.from; to = q }) t in
-    let c : record m { from = n.from; to = n.to } ≡ n = ap (λ (q : Option Kind). record n { promotion = q }) k in
-    a ∙ b ∙ c

@@ -14,7 +14,8 @@ use Rattle.chess_rules.specs.Legal.{Legal}
 use Rattle.chess_rules.specs.Valid.{Valid}
 use Rattle.chess_rules.specs.Picture.{code, picture}
 use Rattle.chess_rules.proofs.LawLemmas.{moves_move_pieces}
-use Rattle.settle_core.proofs.Boards.{on_board, same_move}
+use Rattle.chess_rules.proofs.Shifts.{on_board}
+use Rattle.chess_rules.proofs.Tells.{same_move}
 use Rattle.settle_core.specs.Settling.{Settles}
 use Rattle.settle_core.specs.Masks.{IsDiff, IsNoMove}
 use Rattle.settle_core.specs.Candidate.{lands, leaves, is_king_code, side_number, promotion_between}

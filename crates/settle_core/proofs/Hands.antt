@@ -9,12 +9,12 @@ use Rattle.chess_rules.specs.After.{after}
 use Rattle.chess_rules.specs.Valid.{Valid, HasOneKing}
 use Rattle.chess_rules.specs.Picture.{picture}
 use Rattle.chess_rules.proofs.LawLemmas.{moves_stay_valid}
+use Rattle.chess_rules.proofs.Shifts.{on_board}
 use Rattle.settle_core.specs.declared.plies.Outcome.{Outcome}
 use Rattle.settle_core.specs.Settling.{Settles}
 use Rattle.settle_core.specs.Sign.{IsSign}
 use Rattle.settle_core.specs.HonestPlay.{IsCapture, HasKingsApart, IsInHand, LacksKing}
 use Rattle.settle_core.specs.Laws.{UnderWayIsInHand}
-use Rattle.settle_core.proofs.Boards.{on_board}
 use Rattle.settle_core.proofs.Pieces.{ShowsNoNew, takes_unless, quiet_under_way, settles_end, no_new_under_way, shown_on}
 use Rattle.settle_core.proofs.Apart.{centre_low, kings_apart_under_way}
 

@@ -14,7 +14,8 @@ use Rattle.chess_rules.specs.After.{after}
 use Rattle.chess_rules.specs.Legal.{Goes, step, pawn_step, capture, double_step, en_passant, castling, Legal, NamesPromotion}
 use Rattle.chess_rules.specs.Valid.{Valid, IsAtHome, target_row}
 use Rattle.chess_rules.proofs.LawLemmas.{moves_move_pieces}
-use Rattle.settle_core.proofs.Boards.{kind_of, king_no_pawn}
+use Rattle.chess_rules.proofs.Shifts.{kind_of}
+use Rattle.chess_rules.proofs.Replacing.{king_no_pawn}
 
 -- from a row to one further on, and to the next one
 abbrev pub Advances : Side → ℕ → ℕ → Type 0

@@ -16,7 +16,9 @@ use Rattle.chess_rules.specs.Valid.{Valid}
 use Rattle.chess_rules.specs.Picture.{code, code_of_piece, picture}
 use Rattle.chess_rules.specs.Laws.{MovesOnePiece}
 use Rattle.chess_rules.proofs.LawLemmas.{codes_tell_pieces, pieces_tell_moves, moves_move_pieces, moves_stay_valid, pictures_tell_moves}
-use Rattle.settle_core.proofs.Boards.{Own, on_board, same_unless, side_of, kind_of, sides_differ, other-other, none_piece, one_kept, one_theirs, castled_theirs, castled_quiet}
+use Rattle.chess_rules.proofs.Shifts.{Own, kind_of, on_board, same_unless, side_of}
+use Rattle.chess_rules.proofs.Replacing.{none_piece, other-other, sides_differ}
+use Rattle.settle_core.proofs.Boards.{one_kept, one_theirs, castled_theirs, castled_quiet}
 use Rattle.settle_core.specs.Settling.{Settles}
 use Rattle.settle_core.specs.HonestPlay.{IsCapture, IsPartial, IsUnderWay}
 

@@ -11,12 +11,13 @@ use Rattle.chess_rules.specs.Board.{on, piece_of, other}
 use Rattle.chess_rules.specs.After.{board_after}
 use Rattle.chess_rules.specs.Valid.{Valid}
 use Rattle.chess_rules.specs.Picture.{code, code_of_piece, picture}
+use Rattle.chess_rules.proofs.Staying.{own_or_other}
 use Rattle.settle_core.specs.Candidate.{is_owned_code, lands}
 use Rattle.settle_core.specs.Kept.{OnlyLacks}
 use Rattle.settle_core.specs.Settling.{Settles}
 use Rattle.settle_core.proofs.Candidates.{IsBetween, between, lands_at, no_land}
 use Rattle.settle_core.proofs.Pieces.{theirs_stood}
-use Rattle.settle_core.proofs.Tracing.{Lands, side_code, sides_two}
+use Rattle.settle_core.proofs.Tracing.{Lands, side_code}
 
 -- a piece's code is one of its side
 pub owned : (side : Side) (k : Kind) → is_owned_code side (code_of_piece side k) ≡ true
@@ -28,7 +29,7 @@ of_the_other :
     (side : Side) (o : Option Piece) → code o ≢ 0 → is_owned_code side (code o) ≡ false → (k : Kind) × (o ≡ piece_of (other side) k)
 of_the_other side None some foreign = absurd (some refl)
 of_the_other side (Some piece) some foreign =
-    elim (sides_two piece.side side) [
+    elim (own_or_other piece.side side) [
       | inl e ↦
           absurd (both_ways _ foreign (ap (λ (s : Side). is_owned_code side (code_of_piece s piece.kind)) e ∙ owned side piece.kind))
       | inr e ↦ (piece.kind, ap (λ (s : Side). piece_of s piece.kind) e)

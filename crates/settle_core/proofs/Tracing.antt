@@ -15,7 +15,10 @@ use Rattle.chess_rules.specs.Valid.{Valid, HasOneKing}
 use Rattle.chess_rules.specs.Picture.{code, code_of_piece}
 use Rattle.chess_rules.specs.Laws.{MovesOnePiece, MovesKingAndRook}
 use Rattle.chess_rules.proofs.LawLemmas.{moves_move_pieces, moves_stay_valid}
-use Rattle.settle_core.proofs.Boards.{same_unless, none_piece, one_kept}
+use Rattle.chess_rules.proofs.Shifts.{same_unless}
+use Rattle.chess_rules.proofs.Replacing.{king_no_pawn, none_piece}
+use Rattle.chess_rules.proofs.Staying.{own_or_other}
+use Rattle.settle_core.proofs.Boards.{one_kept}
 use Rattle.settle_core.specs.Candidate.{is_king_code, is_pawn_code, side_number, lands, leaves, officer_of, promotion_between}
 use Rattle.settle_core.proofs.Pieces.{same_code, theirs_stood, code_no_zero}
 
@@ -252,15 +255,6 @@ traced_one p m v o =
       others = λ s nf nt nx ny. o.others s nf nt nx;
     }
 
-pub sides_two : (a b : Side) → (a ≡ b) ⊎ (a ≡ other b)
-sides_two White White = inl refl
-sides_two Black Black = inl refl
-sides_two White Black = inr refl
-sides_two Black White = inr refl
-
-king_pawn : King ≢ Pawn
-king_pawn e = cc
-
 pub traced_castled : (p : Parts) (m : Move) → Valid p → Legal p m → MovesKingAndRook p m → IsTraced p m
 traced_castled p m v l a =
     let c : Board = board_after p m in
@@ -276,7 +270,7 @@ traced_castled p m v l a =
       code_to = a.king_came;
       only_king = λ s h.
           let k = king_piece (on c s) (h.king refl) in
-          elim (sides_two k.0 p.side) [
+          elim (own_or_other k.0 p.side) [
             | inl e ↦
                 let mine : HasOneKing c p.side = w.kings p.side in
                 mine.alone s (k.1 ∙ ap (λ (x : Side). piece_of x King) e) ∙ sym (mine.alone m.to a.king_came)
@@ -291,7 +285,7 @@ traced_castled p m v l a =
         piece = λ e. absurd (both_ways _ e (king_code_is p.side));
       };
       only_left = λ s h. king_from p s m.from v a.king (h.king (king_code_is p.side));
-      promotes = ap (λ o. promotion_between (code o) (code (piece_of p.side King))) a.king ∙ promotes_none p.side King (code (piece_of p.side King)) king_pawn ∙ sym a.promotion;
+      promotes = ap (λ o. promotion_between (code o) (code (piece_of p.side King))) a.king ∙ promotes_none p.side King (code (piece_of p.side King)) king_no_pawn ∙ sym a.promotion;
       apart = λ e. none_piece (sym a.target_empty ∙ ap (on p.board) (sym e) ∙ a.king);
       third = rook_home p.side a.wing;
       fourth = crossed p.side a.wing;

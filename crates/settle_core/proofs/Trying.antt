@@ -13,9 +13,11 @@ use Rattle.chess_rules.specs.Valid.{Valid}
 use Rattle.chess_rules.specs.Picture.{code, picture}
 use Rattle.chess_rules.specs.Laws.{MovesOnePiece, MovesKingAndRook}
 use Rattle.chess_rules.proofs.LawLemmas.{moves_move_pieces, castling_moves}
+use Rattle.chess_rules.proofs.Shifts.{kind_of, on_board}
+use Rattle.chess_rules.proofs.Replacing.{none_piece}
 use Rattle.settle_core.specs.HonestPlay.{LiftsAnother, ShowsMoved, AreKingAndRook, HoldsOne}
 use Rattle.settle_core.specs.Laws.{OneHandTriesItsPiece}
-use Rattle.settle_core.proofs.Boards.{kind_of, none_piece, king_no_rook, on_board, one_kept}
+use Rattle.settle_core.proofs.Boards.{king_no_rook, one_kept}
 use Rattle.settle_core.proofs.Pieces.{at_picture, shown_on, squares_after}
 
 -- of the piece in hand, or the rook's move of castling

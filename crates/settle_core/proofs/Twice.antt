@@ -7,7 +7,7 @@ use Rattle.chess_rules.specs.Board.{on}
 use Rattle.chess_rules.specs.Legal.{Legal}
 use Rattle.chess_rules.specs.Picture.{picture}
 use Rattle.chess_rules.specs.Valid.{Valid}
-use Rattle.settle_core.proofs.Boards.{on_board}
+use Rattle.chess_rules.proofs.Shifts.{on_board}
 use Rattle.settle_core.proofs.Pieces.{Arrives, arrives, on_shown, shown_on, squares_after}
 
 -- two pictures differ on two squares

@@ -17,10 +17,12 @@ use Rattle.chess_rules.specs.Valid.{Valid, IsAtHome, IsTarget}
 use Rattle.chess_rules.specs.Picture.{picture}
 use Rattle.chess_rules.specs.Laws.{MovesOnePiece, MovesKingAndRook}
 use Rattle.chess_rules.proofs.LawLemmas.{pieces_tell_moves, moves_move_pieces, moves_stay_valid, pictures_tell_boards}
+use Rattle.chess_rules.proofs.Shifts.{kind_of, same_unless, side_of}
+use Rattle.chess_rules.proofs.Replacing.{king_no_pawn, none_piece, other-other, sides_differ}
 use Rattle.settle_core.specs.Settling.{Settles, reached, Played}
 use Rattle.settle_core.specs.Folding.{Replaces}
 use Rattle.settle_core.specs.Laws.{TwoUnseenWait, ThreeUnseenSettleNothing}
-use Rattle.settle_core.proofs.Boards.{side_of, kind_of, none_piece, sides_differ, other-other, king_no_pawn, king_no_rook, same_unless, empty_differs, kind_differs, one_kept, castled_quiet}
+use Rattle.settle_core.proofs.Boards.{king_no_rook, empty_differs, kind_differs, one_kept, castled_quiet}
 use Rattle.settle_core.proofs.Pieces.{piece_or_not, theirs_stood, picture_moves}
 use Rattle.settle_core.proofs.Apart.{no_sign_valid}
 use Rattle.settle_core.proofs.Stages.{valid_reached}

@@ -11,6 +11,7 @@ use Rattle.chess_rules.specs.After.{after}
 use Rattle.chess_rules.specs.Valid.{Valid}
 use Rattle.chess_rules.specs.Picture.{code_of_piece}
 use Rattle.chess_rules.proofs.LawLemmas.{moves_stay_valid}
+use Rattle.chess_rules.proofs.Shifts.{on_board}
 use Rattle.settle_core.specs.declared.plies.Outcome.{Outcome}
 use Rattle.settle_core.specs.declared.plies.Ply.{Ply}
 use Rattle.settle_core.specs.declared.plies.Seen.{Seen}
@@ -21,7 +22,6 @@ use Rattle.settle_core.specs.Sign.{IsSign}
 use Rattle.settle_core.specs.Folding.{Score, Folds, SeenAs, moves_of, score_after}
 use Rattle.settle_core.specs.HonestPlay.{ShowsNoMore, MayRest, AllRest, shown_plies}
 use Rattle.settle_core.specs.Laws.{joined, NoMoreIsInHand, RestingWaits, KingsEndHonestPlay}
-use Rattle.settle_core.proofs.Boards.{on_board}
 use Rattle.settle_core.proofs.Pieces.{same_code, code_no_zero, shown_on, ShowsNoNew, Arrives, arrives, settles_end}
 use Rattle.settle_core.proofs.Apart.{BothKings, apart_unless, both_kings, kings_apart, apart, centre_low}
 use Rattle.settle_core.proofs.Hands.{lacking_settles, lacking_no_sign}

@@ -29,7 +29,7 @@ use Rattle.unseen_pairs.proofs.Losing.{correcting_loses, hides_two, other_loses}
 use Rattle.unseen_pairs.proofs.Putting.{settles_own}
 use Rattle.chess_rules.specs.declared.pieces.Side.{Side}
 use Rattle.chess_rules.specs.Board.{other as other_side}
-use Rattle.settle_core.proofs.Boards.{other-other}
+use Rattle.chess_rules.proofs.Replacing.{other-other}
 use Rattle.settle_core.specs.Lost.{Loses, MayHideTwo}
 
 -- the first candidates, and one more

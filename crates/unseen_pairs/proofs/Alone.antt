@@ -12,6 +12,7 @@ use Rattle.chess_rules.specs.Legal.{Legal}
 use Rattle.chess_rules.specs.Valid.{Valid}
 use Rattle.chess_rules.specs.Picture.{picture}
 use Rattle.chess_rules.proofs.LawLemmas.{moves_stay_valid, pictures_tell_moves}
+use Rattle.chess_rules.proofs.Shifts.{on_board}
 use Rattle.settle_core.specs.declared.plies.Seen.{Seen}
 use Rattle.settle_core.specs.declared.plies.Seen.TheVariants.{Same, Moved, Sign, Replaced, Waits}
 use Rattle.settle_core.specs.Entries.{Entry, deduplicated, repeats}
@@ -19,7 +20,6 @@ use Rattle.settle_core.specs.Settling.{Line, Played, Settles, reached}
 use Rattle.settle_core.specs.Folding.{Replaces, Score, SeenAs, moves_of}
 use Rattle.settle_core.specs.Laws.{joined}
 use Rattle.settle_core.proofs.Apart.{apart_unless, apart_valid, kings_apart_under_way, no_sign_valid}
-use Rattle.settle_core.proofs.Boards.{on_board}
 use Rattle.settle_core.proofs.Hands.{lacking_no_picture, lacking_no_sign, no_sign_apart}
 use Rattle.settle_core.proofs.Lines.{reverse_aux-append}
 use Rattle.settle_core.proofs.Pieces.{no_new_after, no_new_partial, picture_moves, settles_end, shown_on, shown_still}

@@ -18,13 +18,14 @@ use Rattle.chess_rules.specs.Legal.{Legal, NamesPromotion}
 use Rattle.chess_rules.specs.Valid.{Valid}
 use Rattle.chess_rules.specs.Picture.{code_of_piece, picture}
 use Rattle.chess_rules.proofs.LawLemmas.{moves_move_pieces, moves_stay_valid}
+use Rattle.chess_rules.proofs.Shifts.{on_board}
+use Rattle.chess_rules.proofs.Replacing.{none_piece}
 use Rattle.settle_core.specs.declared.plies.Seen.{Seen}
 use Rattle.settle_core.specs.declared.plies.Seen.TheVariants.{Same, Moved, Sign, Replaced, Waits}
 use Rattle.settle_core.specs.Entries.{Entry, deduplicated, repeats}
 use Rattle.settle_core.specs.Folding.{Replaces, Score, moves_of}
 use Rattle.settle_core.specs.HonestPlay.{ShowsNoMore}
 use Rattle.settle_core.specs.Settling.{Line, Played, Settles, position_after, reached}
-use Rattle.settle_core.proofs.Boards.{none_piece, on_board}
 use Rattle.settle_core.proofs.Hands.{lacking_no_picture}
 use Rattle.settle_core.proofs.Lines.{reverse_aux-append}
 use Rattle.settle_core.proofs.Pieces.{at_picture, code_no_zero, on_shown, settles_end, shown_on}

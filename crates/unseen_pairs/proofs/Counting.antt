@@ -13,10 +13,10 @@ use Rattle.chess_rules.specs.Legal.{Legal}
 use Rattle.chess_rules.specs.Valid.{Valid}
 use Rattle.chess_rules.specs.Picture.{code, picture}
 use Rattle.chess_rules.proofs.LawLemmas.{moves_move_pieces, moves_stay_valid}
+use Rattle.chess_rules.proofs.Shifts.{same_unless}
 use Rattle.settle_core.specs.Masks.{IsDiff}
 use Rattle.settle_core.proofs.Counting.{cleared, cleared_at, mask_is, ones_trues, trues, trues_clear_le, trues_none}
 use Rattle.settle_core.proofs.Masking.{at_diffs, diffs, length-diffs, zero_one}
-use Rattle.settle_core.proofs.Boards.{same_unless}
 use Rattle.settle_core.proofs.Pieces.{at_picture}
 use Rattle.unseen_pairs.specs.Pairs.{IsAfterTwo}
 

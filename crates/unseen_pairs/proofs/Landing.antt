@@ -17,10 +17,12 @@ use Rattle.chess_rules.specs.Valid.{IsAtHome, Valid}
 use Rattle.chess_rules.specs.Picture.{code, code_of_piece, picture}
 use Rattle.chess_rules.proofs.LawLemmas.{moves_move_pieces, moves_stay_valid}
 use Rattle.chess_rules.proofs.Staying.{passed, ways_after}
+use Rattle.chess_rules.proofs.Shifts.{kind_of, on_board, side_of}
+use Rattle.chess_rules.proofs.Replacing.{king_no_pawn, none_piece, other-other, sides_differ}
+use Rattle.chess_rules.proofs.Moving.{double_row}
 use Rattle.settle_core.specs.Candidate.{is_owned_code, side_number}
 use Rattle.settle_core.specs.Lost.{LosesAt}
 use Rattle.unseen_pairs.specs.Beginning.{AddsMoves, BeginsPlainly, IsPlainPawn, LandsAt, ListsFirst, TheirsLand}
-use Rattle.settle_core.proofs.Boards.{kind_of, none_piece, on_board, other-other, side_of, sides_differ}
 use Rattle.settle_core.proofs.Pawns.{NextRow, pawn_attack_row, pawn_stood}
 use Rattle.settle_core.proofs.Pieces.{at_picture, code_no_zero, same_code, theirs_stood}
 use Rattle.settle_core.proofs.Tracing.{eqb_true, number_of, own_code}
@@ -51,9 +53,6 @@ plain_names side Bishop m far names = names
 plain_names side King m far names = names
 plain_names side Queen m far names = names
 
-king_no_pawn : King ≡ Pawn → ⊥
-king_no_pawn e = cc
-
 one_row : (side : Side) (s t : ℕ) → Ahead (forward side) 1 s t → NextRow side (row s) (row t)
 one_row White s t h = omega arith
 one_row Black s t h = omega arith
@@ -61,10 +60,6 @@ one_row Black s t h = omega arith
 before_last : (side : Side) (a b : ℕ) → NextRow side a b → b ≡ last_row side → a ≡ second_row (other side)
 before_last White a b h e = omega arith
 before_last Black a b h e = omega arith
-
-not_so_far : (side : Side) (s t : ℕ) → row s ≡ second_row side → Ahead (forward side) 2 s t → row t ≢ last_row side
-not_so_far White s t b h e = omega arith
-not_so_far Black s t b h e = omega arith
 
 -- a pawn comes to the last row from the one before it
 from_before : (p : Parts) (m : Move) → Valid p → on p.board m.from ≡ piece_of p.side Pawn → Moving p m → row m.to ≡ last_row p.side → row m.from ≡ second_row (other p.side)
@@ -74,7 +69,7 @@ from_before p m v h (capture s) e =
     let k : s.kind ≡ Pawn = ap kind_of (sym s.stands ∙ h) in
     let P : Kind → Type 0 = λ k. AttacksFrom p.board p.side k m.from m.to in
     before_last p.side (row m.from) (row m.to) (pawn_attack_row p.board p.side m.from m.to (subst P k s.attacks)) e
-from_before p m v h (double_step s) e = absurd (not_so_far p.side m.from m.to s.begins s.goes e)
+from_before p m v h (double_step s) e = absurd (double_row p.side m.from m.to s.begins s.goes e)
 from_before p m v h (en_passant s) e = before_last p.side (row m.from) (row m.to) (pawn_attack_row p.board p.side m.from m.to s.attacks) e
 from_before p m v h (castling wing c) e =
     let home : IsAtHome p.board p.side wing = v.rights p.side wing c.right in

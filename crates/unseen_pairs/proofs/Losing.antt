@@ -11,7 +11,8 @@ use Rattle.chess_rules.specs.Legal.{Legal}
 use Rattle.chess_rules.specs.Valid.{Valid}
 use Rattle.chess_rules.specs.Picture.{code, code_of_piece, picture}
 use Rattle.chess_rules.proofs.LawLemmas.{moves_move_pieces, moves_stay_valid, pieces_tell_moves}
-use Rattle.settle_core.proofs.Boards.{on_board, none_piece, other-other, same_unless}
+use Rattle.chess_rules.proofs.Shifts.{on_board, same_unless}
+use Rattle.chess_rules.proofs.Replacing.{none_piece, other-other}
 use Rattle.settle_core.proofs.Pieces.{at_picture, on_shown, code_no_zero, theirs_stood}
 use Rattle.unseen_pairs.specs.Pairs.{IsAfterTwo}
 use Rattle.settle_core.specs.Lost.{Bares, Loses, LosesAt, MayHideTwo}

@@ -12,7 +12,9 @@ use Rattle.chess_rules.specs.Valid.{Valid, IsAtHome, IsTarget}
 use Rattle.chess_rules.specs.Picture.{picture}
 use Rattle.chess_rules.specs.Laws.{KeepsPieces, MovesOnePiece}
 use Rattle.chess_rules.proofs.LawLemmas.{moves_move_pieces, moves_stay_valid, pieces_tell_moves}
-use Rattle.settle_core.proofs.Boards.{side_of, kind_of, none_piece, sides_differ, other-other, king_no_pawn, same_unless, on_board, one_kept, castled_quiet}
+use Rattle.chess_rules.proofs.Shifts.{kind_of, on_board, same_unless, side_of}
+use Rattle.chess_rules.proofs.Replacing.{king_no_pawn, none_piece, other-other, sides_differ}
+use Rattle.settle_core.proofs.Boards.{one_kept, castled_quiet}
 use Rattle.settle_core.proofs.Pawns.{one_back, passed, no_target, pawn_stood}
 use Rattle.settle_core.proofs.Pieces.{on_shown, shown_on, piece_or_not, theirs_stood}
 use Rattle.settle_core.proofs.Unseen.{as_side, one_only, taken_on}
