@@ -33,7 +33,7 @@ moves_stay_valid = valid_after
 pub codes_tell_pieces : CodesTellPieces
 codes_tell_pieces a b e = sym (decode-code a) ∙ ap (λ n. decode n) e ∙ decode-code b
 
-boards_of_codes : (b c : Board) → map code b ≡ map code c → b ≡ c
+pub boards_of_codes : (b c : Board) → map code b ≡ map code c → b ≡ c
 boards_of_codes [] [] e = refl
 boards_of_codes [] (y ∷ ys) e = absurd (let never : ⊥ = cc in never)
 boards_of_codes (x ∷ xs) [] e = absurd (let never : ⊥ = cc in never)

@@ -11,6 +11,7 @@ use Rattle.chess_rules.specs.declared.lines.Wing.TheVariants.{KingSide, QueenSid
 use Rattle.chess_rules.specs.Legal.{Legal, Castles}
 use Rattle.chess_rules.specs.Valid.{Valid}
 use Rattle.chess_rules.proofs.Tells.{wing-homes}
+use Rattle.chess_rules.proofs.Reaching.{king_stands}
 use Rattle.chess_text.specs.Squares.{file_byte, rank_byte, square_text}
 use Rattle.chess_text.specs.San.{San, IsBody, castling, pawn, piece, letter, castling_text, cross, pawn_cross, promotion_text, pawn_text, origin_text, piece_text, mark_text, is_capture}
 use Rattle.chess_text.specs.Aim.{last_in, kind_at, target_by, promotion_by, aim_by, castling_aim, aim_at, IsAimedAt}
@@ -19,7 +20,7 @@ use Rattle.chess_text.specs.declared.san.Origin.{Origin}
 use Rattle.chess_text.specs.declared.san.Origin.TheVariants.{Nothing, ByFile, ByRank, ByBoth}
 use Rattle.chess_text.specs.declared.san.Mark.{Mark}
 use Rattle.chess_text.specs.declared.san.Mark.TheVariants.{Quiet, Check, Mate}
-use Rattle.chess_text.proofs.Facts.{promotes_none, castles, king_stands}
+use Rattle.chess_text.proofs.Facts.{promotes_none, castles}
 use Rattle.chess_text.proofs.Texts.{letter_head, pawn_regroup}
 use Rattle.chess_text.proofs.Lasts.{above, below, inside, HasNone, none_empty, none_one, none_join, HasLast, last_one, last_before, last_after}
 

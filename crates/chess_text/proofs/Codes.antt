@@ -1,5 +1,5 @@
 -- The codes of pieces.
-use Rattle.std.proofs.Common.{◌≡◌, ℕ, zero, suc, ◌<◌, List, [], ◌∷◌, length, map, Option, None, Some, refl, sym, ap, ◌∙◌, arith}
+use Rattle.std.proofs.Common.{◌≡◌, ℕ, zero, suc, ◌<◌, List, [], ◌∷◌, length, map, Option, None, Some, refl, ◌∙◌, arith}
 use Rattle.std.specs.Prelude.{All}
 use Rattle.std.specs.List.{AllByRecursion}
 use Rattle.std.proofs.lemmas.List.Elements.{All-map, recursion_from_All}
@@ -63,29 +63,3 @@ picture_back picture is = map_code-decode picture (recursion_from_All (λ (c : �
 
 pub board_picture : (board : Board) → length board ≡ 64 → IsBoardPicture (map code board)
 board_picture board e = record { squares = length-map board code ∙ e; codes = codes_low board }
-
-decode-code_of_piece : (side : Side) (k : Kind) → decode (code_of_piece side k) ≡ Some (record { side = side; kind = k })
-decode-code_of_piece White Pawn = refl
-decode-code_of_piece White Rook = refl
-decode-code_of_piece White Knight = refl
-decode-code_of_piece White Bishop = refl
-decode-code_of_piece White King = refl
-decode-code_of_piece White Queen = refl
-decode-code_of_piece Black Pawn = refl
-decode-code_of_piece Black Rook = refl
-decode-code_of_piece Black Knight = refl
-decode-code_of_piece Black Bishop = refl
-decode-code_of_piece Black King = refl
-decode-code_of_piece Black Queen = refl
-
-decode-code : (piece : Option Piece) → decode (code piece) ≡ piece
-decode-code None = refl
-decode-code (Some piece) = decode-code_of_piece piece.side piece.kind
-
-map_decode-code : (board : Board) → map decode (map code board) ≡ board
-map_decode-code [] = refl
-map_decode-code (piece ∷ pieces) = cc (decode-code piece, map_decode-code pieces)
-
--- two boards never share a picture
-pub one_board : (a b : Board) → map code a ≡ map code b → a ≡ b
-one_board a b e = sym (map_decode-code a) ∙ ap (map decode) e ∙ map_decode-code b

@@ -15,6 +15,7 @@ use Rattle.chess_rules.specs.declared.parts.Invalid.TheVariants.{Counters, Kings
 use Rattle.chess_rules.specs.Board.{Board, row}
 use Rattle.chess_rules.specs.Picture.{code, picture}
 use Rattle.chess_rules.specs.Valid.{HasCounters, Valid, FailsFirst, target_row}
+use Rattle.chess_rules.proofs.LawLemmas.{boards_of_codes}
 use Rattle.chess_text.specs.Placement.{placement}
 use Rattle.chess_text.specs.Fen.{side_text, held, or_dash, castling_text, target_text, Fields, six_fields, four_fields, fields_of, fen, short_fen, TellsPosition, whole, short, IsTargetField, IsDigits, AreFields, IsSplit, six, four, HasForm, ReadsCounters, ReadsBoard, ReadsAs, RefusedFirst}
 use Rattle.chess_text.specs.declared.fen.FenError.{FenError}
@@ -23,7 +24,7 @@ use Rattle.chess_text.specs.declared.fields.RawFields.{RawFields}
 use Rattle.chess_text.specs.FieldReading.{is_space, split, rights_at, refusal_of, AreRaw, six as raw_six, four as raw_four}
 use Rattle.chess_text.proofs.Placements.{one_picture}
 use Rattle.chess_text.proofs.PlacementBytes.{placement_bytes, placement_some}
-use Rattle.chess_text.proofs.Codes.{one_board, board_picture}
+use Rattle.chess_text.proofs.Codes.{board_picture}
 
 abbrev NoSpace : List ℕ → Type 0
 NoSpace bs = All (λ b. is_space b ≡ false) bs
@@ -266,7 +267,7 @@ pub one_reading : (text : List ℕ) (p q : Parts) → ReadsAs text p → ReadsAs
 one_reading text p q h k =
     let f = one_form text (fields_of p) (fields_of q) (reads_form text p h) (reads_form text q k) in
     let picture = one_picture (picture p) (picture q) (board_picture p.board h.squares) (board_picture q.board k.squares) (ap (λ (x : Fields). x.placement) f) in
-    let board = one_board p.board q.board picture in
+    let board = boards_of_codes p.board q.board picture in
     let halfmove = decimal_injective p.halfmove q.halfmove (omega (arith, h.counters.halfmove)) (omega (arith, k.counters.halfmove)) (ap (λ (x : Fields). x.halfmove) f) in
     let fullmove = decimal_injective p.fullmove q.fullmove (omega (arith, h.counters.fullmove)) (omega (arith, k.counters.fullmove)) (ap (λ (x : Fields). x.fullmove) f) in
     let side : p.side ≡ q.side = ap (λ (x : Fields). x.side) f in
