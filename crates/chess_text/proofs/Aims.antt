@@ -21,16 +21,8 @@ use Rattle.chess_text.specs.declared.san.Origin.TheVariants.{Nothing, ByFile, By
 use Rattle.chess_text.specs.declared.san.Mark.{Mark}
 use Rattle.chess_text.specs.declared.san.Mark.TheVariants.{Quiet, Check, Mate}
 use Rattle.chess_text.proofs.Facts.{promotes_none, castles}
-use Rattle.chess_text.proofs.Texts.{letter_head, pawn_regroup}
+use Rattle.chess_text.proofs.Texts.{kind_at-letter, letter_head, pawn_regroup}
 use Rattle.chess_text.proofs.Lasts.{above, below, inside, HasNone, none_empty, none_one, none_join, HasLast, last_one, last_before, last_after}
-
-kind_at-letter : (k : Kind) → kind_at (letter k) ≡ k
-kind_at-letter King = refl
-kind_at-letter Queen = refl
-kind_at-letter Rook = refl
-kind_at-letter Bishop = refl
-kind_at-letter Knight = refl
-kind_at-letter Pawn = refl
 
 kind_at-small : (b : ℕ) → 97 ≤ b → kind_at b ≡ Pawn
 kind_at-small b h =

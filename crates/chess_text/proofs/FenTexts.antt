@@ -25,6 +25,7 @@ use Rattle.chess_text.specs.FieldReading.{is_space, split, rights_at, refusal_of
 use Rattle.chess_text.proofs.Placements.{one_picture}
 use Rattle.chess_text.proofs.PlacementBytes.{placement_bytes, placement_some}
 use Rattle.chess_text.proofs.Codes.{board_picture}
+use Rattle.chess_text.proofs.Texts.{head_is}
 
 abbrev NoSpace : List ℕ → Type 0
 NoSpace bs = All (λ b. is_space b ≡ false) bs
@@ -141,9 +142,6 @@ rights_by false false false false = refl
 
 pub rights_back : (r : Rights) → rights_at (castling_text r) ≡ r
 rights_back r = rights_by r.white_king r.white_queen r.black_king r.black_queen
-
-head_is : (a b : ℕ) (xs ys : List ℕ) → a ∷ xs ≡ b ∷ ys → (a ≡ b) × (xs ≡ ys)
-head_is a b xs ys e = (cc, cc)
 
 side_same : (s t : Side) → side_text s ≡ side_text t → s ≡ t
 side_same White White e = refl
