@@ -7,15 +7,12 @@ use Rattle.dgt_frame.specs.declared.events.Event.TheVariants.{Message, Fault}
 use Rattle.dgt_frame.specs.declared.events.FaultKind.TheVariants.{Cut, Stray, Size, Data}
 use Rattle.dgt_frame.specs.Streams.{Opens, Shows, ShowsFrom, Timed}
 use Rattle.board_events.specs.Limits.{limit}
-
-pub all_append : {X : Type 0} (P : X → Type 0) (xs ys : List X) → AllByRecursion P xs → AllByRecursion P ys → AllByRecursion P (xs ++ ys)
-all_append P [] ys h k = k
-all_append P (x ∷ xs) ys h k = (h.0, all_append P xs ys h.1 k)
+use Rattle.chess_text.proofs.FenTexts.{All-append}
 
 pub reversed : {X : Type 0} (P : X → Type 0) (xs : List X) → AllByRecursion P xs → AllByRecursion P (reverse xs)
 reversed P [] h = tt
 reversed P (x ∷ xs) h =
-    subst (λ ys. AllByRecursion P ys) (sym (reverse-append (x ∷ []) xs)) (all_append P (reverse xs) (x ∷ []) (reversed P xs h.1) (h.0, tt))
+    subst (λ ys. AllByRecursion P ys) (sym (reverse-append (x ∷ []) xs)) (All-append P (reverse xs) (x ∷ []) (reversed P xs h.1) (h.0, tt))
 
 opens_inside : (event : Event) (front more : List ℕ) (index : ℕ) → Opens event front more index → index < length (front ++ more)
 opens_inside (Message message) front more index h = let last = h.1 in omega (arith, last, length-append front more)

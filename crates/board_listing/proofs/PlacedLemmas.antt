@@ -8,6 +8,7 @@ use Rattle.chess_rules.specs.declared.parts.Parts.{Parts}
 use Rattle.chess_rules.specs.Picture.{picture}
 use Rattle.chess_rules.specs.Valid.{Valid}
 use Rattle.chess_text.specs.Laws.{TextsArePlain}
+use Rattle.chess_text.proofs.FenTexts.{All-append}
 use Rattle.dgt_frame.specs.declared.events.Event.{Event}
 use Rattle.dgt_frame.specs.declared.events.Event.TheVariants.{Message, Fault}
 use Rattle.dgt_frame.specs.declared.events.FaultKind.{FaultKind}
@@ -31,7 +32,6 @@ use Rattle.board_listing.specs.WatchLines.{position_words, tells_change, tells_g
 use Rattle.board_listing.specs.WatchText.{IsGameLine, line_with, with_position}
 use Rattle.board_listing.proofs.FollowLemmas.{clash}
 use Rattle.board_listing.proofs.LineLemmas.{text_append}
-use Rattle.board_listing.proofs.OffsetLemmas.{all_append}
 use Rattle.board_listing.proofs.TextLemmas.{Printed, fault_printed, fixed, ply_printed, result_printed, squares_printed, waiting_printed}
 
 -- These are lines of `follow`, and the text is they with the position behind each that changes the game.
@@ -50,7 +50,7 @@ both_placed offset p plain text plain' text' a b = record {
   plain_is = ap (λ t. t ++ plain') a.plain_is ∙ ap (λ t. text_of a.lines ++ t) b.plain_is ∙ sym (text_append b.lines a.lines);
   text_is = ap (λ t. t ++ text') a.text_is ∙ ap (λ t. text_of (flat_map (with_position p) a.lines) ++ t) b.text_is
       ∙ sym (text_append (flat_map (with_position p) b.lines) (flat_map (with_position p) a.lines)) ∙ ap text_of (sym (flat_map-append (with_position p) b.lines a.lines));
-  each = all_append (IsGameLine offset) b.lines a.lines b.each a.each;
+  each = All-append (IsGameLine offset) b.lines a.lines b.each a.each;
 }
 
 -- a line with the position behind it, or without

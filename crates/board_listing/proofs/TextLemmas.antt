@@ -14,6 +14,7 @@ use Rattle.chess_rules.specs.Picture.{picture}
 use Rattle.chess_rules.specs.Valid.{Valid}
 use Rattle.chess_text.specs.Laws.{IsSanByte, TextsArePlain}
 use Rattle.chess_text.specs.Squares.{square_text}
+use Rattle.chess_text.proofs.FenTexts.{All-append}
 use Rattle.chess_clock.specs.declared.Hms.{Hms}
 use Rattle.dgt_frame.specs.declared.events.FaultKind.{FaultKind}
 use Rattle.dgt_frame.specs.declared.events.FaultKind.TheVariants.{Cut, Stray, Size, Data}
@@ -28,7 +29,6 @@ use Rattle.board_events.specs.Limits.{limit}
 use Rattle.board_listing.specs.EventLines.{kind_text, rest_line}
 use Rattle.board_listing.specs.GameLines.{clock_words, differing, result_words, squares_text, waiting_words}
 use Rattle.board_listing.specs.GivenGame.{AreInStream, ChangesGame, CorrectsPly, EndsLines, GameLine, Gives, IsOther, LinesGiveOneGame, TellsLegal, TextTellsTheGame, TextTellsTheLines, text_of}
-use Rattle.board_listing.proofs.OffsetLemmas.{all_append}
 use Rattle.board_listing.proofs.OnceLemmas.{apart, gives_played}
 use Rattle.board_listing.proofs.SquareLemmas.{all_squares, differing_more, told}
 
@@ -42,7 +42,7 @@ abbrev pub Printed : List ℕ → Type 0
 Printed text = AllByRecursion IsPrinted text
 
 both : (xs ys : List ℕ) → Printed xs → Printed ys → Printed (xs ++ ys)
-both xs ys h k = all_append IsPrinted xs ys h k
+both xs ys h k = All-append IsPrinted xs ys h k
 
 abbrev pub are_printed : List ℕ → Bool
 are_printed [] = true

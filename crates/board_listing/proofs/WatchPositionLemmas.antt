@@ -8,6 +8,7 @@ use Rattle.chess_rules.specs.declared.parts.Parts.{Parts}
 use Rattle.chess_rules.specs.Picture.{picture}
 use Rattle.chess_rules.specs.Valid.{Valid}
 use Rattle.chess_text.specs.Laws.{TextsArePlain}
+use Rattle.chess_text.proofs.FenTexts.{All-append}
 use Rattle.dgt_frame.specs.declared.events.Event.{Event}
 use Rattle.dgt_frame.specs.declared.events.Event.TheVariants.{Message, Fault}
 use Rattle.dgt_frame.specs.Streams.{Timed}
@@ -38,7 +39,6 @@ use Rattle.board_listing.specs.WatchText.{IsGameLine, ShowsPicture, ShowsReading
 use Rattle.board_listing.proofs.FollowLemmas.{clash, entries_new, entries_same, fault_gives_none}
 use Rattle.board_listing.proofs.GivenGameLemmas.{made}
 use Rattle.board_listing.proofs.LineLemmas.{text_append}
-use Rattle.board_listing.proofs.OffsetLemmas.{all_append}
 use Rattle.board_listing.proofs.OnceLemmas.{gives_played}
 use Rattle.board_listing.proofs.PlacedLemmas.{fault_kinds}
 use Rattle.board_listing.proofs.TextLemmas.{IsLine, Printed, fault_printed, lines_once, words_printed}
@@ -90,8 +90,8 @@ both_reached offset start p before first second plies plies' result result' a b 
       text_is = ap (λ t. t ++ second) a.text_is ∙ ap (λ t. text_of a.lines ++ t) b.text_is ∙ sym (text_append b.lines a.lines);
       gives = subst G (sym (append_assoc b.lines a.lines before)) b.gives;
       reaches = reaches_both start p b.lines a.lines before b.reaches a.reaches;
-      offsets = all_append (λ (told : GameLine). told.offset ≡ offset) b.lines a.lines b.offsets a.offsets;
-      printed = all_append (λ (told : GameLine). Printed told.words) b.lines a.lines b.printed a.printed;
+      offsets = All-append (λ (told : GameLine). told.offset ≡ offset) b.lines a.lines b.offsets a.offsets;
+      printed = All-append (λ (told : GameLine). Printed told.words) b.lines a.lines b.printed a.printed;
     }
 
 replaced_reached : TextsArePlain → (offset : ℕ) (start : Parts) (plies : List Ply) (reading : Option Reading) (m : Move) (shown text : List ℕ) (before : List GameLine) (old : Option Outcome) → Valid start

@@ -213,19 +213,21 @@ one_form text f g h k = one_split text f g h.are_fields k.are_fields h.split k.s
 
 -- ---- the text of a position's parts is of the form
 
-abbrev Digit : ℕ → Type 0
-Digit b = (47 < b) × (b < 58)
+pub All-append : {X : Type 0} (P : X → Type 0) (xs ys : List X) → AllByRecursion P xs → AllByRecursion P ys → AllByRecursion P (xs ++ ys)
+All-append P [] ys h k = k
+All-append P (x ∷ xs) ys h k = (h.0, All-append P xs ys h.1 k)
 
-Digits-append : (xs ys : List ℕ) → AllByRecursion Digit xs → AllByRecursion Digit ys → AllByRecursion Digit (xs ++ ys)
-Digits-append [] ys h k = k
-Digits-append (x ∷ xs) ys h k = (h.0, Digits-append xs ys h.1 k)
+abbrev pub IsDigit : ℕ → Type 0
+IsDigit b = (47 < b) × (b < 58)
+
+pub digits_of : (n : ℕ) → n < 2 ^ 64 → AllByRecursion IsDigit (decimal n) × (0 < length (decimal n))
+digits_of n lt = decimal_by_steps (λ m ds. AllByRecursion IsDigit ds × (0 < length ds))
+    (λ m low. (((omega arith, omega arith), tt), omega arith))
+    (λ m ds high h. (All-append IsDigit ds ((48 + m % 10) ∷ []) h.0 ((omega arith, omega arith), tt), omega (arith, length-append ds ((48 + m % 10) ∷ []))))
+    n lt
 
 pub decimal_digits : (n : ℕ) → n < 2 ^ 64 → IsDigits (decimal n)
-decimal_digits n lt =
-    let d = decimal_by_steps (λ m ds. AllByRecursion Digit ds × (0 < length ds))
-    (λ m low. (((omega arith, omega arith), tt), omega arith))
-    (λ m ds high h. (Digits-append ds ((48 + m % 10) ∷ []) h.0 ((omega arith, omega arith), tt), omega (arith, length-append ds ((48 + m % 10) ∷ [])))) n lt in
-    (d.1, All-from_recursion Digit (decimal n) d.0)
+decimal_digits n lt = let d = digits_of n lt in (d.1, All-from_recursion IsDigit (decimal n) d.0)
 
 pub parts_fields : (p : Parts) → length p.board ≡ 64 → IsTargetField p.target → HasCounters p → AreFields (fields_of p)
 parts_fields p l t h =

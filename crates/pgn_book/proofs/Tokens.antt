@@ -19,6 +19,7 @@ use Rattle.chess_rules.specs.Valid.{Valid}
 use Rattle.chess_rules.proofs.Staying.{valid_after}
 use Rattle.chess_text.specs.San.{San, IsBody, castling, pawn, piece, castling_text, pawn_text, letter, is_capture, mark_text}
 use Rattle.chess_text.specs.Laws.{TextsArePlain, IsSanText}
+use Rattle.chess_text.proofs.FenTexts.{All-append}
 use Rattle.settle_core.specs.declared.plies.Outcome.{Outcome}
 use Rattle.settle_core.specs.declared.plies.Outcome.TheVariants.{WhiteWins, BlackWins, Drawn}
 use Rattle.settle_core.specs.declared.plies.Ply.{Ply}
@@ -28,10 +29,6 @@ use Rattle.chess_clock.specs.Clock.{IsTime}
 use Rattle.chess_game.specs.Games.{IsTimed}
 use Rattle.pgn_book.specs.Lines.{IsToken}
 use Rattle.pgn_book.specs.Movetext.{ShownMove, AreShown, number_token, number_tokens, clock_tokens, move_tokens, tokens_of, result_text, game_tokens}
-
-pub All-append : {X : Type 0} (P : X → Type 0) (xs ys : List X) → AllByRecursion P xs → AllByRecursion P ys → AllByRecursion P (xs ++ ys)
-All-append P [] ys h k = k
-All-append P (x ∷ xs) ys h k = (h.0, All-append P xs ys h.1 k)
 
 -- ---- what a move's text is, whatever the move
 

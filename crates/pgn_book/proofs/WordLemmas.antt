@@ -5,7 +5,6 @@ use Rattle.std.proofs.lemmas.List.{take-append-drop, take_more}
 use Rattle.std.specs.Prelude.{decimal, codes}
 use Rattle.std.specs.Option.{ForSome}
 use Rattle.std.specs.List.{AllByRecursion, onto_first, flat_map}
-use Rattle.std.proofs.lemmas.Fmt.{decimal_by_steps}
 use Rattle.std.proofs.lemmas.Bool.{cases_lt}
 use Rattle.std.proofs.lemmas.List.Elements.{recursion_from_All}
 use Rattle.std.proofs.lemmas.List.Concat.{flat_map-append}
@@ -14,6 +13,7 @@ use Rattle.chess_clock.specs.declared.Hms.{Hms}
 use Rattle.chess_rules.specs.declared.pieces.Side.{Side}
 use Rattle.chess_rules.specs.declared.pieces.Side.TheVariants.{White, Black}
 use Rattle.chess_text.specs.Laws.{IsSanByte, IsSanText}
+use Rattle.chess_text.proofs.FenTexts.{All-append, IsDigit, digits_of}
 use Rattle.settle_core.specs.declared.plies.Outcome.{Outcome}
 use Rattle.settle_core.specs.declared.plies.Outcome.TheVariants.{WhiteWins, BlackWins, Drawn}
 use Rattle.chess_clock.specs.Clock.{IsTime}
@@ -22,7 +22,7 @@ use Rattle.pgn_book.specs.Flow.{piece, column, flow}
 use Rattle.pgn_book.specs.Movetext.{ShownMove, number_token, number_tokens, clock_text, clock_tokens, two_digits, tokens_of, result_text, game_tokens}
 use Rattle.pgn_book.specs.Parse.{Turn, is_break, words, is_move, is_comment, time_at, clock_at, turns_at}
 use Rattle.pgn_book.proofs.Flowing.{piece-fits, piece-over}
-use Rattle.pgn_book.proofs.Tokens.{All-append, BeginsWithLetter, Fits}
+use Rattle.pgn_book.proofs.Tokens.{BeginsWithLetter, Fits}
 
 -- ---- words
 
@@ -75,15 +75,6 @@ words-flow col (t ∷ ts) front rest pos h =
 
 -- ---- what the tokens are, front words
 
-abbrev IsDigit : ℕ → Type 0
-IsDigit b = (47 < b) × (b < 58)
-
-decimal_digits : (n : ℕ) → n < 2 ^ 64 → AllByRecursion IsDigit (decimal n) × (0 < length (decimal n))
-decimal_digits n lt = decimal_by_steps (λ m ds. AllByRecursion IsDigit ds × (0 < length ds))
-    (λ m low. (((omega arith, omega arith), tt), omega arith))
-    (λ m ds high h. (All-append IsDigit ds ((48 + m % 10) ∷ []) h.0 ((omega arith, omega arith), tt), omega (arith, length-append ds ((48 + m % 10) ∷ []))))
-    n lt
-
 no_break : (b : ℕ) → 32 < b → is_break b ≡ false
 no_break b h = search (rules, tests, arith)
 
@@ -122,8 +113,8 @@ digits_passed (d ∷ ds) s h some k = record {
 }
 
 number_passed : (side : Side) (n : ℕ) → n < 10000 → IsPassed (number_token side n)
-number_passed White n lt = let d = decimal_digits n (omega arith) in digits_passed (decimal n) (codes ".") d.0 d.1 (refl, tt)
-number_passed Black n lt = let d = decimal_digits n (omega arith) in digits_passed (decimal n) (codes "...") d.0 d.1 (refl, (refl, (refl, tt)))
+number_passed White n lt = let d = digits_of n (omega arith) in digits_passed (decimal n) (codes ".") d.0 d.1 (refl, tt)
+number_passed Black n lt = let d = digits_of n (omega arith) in digits_passed (decimal n) (codes "...") d.0 d.1 (refl, (refl, (refl, tt)))
 
 result_passed : (result : Option Outcome) → IsPassed (result_text result)
 result_passed (Some WhiteWins) = record { no_break = (refl, (refl, (refl, tt))); no_move = refl; no_comment = refl }
