@@ -1,5 +1,6 @@
 -- A stream of which a few bytes were lost.
 use Rattle.std.proofs.Common.{◌≡◌, ◌≢◌, ◌⊎◌, inl, inr, ℕ, ◌+◌, ◌<◌, ◌≤◌, List, [], ◌∷◌, ◌++◌, length, refl, sym, ◌∙◌, ap, subst, append_assoc, append-nil, length-append, arith}
+use Rattle.std.proofs.lemmas.List.{nil_from_length}
 use Rattle.std.specs.List.{AllByRecursion}
 use Rattle.dgt_frame.specs.declared.events.Message.{Message}
 use Rattle.dgt_frame.specs.declared.events.Message.TheVariants.{Dump, Update, Time, Other}
@@ -27,10 +28,6 @@ split (x ∷ xs) ys (u ∷ us) vs e =
       | inl a ↦ inl (a.0, ap (λ (l : List ℕ). u ∷ l) a.1 ∙ ap (λ (n : ℕ). n ∷ (xs ++ a.0)) (sym head), a.2)
       | inr b ↦ inr (b.0, b.1, ap (λ (l : List ℕ). x ∷ l) b.2 ∙ ap (λ (n : ℕ). n ∷ (us ++ b.0 ∷ b.1)) head, b.3)
     ]
-
-none_left : (xs : List ℕ) → length xs ≡ 0 → xs ≡ []
-none_left [] e = refl
-none_left (x ∷ xs) e = absurd (omega (arith, e))
 
 -- the first byte of a frame, and its size where the identifier gives it
 record Headed (frame : List ℕ) : Type 0 where
@@ -183,7 +180,7 @@ whole_message : (m n : Message) (frame bytes front more : List ℕ) → Frame m 
 whole_message m n frame bytes front more h k (inl a) =
     let P : List ℕ → Type 0 = λ xs. Parts xs in
     let size = size_once frame a.0 (parts_of m frame h) (subst P a.1 (parts_of n front k)) in
-    let none : a.0 ≡ [] = none_left a.0 (omega (arith, size, length-append frame a.0)) in
+    let none : a.0 ≡ [] = nil_from_length a.0 (omega (arith, size, length-append frame a.0)) in
     sym (a.2 ∙ ap (λ (xs : List ℕ). xs ++ more) none)
 whole_message m n frame bytes front more h k (inr b) =
     let P : List ℕ → Type 0 = λ xs. Parts xs in
@@ -205,7 +202,7 @@ after_whole start m frame bytes [] rest h s further =
           let P : List ℕ → Type 0 = λ xs. Parts xs in
           let size = size_once frame (bytes ++ begun.1) (parts_of m frame h)
           (subst P (append_assoc frame bytes begun.1) (parts_of begun.0 ((frame ++ bytes) ++ begun.1) begun.2)) in
-          begun.4 (none_left begun.1 (omega (arith, size, length-append frame (bytes ++ begun.1), length-append bytes begun.1)))
+          begun.4 (nil_from_length begun.1 (omega (arith, size, length-append frame (bytes ++ begun.1), length-append bytes begun.1)))
     ])
 after_whole start m frame bytes (t ∷ events) rest h s further =
     elim (whole_opens t.event m frame bytes s.0 s.1 s.2 h s.3 s.4) [

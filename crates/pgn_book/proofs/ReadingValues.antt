@@ -1,15 +1,13 @@
 -- One more byte of a value.
-use Rattle.std.proofs.Common.{◌≡◌, ℕ, ◌+◌, ◌<◌, ◌≤◌, Bool, true, false, not, eqb, cond, List, [], ◌∷◌, ◌++◌, length, get_or, drop, Option, Some, refl, sym, ap, ◌∙◌, append_assoc, arith, add-one, drop-cons, length-append, rules, tests}
+use Rattle.std.proofs.Common.{◌≡◌, ℕ, ◌+◌, ◌<◌, ◌≤◌, Bool, true, false, not, eqb, cond, List, [], ◌∷◌, ◌++◌, length, get_or, drop, Option, Some, refl, sym, ap, ◌∙◌, append_assoc, arith, length-append, rules, tests}
 use Rattle.std.specs.Prelude.{◌||◌}
 use Rattle.std.specs.List.{All}
 use Rattle.std.proofs.lemmas.List.Elements.{All-push}
 use Rattle.std.proofs.Math.Seq.{get_or-append_seam}
+use Rattle.std.proofs.lemmas.List.{drop_more}
 use denote.Ref.{Bor}
 use Rattle.chess_game.specs.Values.{IsText, IsShort, IsPrintable}
 use Rattle.pgn_book.specs.Parse.{is_plain, value_at, after_value, words, words_behind, is_move, is_comment, time_at, clock_at, turns_at}
-
-pub cut_at : (bs : List ℕ) (i : ℕ) → i < length bs → drop i bs ≡ get_or bs i 0 ∷ drop (i + 1) bs
-cut_at bs i lt = rw (add-one, drop-cons bs i 0) refl
 
 pub plain_step : (q : Bool) (b : ℕ) (r : List ℕ) → is_plain q b ≡ true → (value_at q (b ∷ r) ≡ b ∷ value_at false r) × (after_value q (b ∷ r) ≡ after_value false r)
 plain_step true b r e = (refl, refl)
@@ -57,7 +55,7 @@ pub kept_more : (bs items : List ℕ) (q : Bool) (i : ℕ) → i < length bs →
 kept_more bs items q i lt h plain fits =
     let b = get_or bs i 0 in
     let rest = drop (i + 1) bs in
-    let cut = cut_at bs i lt in
+    let cut = drop_more bs i 0 lt in
     let step = plain_step q b rest plain in
     record {
       value = h.value ∙ ap (λ (x : List ℕ). items ++ value_at q x) cut ∙ ap (λ (x : List ℕ). items ++ x) step.0 ∙ sym (append_assoc items (b ∷ []) (value_at false rest));
@@ -78,7 +76,7 @@ pub quoted_more : (bs items : List ℕ) (q : Bool) (i : ℕ) → i < length bs �
 quoted_more bs items q i lt h plain other =
     let b = get_or bs i 0 in
     let rest = drop (i + 1) bs in
-    let cut = cut_at bs i lt in
+    let cut = drop_more bs i 0 lt in
     let o = other_step q b plain in
     let no34 = not_quote b other in
     let is92 = backslash (eqb b 34) (eqb b 92) no34 o.1 in
@@ -95,7 +93,7 @@ quoted_more bs items q i lt h plain other =
 
 pub plain_passed : (bs : List ℕ) (q : Bool) (i : ℕ) → i < length bs → after_value false bs ≡ after_value q (drop i bs) → is_plain q (get_or bs i 0) ≡ true
     → after_value false bs ≡ after_value false (drop (i + 1) bs)
-plain_passed bs q i lt h plain = h ∙ ap (after_value q) (cut_at bs i lt) ∙ (plain_step q (get_or bs i 0) (drop (i + 1) bs) plain).1
+plain_passed bs q i lt h plain = h ∙ ap (after_value q) (drop_more bs i 0 lt) ∙ (plain_step q (get_or bs i 0) (drop (i + 1) bs) plain).1
 
 pub quoted_passed : (bs : List ℕ) (q : Bool) (i : ℕ) → i < length bs → after_value false bs ≡ after_value q (drop i bs) → is_plain q (get_or bs i 0) ≡ false
     → (get_or bs i 0 ≡ 34 → ⊥) → after_value false bs ≡ after_value true (drop (i + 1) bs)
@@ -106,7 +104,7 @@ quoted_passed bs q i lt h plain other =
     let no34 = not_quote b other in
     let is92 = backslash (eqb b 34) (eqb b 92) no34 o.1 in
     let after : after_value false (b ∷ rest) ≡ after_value true rest = rw (no34, is92) refl in
-    h ∙ ap (after_value q) (cut_at bs i lt) ∙ ap (λ (x : Bool). after_value x (b ∷ rest)) o.0 ∙ after
+    h ∙ ap (after_value q) (drop_more bs i 0 lt) ∙ ap (λ (x : Bool). after_value x (b ∷ rest)) o.0 ∙ after
 
 pub quote_ends : (bs : List ℕ) (q : Bool) (i : ℕ) → i < length bs → after_value false bs ≡ after_value q (drop i bs) → is_plain q (get_or bs i 0) ≡ false
     → get_or bs i 0 ≡ 34 → after_value false bs ≡ drop (i + 1) bs
@@ -116,4 +114,4 @@ quote_ends bs q i lt h plain quote =
     let o = other_step q b plain in
     let is34 : eqb b 34 ≡ true = ap (λ (x : ℕ). eqb x 34) quote in
     let after : after_value false (b ∷ rest) ≡ rest = rw is34 refl in
-    h ∙ ap (after_value q) (cut_at bs i lt) ∙ ap (λ (x : Bool). after_value x (b ∷ rest)) o.0 ∙ after
+    h ∙ ap (after_value q) (drop_more bs i 0 lt) ∙ ap (λ (x : Bool). after_value x (b ∷ rest)) o.0 ∙ after

@@ -1,6 +1,6 @@
 -- What the bytes show in which frames were put in.
 use Rattle.std.proofs.Common.{◌≡◌, ◌<◌, ◌≤◌, ◌+◌, ℕ, List, [], ◌∷◌, ◌++◌, length, take, drop, refl, sym, ap, subst, arith, ◌∙◌, append_assoc, append-nil, length-append}
-use Rattle.std.proofs.lemmas.List.{take-append-le, drop-append-le, take-append-drop, length-drop}
+use Rattle.std.proofs.lemmas.List.{take-append-le, drop-append-le, take-append-drop, length-drop, nil_from_length}
 use Rattle.std.proofs.Math.Seq.{take-append_seam, drop-append_seam}
 use Rattle.dgt_frame.specs.declared.events.Event.{Event}
 use Rattle.dgt_frame.specs.declared.events.Event.TheVariants.{Message as MessageEvent, Fault}
@@ -56,10 +56,6 @@ fronts_are bytes more front back same low =
       sym (drop-append_seam front back) ∙ ap (drop n) (sym same) ∙ drop-append-le n bytes more low,
     )
 
-empty : (bytes : List ℕ) → length bytes ≡ 0 → bytes ≡ []
-empty [] h = refl
-empty (b ∷ bytes) h = absurd (let z : ⊥ = omega (arith, h) in z)
-
 -- What comes behind a message is shown from there.
 pub behind : (start : ℕ) (bytes more : List ℕ) (events later : List Timed) (rest : ℕ) → ShowsFrom start (bytes ++ more) (events ++ later) rest
     → EndsAt events (start + length bytes) → ShowsFrom (start + length bytes) more later rest
@@ -69,7 +65,7 @@ behind start bytes more (x ∷ []) later rest h ends =
     let same : length h.0 ≡ length bytes = omega (arith, whole, h.5, ends.1) in
     let low : length h.0 ≤ length bytes = omega (arith, same) in
     let parts = fronts_are bytes more h.0 h.1 h.3 low in
-    let none : drop (length h.0) bytes ≡ [] = empty (drop (length h.0) bytes) (omega (arith, length-drop (length h.0) bytes, same)) in
+    let none : drop (length h.0) bytes ≡ [] = nil_from_length (drop (length h.0) bytes) (omega (arith, length-drop (length h.0) bytes, same)) in
     let P : ℕ → List ℕ → Type 0 = λ n bs. ShowsFrom n bs later rest in
     subst (λ n. P n more) (ap (λ n. start + n) same) (subst (P (start + length h.0)) (parts.1 ∙ ap (λ bs. bs ++ more) none) h.6)
 behind start bytes more (x ∷ y ∷ es) later rest h ends =

@@ -1,7 +1,8 @@
 use Rattle.std.proofs.Common.{◌+◌, ◌++◌, ℕ, List, false, get_or, drop, sym, ◌∙◌, ap, subst, arith}
+use Rattle.std.proofs.lemmas.List.{drop_more}
 use Rattle.chess_game.specs.Values.{IsText, IsShort}
 use Rattle.pgn_book.specs.Parse.{value_at}
-use Rattle.pgn_book.proofs.ReadingValues.{cut_at, plain_step, kept_more, quoted_more, refused_value}
+use Rattle.pgn_book.proofs.ReadingValues.{plain_step, kept_more, quoted_more, refused_value}
 use Rattle.pgn_book.proofs.sections.read_value.Goals as goal
 use Rattle.pgn_book.proofs.sections.read_value.Goals.{then-is_plain+else-not-keep, else-is_plain+else-byte-eq34}
 
@@ -10,7 +11,7 @@ returns-then-not-keep-clause-none c =
     let bs = c.args.bytes.now in
     let i = c.loop-i.i in
     let q = c.loop-i.quoted in
-    let cut = cut_at bs i (omega arith) in
+    let cut = drop_more bs i 0 (omega arith) in
     let step = plain_step q (get_or bs i 0) (drop (i + 1) bs) (sym c.is_plain.ensures ∙ c.if-is_plain.true) in
     let whole = c.loop-i.invariant.value ∙ ap (λ (x : List ℕ). c.loop-i.value.bytes ++ value_at q x) cut ∙ ap (λ (x : List ℕ). c.loop-i.value.bytes ++ x) step.0 in
     let P : List ℕ → Type 0 = λ xs. IsText xs × IsShort xs in
