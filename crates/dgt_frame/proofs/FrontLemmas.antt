@@ -26,7 +26,7 @@ parted : (bytes : List ℕ) → Parted bytes
 parted [] = record { run = []; more = []; is = refl; low = tt; high = tt }
 parted (b ∷ bytes) = with_first b bytes (parted bytes) (nat_lt b 128) refl
 
-all_low : (run more : List ℕ) → AllByRecursion IsLow run → AllByRecursion IsLow more → AllByRecursion IsLow (run ++ more)
+pub all_low : (run more : List ℕ) → AllByRecursion IsLow run → AllByRecursion IsLow more → AllByRecursion IsLow (run ++ more)
 all_low [] more a b = b
 all_low (x ∷ run) more a b = (a.0, all_low run more a.1 b)
 

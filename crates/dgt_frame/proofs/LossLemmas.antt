@@ -13,6 +13,7 @@ use Rattle.dgt_frame.specs.Streams.{Opens, ShowsFrom, Timed}
 use Rattle.dgt_frame.proofs.FrameLemmas.{Parts, later_low, parts_of}
 use Rattle.dgt_frame.proofs.OnceLemmas.{size_once}
 use Rattle.dgt_frame.proofs.RestartLemmas.{low_at, never_within}
+use Rattle.dgt_frame.proofs.FrontLemmas.{all_low}
 
 -- two ways to part a list
 abbrev Split : List ℕ → List ℕ → List ℕ → List ℕ → Type 0
@@ -255,10 +256,6 @@ low_front : (front back : List ℕ) → AllByRecursion IsLow (front ++ back) →
 low_front [] back h = tt
 low_front (x ∷ front) back h = (h.0, low_front front back h.1)
 
-low_both : (front back : List ℕ) → AllByRecursion IsLow front → AllByRecursion IsLow back → AllByRecursion IsLow (front ++ back)
-low_both [] back a b = b
-low_both (x ∷ front) back a b = (a.0, low_both front back a.1 b)
-
 -- of the frame in which the loss begins the front is kept, and this part isn't
 within : (start : ℕ) (frame : List ℕ) (frames : List (List ℕ)) (next after front part lost come back : List ℕ) (events : List Timed) (rest : ℕ)
     → IsBoardFrame frame → AllByRecursion IsBoardFrame frames → IsBoardFrame next
@@ -291,7 +288,7 @@ within start frame frames next after (x ∷ kept) part lost come back events res
     let low_come : AllByRecursion IsLow come = low_back lost come (subst L parts (low_back kept part low)) in
     let Z : ℕ → Type 0 = λ i. 0 < fixed_size i in
     let Y : ℕ → Type 0 = λ i. length frame ≡ fixed_size i in
-    joins start x kept come frames next after back events rest (low_both kept come (low_front kept part low) low_come) (subst Z head g.fixed)
+    joins start x kept come frames next after back events rest (all_low kept come (low_front kept part low) low_come) (subst Z head g.fixed)
     (λ e. omega (arith, e, subst Y head g.sized, ap length is, length-append kept part, ap length parts, length-append lost come, length-append kept come, some))
     all n are h
 
@@ -315,7 +312,7 @@ across start frame other frames next after (x ∷ kept) part gone come back even
     let low_come : AllByRecursion IsLow come = come_low gone parts more in
     let Z : ℕ → Type 0 = λ i. 0 < fixed_size i in
     let Y : ℕ → Type 0 = λ i. length frame ≡ fixed_size i in
-    joins start x kept come frames next after back events rest (low_both kept come (low_front kept part low) low_come) (subst Z head g.fixed)
+    joins start x kept come frames next after back events rest (all_low kept come (low_front kept part low) low_come) (subst Z head g.fixed)
     (λ e. omega (arith, e, subst Y head g.sized, ap length is, length-append kept part, ap length parts, length-append gone come, length-append kept come, k.long, few))
     all n are h
   where

@@ -87,7 +87,7 @@ both_shown start first again byte (one ∷ events) others rest last high h k =
     )
 
 -- the same bytes at another offset
-moved : (by start : ℕ) (bytes : List ℕ) (events : List Timed) (rest : ℕ) → ShowsFrom start bytes events rest → ShowsFrom (by + start) bytes (moved_on by events) rest
+pub moved : (by start : ℕ) (bytes : List ℕ) (events : List Timed) (rest : ℕ) → ShowsFrom start bytes events rest → ShowsFrom (by + start) bytes (moved_on by events) rest
 moved by start bytes [] rest h = h
 moved by start bytes (one ∷ events) rest h =
     let N : ℕ → Type 0 = λ n. ShowsFrom n h.1 (moved_on by events) rest in

@@ -10,6 +10,8 @@ use Rattle.dgt_frame.specs.declared.events.FaultKind.TheVariants.{Cut, Stray, Si
 use Rattle.dgt_frame.specs.Frames.{Frame}
 use Rattle.dgt_frame.specs.Restarts.{RestartsAreShown, moved_on}
 use Rattle.dgt_frame.specs.Streams.{Opens, Shows, ShowsFrom, Skips, Timed}
+use Rattle.dgt_frame.proofs.RestartLemmas.{moved}
+use Rattle.dgt_frame.proofs.OnceLemmas.{frame_some}
 use Rattle.pair_frames.specs.Laws.{EndsWhole, FramesArePutIn, StreamsAreJoined}
 use Rattle.pair_frames.specs.PutIn.{ShowsWhole}
 
@@ -34,16 +36,9 @@ never_empty : {A : Type 0} (xs : List A) (x : A) (ys : List A) → [] ≡ xs ++ 
 never_empty [] x ys h = let never : ⊥ = cc in never
 never_empty (y ∷ xs) x ys h = let never : ⊥ = cc in never
 
--- no bytes are a frame
-no_frame : (message : Message) → Frame message [] → ⊥
-no_frame (Dump codes) h = let e = h.0 in let never : ⊥ = cc in never
-no_frame (Update field code) h = let e = h.0 in let never : ⊥ = cc in never
-no_frame (Time times) h = let e = h.0 in let never : ⊥ = cc in never
-no_frame (Other id size) h = let e = h.3 in let never : ⊥ = cc in never
-
 -- and they open nothing
 no_event : (event : Event) (more : List ℕ) (index : ℕ) → Opens event [] more index → ⊥
-no_event (MessageEvent m) more index h = no_frame m h.0
+no_event (MessageEvent m) more index h = frame_some m h.0
 no_event (Fault Stray) more index h = never_empty [] h.0 h.1.0 h.1.1
 no_event (Fault Cut) more index h = h.4.3 refl
 no_event (Fault Size) more index h = never_empty h.0 h.1 h.4.0 h.4.1
@@ -57,15 +52,6 @@ none_shown : (start : ℕ) (one : Timed) (events : List Timed) (rest : ℕ) → 
 none_shown start one events rest h =
     let E : List ℕ → Type 0 = λ front. Opens one.event front h.1 h.2 in
     no_event one.event h.1 h.2 (subst E (empty_front h.0 h.1 h.3) h.4)
-
--- the same bytes at another offset
-moved : (by start : ℕ) (bytes : List ℕ) (events : List Timed) (rest : ℕ) → ShowsFrom start bytes events rest → ShowsFrom (by + start) bytes (moved_on by events) rest
-moved by start bytes [] rest h = h
-moved by start bytes (one ∷ events) rest h =
-    let N : ℕ → Type 0 = λ n. ShowsFrom n h.1 (moved_on by events) rest in
-    let at : by + (start + length h.0) ≡ (by + start) + length h.0 = omega arith in
-    let offset : by + one.offset ≡ (by + start) + h.2 = omega (arith, h.5) in
-    (h.0, h.1, h.2, h.3, h.4, offset, subst N at (moved by (start + length h.0) h.1 events rest h.6))
 
 -- what opens the first stream, where more follow; at its end it is a message
 opens_on : (event : Event) (front more back : List ℕ) (index start : ℕ) (events : List Timed) → Last (record { offset = start; event = event } ∷ events)
@@ -129,7 +115,7 @@ moved_append by (x ∷ xs) ys = ap (λ (ts : List Timed). record { offset = by +
 abbrev timed_of : ℕ → Event → Timed
 timed_of offset event = record { offset = offset; event = event }
 
-moved_twice : (a b : ℕ) (xs : List Timed) → moved_on a (moved_on b xs) ≡ moved_on (a + b) xs
+pub moved_twice : (a b : ℕ) (xs : List Timed) → moved_on a (moved_on b xs) ≡ moved_on (a + b) xs
 moved_twice a b [] = refl
 moved_twice a b (x ∷ xs) =
     let e : a + (b + x.offset) ≡ (a + b) + x.offset = omega arith in

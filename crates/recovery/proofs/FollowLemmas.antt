@@ -8,6 +8,7 @@ use Rattle.dgt_frame.specs.Restarts.{moved_on}
 use Rattle.dgt_frame.specs.Streams.{Opens, Shows, ShowsFrom, Timed}
 use Rattle.board_events.specs.Commands.{past_of}
 use Rattle.pair_frames.specs.Laws.{EndsWhole, FramesArePutIn}
+use Rattle.pair_frames.proofs.Joining.{moved_twice}
 use Rattle.recovery.specs.Passing.{EndsAt, Follows, IsMessage}
 
 pub ends_at : (events : List Timed) (x : Timed) (end : ℕ) → IsMessage x.event → x.offset + 1 ≡ end → EndsAt (events ++ x ∷ []) end
@@ -93,13 +94,6 @@ alone by start bytes (x ∷ events) rest h =
       ap (λ (t : Timed). t ∷ events) same ∙ ap (λ es. record { offset = by + (start + h.2); event = x.event } ∷ es) tail.1,
       (h.0, h.1, h.2, h.3, h.4, refl, tail.2),
     )
-
-pub moved_twice : (a b : ℕ) (events : List Timed) → moved_on a (moved_on b events) ≡ moved_on (a + b) events
-moved_twice a b [] = refl
-moved_twice a b (x ∷ events) =
-    let offset : a + (b + x.offset) ≡ (a + b) + x.offset = omega arith in
-    ap (λ (n : ℕ). record { offset = n; event = x.event } ∷ moved_on a (moved_on b events)) offset
-    ∙ ap (λ es. record { offset = (a + b) + x.offset; event = x.event } ∷ es) (moved_twice a b events)
 
 moved_none : (events : List Timed) → moved_on 0 events ≡ events
 moved_none [] = refl
