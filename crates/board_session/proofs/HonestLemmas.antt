@@ -1,6 +1,6 @@
 -- What a recording has of honest play.
-use Rattle.std.proofs.Common.{◌≡◌, ℕ, List, [], ◌∷◌, ◌++◌, length, map, reverse, Option, Bool, true, false, refl, sym, ap, subst, ◌∙◌}
-use Rattle.std.proofs.lemmas.List.{append_assoc, length-map, map-append, reverse-append, reverse-reverse}
+use Rattle.std.proofs.Common.{◌≡◌, ℕ, List, [], ◌∷◌, ◌++◌, length, reverse, Option, Bool, true, false, refl, sym, ap, subst, ◌∙◌}
+use Rattle.std.proofs.lemmas.List.{append_assoc, length-map, reverse-append, reverse-reverse}
 use Rattle.chess_rules.specs.Valid.{Valid}
 use Rattle.dgt_frame.specs.declared.events.Event.{Event}
 use Rattle.dgt_frame.specs.Streams.{Shows, Timed}
@@ -17,6 +17,7 @@ use Rattle.board_events.specs.Entries.{entry_at, is_entry}
 use Rattle.board_session.specs.Laws.{HonestFrontIsWritten, HonestPlayIsWritten, KingsEndIsWritten, ShowsEntries}
 use Rattle.board_events.specs.Settings.{setting_of, Setting}
 use Rattle.board_events.specs.Session.{entries_in}
+use Rattle.board_events.proofs.CommandLemmas.{past_both}
 use Rattle.board_session.proofs.GameLemmas.{honest_clocks_are_recorded, honest_play_is_recorded, kings_end_is_recorded}
 
 -- a stream shows one list of events
@@ -72,17 +73,13 @@ entries_on setting (event ∷ later) past =
         let are : entries_in setting (event ∷ (later ++ past)) ≡ entries_in setting (later ++ past) = rw e refl in
         (on.0, are ∙ on.1)
 
-pub past_on : (taken later : List Timed) → past_of (taken ++ later) ≡ past_of later ++ past_of taken
-past_on taken later = ap reverse (map-append (λ (t : Timed). t.event) taken later)
-    ∙ reverse-append (map (λ (t : Timed). t.event) taken) (map (λ (t : Timed). t.event) later)
-
 -- the entries taken are the first of those shown
 front_of : (setting : Setting) (taken later : List Timed) (shown : List Entry) → entries_in setting (past_of (taken ++ later)) ≡ reverse shown
     → (rest : List Entry) × (shown ≡ reverse (entries_in setting (past_of taken)) ++ rest)
 front_of setting taken later shown are =
     let on = entries_on setting (past_of later) (past_of taken) in
     let mine : List Entry = entries_in setting (past_of taken) in
-    let both : reverse shown ≡ on.0 ++ mine = sym are ∙ ap (entries_in setting) (past_on taken later) ∙ on.1 in
+    let both : reverse shown ≡ on.0 ++ mine = sym are ∙ ap (entries_in setting) (past_both taken later) ∙ on.1 in
     (reverse on.0, sym (reverse-reverse shown) ∙ ap reverse both ∙ reverse-append on.0 mine)
 
 pub honest_front_is_written : ShowsFronts → HonestFrontIsWritten

@@ -1,5 +1,5 @@
 -- What a recording leaves, whatever it returned.
-use Rattle.std.proofs.Common.{◌≡◌, ◌⊎◌, inl, inr, ℕ, ◌+◌, Bool, true, false, zero, suc, List, [], ◌∷◌, ◌++◌, length, map, reverse, Option, None, refl, sym, ap, subst, ◌∙◌, append_assoc, arith}
+use Rattle.std.proofs.Common.{◌≡◌, ◌⊎◌, inl, inr, ℕ, ◌+◌, Bool, true, false, zero, suc, List, [], ◌∷◌, ◌++◌, length, reverse, Option, None, refl, sym, ap, subst, ◌∙◌, append_assoc, arith}
 use Rattle.std.proofs.lemmas.List.{append-nil, reverse-append, reverse-reverse}
 use Rattle.chess_rules.specs.Valid.{Valid}
 use Rattle.dgt_frame.specs.declared.events.Event.{Event}
@@ -26,8 +26,9 @@ use Rattle.board_events.specs.Game.{IsGameOf}
 use Rattle.board_session.specs.Laws.{TellTheSame}
 use Rattle.board_events.specs.Settings.{setting_of, Setting}
 use Rattle.board_events.specs.Session.{entries_in}
+use Rattle.board_events.proofs.CommandLemmas.{past_both, past_moved}
 use Rattle.board_session.proofs.AnyLemmas.{deduplicated_on, honest_play_resumes, kings_end_resumed_play, kings_in_centre_keep_the_plies, nothing_is_invented, only_the_last_ply_may_change, resumed_play_stops}
-use Rattle.board_session.proofs.HonestLemmas.{ShowsFronts, ShowsOnce, entries_on, past_on, valid_start}
+use Rattle.board_session.proofs.HonestLemmas.{ShowsFronts, ShowsOnce, entries_on, valid_start}
 use Rattle.board_session.proofs.LawLemmas.{faults_before_dumps_can_go}
 
 pub start_valid : (setup : Setup) (left : Left setup) → Valid setup.start
@@ -40,7 +41,7 @@ in_parts : (setup : Setup) (left : Left setup) (first later : List Timed) → le
     → IsGameOf left.leaves.game (setting_of setup) setup.tags (past_of later ++ past_of first)
 in_parts setup left first later e =
     let G : List Event → Type 0 = λ es. IsGameOf left.leaves.game (setting_of setup) setup.tags es in
-    subst G (ap past_of e ∙ past_on first later) left.leaves.game_is
+    subst G (ap past_of e ∙ past_both first later) left.leaves.game_is
 
 pub nothing_written_is_invented : NothingWrittenIsInvented
 nothing_written_is_invented setup left =
@@ -80,7 +81,7 @@ pub kings_in_centre_write_no_move : KingsInCentreWriteNoMove
 kings_in_centre_write_no_move setup left first later before shown parts is are kings =
     let E : List Event → Type 0 = λ es. entries_in (setting_of setup) es ≡ shown ++ entries_in (setting_of setup) (past_of first) in
     kings_in_centre_keep_the_plies (setting_of setup) setup.tags (past_of later) (past_of first) before left.leaves.game shown (start_valid setup left) is
-    (subst E (ap past_of parts ∙ past_on first later) are) kings (in_parts setup left first later parts)
+    (subst E (ap past_of parts ∙ past_both first later) are) kings (in_parts setup left first later parts)
 
 -- the score of a game, where it is known
 plies_of_score : (plies shown : List Ply) (sign other : Option Outcome) → score_of plies sign ≡ score_of shown other → plies ≡ shown
@@ -165,7 +166,7 @@ honest_stop_anywhere_is_written fronts setup left more moves lists end sign line
     let kept = deduplicated_on on.0 mine in
     let are : deduplicated (reverse all) ≡ kept.0 ++ deduplicated mine =
     sym s.are ∙ ap (λ (ts : List Timed). deduplicated (entries_in setting (past_of ts))) events
-    ∙ ap (λ (es : List Event). deduplicated (entries_in setting es)) (past_on l.taken (l.extra ++ later.0)) ∙ ap deduplicated on.1 ∙ kept.1 in
+    ∙ ap (λ (es : List Event). deduplicated (entries_in setting es)) (past_both l.taken (l.extra ++ later.0)) ∙ ap deduplicated on.1 ∙ kept.1 in
     let from : KeptFrom (reverse all) (deduplicated mine) = kept_from (reverse all) kept.0 (deduplicated mine) are in
     let first : List Entry = reverse from.past in
     let parts : all ≡ first ++ reverse from.later = sym (reverse-reverse all) ∙ ap reverse from.is ∙ reverse-append from.later from.past in
@@ -197,14 +198,6 @@ made_again_is_written once setup left moves lists part line shown passes s none 
     (ap (λ (ts : List Timed). deduplicated (entries_in setting (past_of ts))) same.0 ∙ s.are) l.game_is
 
 -- ---- restarts
-
--- the events, whenever they came
-events_moved : (bytes : ℕ) (events : List Timed) → map (λ (t : Timed). t.event) (moved_on bytes events) ≡ map (λ (t : Timed). t.event) events
-events_moved bytes [] = refl
-events_moved bytes (t ∷ events) = ap (λ (es : List Event). t.event ∷ es) (events_moved bytes events)
-
-past_moved : (bytes : ℕ) (events : List Timed) → past_of (moved_on bytes events) ≡ past_of events
-past_moved bytes events = ap reverse (events_moved bytes events)
 
 tells_itself : (setting : Setting) (past : List Event) → TellTheSame setting past past
 tells_itself setting past = record { pictures = refl; game = λ tags game. (λ x. x, λ x. x); text = λ tags text. (λ x. x, λ x. x) }
@@ -238,7 +231,7 @@ cut_can_go setting offset (suc n) again others events d =
     let later : List Event = past_of d.later in
     let before : List Event = past_of events in
     let dump : Event = MessageEvent (Dump d.codes) in
-    let are : past_of others ≡ later ++ dump ∷ [] = ap past_of d.are ∙ past_on (record { offset = d.offset; event = dump } ∷ []) d.later in
+    let are : past_of others ≡ later ++ dump ∷ [] = ap past_of d.are ∙ past_both (record { offset = d.offset; event = dump } ∷ []) d.later in
     let one : (past_of others ++ Fault Cut ∷ []) ++ before ≡ later ++ dump ∷ Fault Cut ∷ before =
     ap (λ (es : List Event). (es ++ Fault Cut ∷ []) ++ before) are ∙ append_assoc (later ++ dump ∷ []) (Fault Cut ∷ []) before ∙ append_assoc later (dump ∷ []) (Fault Cut ∷ before) in
     let two : past_of others ++ before ≡ later ++ dump ∷ before = ap (λ (es : List Event). es ++ before) are ∙ append_assoc later (dump ∷ []) before in
@@ -260,7 +253,7 @@ restarts_are_recorded once fronts joins setting first again events others all re
     joins first more 0x86 events others rest last (omega arith) h (subst S bytes k) in
     let same = once (first ++ 0x86 ∷ more) all (events ++ cut ++ moved) end last (subst J bytes j) shown in
     let are : past_of all ≡ (past_of others ++ past_of cut) ++ past_of events =
-    ap past_of same.0 ∙ past_on (events ++ cut) moved ∙ ap (λ (es : List Event). past_of moved ++ es) (past_on events cut)
+    ap past_of same.0 ∙ past_both (events ++ cut) moved ∙ ap (λ (es : List Event). past_of moved ++ es) (past_both events cut)
     ∙ ap (λ (es : List Event). es ++ (past_of cut ++ past_of events)) (past_moved (length first) others)
     ∙ sym (append_assoc (past_of others) (past_of cut) (past_of events)) in
     let T : List Event → Type 0 = λ es. TellTheSame setting es (past_of others ++ past_of events) in

@@ -29,10 +29,10 @@ use Rattle.board_events.specs.History.{code_of, is_trusted, picture_of, turned}
 use Rattle.board_events.specs.Settings.{Setting}
 use Rattle.board_events.specs.Session.{entries_in}
 use Rattle.board_session.specs.Sizes.{FramesAreWithin, MovesTakeTenBytes, WrittenMovesTakeTenBytes, size_of, sizes}
-use Rattle.board_session.proofs.HonestLemmas.{past_on}
 use Rattle.board_session.proofs.LeftLemmas.{start_valid}
 use Rattle.board_events.proofs.PictureLemmas.{picture_at, turned_twice}
 use Rattle.board_events.proofs.TakeLemmas.{entries_updated, seen_before}
+use Rattle.board_events.proofs.CommandLemmas.{past_both}
 
 -- ---- frames
 
@@ -68,7 +68,7 @@ sizes_past : (events : List Timed) → sizes (past_of events) ≡ sizes_in_order
 unfolding sizes_in_order
 sizes_past [] = refl
 sizes_past (t ∷ events) =
-    let on : sizes (past_of (t ∷ events)) ≡ sizes (past_of events ++ t.event ∷ []) = ap sizes (past_on (t ∷ []) events) in
+    let on : sizes (past_of (t ∷ events)) ≡ sizes (past_of events ++ t.event ∷ []) = ap sizes (past_both (t ∷ []) events) in
     omega (arith, on, sizes_joined (past_of events) (t.event ∷ []), sizes_past events)
 
 pub frames_are_within : FramesAreWithin
@@ -253,6 +253,6 @@ written_moves_take_ten_bytes setup left =
       arith,
       moves_take_ten_bytes (Rattle.board_events.specs.Settings.setting_of setup) setup.tags (past_of l.taken) l.game (start_valid setup left) l.game_is,
       frames_are_within l.front (l.taken ++ l.extra) l.rest l.shows,
-      ap sizes (past_on l.taken l.extra),
+      ap sizes (past_both l.taken l.extra),
       sizes_joined (past_of l.extra) (past_of l.taken),
     )

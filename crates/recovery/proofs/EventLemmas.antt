@@ -1,17 +1,14 @@
 -- Events with what was put in.
-use Rattle.std.proofs.Common.{◌≡◌, ℕ, Bool, true, List, [], ◌∷◌, ◌++◌, map, reverse, Option, Some, None, refl, sym, ap, subst, ◌∙◌, slice_set, append_assoc}
-use Rattle.std.proofs.lemmas.List.{map-append, reverse-append}
+use Rattle.std.proofs.Common.{◌≡◌, ℕ, Bool, true, List, [], ◌∷◌, ◌++◌, reverse, Option, Some, None, refl, sym, ap, subst, ◌∙◌, slice_set, append_assoc}
+use Rattle.std.proofs.lemmas.List.{reverse-append}
 use Rattle.std.specs.Prelude.{if◌then◌else◌}
 use Rattle.dgt_frame.specs.declared.events.Message.TheVariants.{Dump, Update, Time, Other}
 use Rattle.dgt_frame.specs.declared.events.Event.{Event}
 use Rattle.dgt_frame.specs.declared.events.Event.TheVariants.{Message as MessageEvent, Fault}
 use Rattle.dgt_frame.specs.declared.First.{First}
 use Rattle.chess_clock.specs.declared.Reading.{Reading}
-use Rattle.dgt_frame.specs.Restarts.{moved_on}
-use Rattle.dgt_frame.specs.Streams.{Timed}
 use Rattle.settle_core.specs.Entries.{Entry}
 use Rattle.unseen_pairs.specs.declared.pair.Recovery.{Recovery}
-use Rattle.board_events.specs.Commands.{past_of}
 use Rattle.board_events.specs.Entries.{entries, entry_at, is_entry}
 use Rattle.board_events.specs.History.{IsInRange, decides, is_trusted, picture_of, reading_at, reading_said, turned}
 use Rattle.chess_rules.specs.Picture.{picture}
@@ -119,17 +116,6 @@ carries_put keeper setting event past written r range a next behind =
         reading = behind.reading;
       };
     }
-
--- the events alone of two lists
-pub past_both : (a b : List Timed) → past_of (a ++ b) ≡ past_of b ++ past_of a
-past_both a b = ap reverse (map-append (λ (t : Timed). t.event) a b) ∙ reverse-append (map (λ (t : Timed). t.event) a) (map (λ (t : Timed). t.event) b)
-
-events_moved : (by : ℕ) (events : List Timed) → map (λ (t : Timed). t.event) (moved_on by events) ≡ map (λ (t : Timed). t.event) events
-events_moved by [] = refl
-events_moved by (x ∷ events) = ap (λ es. x.event ∷ es) (events_moved by events)
-
-pub past_moved : (by : ℕ) (events : List Timed) → past_of (moved_on by events) ≡ past_of events
-past_moved by events = ap reverse (events_moved by events)
 
 -- What is put in ends with a dump.
 pub ends_whole : (first : First) (rotated : Bool) (entry : Entry) (r : Recovery) → EndsWhole (reverse (put_in first rotated entry r))

@@ -12,6 +12,7 @@ use Rattle.unseen_pairs.specs.declared.pair.Recovery.{Recovery}
 use Rattle.board_events.specs.Commands.{past_of}
 use Rattle.board_events.specs.Entries.{entry_at, is_entry}
 use Rattle.board_events.specs.Settings.{Setting}
+use Rattle.board_events.proofs.CommandLemmas.{past_both, past_moved}
 use Rattle.pair_frames.specs.Laws.{EndsWhole, FramesArePutIn}
 use Rattle.pair_frames.specs.PutIn.{put_in}
 use Rattle.recovery.specs.declared.keeper.Keeper.{Keeper}
@@ -19,7 +20,7 @@ use Rattle.recovery.specs.Keeping.{Keeps, RecoversAt, ShowsAnother}
 use Rattle.recovery.specs.Weaving.{Put, Puts, PutsAll, Recovers, TellsPuts, TellsRecovered, Weaves}
 use Rattle.recovery.specs.Streams.{RefusesNext}
 use Rattle.recovery.specs.Passing.{Adds, Carries, EndsAt, Follows, Hears, IsMessage, Stands, added}
-use Rattle.recovery.proofs.EventLemmas.{ends_whole, past_both, past_moved}
+use Rattle.recovery.proofs.EventLemmas.{ends_whole}
 use Rattle.recovery.proofs.FollowLemmas.{ends_at, follows_event, follows_none, follows_put, follows_start, whole_leaves_none}
 use Rattle.recovery.proofs.WeaveLemmas.{weaves_more, weaves_put}
 
