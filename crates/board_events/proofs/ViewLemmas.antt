@@ -9,10 +9,12 @@ use Rattle.dgt_frame.specs.declared.events.Message.TheVariants.{Update}
 use Rattle.dgt_frame.specs.declared.events.Event.{Event}
 use Rattle.dgt_frame.specs.declared.events.Event.TheVariants.{Message as MessageEvent}
 use Rattle.dgt_frame.specs.declared.time.First.TheVariants.{White}
-use Rattle.settle_core.specs.Entries.{Entry, last_picture, deduplicated}
+use Rattle.dgt_frame.specs.declared.time.First.{First}
+use Rattle.settle_core.specs.Entries.{Entry, last_picture, deduplicated, repeats}
+use Rattle.settle_core.proofs.Repeats.{repeats_by}
 use Rattle.board_events.specs.declared.view.View.{View}
 use Rattle.board_events.specs.History.{is_trusted, picture_of, turned}
-use Rattle.board_events.specs.Entries.{entries, entry_at}
+use Rattle.board_events.specs.Entries.{entries, entry_at, is_entry}
 use Rattle.board_events.specs.declared.view.Change.{Change}
 use Rattle.board_events.specs.declared.view.Change.TheVariants.{Nothing, Square, Picture}
 use Rattle.board_events.specs.Pictures.{ChangesPictures, IsLast, pictures}
@@ -159,3 +161,32 @@ adds_changed (Square square code) picture old new changes other last =
 adds_changed Picture picture old new changes other last =
     let is : picture ≡ changes.0 = subst (IsLast picture) changes.1 last in
     changes.1 ∙ ap (λ p. p ∷ old) (sym is)
+
+-- readings play no part in which picture is the last
+pub last_alike : (first : First) (rotated : Bool) (past : List Event) → last_picture (entries first rotated past) ≡ last_picture (entries White rotated past)
+last_alike first rotated [] = refl
+last_alike first rotated (event ∷ past) = elim (cases_Bool (is_entry event past)) [
+  | inl entered ↦ rw entered refl
+  | inr other ↦ rw other (last_alike first rotated past)
+]
+
+pub repeats_alike : (seen : List ℕ) (first : First) (rotated : Bool) (past : List Event)
+    → repeats seen (entries first rotated past) ≡ repeats seen (entries White rotated past)
+repeats_alike seen first rotated past = repeats_by seen (entries first rotated past) (entries White rotated past) (last_alike first rotated past)
+
+-- An entry adds a picture unless it repeats the last one.
+pub pictures_more : (first : First) (rotated : Bool) (past : List Event) (event : Event) → is_entry event past ≡ true
+    → repeats (picture_of rotated (event ∷ past)) (entries first rotated past) ≡ false
+    → pictures rotated (event ∷ past) ≡ picture_of rotated (event ∷ past) ∷ pictures rotated past
+pictures_more first rotated past event entered fresh =
+    let new = sym (repeats_alike (picture_of rotated (event ∷ past)) first rotated past) ∙ fresh in rw (entered, new) refl
+
+pub pictures_same : (first : First) (rotated : Bool) (past : List Event) (event : Event) → is_entry event past ≡ true
+    → repeats (picture_of rotated (event ∷ past)) (entries first rotated past) ≡ true
+    → pictures rotated (event ∷ past) ≡ pictures rotated past
+pictures_same first rotated past event entered again =
+    let repeated = sym (repeats_alike (picture_of rotated (event ∷ past)) first rotated past) ∙ again in rw (entered, repeated) refl
+
+pub pictures_none : (rotated : Bool) (past : List Event) (event : Event) → is_entry event past ≡ false
+    → pictures rotated (event ∷ past) ≡ pictures rotated past
+pictures_none rotated past event other = rw other refl

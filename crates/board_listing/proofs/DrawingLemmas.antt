@@ -1,18 +1,16 @@
 -- The pictures that events show, and the placement that is drawn.
-use Rattle.std.proofs.Common.{◌≡◌, ◌∙◌, inl, inr, ℕ, Bool, true, false, List, [], ◌∷◌, length, slice_set, Some, ap, refl, sym}
-use Rattle.std.proofs.lemmas.Bool.{cases_Bool}
+use Rattle.std.proofs.Common.{◌≡◌, ◌∙◌, ℕ, Bool, true, false, List, [], ◌∷◌, length, slice_set, Some, ap, refl, sym}
 use Rattle.std.proofs.lemmas.Option.{same_Some}
 use Rattle.chess_text.specs.declared.placement_text.PlacementText.{PlacementText}
 use Rattle.chess_text.specs.KeptRanks.{picture_in}
 use Rattle.dgt_frame.specs.declared.First.{First}
-use Rattle.dgt_frame.specs.declared.time.First.TheVariants.{White}
 use Rattle.dgt_frame.specs.declared.events.Event.{Event}
 use Rattle.dgt_frame.specs.declared.events.Event.TheVariants.{Message, Fault}
 use Rattle.dgt_frame.specs.declared.events.Message.TheVariants.{Dump, Update, Time, Other}
 use Rattle.dgt_frame.specs.Streams.{HasFrame}
 use Rattle.settle_core.specs.Entries.{last_picture, repeats}
-use Rattle.settle_core.proofs.Repeats.{repeated_last, repeats_by}
-use Rattle.board_events.specs.Entries.{entries, is_entry}
+use Rattle.settle_core.proofs.Repeats.{repeated_last}
+use Rattle.board_events.specs.Entries.{is_entry}
 use Rattle.board_events.specs.History.{fields_of, picture_of, reading_at, turned}
 use Rattle.board_events.specs.Pictures.{pictures}
 use Rattle.board_events.specs.Session.{entries_in}
@@ -21,36 +19,6 @@ use Rattle.board_events.proofs.PictureLemmas.{plain_dump, rotated_dump, updated_
 use Rattle.board_events.proofs.TakeLemmas.{seen_before}
 use Rattle.board_listing.specs.Drawing.{Draws, drawn, is_time}
 use Rattle.board_listing.proofs.FollowLemmas.{clash, entries_new, entries_same}
-
--- ---- which pictures there are; readings play no part in it
-
-last_alike : (first : First) (rotated : Bool) (past : List Event) → last_picture (entries first rotated past) ≡ last_picture (entries White rotated past)
-last_alike first rotated [] = refl
-last_alike first rotated (event ∷ past) = elim (cases_Bool (is_entry event past)) [
-  | inl entered ↦ rw entered refl
-  | inr other ↦ rw other (last_alike first rotated past)
-]
-
-repeats_alike : (seen : List ℕ) (setting : Setting) (past : List Event)
-    → repeats seen (entries White setting.rotated past) ≡ repeats seen (entries_in setting past)
-repeats_alike seen setting past =
-    repeats_by seen (entries White setting.rotated past) (entries_in setting past) (sym (last_alike setting.first setting.rotated past))
-
-pub pictures_none : (rotated : Bool) (past : List Event) (event : Event) → is_entry event past ≡ false
-    → pictures rotated (event ∷ past) ≡ pictures rotated past
-pictures_none rotated past event other = rw other refl
-
-pub pictures_same : (setting : Setting) (past : List Event) (event : Event) → is_entry event past ≡ true
-    → repeats (picture_of setting.rotated (event ∷ past)) (entries_in setting past) ≡ true
-    → pictures setting.rotated (event ∷ past) ≡ pictures setting.rotated past
-pictures_same setting past event entered again =
-    let repeated = repeats_alike (picture_of setting.rotated (event ∷ past)) setting past ∙ again in rw (entered, repeated) refl
-
-pub pictures_more : (setting : Setting) (past : List Event) (event : Event) → is_entry event past ≡ true
-    → repeats (picture_of setting.rotated (event ∷ past)) (entries_in setting past) ≡ false
-    → pictures setting.rotated (event ∷ past) ≡ picture_of setting.rotated (event ∷ past) ∷ pictures setting.rotated past
-pictures_more setting past event entered fresh =
-    let other = repeats_alike (picture_of setting.rotated (event ∷ past)) setting past ∙ fresh in rw (entered, other) refl
 
 -- ---- the placement
 

@@ -22,6 +22,7 @@ use Rattle.board_events.specs.Pictures.{pictures}
 use Rattle.board_events.specs.Settings.{Setting}
 use Rattle.board_events.specs.Session.{StandsFor, TellsTaken, entries_in}
 use Rattle.board_events.specs.States.{State}
+use Rattle.board_events.proofs.ViewLemmas.{pictures_more, pictures_none, pictures_same}
 use Rattle.board_listing.specs.declared.follower.Follower.{Follower}
 use Rattle.board_listing.specs.declared.watcher.Watcher.{Watcher}
 use Rattle.board_listing.specs.Drawing.{Draws, drawn}
@@ -34,7 +35,7 @@ use Rattle.board_listing.specs.Positions.{AddsNewsAndPositions}
 use Rattle.board_listing.specs.Watchers.{HasWatched, ShowsNews}
 use Rattle.board_listing.specs.WatchLines.{picture_words}
 use Rattle.board_listing.specs.WatchText.{ShowsPicture, ShowsReading, WatchesEvent, line_with, with_position}
-use Rattle.board_listing.proofs.DrawingLemmas.{draws_new, draws_none, draws_same, now_drawn, pictures_more, pictures_none, pictures_same}
+use Rattle.board_listing.proofs.DrawingLemmas.{draws_new, draws_none, draws_same, now_drawn}
 use Rattle.board_listing.proofs.FollowLemmas.{Added, News, added_fault, added_news, added_nothing, added_same, fault_gives_none, is_same, may_tell_news, news, told_waits}
 use Rattle.board_listing.proofs.LineLemmas.{text_append}
 use Rattle.board_listing.proofs.PlacedLemmas.{NewsPlaced, Placed, fault_placed, news_placed, none_placed}
@@ -136,7 +137,7 @@ shown_seen law old new session setting past x taken seen lines lines' h frame st
     let entered : is_entry x.event past ≡ true = sym tells.entry ∙ ap is_some some in
     let Q : Option Seen → Type 0 = λ s. IfSome s (ReturnsSeen setting.start (entries_in setting past) (picture_of setting.rotated (x.event ∷ past))) in
     let again : repeats (picture_of setting.rotated (x.event ∷ past)) (entries_in setting past) ≡ true = subst Q (some ∙ ap Some same) tells.seen in
-    shown_none old new session setting past x lines lines' (pictures_same setting past x.event entered again) kept.0
+    shown_none old new session setting past x lines lines' (pictures_same setting.first setting.rotated past x.event entered again) kept.0
     (draws_same old.placement setting past x.event entered again h.draws)
     (told_by old.follower new.follower session setting past x [] [] lines lines' (ap (λ (w : Watcher). w.follower) kept.0)
     (added_same old.follower session setting past x taken seen [] [] h.followed stands tells asks some same refl)
@@ -151,7 +152,7 @@ shown_seen law old new session setting past x taken seen lines lines' h frame st
     let picture = picture_in new.placement in
     record {
       pictured = line_with x.offset (picture_words picture) ∷ [];
-      picture_is = inr (picture, pictures_more setting past x.event entered fresh.new ∙ ap (λ p. p ∷ pictures setting.rotated past) (sym is), refl);
+      picture_is = inr (picture, pictures_more setting.first setting.rotated past x.event entered fresh.new ∙ ap (λ p. p ∷ pictures setting.rotated past) (sym is), refl);
       draws = draws_new new.placement setting past x.event entered is;
       said = told_news law old.follower new.follower session setting past x taken seen (lines ++ line x.offset (picture_words picture)) lines'
           h.followed stands tells asks some t.session_is fresh

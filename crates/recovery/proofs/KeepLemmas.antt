@@ -22,39 +22,13 @@ use Rattle.board_events.specs.Pictures.{IsLast, pictures}
 use Rattle.board_events.specs.Settings.{Setting}
 use Rattle.board_events.specs.Session.{entries_in}
 use Rattle.board_events.specs.View.{Views}
+use Rattle.board_events.proofs.ViewLemmas.{last_alike, pictures_more, pictures_none, pictures_same, repeats_alike}
 use Rattle.recovery.specs.declared.keeper.Keeper.{Keeper}
 use Rattle.recovery.specs.Keeping.{KeepsNext, RecoversAt, ShowsAnother}
 use Rattle.recovery.specs.Seeing.{Sees}
 
 no_longer : {A : Type 0} (xs : List A) (x : A) → xs ≡ x ∷ xs → ⊥
 no_longer xs x same = omega (arith, ap length same)
-
--- readings play no part in which picture is the last
-last_alike : (first : First) (rotated : Bool) (past : List Event) → last_picture (entries first rotated past) ≡ last_picture (entries White rotated past)
-last_alike first rotated [] = refl
-last_alike first rotated (event ∷ past) = elim (cases_Bool (is_entry event past)) [
-  | inl entered ↦ rw entered refl
-  | inr other ↦ rw other (last_alike first rotated past)
-]
-
-repeats_alike : (seen : List ℕ) (first : First) (rotated : Bool) (past : List Event)
-    → repeats seen (entries first rotated past) ≡ repeats seen (entries White rotated past)
-repeats_alike seen first rotated past = repeats_by seen (entries first rotated past) (entries White rotated past) (last_alike first rotated past)
-
--- An entry adds a picture unless it repeats the last one.
-pictures_more : (rotated : Bool) (past : List Event) (event : Event) → is_entry event past ≡ true
-    → repeats (picture_of rotated (event ∷ past)) (entries White rotated past) ≡ false
-    → pictures rotated (event ∷ past) ≡ picture_of rotated (event ∷ past) ∷ pictures rotated past
-pictures_more rotated past event entered new = rw (entered, new) refl
-
-pictures_same : (rotated : Bool) (past : List Event) (event : Event) → is_entry event past ≡ true
-    → repeats (picture_of rotated (event ∷ past)) (entries White rotated past) ≡ true
-    → pictures rotated (event ∷ past) ≡ pictures rotated past
-pictures_same rotated past event entered again = rw (entered, again) refl
-
-pictures_none : (rotated : Bool) (past : List Event) (event : Event) → is_entry event past ≡ false
-    → pictures rotated (event ∷ past) ≡ pictures rotated past
-pictures_none rotated past event other = rw other refl
 
 -- Where no picture was added, an entry repeats the last one.
 pub repeats_here : (first : First) (rotated : Bool) (past : List Event) (event : Event) → pictures rotated (event ∷ past) ≡ pictures rotated past
@@ -63,7 +37,7 @@ repeats_here first rotated past event same entered =
     let seen = picture_of rotated (event ∷ past) in
     elim (cases_Bool (repeats seen (entries White rotated past))) [
       | inl again ↦ repeats_alike seen first rotated past ∙ again
-      | inr new ↦ absurd (no_longer (pictures rotated past) seen (sym same ∙ pictures_more rotated past event entered new))
+      | inr new ↦ absurd (no_longer (pictures rotated past) seen (sym same ∙ pictures_more White rotated past event entered new))
     ]
 
 -- Where a picture was added, it is that of an entry.
@@ -74,8 +48,8 @@ entry_here rotated past event picture more = elim (cases_Bool (is_entry event pa
   | inl entered ↦
       let seen = picture_of rotated (event ∷ past) in
       elim (cases_Bool (repeats seen (entries White rotated past))) [
-        | inl again ↦ absurd (no_longer (pictures rotated past) picture (sym (pictures_same rotated past event entered again) ∙ more))
-        | inr new ↦ (entered, let both : picture ∷ pictures rotated past ≡ seen ∷ pictures rotated past = sym more ∙ pictures_more rotated past event entered new in cc)
+        | inl again ↦ absurd (no_longer (pictures rotated past) picture (sym (pictures_same White rotated past event entered again) ∙ more))
+        | inr new ↦ (entered, let both : picture ∷ pictures rotated past ≡ seen ∷ pictures rotated past = sym more ∙ pictures_more White rotated past event entered new in cc)
       ]
   | inr other ↦ absurd (no_longer (pictures rotated past) picture (sym (pictures_none rotated past event other) ∙ more))
 ]
@@ -87,7 +61,7 @@ another_here setting past event picture more =
     let seen = picture_of setting.rotated (event ∷ past) in
     let entered : is_entry event past ≡ true = (entry_here setting.rotated past event picture more).0 in
     elim (cases_Bool (repeats seen (entries White setting.rotated past))) [
-      | inl again ↦ absurd (no_longer (pictures setting.rotated past) picture (sym (pictures_same setting.rotated past event entered again) ∙ more))
+      | inl again ↦ absurd (no_longer (pictures setting.rotated past) picture (sym (pictures_same White setting.rotated past event entered again) ∙ more))
       | inr new ↦ (entered, repeats_alike seen setting.first setting.rotated past ∙ new)
     ]
 
@@ -168,7 +142,7 @@ pub picture_now : (setting : Setting) (past : List Event) (event : Event) (r : R
 picture_now setting past event r picture finds last =
     let seen = picture_of setting.rotated (event ∷ past) in
     let fresh : repeats seen (entries White setting.rotated past) ≡ false = sym (repeats_alike seen setting.first setting.rotated past) ∙ (finds.1).0 in
-    subst (IsLast picture) (pictures_more setting.rotated past event finds.0 fresh) last
+    subst (IsLast picture) (pictures_more White setting.rotated past event finds.0 fresh) last
 
 pub entry_now : (setting : Setting) (past : List Event) (picture : List ℕ) (reading : Option Reading) → picture ≡ picture_of setting.rotated past
     → reading ≡ reading_at setting.first past → entry_of picture reading ≡ entry_at setting.first setting.rotated past
