@@ -16,6 +16,7 @@ use Rattle.board_listing.specs.Printers.{Follows, HasBegun}
 use Rattle.watched_streams.specs.Input.{ReadsWithin}
 use Rattle.board_listing.specs.Listings.{HasLines, Leaves, ListsAll, ListsFirst, ListsFront, ListsRead, ListsRefused, WritesFront, first_line, last_line}
 use Rattle.watched_streams.specs.Output.{Gathers}
+use Rattle.watched_streams.proofs.InputLemmas.{cut_bytes}
 use Rattle.board_listing.specs.WatchLines.{position_words}
 use Rattle.board_listing.specs.WatchText.{line_with}
 use Rattle.board_listing.specs.Progress.{BreaksOff, FinishBreaksOff, Finishes, HasListed, HasTaken, ListsChunk, Stops}
@@ -67,9 +68,6 @@ front_stopped Memory extra written written' text stops = ([], (text, sym (append
 front_stopped Write extra written written' text stops = stops
 front_stopped Read extra written written' text stops = absurd stops
 front_stopped TooLong extra written written' text stops = absurd stops
-
-cut_bytes : (bytes chunk taken unread dropped : List ℕ) → chunk ≡ taken ++ unread → bytes ++ (chunk ++ dropped) ≡ (bytes ++ taken) ++ (unread ++ dropped)
-cut_bytes bytes chunk taken unread dropped is = ap (λ bs. bytes ++ (bs ++ dropped)) is ∙ ap (λ bs. bytes ++ bs) (append_assoc taken unread dropped) ∙ sym (append_assoc bytes taken (unread ++ dropped))
 
 -- A refusal came amid a chunk.
 pub front_at_chunk : (error : ListError) (old new : Decoder) (printer : Printer) (listing : Listing) (count rest room : ℕ) (buffer : List ℕ) (chunk : ReadChunk) (input now left written so_far after : Option (List ℕ))

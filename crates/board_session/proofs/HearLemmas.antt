@@ -16,11 +16,9 @@ use Rattle.board_events.specs.Commands.{asked, commands, faults_in, messages_in,
 use Rattle.board_events.specs.History.{is_fault}
 use Rattle.board_events.specs.Session.{StandsFor}
 use Rattle.watched_streams.specs.Output.{AppendsPart}
+use Rattle.watched_streams.proofs.OutputLemmas.{part_behind}
 use Rattle.board_events.proofs.CommandLemmas.{at, past_more, commands_more}
 use Rattle.board_session.specs.Recorder.{Kept, Live, Stopped, TakesEvent}
-
-part_more : (a b c : Option (List ℕ)) (xs ys : List ℕ) → Appends a b xs → AppendsPart b c ys → AppendsPart a c (xs ++ ys)
-part_more a b c xs ys h k = (xs ++ k.0, k.1, ap (λ (bytes : List ℕ). xs ++ bytes) k.2 ∙ sym (append_assoc xs k.0 k.1), Appends-trans a b c xs k.0 h k.3)
 
 -- one more event was counted
 counted_more : (p : Event → Bool) (taken : List Timed) (offset : ℕ) (event : Event)
@@ -86,7 +84,7 @@ event_heard recorder setting before sent sent' read offset taken event (Err Boar
   decoded = rw (append-nil (taken ++ at offset event ∷ [])) decoded;
   kept = takes.0;
   stops = (rw (past_more taken offset event) takes.2, refl);
-  sends = rw (commands_more taken offset event) (part_more before sent sent' (commands taken) (asked event) sends takes.1);
+  sends = rw (commands_more taken offset event) (part_behind before sent sent' (commands taken) (asked event) sends takes.1);
 }
 event_heard recorder setting before sent sent' read offset taken event (Err Read) decoded sends takes = absurd takes
 event_heard recorder setting before sent sent' read offset taken event (Err Write) decoded sends takes = absurd takes

@@ -6,6 +6,7 @@ use Rattle.dgt_frame.specs.declared.decode.Decoder.{Decoder}
 use Rattle.dgt_frame.specs.declared.events.Event.{Event}
 use Rattle.unseen_pairs.specs.declared.pair.Recovery.{Recovery}
 use Rattle.watched_streams.specs.Output.{AppendsPart}
+use Rattle.watched_streams.proofs.OutputLemmas.{part_behind}
 use Rattle.board_events.specs.Settings.{Setting}
 use Rattle.recovery.specs.declared.keeper.Keeper.{Keeper}
 use Rattle.recovery.specs.declared.refusal.RecoverError.{RecoverError}
@@ -100,11 +101,6 @@ begun_on old new keeper k start chunk waiting written written' said said' begun 
     let bytes = begun.1 in
     let before = part setting bytes begun.2 begun.3 begun.4 begun.5 in
     (setting, bytes ++ chunk, (begun.2 ++ before.0) ++ waiting, begun.3 ++ before.1, length-append bytes chunk ∙ ap (λ n. n + length chunk) begun.4, before.2)
-
--- a part of these bytes, behind those that were written
-pub part_behind : (written written' after : Option (List ℕ)) (sent more : List ℕ) → Appends written written' sent → AppendsPart written' after more → AppendsPart written after (sent ++ more)
-part_behind written written' after sent more first part =
-    (sent ++ part.0, part.1, ap (λ bs. sent ++ bs) part.2 ∙ sym (append_assoc sent part.0 part.1), Appends-trans written written' after sent part.0 first part.3)
 
 -- A part of these bytes is one of more.
 pub part_longer : (written after : Option (List ℕ)) (bytes more : List ℕ) → AppendsPart written after bytes → AppendsPart written after (bytes ++ more)

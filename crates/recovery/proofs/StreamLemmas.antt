@@ -9,6 +9,8 @@ use Rattle.watched_streams.specs.Input.{GivesChunk}
 use Rattle.board_events.specs.Limits.{limit}
 use Rattle.board_events.specs.Settings.{Setting}
 use Rattle.watched_streams.specs.Input.{ReadsWithin}
+use Rattle.watched_streams.proofs.OutputLemmas.{part_behind}
+use Rattle.watched_streams.proofs.InputLemmas.{cut_bytes}
 use Rattle.recovery.specs.declared.keeper.Keeper.{Keeper}
 use Rattle.recovery.specs.declared.refusal.RecoverError.{RecoverError}
 use Rattle.recovery.specs.declared.refusal.RecoverError.TheVariants.{Read, Write, Lines, TooLong, Memory}
@@ -16,7 +18,6 @@ use Rattle.recovery.specs.Passing.{Stands}
 use Rattle.recovery.specs.Progress.{BreaksOff, Concludes, PassesOn, HasBegun, HasGiven, Stops}
 use Rattle.recovery.specs.Streams.{RecoversAll, RecoversFirst, RecoversFront, RecoversRead, RecoversSome, RefusesNext}
 use Rattle.recovery.specs.Weaving.{Recovers}
-use Rattle.recovery.proofs.GiveLemmas.{part_behind}
 
 -- Nothing was read.
 pub given_none : (decoder : Decoder) (keeper : Keeper) (setting : Setting) (input written said : Option (List ℕ)) → Stands decoder keeper setting [] [] []
@@ -152,9 +153,6 @@ front_past old new keeper k setting count room buffer chunk input now left writt
     let consumed : Consumes input left (done.0 ++ (heard ++ gives.beyond)) = Consumes-trans input now left done.0 (heard ++ gives.beyond) done.4 gives.consumes in
     front_of setting (done.0 ++ heard) gives.beyond g.woven g.text input left written after said told' lines_failed (subst (Consumes input left) (sym (append_assoc done.0 heard gives.beyond)) consumed)
     (concludes setting (done.0 ++ heard) g.woven g.text g.stands) g.writes g.says
-
-cut_bytes : (bytes chunk taken unread dropped : List ℕ) → chunk ≡ taken ++ unread → bytes ++ (chunk ++ dropped) ≡ (bytes ++ taken) ++ (unread ++ dropped)
-cut_bytes bytes chunk taken unread dropped is = ap (λ bs. bytes ++ (bs ++ dropped)) is ∙ ap (λ bs. bytes ++ bs) (append_assoc taken unread dropped) ∙ sym (append_assoc bytes taken (unread ++ dropped))
 
 refuses_within : (setting : Setting) (bytes unread dropped : List ℕ) → RefusesNext setting bytes unread → RefusesNext setting bytes (unread ++ dropped)
 refuses_within setting bytes unread dropped r = record {

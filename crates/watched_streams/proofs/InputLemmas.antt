@@ -1,5 +1,5 @@
 -- A read that may pass a limit.
-use Rattle.std.proofs.Common.{◌≡◌, ℕ, ◌+◌, ◌-◌, ◌<◌, ◌≤◌, List, ◌++◌, length, take, drop, Option, nat_lt, sym, subst, ◌∙◌, ap, arith, take-add, length-drop, length-append}
+use Rattle.std.proofs.Common.{◌≡◌, ℕ, ◌+◌, ◌-◌, ◌<◌, ◌≤◌, List, ◌++◌, length, take, drop, Option, nat_lt, sym, subst, ◌∙◌, ap, append_assoc, arith, take-add, length-drop, length-append}
 use Rattle.std.proofs.lemmas.Bool.{ltb-false, ltb-true}
 use Rattle.std.proofs.lemmas.List.{length-take-le, take-append-le}
 use Rattle.std.specs.Io.KnownBytes.{Consumes}
@@ -32,3 +32,7 @@ gives_chunk left within n buffer rest input input' inside few reached some most 
           let past : within < n = ltb-true within n is in
           (reached past, omega (arith, long, reached past));
     }
+
+-- bytes and a chunk behind them, of which a part was taken
+pub cut_bytes : (bytes chunk taken unread dropped : List ℕ) → chunk ≡ taken ++ unread → bytes ++ (chunk ++ dropped) ≡ (bytes ++ taken) ++ (unread ++ dropped)
+cut_bytes bytes chunk taken unread dropped is = ap (λ bs. bytes ++ (bs ++ dropped)) is ∙ ap (λ bs. bytes ++ bs) (append_assoc taken unread dropped) ∙ sym (append_assoc bytes taken (unread ++ dropped))

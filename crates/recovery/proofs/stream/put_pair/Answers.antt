@@ -1,8 +1,8 @@
 use Rattle.std.proofs.Common.{sym, ◌∙◌}
 use Rattle.std.proofs.KnownBytes.{Appends-trans, Keeps-refl}
 use Rattle.watched_streams.proofs.ResultLemmas.{at_ok}
-use Rattle.watched_streams.proofs.OutputLemmas.{part_put}
-use Rattle.recovery.proofs.GiveLemmas.{part_behind, part_longer}
+use Rattle.watched_streams.proofs.OutputLemmas.{part_behind, part_put}
+use Rattle.recovery.proofs.GiveLemmas.{part_longer}
 use Rattle.recovery.proofs.stream.put_pair.Goals as goal
 
 pub returns-then-not-put_and_flush-clause-part : goal.returns-then-not-put_and_flush-clause-part
