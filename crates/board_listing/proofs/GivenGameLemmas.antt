@@ -1,5 +1,5 @@
 -- The game that lines give.
-use Rattle.std.proofs.Common.{◌≡◌, ◌<◌, ◌∙◌, ℕ, List, [], ◌∷◌, ◌++◌, drop, Bool, true, false, inl, inr, codes, map, reverse, Option, None, ap, refl, sym, subst, append_assoc, append-nil}
+use Rattle.std.proofs.Common.{◌≡◌, ◌<◌, ◌∙◌, ℕ, List, [], ◌∷◌, ◌++◌, drop, Bool, true, false, inl, inr, codes, reverse, Option, None, ap, refl, sym, subst, append_assoc, append-nil}
 use Rattle.std.specs.List.{AllByRecursion}
 use Rattle.std.specs.Prelude.{if◌then◌else◌}
 use Rattle.std.proofs.lemmas.List.{reverse-reverse}
@@ -34,6 +34,7 @@ use Rattle.watched_streams.specs.Lines.{line}
 use Rattle.board_listing.specs.GameLines.{move_words, result_words, squares_text, waiting_words}
 use Rattle.board_listing.specs.EventLines.{kind_text, line_of}
 use Rattle.board_listing.proofs.FollowLemmas.{clash, entries_new, entries_same, fault_gives_none}
+use Rattle.board_listing.proofs.WatchLawLemmas.{events_of}
 
 -- Lines of an event with this offset that are behind those before it, and give these plies and this result.
 record More (offset : ℕ) (start : Parts) (lines : List GameLine) (text : List ℕ) (plies : List Ply) (result : Option Outcome) : Type 0 where
@@ -118,9 +119,6 @@ behind : (start : Parts) (events : List Timed) (x : Timed) (before more text : L
     → More x.offset start t.lines more plies' new → Told start (x ∷ events) text plies' new
 behind start events x before more text plies plies' old new t is m =
     record { lines = m.all; text_is = is ∙ ap (λ b. b ++ more) t.text_is ∙ m.text_is; gives = m.gives; inside = λ short. m.inside short.0 (t.inside short.1) }
-
-abbrev events_of : List Timed → List Event
-events_of events = map (λ t. t.event) events
 
 -- What was told of these events gives the plies of the score to which their entries fold.
 record Given (setting : Setting) (events : List Timed) (text : List ℕ) : Type 0 where

@@ -4,7 +4,6 @@ use Rattle.std.specs.List.{AllByRecursion}
 use Rattle.std.specs.Prelude.{⊤}
 use Rattle.std.proofs.lemmas.List.{append_cancel_left}
 use Rattle.std.proofs.lemmas.List.Elements.{recursion_from_All}
-use Rattle.chess_rules.specs.declared.chess_move.Move.{Move}
 use Rattle.chess_rules.specs.declared.parts.Parts.{Parts}
 use Rattle.chess_rules.specs.Picture.{picture}
 use Rattle.chess_rules.specs.Valid.{Valid}
@@ -18,6 +17,7 @@ use Rattle.settle_core.specs.Folding.{moves_of}
 use Rattle.settle_core.specs.Settling.{Played, reached}
 use Rattle.settle_core.proofs.Stages.{valid_reached}
 use Rattle.pgn_book.specs.Movetext.{number_token}
+use Rattle.pgn_book.proofs.OneText.{same_ply}
 use Rattle.board_events.proofs.GameLemmas.{one_result}
 use Rattle.board_listing.specs.GameLines.{clock_words, move_words, result_words, squares_text, waiting_words}
 use Rattle.board_listing.specs.GivenGame.{AddsPly, ChangesGame, CorrectsPly, GameLine, Gives, IsOther, LinesGiveOneGame, TellsLegal}
@@ -90,9 +90,6 @@ result_once (Some Drawn) (Some Drawn) e = refl
 
 -- ---- plies
 
-abbrev make_ply : Move → Option Hms → Ply
-make_ply m clock = record { mv = m; clock = clock }
-
 -- A ply is known by its words.
 ply_once : TextsArePlain → TextsTellMoves → (start : Parts) (before : List Ply) (word words : List ℕ) (a b : Ply) → Valid (reached start (moves_of before))
     → TellsLegal start before word a words → TellsLegal start before word b words → a ≡ b
@@ -108,7 +105,7 @@ ply_once plain tell start before word words a b valid x y =
     let S : List ℕ → Type 0 = λ t. San p a.mv t in
     let mv : a.mv ≡ b.mv = tell p a.mv b.mv y.san valid x.legal y.legal (subst S parts.0 x.san_is) y.san_is in
     let clock : a.clock ≡ b.clock = clock_once a.clock b.clock parts.1 in
-    ap (λ m. make_ply m a.clock) mv ∙ ap (λ c. make_ply b.mv c) clock
+    same_ply a b mv clock
 
 -- ---- the kinds of lines
 

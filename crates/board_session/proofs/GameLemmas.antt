@@ -15,23 +15,13 @@ use Rattle.settle_core.proofs.Lines.{honest_clocks, honest_play}
 use Rattle.settle_core.proofs.Waiting.{kings_end}
 use Rattle.settle_core.specs.HonestPlay.{HasWhole, shown_plies}
 use Rattle.settle_core.proofs.Once.{folds_once, no_entry_gives_two}
-use Rattle.chess_game.specs.Games.{Content, Result}
-use Rattle.chess_game.specs.Values.{TagValues}
+use Rattle.chess_game.specs.Games.{Result}
 use Rattle.board_events.specs.Entries.{entry_at, is_entry}
 use Rattle.board_session.specs.Laws.{EventsTellTheGame, HonestClocksAreRecorded, HonestPlayIsRecorded, HonestStopIsRecorded, KingsEndIsRecorded, NoEventGivesTwo}
 use Rattle.board_events.specs.Settings.{Setting}
 use Rattle.board_events.proofs.GameLemmas.{one_result}
 use Rattle.board_events.specs.Session.{entries_in}
-
-abbrev content : TagValues → Parts → List Ply → Option Outcome → Content
-content tags start plies result = record { tags = tags; start = start; plies = plies; result = result }
-
--- Games of the same parts are the same.
-one_content : (one other : Content) → one.tags ≡ other.tags → one.start ≡ other.start → one.plies ≡ other.plies → one.result ≡ other.result → one ≡ other
-one_content one other tags start plies result = ap (λ (t : TagValues). content t one.start one.plies one.result) tags
-    ∙ ap (λ (p : Parts). content other.tags p one.plies one.result) start
-    ∙ ap (λ (ps : List Ply). content other.tags other.start ps one.result) plies
-    ∙ ap (λ (o : Option Outcome). content other.tags other.start other.plies o) result
+use Rattle.pgn_book.proofs.OneText.{same_game}
 
 pub events_tell_the_game : EventsTellTheGame
 events_tell_the_game setting tags past one other valid h k =
@@ -39,7 +29,7 @@ events_tell_the_game setting tags past one other valid h k =
     let plies : one.plies ≡ other.plies = sym (reverse-reverse one.plies) ∙ ap (λ (s : Score). reverse s.plies) score ∙ reverse-reverse other.plies in
     let sign : h.sign ≡ k.sign = ap (λ (s : Score). s.sign) score in
     let result : Result setting.start one.plies k.sign other.result = rw plies k.result_is in
-    one_content one other (h.tags_are ∙ sym k.tags_are) (h.start_is ∙ sym k.start_is) plies
+    same_game one other (h.tags_are ∙ sym k.tags_are) (h.start_is ∙ sym k.start_is) plies
     (one_result (position_after setting.start (moves_of one.plies)) k.sign one.result other.result (rw (← sign) h.result_is) result)
 
 length-score_of : (plies : List Ply) (sign : Option Outcome) → length (score_of plies sign).plies ≡ length plies

@@ -59,7 +59,7 @@ one_text plain tell game a b h k =
 abbrev make_ply : Move → Option Hms → Ply
 make_ply mv clock = record { mv = mv; clock = clock }
 
-same_ply : (a b : Ply) → a.mv ≡ b.mv → a.clock ≡ b.clock → a ≡ b
+pub same_ply : (a b : Ply) → a.mv ≡ b.mv → a.clock ≡ b.clock → a ≡ b
 same_ply a b m c = ap (λ x. make_ply x a.clock) m ∙ ap (λ x. make_ply b.mv x) c
 
 pub one_turn : TextsTellMoves → (p : Parts) (a b : Ply) (turn : Turn) → Valid p → IsTurn p a turn → IsTurn p b turn → a ≡ b
