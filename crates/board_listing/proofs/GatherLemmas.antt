@@ -15,10 +15,6 @@ use Rattle.board_listing.specs.Listings.{LacksMemory, WritesFront}
 use Rattle.watched_streams.specs.Output.{Gathers}
 use Rattle.watched_streams.proofs.OutputLemmas.{gathers_sent}
 
-pub on_err : {T E : Type 0} (P : Type 0) (r : Result T E) → P → OnErr r P
-on_err P (Ok v) p = tt
-on_err P (Err e) p = p
-
 -- What follows from the bytes that a write took before it failed.
 pub on_fault : {T : Type 0} (P : Type 0) (whole : ℕ) (Q : ℕ → Type 0) (r : Result T WriteFault) → IfErr r (λ fault. (fault.written < whole) × Q fault.written)
     → ((n : ℕ) → Q n → P) → OnErr r P

@@ -20,7 +20,7 @@ use Rattle.settle_core.proofs.Replying.{owned}
 use Rattle.settle_core.proofs.Tracing.{eqb_true, number_of, own_code}
 use Rattle.settle_core.proofs.Visiting.{both_first, both_one, both_second, unset_same}
 
-number_owned : (side : Side) (c : ℕ) → is_owned_code side c ≡ true → side_number c ≡ number_of side
+pub number_owned : (side : Side) (c : ℕ) → is_owned_code side c ≡ true → side_number c ≡ number_of side
 number_owned White c e = eqb_true _ _ e
 number_owned Black c e = eqb_true _ _ e
 
@@ -88,7 +88,7 @@ loses_found p before seen side mask owns v b diff owned_is =
           (h.0, (h.1).low, dd.1 (λ e. (h.1).gone (sym e ∙ at)), oo.1 (ap (is_owned_code side) at ∙ owned side (h.1).kind)),
     )
 
-not_one : (b : ℕ) → b < 2 → b ≢ 1 → b ≡ 0
+pub not_one : (b : ℕ) → b < 2 → b ≢ 1 → b ≡ 0
 not_one b low ne = omega arith
 
 -- where no piece is shown

@@ -18,6 +18,7 @@ use Rattle.settle_core.specs.Masks.{IsDiff}
 use Rattle.settle_core.proofs.Counting.{cleared, cleared_at, mask_is, ones_trues, trues, trues_clear_le, trues_none}
 use Rattle.settle_core.proofs.Masking.{at_diffs, diffs, length-diffs, zero_one}
 use Rattle.settle_core.proofs.Pieces.{at_picture}
+use Rattle.settle_core.proofs.Gone.{not_one}
 use Rattle.unseen_pairs.specs.Pairs.{IsAfterTwo}
 
 -- the square is none of these
@@ -125,9 +126,6 @@ none_differ mask before seen a b diff none =
     let d = diff i (rw (← b) low) in
     zero_one (ap (λ k. bit_at k i) none ∙ bit_at-zero i) (d.1 (λ e. ne (sym e)))))
 
-no_bit : (b : ℕ) → b < 2 → b ≢ 1 → b ≡ 0
-no_bit b low ne = omega arith
-
 some_power : 0 < 2 ^ 64
 some_power = omega arith
 
@@ -136,4 +134,4 @@ one_picture mask before seen low diff same =
     same_from_bits_below 64 mask 0 low some_power
     (λ i small.
     let d = diff i small in
-    no_bit (bit_at mask i) (bit_at-lt mask i) (λ e. d.0 e (ap (λ xs. get_or xs i 0) (sym same))) ∙ sym (bit_at-zero i))
+    not_one (bit_at mask i) (bit_at-lt mask i) (λ e. d.0 e (ap (λ xs. get_or xs i 0) (sym same))) ∙ sym (bit_at-zero i))

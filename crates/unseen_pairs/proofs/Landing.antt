@@ -20,18 +20,15 @@ use Rattle.chess_rules.proofs.Staying.{passed, ways_after}
 use Rattle.chess_rules.proofs.Shifts.{kind_of, on_board, side_of}
 use Rattle.chess_rules.proofs.Replacing.{king_no_pawn, none_piece, other-other, sides_differ}
 use Rattle.chess_rules.proofs.Moving.{double_row}
-use Rattle.settle_core.specs.Candidate.{is_owned_code, side_number}
+use Rattle.settle_core.specs.Candidate.{is_owned_code}
 use Rattle.settle_core.specs.Lost.{LosesAt}
 use Rattle.unseen_pairs.specs.Beginning.{AddsMoves, BeginsPlainly, IsPlainPawn, LandsAt, ListsFirst, TheirsLand}
 use Rattle.settle_core.proofs.Pawns.{NextRow, pawn_attack_row, pawn_stood}
 use Rattle.settle_core.proofs.Pieces.{at_picture, code_no_zero, same_code, theirs_stood}
-use Rattle.settle_core.proofs.Tracing.{eqb_true, number_of, own_code}
+use Rattle.settle_core.proofs.Tracing.{own_code}
+use Rattle.settle_core.proofs.Gone.{number_owned}
 use Rattle.unseen_pairs.specs.Pairs.{IsAfterTwo}
 use Rattle.unseen_pairs.proofs.Losing.{mover_loses_at}
-
-number_owned : (side : Side) (c : ℕ) → is_owned_code side c ≡ true → side_number c ≡ number_of side
-number_owned White c e = eqb_true _ _ e
-number_owned Black c e = eqb_true _ _ e
 
 -- A piece of the first mover that went to a square.
 record Goes (p : Parts) (m : Move) : Type 0 where
