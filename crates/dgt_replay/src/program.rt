@@ -1,5 +1,5 @@
 //! The program over any streams.
-ghost use Rattle.std.specs.Prelude.{◌≡◌, ◌≢◌, ◌≤◌, Bool, List, ℕ, Option, codes, map, string_bytes, false, true};
+ghost use Rattle.std.specs.Prelude.{◌≡◌, ◌≢◌, ◌≤◌, Bool, List, [], ℕ, Option, codes, map, string_bytes, false, true};
 ghost use Rattle.std.specs.Borrow.{Bor};
 ghost use Rattle.std.specs.Io.KnownBytes.{Keeps};
 ghost use Rattle.board_events.specs.declared.setup.Setup.{Setup};
@@ -41,6 +41,14 @@ use std::io::{Read, Write};
 use text_subcommands::{check, moves, positions, put_answer, refused, refused_fen};
 use watched_streams::{Watch, flush_unless_failed};
 
+/// The text, or where help is if it is empty: `clap` promises nothing of its texts.
+fn or_where_help_is(text: &[u8]) -> &[u8]
+    ensures kept { text.now ≢ [] → result.now ≡ text.now }
+    ensures not_empty { result.now ≢ [] }
+{
+    if text.is_empty() { b"dgt_replay: help is in README.md\n" } else { text }
+}
+
 /// Writes the text of `clap`, and returns its status.
 fn refused_arguments<O: Write, E: Write>(
     alloc: Global,
@@ -70,10 +78,11 @@ fn refused_arguments<O: Write, E: Write>(
     let Ok(text) = format!(in alloc; "{error}") else {
         return refused(err, b"memory\n", 4);
     };
+    let text = or_where_help_is(text.as_str().as_bytes());
     if error.use_stderr() {
-        return refused(err, text.as_str().as_bytes(), 2);
+        return refused(err, text, 2);
     }
-    put_answer(out, err, text.as_str().as_bytes())
+    put_answer(out, err, text)
 }
 
 fn list<R: Read, O: Write, E: Write>(
