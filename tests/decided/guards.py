@@ -168,15 +168,15 @@ def forgotten_all_the_same() -> None:
                 guard.call(functools.partial(guard.forget, read))
             os.close(read)
             os.close(write)
-            again, write = os.pipe()
-            same("the same number", again, read)
+            another, write = os.pipe()
+            again = os.dup2(another, read)  # the same number
             other.watch(again, functools.partial(hears, other, again, heard))
             os.write(write, b"x")
             run_until(loop, lambda: heard)
             wanted = ([], [error]) if ends else ([error], [])
             same(f"{error!r} is told", (told, noted, heard), (*wanted, ["by the second"]))
-            os.close(again)
-            os.close(write)
+            for number in {another, again, write}:
+                os.close(number)
 
 
 TABLES = [one_part, jobs, closed_once, job_after_the_end, forgotten_all_the_same]
