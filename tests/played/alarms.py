@@ -18,6 +18,7 @@ from played.stage import (
     same,
     stop,
     until,
+    until_dumped,
     until_game,
     until_line,
 )
@@ -239,6 +240,7 @@ def clock_stands(folder: pathlib.Path) -> None:
         board.play(move)
         until_game(live.name, text)
     board.clock(600, 590, runs=False)
+    until_dumped(board, live.name)  # the time from which it has stood is known
     rest(3.5)
     assert "LOOK" not in live.lines(), live.lines()
     board.play("g1f3")

@@ -14,6 +14,7 @@ from live.game.adding import add_by_name
 from live.game.files import Paths
 from live.game.program import Program
 from live.refused import DONE
+from play_board import field
 from played import recovered, words
 from played.boards import Board
 from played.recorder import LIVE, Live
@@ -34,7 +35,9 @@ from played.stage import (
     same,
     stop,
     until,
+    until_dumped,
     until_game,
+    until_kept,
     until_line,
 )
 
@@ -88,7 +91,7 @@ def taken_back(folder: pathlib.Path) -> None:
         board.play("b5f1")
         board.play("c6b8")
         board.play("f3g1")
-        rest(1.5)
+        until_dumped(board, live.name)
         answered(live, "back 1... e5", "takes off 3 plies, from 2. Nf3: type it again")
         answered(live, "back 1... e5", "back to 1... e5; taken off: 2. Nf3 Nc6 3. Bb5. What the board had sent is kept in")
         front = before.split(" 2. Nf3")[0]
@@ -118,7 +121,7 @@ def typed_for_another(folder: pathlib.Path) -> None:
     until_line(live, words.IN_HAND)
     answered(live, "d4 d5", "added by hand: d4 d5")
     until_game(live.name, "1. e4 e5 2. d4 d5 *")
-    rest(1.5)
+    until_dumped(board, live.name)
     answer = call("--back", "1... e5", live.name)
     same((answer.returncode, answer.stderr), (0, ""))
     assert "back to 1... e5; taken off: 2. d4 d5" in answer.stdout, answer
@@ -138,8 +141,9 @@ def all_taken_off(folder: pathlib.Path) -> None:
     answered(live, "back 0", "takes off 5 plies, from 1. e4: type it again")
     answered(live, "back 0", "back to the start; taken off: 1. e4 e5 2. Nf3 Nc6 3. Bb5")
     until_game(live.name, "*")
+    said = len(live.lines())
     board.set_up([])
-    until_line(live, words.AGREES, 7)
+    until(lambda: words.AGREES in live.lines()[said:], "that it agrees")
     board.play("d2d4")
     until(lambda: sans(live) == ["d4"], "1. d4")
     same(stop(live), 0)
@@ -159,7 +163,7 @@ def result_taken_off(folder: pathlib.Path) -> None:
     result = movetext(live.name).split()[-1]
     answered(live, "*", f"the result stays {result} with the board as it stands")
     board.lift("d4")
-    rest(1.5)
+    until_dumped(board, live.name)
     answered(live, "*", f"back to 1... e5; no ply is taken off; the result {result} is gone")
     until_game(live.name, "1. e4 e5 *")
     board.lift("d5")
@@ -210,12 +214,12 @@ def taken_off_behind_hidden_plies(folder: pathlib.Path) -> None:
     until(lambda: sans(live) == ["Rf8", "Ra2"], "the reply")
     board.lift("e8")
     board.put("g8", 11)
-    rest(1.5)
+    until_dumped(board, live.name)
     answered(live, "back 10... Rf8", "taken off: 11. Ra2")
     answered(live, "back 0", "back to the start; taken off: 10... Rf8")
     answered(live, "O-O Ra2", "added by hand: O-O Ra2")
     until(lambda: sans(live) == ["O-O", "Ra2"], "what was typed")
-    rest(1.5)
+    until_dumped(board, live.name)
     board.pull()
     until_line(live, words.UNPLUGGED)
     for move in ("g8h8", "g1f3", "h8g8", "f3g1", "g8h8"):
@@ -224,7 +228,7 @@ def taken_off_behind_hidden_plies(folder: pathlib.Path) -> None:
     until(lambda: sans(live) == ["O-O", "Ra2", "Kh8"], "one move for five")
     answered(live, "back", "If other moves were played, lift a king, type it again, then these moves, and hold the king until all is typed")
     board.lift("h8")
-    rest(1.5)
+    until_dumped(board, live.name)
     answered(live, "back", "back to 11. Ra2; taken off: 11... Kh8")
     answered(live, "Kh8 Nf3 Kg8 Ng1 Kh8", "added by hand: Kh8 Nf3 Kg8 Ng1 Kh8")
     board.put("h8", 11)
@@ -254,6 +258,7 @@ def disk_is_full(folder: pathlib.Path) -> None:
     same((movetext(live.name), list(folder.glob("*.before-*"))), (game, []))
     live.make_room()
     until_line(live, "is written")
+    until_kept(live.name, board.update(field("e1")))
     answered(live, "back", "back to 2... Nc6; taken off: 3. Bb5")
     until_game(live.name, "1. e4 e5 2. Nf3 Nc6 *")
     same(stop(live), 0)
@@ -296,7 +301,7 @@ def recovered_stays(folder: pathlib.Path) -> None:
     board.play("a7a6")
     until_game(live.name, RUY_TEXT.replace("*", "a6 *"))
     board.play("a6a7")
-    rest(1.5)
+    until_dumped(board, live.name)
     answered(live, "back", "back to 3. Bb5; taken off: 3... a6")
     until_game(live.name, RUY_TEXT)
     board.play("g8f6")
@@ -369,12 +374,13 @@ def analysis_taken_off(folder: pathlib.Path) -> None:
         until(lambda: len(sans(live)) == number + 1, move)
     front = movetext(live.name)[:-1]
     board.clock(5300, 5200, runs=False)
+    until_dumped(board, live.name)  # the time from which it has stood is known
     rest(3.5)
     for number, move in enumerate("a7a6 b5c6 d7c6 e1g1 c8g4 h2h3 g4f3 d1f3 d8f6 f3f6".split()):
         board.play(move)
         until(lambda: len(sans(live)) == 6 + number, move)
     until_line(live, "LOOK since 3. Bb5: 10 moves were made while the clock stood")
-    rest(1.5)
+    until_dumped(board, live.name)
     answered(live, "back 3. Bb5", "takes off 10 plies, from 3... a6: type it again")
     gone = "3... a6 4. Bxc6 dxc6 5. O-O Bg4 6. h3 Bxf3 7. Qxf3 Qf6 8. Qxf6"
     answered(live, "back 3. Bb5", f"back to 3. Bb5; taken off: {gone}. Settled: LOOK since 3. Bb5. What the board had sent is kept in")
@@ -398,7 +404,7 @@ def found_late(folder: pathlib.Path) -> None:
         board.clock(600 - number, 700 - number)  # Black's, and White's
         board.play(move)
         until(lambda: len(sans(live)) == number + 1, move)
-    rest(1.5)
+    until_dumped(board, live.name)
     answered(live, "back 10... Rh7", "takes off 11 plies, from 11. Ra2: type it again")
     answered(live, "back 10... Rh7", "back to 10... Rh7; taken off: 11. Ra2 Rh6 12. Ra3 Rh5 13. Ra4 Rh4 14. Ra5 Rh3 15. Ra6 Rh7")
     until_game(live.name, "10... Rh7 {[%clk 0:10:00]} *")
@@ -427,9 +433,9 @@ def four_hidden_plies(folder: pathlib.Path) -> None:
         board.play(move)
     board.plug()
     until(lambda: sans(live)[4:] == ["Bb5"], "one move for four")
-    rest(1.5)
+    until_dumped(board, live.name)
     board.play("e1g1")
-    rest(1.5)
+    until_dumped(board, live.name)
     answered(live, "back 2... Nc6", "back to 2... Nc6; taken off: 3. Bb5. ")
     answered(live, "Be2 Nb8 Bb5 Nc6 O-O", "added by hand: Be2 Nb8 Bb5 Nc6 O-O")
     until_game(live.name, front + "3. Be2 Nb8 4. Bb5 Nc6 5. O-O *")

@@ -6,7 +6,7 @@ import subprocess
 from typing import List, Sequence, Tuple
 
 from played.recorder import LIVE
-from played.stage import begin_game, bytes_of, movetext, recorded, rest, same, stop, until
+from played.stage import begin_game, bytes_of, movetext, recorded, rest, same, stop, until, until_dumped
 
 # As often as a ply is taken off in between, White's moves are Black's turn: then they are refused.
 CALLS = [("--add", "a3 a6"), ("--back", ""), ("--add", "b3 b6"), ("--back", ""), ("--add", "g3 g6"), ("--add", "h3 h6")]
@@ -57,7 +57,7 @@ def back_beside_recorder(folder: pathlib.Path) -> None:
     """While it is recorded, and somebody types the same in its terminal."""
     board, live = begin_game(folder, typed=True)
     board.lift("e1")  # with a king in a hand the board shows no ply that could come back
-    rest(1.5)
+    until_dumped(board, live.name)
     calls = begin(live.name)
     for line in ("c3 c6", "back", "back", "d3 d6"):
         live.type(line)

@@ -11,7 +11,7 @@ from typing import Callable, List, Sequence
 from played import TOP
 from played.back import ruy
 from played.recorder import Live
-from played.stage import movetext, recorded, rest, same, stop, until, until_line
+from played.stage import movetext, recorded, same, stop, until, until_dumped, until_line
 
 KILLING = TOP / "tests" / "guarded" / "killing.py"
 CALLS = os.environ.get("CALLS", "changes")  # before which it is killed: those that change a file, or `all`
@@ -88,7 +88,7 @@ def killed(folder: pathlib.Path, part: int) -> None:
     board, live = ruy(folder / "games")
     board.play("b5f1")
     until_line(live, "in hand b5")
-    rest(1.5)  # until the next dump
+    until_dumped(board, live.name)
     same(stop(live), 0)
     device = folder / "board"  # beside the folder of the game, which is copied
     pathlib.Path(board.device).rename(device)

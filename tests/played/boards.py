@@ -115,8 +115,7 @@ class Board(play_board.Board):
         self.answer(asked)
         while self.answers and self.answers[0] <= now:
             self.answers.pop(0)
-            codes = self.codes[::-1] if self.rotated else self.codes
-            self.outgoing += frame(DUMP, codes)
+            self.outgoing += self.dump()
         if now < self.noise_ends:
             self.outgoing += self.random.randbytes(round((now - self.turned_at) * RATE))
         self.room = min(self.room + (now - self.turned_at) * (self.rate or 0), 64)
@@ -169,6 +168,10 @@ class Board(play_board.Board):
             self.turn()
 
     # ---- The pieces ----
+
+    def dump(self) -> bytes:
+        """The whole frame that says how it stands."""
+        return frame(DUMP, self.codes[::-1] if self.rotated else self.codes)
 
     def update(self, number: int) -> bytes:
         """The whole frame of the update of a square."""

@@ -94,7 +94,7 @@ def result_withdrawn(folder: pathlib.Path) -> None:
         begun(live)
         for move in ["f2f3", "e7e5", "g2g4", "d8h4", "h4f6"]:
             board.play(move)
-        until_game(live.name, "1. f3 e5 2. g4 Qf6 *")
+        until(lambda: movetext(live.name) == "1. f3 e5 2. g4 Qf6 *" or not live.runs, "the correction")
         over = time.monotonic() + linger + 1
         until(lambda: time.monotonic() > over or not live.runs, "the end of the wait")
         if live.runs:

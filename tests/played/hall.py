@@ -24,7 +24,6 @@ from played.stage import (
     check,
     ended,
     go_on,
-    holds_within,
     kill,
     movetext,
     rest,
@@ -104,11 +103,10 @@ def switched_off(folder: pathlib.Path) -> None:
     asked = board.asked.count(b"K")
     board.switch_off()
     board.play("g1f3")
-    rest(6)
+    until_line(live, words.SILENT)
     board.switch_on()
     until(lambda: board.asked.count(b"K") > asked, "a request for updates")
     until_game(live.name, "1. e4 e5 2. Nf3 *")
-    until_line(live, words.SILENT)
     board.play("b8c6")
     until_game(live.name, "1. e4 e5 2. Nf3 Nc6 *")
     # Nothing is played meanwhile: it says that it agrees again.
@@ -190,7 +188,7 @@ def part_killed(folder: pathlib.Path) -> None:
         board.play("f1b5")
         until(lambda: check(bytes_of(live.name + ".pgn")) == "moves 5, result *", f"3. Bb5 where {killed} is killed")
         live.send(signal.SIGINT)
-        assert holds_within(lambda: not live.runs, 30), f"INT doesn't end it where {killed} is killed"
+        until(lambda: not live.runs, f"the end at INT where {killed} is killed")
         ended(live)
         number += 1
 
@@ -201,7 +199,8 @@ def kill_part(folder: pathlib.Path, number: int) -> int:
     board, live = begin_game(folder)
     parts = [live.process.pid, *live.children()]
     live.was_killed = True
-    signal_to(parts[number])
+    for part in parts[number : number + 1]:  # one that there was in the call before may have no like in this one
+        signal_to(part)
     live.send(signal.SIGINT)
     assert ended(live) in (-signal.SIGKILL, 0, 3), live.complaint()
     same(movetext(live.name), "1. e4 e5 *")
@@ -339,10 +338,17 @@ def devices(folder: pathlib.Path) -> None:
     """--devices lists the cables by their own names, with the serial numbers of boards that give one."""
     cables = Cables(folder)
     Stage.boards += [cables.board(f"DGT_{letter}", at) for at, letter in enumerate("AB")]
-    live = Live("", "", "--devices", environment=cables.environment())
-    same(ended(live), 0)
-    for part in ("usb-DGT_A", "usb-DGT_B"):
-        assert part in live.lines(), live.lines()
+
+    def listed(*parts: str) -> None:
+        """A list has all of these. Where this process was held up its boards have answered too late, and it is made again."""
+        lines = ""
+        while not all(part in lines for part in parts):
+            assert time.monotonic() < Stage.ends, lines
+            live = Live("", "", "--devices", environment=cables.environment())
+            same(ended(live), 0)
+            lines = live.lines()
+
+    listed("usb-DGT_A", "usb-DGT_B")
     now = stopwatch()
     for letter, manner in (("C", Manner()), ("D", Manner(late=(0.4, 0.8)))):
         device = cables.folder / f"ttyUSB{letter}"
@@ -350,13 +356,9 @@ def devices(folder: pathlib.Path) -> None:
         (cables.serial / "by-id" / f"usb-DGT_{letter}").symlink_to(device)
     recording = Live(Stage.boards[-1].device, folder / "game")
     begun(recording)
-    again = Live("", "", "--devices", environment=cables.environment())
-    same(ended(again), 0)
-    assert "usb-DGT_C  0000C" in again.lines() and "usb-DGT_D  in use" in again.lines(), again.lines()
+    listed("usb-DGT_C  0000C", "usb-DGT_D  in use")
     same(stop(recording), 0)
-    last = Live("", "", "--devices", environment=cables.environment())
-    same(ended(last), 0)
-    assert "usb-DGT_D  0000D" in last.lines(), last.lines()
+    listed("usb-DGT_D  0000D")
 
 
 def killed_at_once(folder: pathlib.Path) -> None:

@@ -9,7 +9,7 @@ import sys
 
 from played import TOP, words
 from played.added import add
-from played.recorder import LIVE, Live
+from played.recorder import LIVE, Live, has_open
 from played.stage import (
     RUY,
     RUY_TEXT,
@@ -23,7 +23,6 @@ from played.stage import (
     movetext,
     recorded,
     refuses,
-    rest,
     same,
     stop,
     until,
@@ -83,7 +82,7 @@ def replaced_while_locked(folder: pathlib.Path) -> None:
         for move in RUY[:2]:
             board.play(move)
         live = Live(board.device, name)
-        rest(1)
+        until(lambda: has_open(live.process.pid, capture), "that it waits for the lock")
         (folder / "new").write_bytes(before + bytes([0x93, 0, 3]))
         (folder / "new").replace(capture)
     until(lambda: board.asked_for_updates, "a request for updates")
@@ -103,7 +102,7 @@ def removed_while_locked(folder: pathlib.Path) -> None:
         fcntl.flock(old, fcntl.LOCK_EX)
         board = a_board(folder, device=folder / "another")
         live = Live(board.device, name)
-        rest(1)
+        until(lambda: has_open(live.process.pid, capture), "that it waits for the lock")
         for ending in ("dgt", "pgn", "log", "options"):
             os.rename(f"{name}.{ending}", folder / f"away.{ending}")
     begun(live)

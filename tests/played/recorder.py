@@ -238,6 +238,17 @@ def processes(session: int) -> List[int]:
     return sorted(found)
 
 
+def has_open(process: int, path: object) -> bool:
+    """Whether a process has this file or device open now."""
+    wanted = os.path.realpath(str(path))
+    with contextlib.suppress(OSError):  # it may end, and close files, meanwhile
+        for number in os.listdir(f"/proc/{process}/fd"):
+            with contextlib.suppress(OSError):
+                if os.readlink(f"/proc/{process}/fd/{number}") == wanted:
+                    return True
+    return False
+
+
 def signal_to(process: int, number: int = signal.SIGKILL) -> None:
     """Sends a signal to one that may have ended since it was listed."""
     with contextlib.suppress(ProcessLookupError):

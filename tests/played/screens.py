@@ -150,10 +150,8 @@ def stopped_terminal(folder: pathlib.Path) -> None:
     live.told.hold(True)
     board.play("g1f3")
     until_game(live.name, "1. e4 e5 2. Nf3 *")
-    over = time.monotonic() + 30
     live.send(2)
-    until(lambda: not live.runs or time.monotonic() > over, "its end")
-    assert not live.runs, "it waits for the terminal"
+    until(lambda: not live.runs, "its end, which waits for no terminal")
     ended(live)
     same(movetext(live.name), "1. e4 e5 2. Nf3 *")
 

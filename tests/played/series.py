@@ -43,7 +43,7 @@ def series(folder: pathlib.Path) -> None:
     board.play("e2e4")
     board.kings_in_centre("e4", "d5")
     until_line(live, f"round-2 {words.BEGINS}")
-    same(movetext(folder / "round-1"), "1. e4 1-0")
+    until_game(folder / "round-1", "1. e4 1-0")
     board.set_up(last=(KING, BLACK + KING))
     until(lambda: (folder / "round-2.pgn").exists(), "the second game")
     until(lambda: len(bytes_of(folder / "round-2.dgt")) >= 67, "a dump")

@@ -67,13 +67,6 @@ def until(holds: Callable[[], object], what: str, pause: float = 0.005) -> None:
         board.turn()
 
 
-def holds_within(holds: Callable[[], object], seconds: float) -> bool:
-    """Whether it comes to hold so soon."""
-    over = time.monotonic() + seconds
-    until(lambda: holds() or time.monotonic() > over, "the end of a wait")
-    return bool(holds())
-
-
 def rest(seconds: float) -> None:
     """So long nothing happens on the boards but that they answer."""
     over = time.monotonic() + seconds
@@ -139,6 +132,16 @@ def bytes_of(path: object) -> bytes:
         return b""
 
 
+def until_kept(name: object, sent: bytes, start: int = 0) -> None:
+    """The capture has these bytes behind so many others."""
+    until(lambda: sent in bytes_of(f"{name}.dgt")[start:], f"{sent.hex()} in {name}.dgt, behind {start} bytes")
+
+
+def until_dumped(board: Board, name: object) -> None:
+    """The board has said again how it stands, and the capture has that, and so all that the board has sent before."""
+    until_kept(name, board.dump(), len(bytes_of(f"{name}.dgt")))
+
+
 def movetext(name: object) -> str:
     parts = bytes_of(f"{name}.pgn").decode().split("\n\n")
     return parts[1].replace("\n", " ") if len(parts) > 1 else ""
@@ -192,6 +195,7 @@ def begin_game(folder: pathlib.Path, *options: str, **more: object) -> Tuple[Boa
 
 def go_on(board: Board, live: Live, *options: str, **more: object) -> Live:
     """The same game again, where the board has been asked for a dump and updates."""
+    board.turn()  # what the recorder before has asked for is no request of this one
     asked = board.asked.count(b"BK")
     again = Live(board.device, live.name, *options, **more)  # type: ignore[arg-type]  # what Live takes by name
     until(lambda: board.asked.count(b"BK") > asked, f"a request of the recorder of {live.name}")

@@ -21,7 +21,6 @@ from played.stage import (
     bytes_of,
     ended,
     go_on,
-    holds_within,
     kill,
     movetext,
     recorded,
@@ -30,6 +29,7 @@ from played.stage import (
     stop,
     until,
     until_game,
+    until_kept,
     until_line,
 )
 
@@ -76,7 +76,7 @@ def group_signal(folder: pathlib.Path) -> None:
         begun(live)
         for move in RUY:
             board.play(move)
-        until(lambda: len(bytes_of(live.name + ".dgt")) >= 67 + 50, "what was played")
+        until_kept(live.name, board.update(field("b5")))
         for number in numbers:
             live.send_all(number)
             time.sleep(0.02 if name != "mixed" else 0.002)
@@ -105,9 +105,9 @@ def killed_in_frame(folder: pathlib.Path) -> None:
         board.lift("g1")
         board.codes[field("f3")] = 3
         whole = board.update(field("f3"))
-        kept = len(bytes_of(live.name + ".dgt"))
+        lifted = board.update(field("g1"))
         board.send(whole[:length])
-        until(lambda: len(bytes_of(live.name + ".dgt")) >= kept + length, "a part of a frame")
+        until_kept(live.name, lifted + whole[:length])
         kill(live)
         if comes:
             board.send(whole[length:])
@@ -148,9 +148,8 @@ def killed_in_move(folder: pathlib.Path) -> None:
         place = folder / str(alone)
         place.mkdir()
         board, live = begin_game(place)
-        kept = len(bytes_of(live.name + ".dgt"))
         board.lift("g1")
-        until(lambda: len(bytes_of(live.name + ".dgt")) >= kept + 5, "the lift")
+        until_kept(live.name, board.update(field("g1")))
         if alone:
             live.was_killed = True
             live.process.kill()
@@ -292,10 +291,9 @@ def held(folder: pathlib.Path) -> None:
         signal_to(process, signal.SIGSTOP)
     for move in RUY[2:]:
         board.play(move)
-    until(lambda: len(bytes_of(live.name + ".dgt")) >= 67 + 50, "what was played")
+    until_kept(live.name, board.update(field("b5")))
     rest(0.5)
     live.send(signal.SIGINT)
-    assert holds_within(lambda: not live.runs, 30), "it doesn't end"
     same(ended(live), 0)
     same(movetext(live.name), RUY_TEXT)
 
@@ -361,7 +359,7 @@ def closed_terminal(folder: pathlib.Path) -> None:
     board, live = begin_game(place, terminal=True)
     assert isinstance(live.told, Terminal)
     board.play("g1f3")
-    until(lambda: len(bytes_of(live.name + ".dgt")) >= 67 + 30, "what was played")
+    until_kept(live.name, board.update(field("f3")))
     live.told.hang_up()
     assert ended(live) in (0, -signal.SIGHUP), live.process.returncode
     same(movetext(live.name), "1. e4 e5 2. Nf3 *")
