@@ -18,9 +18,10 @@ from typing import Any, Callable, Dict, Iterator, List, Optional, Tuple
 from play_board import INITIAL, field
 from played import TOP
 from played.boards import Board
+from played.ports import free_port
 from played.recorder import LIVE, Live, command, signal_to
 from played.stage import bytes_of, ended, movetext, same, turn, until
-from rounds.crowds import free_port, page_of
+from rounds.crowds import page_of
 from rounds.hall import Hall
 
 RAISING = TOP / "tests" / "guarded" / "raising.py"
@@ -163,7 +164,7 @@ class Room:
         self.calls: "List[subprocess.Popen[bytes]]" = []
         self.name_game()
         start = [sys.executable, RAISING, self._journal, number]
-        self.live = self.hall.record("--page", free_port(), "--linger", "1", typed=True, start=start)
+        self.live = self.hall.record("--page", str(free_port()), "--linger", "1", typed=True, start=start)
         self.lines = Lines(self.live)
         self.second = Second(second, Lines(self.live), number)
         self._turned = time.monotonic()

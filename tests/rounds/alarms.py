@@ -3,10 +3,11 @@
 import pathlib
 
 from played import words
-from played.recorder import Live
-from played.stage import bytes_of, rest, same, stop, until, until_line
+from played.ports import free_port
+from played.recorder import Live, has_open
+from played.stage import bytes_of, rest, same, stop, until, until_dumped, until_line
 from rounds.hall import Hall
-from rounds.rounds import boards_of, free_port
+from rounds.rounds import boards_of
 
 LOOK = "LOOK at 1... e6"
 
@@ -68,7 +69,7 @@ def result_of_another_board(folder: pathlib.Path) -> None:
     hall.play(0, 2)
     live.type("1 1-0")
     hall.until_over(live, 1, "1-0")
-    rest(1.5)  # until the next dump
+    until_dumped(hall.boards[0], hall.name(1))
     for move in ("g1f3", "b8c6"):
         hall.boards[0].play(move)
         rest(0.3)
@@ -86,10 +87,10 @@ def result_of_another_board(folder: pathlib.Path) -> None:
     until_line(live, "2 refused: *: the game has no result")
     live.type("2 0-1")
     hall.until_over(live, 2, "0-1")
-    rest(1.5)
+    until_dumped(hall.boards[1], hall.name(2))
     for _ in hall.boards[1].homecoming():
         rest(0.05)
-    rest(1)
+    until(lambda: not has_open(live.process.pid, hall.boards[1].device), "that the device is free")
     other = Live(hall.boards[1].device, folder / "other")
     until_line(other, words.AGREES)
     says(live, 2, "over 0-1; ")
@@ -111,20 +112,21 @@ def kings_in_the_centre(folder: pathlib.Path) -> None:
         board.play("e7e5")
     for number in (1, 2):
         hall.until_text(number, "1. e4 e5 *")
-    rest(1.5)  # until the next dump
+    for number, board in enumerate(hall.boards, 1):
+        until_dumped(board, hall.name(number))
     for board in hall.boards:
         board.kings_in_centre("d4", "d5")
     for number in (1, 2):
         hall.until_over(live, number, "1/2-1/2")
         hall.until_text(number, "1. e4 e5 1/2-1/2")
-    rest(1.5)
+    until_dumped(one, hall.name(1))
     live.type("1 *")
     until_line(live, "1 refused: *: the result stays 1/2-1/2 with the board as it stands. Put the kings where they belong")
     for origin, target in (("d4", "e1"), ("d5", "e8")):
         one.play(origin + target)
     for move in ("g1f3", "b8c6"):
         one.play(move)
-        rest(1.5)
+        until_dumped(one, hall.name(1))
     until_line(live, "  1  LOOK after 1... e5: 2 moves were made, and the game is over: 1/2-1/2. Look at it, and type 1 ok")
     says(live, 1, "LOOK after 1... e5; over 1/2-1/2; ")
     same(hall.text(1), "1. e4 e5 1/2-1/2")
@@ -150,7 +152,7 @@ def wrong_records(folder: pathlib.Path) -> None:
     hall.play(0, 2)
     live.type("1 Nf3 Nc6 Bc4")
     hall.until_text(1, "1. e4 e5 2. Nf3 Nc6 3. Bc4 *")
-    rest(1.5)  # until the next dump
+    until_dumped(hall.boards[0], hall.name(1))
     live.type("1 help")
     until_line(live, "1: behind the number, type 1-0, 0-1, 1/2-1/2, moves (Nf3 Nc6), back")
     live.type("1 back 1... e5")
@@ -167,7 +169,7 @@ def wrong_records(folder: pathlib.Path) -> None:
     live.type("3 back")
     until_line(live, "3 refused: the board still shows 2. Nf3: it would come back at once. If other moves were played, lift a king")
     hall.boards[2].play("f3g1")
-    rest(1.5)
+    until_dumped(hall.boards[2], hall.name(3))
     live.type("3 back")
     hall.until_text(3, "1. e4 c5 *")
     until_line(live, "3: ", 2)

@@ -5,13 +5,14 @@ import contextlib
 import os
 import pathlib
 import signal
+from typing import List
 
 from play_board import DUMP, INITIAL, UPDATE, frame
 from played import words
+from played.ports import free_port
 from played.recorder import Live, command, processes, signal_to
 from played.stage import bytes_of, movetext, rest, same, stop, until, until_line
 from rounds.hall import Hall, moves, told
-from rounds.rounds import free_port
 
 # A program can't be started for one board as long as a file is there, nor a cable's folder be listed where another one is.
 NOT_STARTED = """
@@ -170,17 +171,25 @@ def large_capture_opened(folder: pathlib.Path) -> None:
     pathlib.Path(hall.name(1) + ".dgt").write_bytes(content)
     pathlib.Path(hall.name(1) + ".options").write_bytes(b"--white\nWhite 1\n--black\nBlack 1\n")
     live = hall.record()
-    until(lambda: readers_of(live, hall.name(1) + ".dgt"), "who reads the capture")
-    readers = readers_of(live, hall.name(1) + ".dgt")
-    for reader in readers:
-        signal_to(reader, signal.SIGSTOP)  # and takes as long as the others need
+    readers: List[int] = []
+
+    def are_stopped() -> bool:
+        readers[:] = readers_of(live, hall.name(1) + ".dgt")
+        for reader in readers:
+            signal_to(reader, signal.SIGSTOP)  # and takes as long as the others need
+        return bool(readers)
+
+    until(are_stopped, "who reads the capture", 0)
     until_line(live, "  2  agrees")
     for ply in range(4):
         hall.boards[1].play(moves(1)[ply])
         until_line(live, f"  2  {told(1, ply)}")
+    # The next move comes while it is read what the reader tells: it is there before the recorder goes on.
+    live.send(signal.SIGSTOP)
     for reader in readers:
         signal_to(reader, signal.SIGCONT)
-    hall.boards[1].play(moves(1)[4])  # while it is read what the reader tells, which takes seconds
+    hall.boards[1].play(moves(1)[4])
+    live.send(signal.SIGCONT)
     until_line(live, f"  2  {told(1, 4)}")
     until_line(live, "  1  agrees")
     assert live.lines().index(f"  2  {told(1, 4)}") < live.lines().index("  1  agrees"), live.lines()

@@ -4,7 +4,7 @@ import pathlib
 
 from played import words
 from played.back_killed import OnTheWay
-from played.stage import bytes_of, movetext, rest, same, stop, until_line
+from played.stage import bytes_of, movetext, rest, same, stop, until_dumped, until_line
 from rounds.alarms import says
 from rounds.hall import Hall
 
@@ -17,7 +17,7 @@ def killed_going_back(folder: pathlib.Path) -> None:
     hall.begun(live)
     hall.play(0, 5)
     hall.boards[0].play("b5f1")
-    rest(1.5)  # until the next dump
+    until_dumped(hall.boards[0], hall.name(1))
     same(stop(live), 0)
     other = movetext(hall.name(2))
     way = OnTheWay(hall.name(1), "1 ", "3. Bb5")

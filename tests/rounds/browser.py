@@ -6,9 +6,9 @@ from typing import List
 
 import outside
 from paged.devtools import Shared, Tab
+from played.ports import free_port
 from played.stage import Skipped, rest, same, stop, until
 from rounds.hall import Hall, moves
-from rounds.rounds import free_port
 
 SHOWN = ["1. e4", "1... e5", "2. Nf3", "2... Nc6", "3. Bb5", "3... a6", "4. Ba4", "4... Nf6", "5. O-O", "5... Be7"]
 TILE = "document.querySelector(\".tile[href='#1'] {}\").textContent"

@@ -7,6 +7,7 @@ from typing import List
 from played import words
 from played.recovered import PAIR, hurried
 from played.stage import bytes_of, movetext, refuses, run, same, stop, until, until_line
+from rounds.alarms import says
 from rounds.hall import Hall, games_of, text
 
 
@@ -52,7 +53,7 @@ def another_round(folder: pathlib.Path) -> None:
     live.type("r")
     until_line(live, "  2  its game is now Gus - Nora, and was Mueller - Hal\n")
     until(lambda: tags(2) == "Gus - Nora", "both names of board 2")
-    same([tags(number) for number in (1, 3, 4)], ["Anna - Ben", "Ida - Jan", "Kim - Lea"])
+    until(lambda: [tags(number) for number in (1, 3, 4)] == ["Anna - Ben", "Ida - Jan", "Kim - Lea"], "the names of the others")
     same(stop(live), 0)
     live = hall.record("--round", "4")
     until_line(live, "  2  its round is now 4, and was ?\n")
@@ -200,7 +201,7 @@ def read_again(folder: pathlib.Path) -> None:
     hall.boards[1].play("d2d4")
     hall.until_text(2, "1. d4 *")
     until(lambda: b'[White "Anna"]' in bytes_of(hall.name(1) + ".pgn"), "the name of board 1, whose game has a move")
-    assert b"1. e4 {[%clk 0:08:20]}" in bytes_of(hall.name(1) + ".pgn"), bytes_of(hall.name(1) + ".pgn")
+    until(lambda: b"1. e4 {[%clk 0:08:20]}" in bytes_of(hall.name(1) + ".pgn"), "the time of Black, who comes first")
     until(lambda: hall.boards[0].asked_for_updates, "a request on board 1")
     hall.boards[0].play("e7e5")
     hall.until_text(1, "1. e4 e5 *")
@@ -215,7 +216,7 @@ def read_again(folder: pathlib.Path) -> None:
     hall.file.write_text("\n".join([*changed, f"4,{folder}/nowhere,A,B", ""]))
     live.send(signal.SIGHUP)
     until(lambda: b'[White "Anne"]' in bytes_of(hall.games / "round.pgn"), "the name of board 1, whose game is over")
-    assert movetext(hall.name(1)).startswith("1. e4 {[%clk 0:10:00]}"), movetext(hall.name(1))
+    until(lambda: movetext(hall.name(1)).startswith("1. e4 {[%clk 0:10:00]}"), "the time of White, who comes first")
     same(hall.text(1), "1. e4 e5 1-0")
     until_line(live, "  1  its game is now Anne - Black 1, and was Anna - Black 1\n")
     until_line(live, "  1  White's time comes first\n")
@@ -251,8 +252,7 @@ def recovered(folder: pathlib.Path) -> None:
         until_line(live, f"{number:>3}  {PAIR}")
     until_line(live, f"  2  {words.IN_HAND}")
     same(hall.text(2), strict)
-    live.type("3")
-    until_line(live, f"3: agrees; {PAIR}; ")
+    says(live, 3, f"agrees; {PAIR}; ")
     live.type("3 1-0")
     hall.until_over(live, 3, "1-0")
     hall.extra = {1: ",no", 2: ",yes", 3: ",no"}

@@ -11,6 +11,7 @@ import urllib.parse
 from typing import List, Tuple
 
 from played import TOP
+from played.ports import free_port
 from played.recorder import Live, signal_to
 from played.stage import same, stop, turn, until, until_line
 from rounds.hall import Hall, moves, told
@@ -74,22 +75,16 @@ while lines:
 
 def page_of(live: Live) -> Tuple[str, int]:
     """Where the page is served."""
-    until_line(live, "the round is shown at ")
+    until(lambda: "\n" in live.lines().partition("the round is shown at ")[2], "where the page is")
     parts = urllib.parse.urlsplit(live.lines().partition("the round is shown at ")[2].split()[0])
     return str(parts.hostname), int(parts.port or 80)
-
-
-def free_port() -> str:
-    with socket.socket() as line:
-        line.bind(("127.0.0.1", 0))
-        return str(line.getsockname()[1])
 
 
 def limited(folder: pathlib.Path, hall: Hall, soft: int, hard: int, *options: str) -> Live:
     """The round with so many descriptors, and so many at most."""
     script = folder / "limited.py"
     script.write_text(LIMITED.format(soft=soft, hard=hard))
-    return hall.record("--page", free_port(), *options, start=[sys.executable, script])
+    return hall.record("--page", str(free_port()), *options, start=[sys.executable, script])
 
 
 def connected(address: Tuple[str, int], count: int) -> List[socket.socket]:
@@ -172,7 +167,7 @@ def pipelining_readers(folder: pathlib.Path) -> None:
     hall = Hall(folder, 4)
     script, counted = folder / "counting.py", folder / "counted"
     script.write_text(COUNTING.format(top=str(TOP), counted=str(counted)))
-    live = hall.record("--page", free_port(), start=[sys.executable, script])
+    live = hall.record("--page", str(free_port()), start=[sys.executable, script])
     hall.begun(live)
     host, port = page_of(live)
     pipelines = PIPELINES.format(count=PIPELINING, request=REQUEST)

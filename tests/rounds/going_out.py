@@ -14,11 +14,12 @@ import urllib.request
 from typing import Dict, List, Optional, Tuple
 
 from played import TOP
+from played.ports import free_port
 from played.recorder import Live, processes
 from played.stage import bytes_of, check, ended, kill, movetext, same, stop, until, until_line
 from rounds.crowds import page_of
 from rounds.hall import Hall, games_of, plain
-from rounds.rounds import boards_of, fetch, free_port
+from rounds.rounds import boards_of, fetch
 
 from live.broadcast import kept
 
@@ -121,6 +122,12 @@ def texts(path: pathlib.Path) -> List[str]:
     return texts_of(bytes_of(path))
 
 
+def both_have(files: List[pathlib.Path], wanted: List[List[str]]) -> None:
+    """The text that goes out has these games, and no other text was copied."""
+    until(lambda: bytes_of(files[0]) == bytes_of(files[1]), "the copy, which may just be made")
+    same([texts(file) for file in files], wanted)
+
+
 def hidden(hall: Hall) -> List[str]:
     """The newest text that is kept of each of the two games, shown or not."""
     histories = [kept.read(bytes_of(f"{hall.name(number)}.delayed"), "", 0.0, 0.0) for number in (1, 2)]
@@ -159,7 +166,7 @@ def fifteen_minutes_late(folder: pathlib.Path) -> None:
     four = bytes_of(hall.name(1) + ".pgn")
     has_none(all_served(address), FIRST)
     is_for_spectators(all_served(address), folder)
-    same([texts(file) for file in files], unplayed)
+    both_have(files, unplayed)
 
     kill(live)
     clock.be(450)
@@ -170,7 +177,7 @@ def fifteen_minutes_late(folder: pathlib.Path) -> None:
     has_none(all_served(address), FIRST)
     hall.play(4, 6)
     until(lambda: hidden(hall) == SIX, "six plies of each game, kept", 0.05)
-    same([texts(file) for file in files], unplayed)
+    both_have(files, unplayed)
 
     clock.be(905)
     until(lambda: sans(port) == "e4 e5 Nf3 Nc6", "four plies on the spectators' page", 0.05)
@@ -180,10 +187,11 @@ def fifteen_minutes_late(folder: pathlib.Path) -> None:
     is_for_spectators(served, folder)
     same(bytes_of(files[0]).split(b"\n\n")[1], four.split(b"\n\n")[1])  # as NAME.pgn had it then, to the byte
     same(fetch(port, "/round.pgn"), bytes_of(files[0]))
-    same(sans(arbiters), "e4 e5 Nf3 Nc6 Bb5 a6")
+    until(lambda: sans(arbiters) == "e4 e5 Nf3 Nc6 Bb5 a6", "six plies on the arbiter's page", 0.05)
     live.type("1 1-0")
     hall.until_over(live, 1, "1-0")
-    same((boards_of(port)[0]["result"], boards_of(arbiters)[0]["result"]), ("*", "1-0"))
+    until(lambda: boards_of(arbiters)[0]["result"] == "1-0", "the result on the arbiter's page", 0.05)
+    same(boards_of(port)[0]["result"], "*")
     has_none(all_served(address), [b"1-0"])
     live.type("q")
     until_line(live, "spectators see the last moves at ")
@@ -196,7 +204,8 @@ def fifteen_minutes_late(folder: pathlib.Path) -> None:
     has_none(all_served(address), [b"1-0"])
     clock.be(2400)
     until(lambda: [board["result"] for board in boards_of(port)] == ["1-0", "*"], "the result on the spectators' page", 0.05)
-    until(lambda: texts(files[1])[0] == "1. e4 e5 2. Nf3 Nc6 3. Bb5 a6 1-0", "the result in the copy", 0.05)
+    until(lambda: texts(files[1])[:1] == ["1. e4 e5 2. Nf3 Nc6 3. Bb5 a6 1-0"], "the result in the copy", 0.05)
+    hall.until_round()
     same(check(games_of(bytes_of(hall.games / "round.pgn"))[0]), "moves 6, result 1-0")
     live.type("q")
     same(ended(live), 0)
@@ -232,9 +241,7 @@ class Server:
                 pass
 
         self._handler = Handler
-        with socket.socket() as found:
-            found.bind(("127.0.0.1", 0))
-            self.port = int(found.getsockname()[1])
+        self.port = free_port()
         self._server: Optional[http.server.ThreadingHTTPServer] = None
 
     def begin(self) -> None:
@@ -296,7 +303,7 @@ def published(folder: pathlib.Path) -> None:
     same(b"1-0" in server.last, True)
     server.end()
     same(server.tokens, {f"Bearer {TOKEN}"})
-    has = [str(file) for file in hall.games.iterdir() if TOKEN.encode() in file.read_bytes()]
+    has = [str(file) for file in hall.games.iterdir() if TOKEN.encode() in bytes_of(file)]
     same((has, TOKEN in live.lines() + live.complaint()), ([], False))
 
 
@@ -321,7 +328,7 @@ def opened_page(folder: pathlib.Path) -> None:
     hall, port = Hall(folder, 1), free_port()
     live = hall.record("--page", str(free_port()), "--arbiter-page", f"0.0.0.0:{port}")
     hall.begun(live)
-    until_line(live, "with any name and the password ")
+    until(lambda: "\n" in live.lines().partition("with any name and the password ")[2], "the password")
     password = live.lines().partition("with any name and the password ")[2].split()[0]
     same(re.fullmatch(r"([a-z2-9]{4}-){3}[a-z2-9]{4}", password) is not None, True)
     for path in ("/", "/state.json", "/round.pgn", "/01.pgn", "/events", "/page.js", "/nothing"):
@@ -330,7 +337,7 @@ def opened_page(folder: pathlib.Path) -> None:
     for given, status in (("", 401), (password[:-1], 401), (password + "x", 401), (password, 200)):
         same((given, status_of(port, given)), (given, status))
     has_none(all_served(page_of(live)), [password.encode()])
-    has = [str(file) for file in hall.games.iterdir() if password.encode() in file.read_bytes()]
+    has = [str(file) for file in hall.games.iterdir() if password.encode() in bytes_of(file)]
     same((has, password in command_lines(live)), ([], False))
     same(stop(live), 0)
     alone = hall.record("--page", str(free_port()))

@@ -110,8 +110,9 @@ def thirty_two_boards(folder: pathlib.Path) -> None:
     hall.write("1,again,A,B")
     live.send(signal.SIGHUP)
     until_line(live, "is read again: 32 boards, 1 line is wrong")
-    hall.make(6)
+    hall.make(6, [number for number in range(BOARDS) if number not in HIDDEN])
     kill(live)
+    hall.make(6, HIDDEN)  # which tells the pair: to the next call, and never to the one that is killed
     live = hall.record("--event", "Hall")
     hall.until_plies(7)
     for number in HIDDEN:

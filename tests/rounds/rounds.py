@@ -4,13 +4,13 @@ import json
 import pathlib
 import re
 import shutil
-import socket
 import subprocess
 import urllib.request
 from typing import List
 
 from paged.web import Told
 from played import TOP, words
+from played.ports import free_port
 from played.recorder import Live, signal_to
 from played.stage import bytes_of, ended, kill, program, refuses, same, stop, until, until_line
 from rounds.hall import ROUND, Hall, Reader, games_of, moves, text, told
@@ -87,7 +87,7 @@ def troubles(folder: pathlib.Path) -> None:
         until_line(live, part)
     hall.play(0, 4)
     hall.until_text(1, "1. e4 e5 2. Nf3 Nc6 *")
-    assert b'[White "White 7"]' in bytes_of(hall.games / "07.pgn"), bytes_of(hall.games / "07.pgn")
+    until(lambda: b'[White "White 7"]' in bytes_of(hall.games / "07.pgn"), "the name of board 7")
     same(stop(live), 3)  # a board is not recorded, and it says so last
     assert "board 4" in live.complaint() and "board 7" not in live.complaint(), live.complaint()
 
@@ -299,7 +299,7 @@ def on_a_terminal(folder: pathlib.Path) -> None:
     live.type("3 1-0")
     until_line(live, "3: added to")
     until_line(live, "over 1-0")
-    lines = re.split(r"\x1b\[\d+;1H|\x1b8|\r|\n", live.told.read().replace("\x1b[H\x1b[2J", "\n"))
+    *lines, _ = re.split(r"\x1b\[\d+;1H|\x1b8|\r|\n", live.told.read().replace("\x1b[H\x1b[2J", "\n"))  # the last may be a part
     same([line for line in lines if len(words.plain(line)) > 79], [])
     live.type("q")
     same(ended(live), 0)
@@ -384,12 +384,6 @@ def page(folder: pathlib.Path) -> None:
     same((first["white"], first["black"]), ("White 1", "Black 1"))
     until(lambda: fetch(port, "/round.pgn") == bytes_of(hall.games / "round.pgn"), "round.pgn on the page", 0.05)
     same(stop(live), 0)
-
-
-def free_port() -> int:
-    with socket.socket() as found:
-        found.bind(("127.0.0.1", 0))
-        return int(found.getsockname()[1])
 
 
 def refused(folder: pathlib.Path) -> None:
