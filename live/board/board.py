@@ -156,7 +156,7 @@ class Board:
             self.is_new = False
             self._hears.remade()
         if self._done:
-            self.trouble = why if error else ""
+            self.trouble = why if error else self.trouble  # what kept it from being recorded, where it was just tried again
             done, self._done = self._done, None
             done()
         elif self._hears.ended(error):

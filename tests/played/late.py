@@ -55,8 +55,10 @@ class Game:
 
     @property
     def shown(self) -> List[str]:
-        """What spectators have: the file and its copy."""
-        return [text_of(bytes_of(path)) for path in (f"{self.name}.broadcast.pgn", self.www / "game.broadcast.pgn")]
+        """What spectators have: the file and its copy, which is empty while it is made anew."""
+        copy = self.www / "game.broadcast.pgn"
+        until(lambda: bytes_of(copy) or not copy.exists(), "the copy that is just made", 0.002)
+        return [text_of(bytes_of(path)) for path in (f"{self.name}.broadcast.pgn", copy)]
 
     def until_shown(self, text: str) -> None:
         until(lambda: self.shown == [text] * 2, f"{text}, shown; there is {self.shown}", 0.02)

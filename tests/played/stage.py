@@ -67,6 +67,13 @@ def until(holds: Callable[[], object], what: str, pause: float = 0.005) -> None:
         board.turn()
 
 
+def holds_within(holds: Callable[[], object], seconds: float) -> bool:
+    """Whether it comes to hold so soon."""
+    over = time.monotonic() + seconds
+    until(lambda: holds() or time.monotonic() > over, "the end of a wait")
+    return bool(holds())
+
+
 def rest(seconds: float) -> None:
     """So long nothing happens on the boards but that they answer."""
     over = time.monotonic() + seconds

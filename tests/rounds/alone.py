@@ -11,7 +11,7 @@ from play_board import DUMP, INITIAL, UPDATE, frame
 from played import words
 from played.ports import free_port
 from played.recorder import Live, command, processes, signal_to
-from played.stage import bytes_of, movetext, rest, same, stop, until, until_line
+from played.stage import bytes_of, movetext, refuses, rest, same, stop, until, until_line
 from rounds.hall import Hall, moves, told
 
 # A program can't be started for one board as long as a file is there, nor a cable's folder be listed where another one is.
@@ -29,6 +29,17 @@ def gone(path):
         raise FileNotFoundError(errno.ENOENT, "No such file or directory", str(path))
     return listed(path)
 pathlib.Path.iterdir = gone
+"""
+# Looks at a path as long as a file is there, and makes another one meanwhile.
+SLOW_LOOK = """
+import os, pathlib, time
+look = os.stat
+def slow(path, *more, **named):
+    while path == {path!r} and os.path.exists({stuck!r}):
+        pathlib.Path({looks!r}).touch()
+        time.sleep(0.02)
+    return look(path, *more, **named)
+os.stat = slow
 """
 FEN = "rnbqkbnr/pppppppp/8/8/8/8/PPPPPPPP/RNBQKBNR w KQkq - 0 7"  # the start, with a number that no other board has
 
@@ -59,6 +70,24 @@ def files_of_one(folder: pathlib.Path) -> None:
     hall.play(2, 4, (1, 2))
     hall.until_round()
     same(stop(live), 0)
+
+
+def ended_while_tried(folder: pathlib.Path) -> None:
+    """The round ends just while a board is tried again that can't be recorded: why it isn't is said at the end all the same."""
+    hall = Hall(folder, 1)
+    wrong, stuck, looks = folder / "file", folder / "stuck", folder / "looks"
+    wrong.write_text("no device")
+    hall.write(f"2,{wrong},A,B")
+    (folder / "sitecustomize.py").write_text(SLOW_LOOK.format(path=str(wrong), stuck=str(stuck), looks=str(looks)))
+    live = hall.record(environment={"PYTHONPATH": str(folder)})
+    until_line(live, f"  2  isn't recorded: {wrong} is no device")
+    hall.begun(live)
+    stuck.touch()
+    until(looks.exists, "that board 2 is tried again")
+    live.send(signal.SIGINT)
+    until_line(live, "dgt_round: what was played is in")
+    stuck.unlink()
+    refuses(live, 3, f"board 2: {wrong} is no device")
 
 
 def program_of_one(folder: pathlib.Path) -> None:
