@@ -4,7 +4,7 @@ import pathlib
 
 from played import words
 from played.back_killed import OnTheWay
-from played.stage import bytes_of, movetext, rest, same, stop, until_dumped, until_line
+from played.stage import bytes_of, movetext, same, stop, until_dumped, until_line
 from rounds.alarms import says
 from rounds.hall import Hall
 
@@ -36,7 +36,8 @@ def set_up_and_back(folder: pathlib.Path) -> None:
             board.play(move)
     for number in (1, 2, 3):
         hall.until_text(number, "1. e4 e5 2. Nf3 *")
-    rest(1.5)  # until the next dump
+    for number, board in enumerate(hall.boards, 1):
+        until_dumped(board, hall.name(number))
     for board in hall.boards:
         board.set_up([])
     for number in (1, 2, 3):
@@ -52,7 +53,8 @@ def set_up_and_back(folder: pathlib.Path) -> None:
     until_line(live, f"{hall.name(2)} goes on: back to 2. Nf3; no ply is taken off")
     live.type("3 back")
     until_line(live, "back to 1... e5; taken off: 2. Nf3. What the board had sent is kept in")
-    rest(1.5)
+    for number, board in enumerate(hall.boards, 1):
+        until_dumped(board, hall.name(number))
     same([bytes_of(hall.name(number) + ".end") for number in (1, 2, 3)], [b"", b"", b""])
     hall.boards[0].play("d2d4")
     hall.until_text(1, "1. d4 *")
