@@ -46,7 +46,11 @@ fn or_where_help_is(text: &[u8]) -> &[u8]
     ensures kept { text.now ≢ [] → result.now ≡ text.now }
     ensures not_empty { result.now ≢ [] }
 {
-    if text.is_empty() { b"dgt_replay: help is in README.md\n" } else { text }
+    if text.is_empty() {
+        b"dgt_replay: help is in README.md\n"
+    } else {
+        text
+    }
 }
 
 /// Writes the text of `clap`, and returns its status.
