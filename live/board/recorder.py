@@ -157,7 +157,7 @@ class Recorder(TakesOff):
                 mark_end(paths, end)
             except OSError as error:
                 self._screen.say(f"{paths.end} can't be written ({text_of(error)})")
-        self._screen.say(f"{self._next().name} begins when the pieces stand at the start")
+        self._screen.say(f"{self._next().name} begins when the pieces are at the start")
         self._look_for_start(end)
 
     def _look_for_start(self, end: int) -> None:

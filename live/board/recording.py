@@ -40,7 +40,7 @@ class Reason(enum.Enum):
 
     RESULT = "it has a result"
     TYPED = "its result was typed"
-    SET_UP = "the pieces stand at the start again"
+    SET_UP = "the pieces are at the start again"
     LIMIT = "its capture has 64 MiB, and none may have more"
 
 

@@ -84,9 +84,9 @@ def parse(arguments: Sequence[str]) -> Call:
     if len(plain) > wanted:
         raise Refused(ARGUMENTS, f"{plain[wanted]} {QUOTES}: {SEE_HELP}")
     if len(plain) < wanted or not plain[-1]:
-        what = "a DEVICE and a NAME are wanted, as dgt_live /dev/ttyUSB0 game"
+        what = "type a DEVICE and a NAME, as dgt_live /dev/ttyUSB0 game"
         if typed:
-            what = "the NAME of a game is wanted after --add and --back"
+            what = "type the NAME of a game after --add and --back"
         raise Refused(ARGUMENTS, f"{what}: {SEE_HELP}")
     if typed and (words or flags["--series"]):
         raise Refused(ARGUMENTS, f"--add and --back take no other option: {SEE_HELP}")

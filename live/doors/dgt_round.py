@@ -108,7 +108,7 @@ def parse(arguments: Sequence[str]) -> Asked:
             plain.append(word)
     refuse_both(words, SEE_HELP)
     if not plain or not plain[0]:
-        raise Refused(ARGUMENTS, f"a FILE with the pairings is wanted: {SEE_HELP}")
+        raise Refused(ARGUMENTS, f"type the FILE with the pairings: {SEE_HELP}")
     if len(plain) > 2:
         raise Refused(ARGUMENTS, f"{plain[2]} {QUOTES}: {SEE_HELP}")
     linger = linger_of(values.pop("--linger", str(LINGER)))

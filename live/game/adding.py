@@ -79,7 +79,7 @@ class Addition:
         put = added.dumps_of_result(outcome, fens[-1], self._board, self._options.rotated)
         after = game_of(self._program, self._options, self._sent + put)
         if (sans_of(after.plies), after.result) != (self._moves, outcome):
-            raise added.Refused("with the board as it stands the game would be another one. Nothing was added")
+            raise added.Refused("what the board shows would change the game. Nothing was added")
         return put
 
     def _of_moves(self, words: Sequence[str]) -> Tuple[bytes, List[str]]:
@@ -103,7 +103,7 @@ class Addition:
         after = game_of(self._program, self._options, self._sent + put + shown)
         if sans_of(after.plies) != self._moves + spelt:
             raise added.Refused(
-                "with the board as it stands these moves would become others. Put it as it is after them, and type them again"
+                "what the board shows would change these moves. Set the pieces as they are after them, and type them again"
             )
         return put, spelt
 

@@ -34,7 +34,7 @@ def keep_looks(paths: Paths, looks: Looks) -> None:
 
 def acknowledged(seen: str) -> str:
     """What is told of that."""
-    return f"acknowledged: {seen}" if seen else "there is nothing to acknowledge"
+    return f"acknowledged: {seen}" if seen else "there is no LOOK here"
 
 
 def acknowledge(paths: Paths) -> str:

@@ -128,9 +128,9 @@ def went_on(plies: Sequence[Move], result: str, after: Sequence[Move], result_af
 
 
 def not_so(plies: Sequence[Move], stays: int, after: Sequence[Move], result: str) -> str:
-    """Why it can't be, and what to do: with the board as it stands the game would have these plies and this result."""
+    """Why it can't be, and what to do: with what the board shows the game would have these plies and this result."""
     if result != "*" and len(after) == stays:
-        return f"the result stays {result} with the board as it stands. Put the kings where they belong, and type it again"
+        return f"the board still shows the result {result}. Put the kings where they belong, and type it again"
     place = f"as after {reached(plies[:stays])}" if stays else "at the start"
     hint = (
         "If other moves were played, lift a king, type it again, then these moves, and hold the king until all is typed. "
@@ -138,4 +138,4 @@ def not_so(plies: Sequence[Move], stays: int, after: Sequence[Move], result: str
     )
     if len(after) > stays:
         return f"the board still shows {after[stays].short}: it would come back at once. {hint}"
-    return f"with the board as it stands the game would be another one. {hint}"
+    return f"what the board shows would change the game. {hint}"

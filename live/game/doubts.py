@@ -34,10 +34,10 @@ PACE = 3.0  # seconds that a ply takes where nobody knows it
 QUICKEST = 1.0  # seconds that one takes at least
 SIDES = (range(1, 7), range(7, 13))  # the piece codes of White and of Black
 
-IS_LATE = "it corrects the move before it so late that moves may be missing"
-ELSEWHERE = "the other side's pieces stood elsewhere before it: moves may be missing"
-BOTH_ELSEWHERE = "both sides' pieces have stood elsewhere since: moves may be missing"
-AFTER_GAP = "it is the first news after a time in which the board wasn't heard: moves may be missing"
+IS_LATE = "it corrects a move late: moves may be missing"
+ELSEWHERE = "pieces of the other side were on other squares before it: moves may be missing"
+BOTH_ELSEWHERE = "pieces of both sides were on other squares: moves may be missing"
+AFTER_GAP = "the board wasn't heard for a time: moves may be missing"
 
 
 def is_late(seconds: float) -> bool:

@@ -8,14 +8,14 @@ from live.game.options import SEE_HELP, Options
 
 # The conditions of a position, and of the text that has it, in docs/CHESS.md.
 OF_FEN: Dict[str, str] = {
-    "form": "six fields are wanted, or the first four, as in '8/8/4k3/8/8/4K3/4P3/8 w - - 0 1'",
+    "form": "give six fields, or the first four, as in '8/8/4k3/8/8/4K3/4P3/8 w - - 0 1'",
     "counters": "the two numbers at its end are 0 to 9999 and 1 to 9999",
     "placement": "its first field has eight ranks of eight squares, a8 first, with '/' between",
     "kings": "each side has one king",
-    "pawns": "no pawn stands on rank 1 or 8",
-    "rights": "for each letter of KQkq the king and that rook stand at home",
+    "pawns": "no pawn may be on rank 1 or 8",
+    "rights": "for each letter of KQkq the king and that rook are at home",
     "en passant": "the pawn that has just gone two squares isn't there, or not alone",
-    "check": "the king of the side that isn't to move stands in check",
+    "check": "the king of the side that isn't to move is in check",
 }
 
 

@@ -1,4 +1,4 @@
-"""Moves that were made while the clock stood: players try moves after they have agreed on a draw, or the clock was forgotten.
+"""Moves that were made while the clock was stopped: players try moves after they have agreed on a draw, or the clock was forgotten.
 
 The seventh byte of a time message says whether the clock runs (bit 0), and whether one is there (bit 5). An acknowledgement of
 a command to the clock, which has 10 in the low four bits of its first or fourth byte, says nothing of either.
@@ -36,7 +36,7 @@ def has_run(plies: Sequence[Move]) -> bool:
 
 @dataclass
 class StoppedClock:
-    """Counts the moves of a game that are made one after the other while its clock stands, once it has run in this game. They
+    """Counts the moves of a game that are made one after the other while its clock is stopped, once it has run in this game. They
     count from the one on that is seen after the stop; but they are an alarm only where the last one comes STANDS after it."""
 
     has_run: bool = False
@@ -80,4 +80,4 @@ class StoppedClock:
         if now < self._stands_since + STANDS:
             return None
         moves = "a move was" if self.count == 1 else f"{self.count} moves were"
-        return Look(f"since {self._before}", f"{moves} made while the clock stood", f"{ABOUT} {self._before}")
+        return Look(f"since {self._before}", f"{moves} made while the clock was stopped", f"{ABOUT} {self._before}")

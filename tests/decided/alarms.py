@@ -1,4 +1,4 @@
-"""When a board has gone on without its game for too long, when the clock stood, and when moves are made after the end."""
+"""When a board has gone on without its game for too long, when the clock was stopped, and when moves are made after the end."""
 
 import math
 from typing import Any, List

@@ -1,4 +1,4 @@
-/** When a board has gone on without its game, when the clock stood, and when moves are made after the end. */
+/** When a board has gone on without its game, when the clock was stopped, and when moves are made after the end. */
 import { Agreement } from "/web/board/agreement.js";
 import { pictureOfPlacement } from "/web/device/protocol.js";
 import { AfterTheEnd } from "/web/game/after_the_end.js";

@@ -2,7 +2,7 @@
 import { Doubts, isLate } from "/web/game/doubts.js";
 import { eventOf } from "/web/game/report.js";
 
-const AFTER_GAP = "it is the first news after a time in which the board wasn't heard: moves may be missing";
+const AFTER_GAP = "the board wasn't heard for a time: moves may be missing";
 
 export function told(counts, cases) {
   for (const [name, lines, expected] of cases("told")) {

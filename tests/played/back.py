@@ -161,7 +161,7 @@ def result_taken_off(folder: pathlib.Path) -> None:
     until_line(live, words.RESULT)
     until(lambda: not movetext(live.name).endswith("*"), "a result in the text")
     result = movetext(live.name).split()[-1]
-    answered(live, "*", f"the result stays {result} with the board as it stands")
+    answered(live, "*", f"the board still shows the result {result}")
     board.lift("d4")
     until_dumped(board, live.name)
     answered(live, "*", f"back to 1... e5; no ply is taken off; the result {result} is gone")
@@ -379,7 +379,7 @@ def analysis_taken_off(folder: pathlib.Path) -> None:
     for number, move in enumerate("a7a6 b5c6 d7c6 e1g1 c8g4 h2h3 g4f3 d1f3 d8f6 f3f6".split()):
         board.play(move)
         until(lambda: len(sans(live)) == 6 + number, move)
-    until_line(live, "LOOK since 3. Bb5: 10 moves were made while the clock stood")
+    until_line(live, "LOOK since 3. Bb5: 10 moves were made while the clock was stopped")
     until_dumped(board, live.name)
     answered(live, "back 3. Bb5", "takes off 10 plies, from 3... a6: type it again")
     gone = "3... a6 4. Bxc6 dxc6 5. O-O Bg4 6. h3 Bxf3 7. Qxf3 Qf6 8. Qxf6"

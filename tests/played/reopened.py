@@ -23,7 +23,7 @@ from played.stage import (
     until_line,
 )
 
-SET_UP = "game is over: the pieces stand at the start again"
+SET_UP = "game is over: the pieces are at the start again"
 
 
 def set_up_and_back(folder: pathlib.Path) -> None:
@@ -124,7 +124,7 @@ def series_goes_on(folder: pathlib.Path) -> None:
     until_game(folder / "round-1", "1. e4 e5 2. Nf3 Nc6 3. d4 *")
     rest(1.5)
     board.set_up([])
-    until_line(live, "round-1 is over: the pieces stand at the start again")
+    until_line(live, "round-1 is over: the pieces are at the start again")
     until_game(folder / "round-1", "1. e4 e5 2. Nf3 Nc6 3. d4 *")
     until(lambda: len(bytes_of(folder / "round-2.dgt")) >= 67, "the second game")
     board.play("c2c4")

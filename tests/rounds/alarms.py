@@ -41,7 +41,7 @@ def looked_at(folder: pathlib.Path) -> None:
     hall.boards[0].plug()
     until_line(live, f"  1  {LOOK}; agrees")
     until_line(live, "Look at it, and type 1 ok")
-    says(live, 1, f"{LOOK}; agrees; {LOOK}: it is the first news")
+    says(live, 1, f"{LOOK}; agrees; {LOOK}: the board wasn't heard")
     until(lambda: [board["alarm"] for board in boards_of(port)] == [True, False], "an alarm on the page", 0.05)
     assert LOOK in str(boards_of(port)[0]), boards_of(port)[0]
     assert f"{LOOK}: " in bytes_of(hall.name(1) + ".log").decode()
@@ -121,7 +121,7 @@ def kings_in_the_centre(folder: pathlib.Path) -> None:
         hall.until_text(number, "1. e4 e5 1/2-1/2")
     until_dumped(one, hall.name(1))
     live.type("1 *")
-    until_line(live, "1 refused: *: the result stays 1/2-1/2 with the board as it stands. Put the kings where they belong")
+    until_line(live, "1 refused: *: the board still shows the result 1/2-1/2. Put the kings where they belong")
     for origin, target in (("d4", "e1"), ("d5", "e8")):
         one.play(origin + target)
     for move in ("g1f3", "b8c6"):

@@ -41,7 +41,7 @@ def set_up_and_back(folder: pathlib.Path) -> None:
     for board in hall.boards:
         board.set_up([])
     for number in (1, 2, 3):
-        until_line(live, f"{number:>3}  {hall.name(number)} is over: the pieces stand at the start again")
+        until_line(live, f"{number:>3}  {hall.name(number)} is over: the pieces are at the start again")
         says(live, number, "over, no result; ")
     live.type("1 back 0")
     until_line(live, "1: takes off 3 plies, from 1. e4: type it again")

@@ -30,7 +30,7 @@ const TOLD = ['move', 'result', 'differs', 'agrees'];
 const Reason = {
   RESULT: 'it has a result',
   TYPED: 'its result was typed',
-  SET_UP: 'the pieces stand at the start again',
+  SET_UP: 'the pieces are at the start again',
   LIMIT: 'its capture has 64 MiB, and none may have more',
 };
 
@@ -436,7 +436,7 @@ export class Recorder {
     return this.typing.exclusively(async () => {
       if (!this.isOver || this.starts[0] !== offset) return;
       await this.begin(this.fromStart(offset));
-      this.hears.says(`the pieces stand at the start: ${this.game.name} begins`);
+      this.hears.says(`the pieces are at the start: ${this.game.name} begins`);
     });
   }
 

@@ -40,7 +40,7 @@ async function ofResult({ program, options, sent, course }, outcome) {
   const put = dumpsOfResult(outcome, last, course.board, options.rotated);
   const after = await gameOf(program, options, joined(sent, put));
   if (!isSame(sansOf(after.plies), moves) || after.result !== outcome) {
-    throw new Refused('with the board as it stands the game would be another one. Nothing was added');
+    throw new Refused('what the board shows would change the game. Nothing was added');
   }
   return put;
 }
@@ -70,7 +70,7 @@ async function ofMoves({ program, options, sent, course }, words) {
   const after = await gameOf(program, options, joined(sent, put, shown));
   if (!isSame(sansOf(after.plies), [...moves, ...spelt])) {
     throw new Refused(
-      'with the board as it stands these moves would become others. Put it as it is after them, and type them again',
+      'what the board shows would change these moves. Set the pieces as they are after them, and type them again',
     );
   }
   return { put, spelt };

@@ -8,7 +8,7 @@ import { StoppedClock, hasRun } from './stopped_clock.js';
 
 /** What is told of what was acknowledged. */
 export function acknowledged(seen) {
-  return seen ? `acknowledged: ${seen}` : 'there is nothing to acknowledge';
+  return seen ? `acknowledged: ${seen}` : 'there is no LOOK here';
 }
 
 /** Says of what is reported of a game whether somebody is to look at it. */

@@ -111,15 +111,15 @@ export function wentOn(plies, result, after, resultAfter) {
   return result !== '*' && isFront && (resultAfter === '*' || after.length > plies.length);
 }
 
-/** Why it can't be, and what to do: with the board as it stands the game would have these plies and this result. */
+/** Why it can't be, and what to do: with what the board shows the game would have these plies and this result. */
 export function notSo(plies, stays, after, result) {
   if (result !== '*' && after.length === stays) {
-    return `the result stays ${result} with the board as it stands. Put the kings where they belong, and type it again`;
+    return `the board still shows the result ${result}. Put the kings where they belong, and type it again`;
   }
   const place = stays === 0 ? 'at the start' : `as after ${reached(plies.slice(0, stays))}`;
   const hint =
     'If other moves were played, lift a king, type it again, then these moves, and hold the king until all is typed. ' +
     `If the players go back, set the pieces ${place}, and type it again`;
   if (after.length > stays) return `the board still shows ${shortOf(after[stays])}: it would come back at once. ${hint}`;
-  return `with the board as it stands the game would be another one. ${hint}`;
+  return `what the board shows would change the game. ${hint}`;
 }

@@ -14,10 +14,10 @@ const PACE = 3.0; // seconds that a ply takes where nobody knows it
 const QUICKEST = 1.0; // seconds that one takes at least
 const SIDES = [(code) => code >= 1 && code <= 6, (code) => code >= 7 && code <= 12]; // pieces of White, and of Black
 
-const IS_LATE = 'it corrects the move before it so late that moves may be missing';
-const ELSEWHERE = "the other side's pieces stood elsewhere before it: moves may be missing";
-const BOTH_ELSEWHERE = "both sides' pieces have stood elsewhere since: moves may be missing";
-const AFTER_GAP = "it is the first news after a time in which the board wasn't heard: moves may be missing";
+const IS_LATE = 'it corrects a move late: moves may be missing';
+const ELSEWHERE = "pieces of the other side were on other squares before it: moves may be missing";
+const BOTH_ELSEWHERE = "pieces of both sides were on other squares: moves may be missing";
+const AFTER_GAP = "the board wasn't heard for a time: moves may be missing";
 
 /** Whether a correction comes so long after its move that a hand would hardly have corrected it. */
 export function isLate(seconds) {

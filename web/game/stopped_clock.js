@@ -1,4 +1,4 @@
-// Moves that were made while the clock stood: players try moves after they have agreed on a draw, or the clock was
+// Moves that were made while the clock was stopped: players try moves after they have agreed on a draw, or the clock was
 // forgotten.
 //
 // The seventh byte of a time message says whether the clock runs (bit 0), and whether one is there (bit 5). An
@@ -29,7 +29,7 @@ export function hasRun(plies) {
 }
 
 /**
- * Counts the moves of a game that are made one after the other while its clock stands, once it has run in this game.
+ * Counts the moves of a game that are made one after the other while its clock is stopped, once it has run in this game.
  * They count from the one on that is seen after the stop; but they are an alarm only where the last one comes STOOD_FOR
  * after it.
  */
@@ -82,6 +82,6 @@ export class StoppedClock {
     this.count += 1;
     if (now < this.standsSince + STOOD_FOR) return null;
     const moves = this.count === 1 ? 'a move was' : `${this.count} moves were`;
-    return lookAt(`since ${this.before}`, `${moves} made while the clock stood`, `${ABOUT_THE_CLOCK} ${this.before}`);
+    return lookAt(`since ${this.before}`, `${moves} made while the clock was stopped`, `${ABOUT_THE_CLOCK} ${this.before}`);
   }
 }
