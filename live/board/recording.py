@@ -235,8 +235,9 @@ class Recording:
         now = self._guard.now()
         self.course.take(line, now)
         look = None if is_old else self._alarms.take(now, line, line.offset in self._by_hand)
+        is_shown = True
         if isinstance(event, Picture):
-            self._see(event, is_old)
+            is_shown = self._see(event, is_old)
         elif isinstance(event, Recovered):
             self._screen.told(event.shown, is_old)
         elif isinstance(event, (Move, Result, Differs, Agrees)):
@@ -249,7 +250,8 @@ class Recording:
             return
         self.course.news.clear()
         self._tell_look(look)
-        self.standing.show()
+        if is_shown:
+            self.standing.show()
 
     def _tell_look(self, look: Optional[Look]) -> None:
         """This is to be looked at, if anything is."""
@@ -291,12 +293,13 @@ class Recording:
         if isinstance(change, Result):
             self._hear_result(change.outcome)
 
-    def _see(self, picture: Picture, is_old: bool) -> None:
-        """What the board shows now."""
-        self.standing.board.shows(picture.codes)
+    def _see(self, picture: Picture, is_old: bool) -> bool:
+        """What the board shows now. Whether its state is another by that alone: what differs is told by the next line."""
+        is_another = self.standing.board.shows(picture.codes)
         # A single game that somebody goes on with has not ended where it seemed to.
         if self.course.stands_again and (self._rules.series or not is_old):
             self._guard.after(SETTLES, self._look_at_start)
+        return is_another
 
     def _hear_result(self, result: str) -> None:
         self._lingering.cancel()

@@ -166,14 +166,16 @@ class BoardState:
             self._since = now
         self._seen = True
 
-    def shows(self, picture: Picture) -> None:
-        """A dump has shown this picture."""
+    def shows(self, picture: Picture) -> bool:
+        """A dump has shown this picture. Whether the hint is another than before."""
+        before = self._hint
         if self._replugged and self._picture and len(differing(self._picture, picture)) > ONE_MOVE:
             self._hint = OTHER_BOARD
         elif self._hint != OTHER_BOARD:
             turned = self.start and not self._played and turned_round(picture, self.start)
             self._hint = self.turned_hint if turned else ""
         self._picture, self._replugged = picture, False
+        return self._hint != before
 
     def goes_on(self) -> None:
         """What is told next is from before this call, until the board shows itself."""

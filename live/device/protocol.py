@@ -7,6 +7,8 @@ What the frames mean is the program's to say; here a frame is only known to be w
 from __future__ import annotations
 
 import enum
+import functools
+import itertools
 from typing import Dict, List, Optional, Tuple
 
 DUMP_REQUEST = b"B"  # 42: a board dump
@@ -125,19 +127,23 @@ def picture_of_dump(frame: bytes, rotated: bool) -> Picture:
 
 def picture_of_placement(text: str) -> Picture:
     """The picture of a FEN, of its first field, or of a line of `pictures`. ValueError where the text is none of them."""
-    codes: List[int] = []
     ranks = text.split(" ")[0].split("/")
-    for rank in ranks:
-        before = len(codes)
-        for letter in rank:
-            if letter in "12345678":
-                codes.extend([0] * int(letter))
-            else:
-                codes.append(LETTERS.index(letter, 1))
-        if len(codes) - before != 8:
-            raise ValueError(f"not eight squares in a rank: {text}")
     if len(ranks) != 8:
         raise ValueError(f"not eight ranks: {text}")
+    return tuple(itertools.chain.from_iterable(map(_codes_of_rank, ranks)))
+
+
+@functools.lru_cache(maxsize=1024)
+def _codes_of_rank(rank: str) -> Picture:
+    """The codes of one rank. A move leaves most ranks as they are."""
+    codes: List[int] = []
+    for letter in rank:
+        if letter in "12345678":
+            codes.extend([0] * int(letter))
+        else:
+            codes.append(LETTERS.index(letter, 1))
+    if len(codes) != 8:
+        raise ValueError(f"not eight squares in a rank: {rank}")
     return tuple(codes)
 
 

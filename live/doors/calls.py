@@ -9,7 +9,7 @@ from live.broadcast.going_out import read_command, read_delay
 from live.game.added import BACK
 from live.game.options import PLAIN, RECOVER, SEE_HELP, STRICT, TAG, VALUED, Options, typed_tag, value_of
 from live.refused import ARGUMENTS, Refused
-from live.web.doors import Pages, read_pages
+from live.web.address import Pages, read_pages
 
 RECORDING = ("--linger", "--page", "--arbiter-page", "--delay", "--publish")  # options of a recording that have a value
 QUOTES = "is one argument too many. Put a text with blanks in quotes, as 'Anna Kern'"

@@ -26,7 +26,8 @@ from live.round.row import Hall
 from live.round.sources import Source
 from live.round.tournament import Tournament, made, tournament_of
 from live.round.tournament_files import RESULTS, TournamentFiles, all_text, results_text
-from live.web.doors import Pages, Title, TwoPages, read_pages
+from live.web.address import Pages, read_pages
+from live.web.doors import Title, TwoPages
 from live.web.round_page import ArbiterView
 
 SEE_HELP = "see dgt_round --help"

@@ -63,7 +63,7 @@ class Gap:
 
 def elsewhere(position: Picture, picture: Picture, side: range) -> FrozenSet[int]:
     """The squares on which the picture shows a piece of this side that the position doesn't have there."""
-    return frozenset(at for at, (has, shown) in enumerate(zip(position, picture)) if shown in side and shown != has)
+    return frozenset(at for at, (has, shown) in enumerate(zip(position, picture)) if shown != has and shown in side)
 
 
 @dataclass

@@ -90,19 +90,24 @@ class Screen:
     def state(self, text: str, news: object) -> None:
         """How the board stands, and what makes that another state than before: on a terminal the last line, elsewhere a line
         for each other state."""
-        now = self._clock()
-        # A result that was just told as a line needs no second one.
         is_news, self._news = news != self._news, news
-        if is_news and text not in self._last:
+        if is_news or (self._terminal and self._terminal.in_place):
+            self._tell_state(self._clock(), text, is_news)
+        self.on_change()
+
+    def _tell_state(self, now: datetime.datetime, text: str, is_news: bool) -> None:
+        """Tells it where it is another, or has lasted for a while on a terminal."""
+        # A result that was just told as a line needs no second one.
+        is_line = is_news and text not in self._last
+        if is_line:
             self._write(now, text)
         if self._terminal and self._terminal.in_place:
             # It lasts: what is typed below isn't disturbed each second.
             if is_news or abs((now - self._state_at).total_seconds()) >= LASTS:
                 self._state_at = now
                 self._terminal.state(f"{now:%H:%M:%S}  {text}{PROMPT}")
-        elif is_news and text not in self._last:
+        elif is_line:
             self._print(f"{now:%H:%M:%S}  {text}")
-        self.on_change()
 
     def _print(self, line: str) -> None:
         if self._terminal:

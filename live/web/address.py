@@ -6,7 +6,7 @@ import ipaddress
 import re
 import socket
 from dataclasses import dataclass
-from typing import Callable, FrozenSet, Iterable, NamedTuple, Optional, Tuple
+from typing import Callable, FrozenSet, Iterable, NamedTuple, Optional, Sequence, Tuple
 
 from live.refused import ARGUMENTS, Refused
 
@@ -114,3 +114,25 @@ def _host(option: str, text: str, host: Tuple[str, str]) -> str:
 
 def _refused(option: str, text: str, reason: str) -> Refused:
     return Refused(ARGUMENTS, f"{option} {text!r}: {reason}")
+
+
+@dataclass(frozen=True)
+class Pages:
+    """Where the pages are served. Without a page for spectators the arbiter has his own where he asks for it."""
+
+    spectators: Optional[Address] = None
+    arbiter: Optional[Address] = None
+    names: Names = Names(frozenset())
+
+    @property
+    def any(self) -> bool:
+        return bool(self.spectators or self.arbiter)
+
+
+def read_pages(page: Optional[str], arbiter_page: Optional[str], hosts: Sequence[str]) -> Pages:
+    """What the options say. Refused where they say nothing that there is."""
+    return Pages(
+        None if page is None else read_address(page),
+        None if arbiter_page is None else read_address(arbiter_page, "--arbiter-page"),
+        read_names(hosts),
+    )

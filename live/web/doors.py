@@ -6,12 +6,12 @@ from __future__ import annotations
 import contextlib
 import secrets
 from dataclasses import dataclass
-from typing import Callable, List, Optional, Sequence, Tuple
+from typing import Callable, List, Tuple
 
 from live.broadcast.broadcast import Broadcast
 from live.loop import Loop
 from live.refused import Refused
-from live.web.address import HERE, HIGHEST_PORT, Address, Door, Names, read_address, read_names
+from live.web.address import HERE, HIGHEST_PORT, Address, Door, Pages
 from live.web.page import ARBITER, SPECTATORS
 from live.web.round_page import ArbiterView, RoundPage
 from live.web.view import RoundView
@@ -19,28 +19,6 @@ from live.web.view import RoundView
 ANY_PORT = 0
 LETTERS = "abcdefghjkmnpqrstuvwxyz23456789"  # none that looks like another one
 PARTS, PART = 4, 4  # of a password: 79 bits
-
-
-@dataclass(frozen=True)
-class Pages:
-    """Where the pages are served. Without a page for spectators the arbiter has his own where he asks for it."""
-
-    spectators: Optional[Address] = None
-    arbiter: Optional[Address] = None
-    names: Names = Names(frozenset())
-
-    @property
-    def any(self) -> bool:
-        return bool(self.spectators or self.arbiter)
-
-
-def read_pages(page: Optional[str], arbiter_page: Optional[str], hosts: Sequence[str]) -> Pages:
-    """What the options say. Refused where they say nothing that there is."""
-    return Pages(
-        None if page is None else read_address(page),
-        None if arbiter_page is None else read_address(arbiter_page, "--arbiter-page"),
-        read_names(hosts),
-    )
 
 
 def new_password() -> str:
