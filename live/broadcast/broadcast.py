@@ -5,7 +5,7 @@ spectators' page shows. All of it is as late as is wanted; nothing else that spe
 from __future__ import annotations
 
 import pathlib
-from typing import Callable, Dict, Iterable, List, Optional, Protocol, Tuple
+from typing import Callable, Dict, Iterable, List, Optional, Protocol, Set, Tuple
 
 from live.broadcast.games import Game, Shots, written_name
 from live.broadcast.going_out import GoingOut
@@ -93,6 +93,7 @@ class Broadcast:
         self._of: Dict[int, OneGame] = {}
         self.boards: Tuple[SpectatorBoard, ...] = ()
         self._is_known = False  # whether the games have been looked at
+        self._changed: Optional[Set[int]] = set()  # the games that are to be looked at soon; None where all are
         self.alarm = ""  # why the text can't be carried away
         self.alarm_since = 0.0
         self._closed = False
@@ -133,15 +134,19 @@ class Broadcast:
 
     # What goes out.
 
-    def changed(self) -> None:
-        """A game is another, or another is among them."""
+    def changed(self, number: Optional[int] = None) -> None:
+        """The game of this number is another; without a number any may be, or another is among them."""
         self._is_known = self._place is not None or self.on_news is not None
+        if number is None:
+            self._changed = None
+        elif self._changed is not None:
+            self._changed.add(number)
         if self._is_known and self._timer is None:
             self._timer = self._guard.after(GATHERED, self._take)
 
     def _take(self) -> None:
         self._timer = None
-        self._look()
+        self._look(self._changed)
 
     def _each_second(self) -> None:
         self._guard.after(TICK, self._each_second)
@@ -153,12 +158,16 @@ class Broadcast:
         if self._is_known:
             self._guard.call(self._look)
 
-    def _look(self) -> None:
-        """Looks at all games, and shows what is due."""
+    def _look(self, changed: Optional[Set[int]] = None) -> None:
+        """Looks at all games, or at those that have `changed` and at new ones, and shows what is due."""
         now = self._loop.now()
+        self._changed = set()
         of: Dict[int, OneGame] = {}
         is_news = False
         for game in self._games():
+            if changed is not None and game.number not in changed and game.number in self._of:
+                of[game.number] = self._of[game.number]
+                continue
             of[game.number] = one = self._one(game, now)
             try:
                 one.take(game, now)

@@ -253,11 +253,11 @@ class Round:
         goes_on = wrong.board in self.rows and wrong.board not in self._right
         return f"{wrong.why}; board {wrong.board} goes on as it was begun" if goes_on else wrong.why
 
-    def changed(self) -> None:
-        """What a row shows is another."""
+    def changed(self, number: Optional[int] = None) -> None:
+        """What the row of this board shows is another, or what is shown of the round."""
         self.on_change()
         if self._is_opened:
-            self.broadcast.changed()
+            self.broadcast.changed(number)
         if not self._ending:
             self._display.changed()
 
@@ -266,11 +266,11 @@ class Round:
         """Whether all games are opened, unless the opening of one takes too long: a first text has all of them."""
         return self._loop.now() >= self._opens_until or not any(row.board.is_new for row in self.rows.values())
 
-    def remade(self) -> None:
-        """The text of a game is another."""
+    def remade(self, number: Optional[int] = None) -> None:
+        """The text of this board's game is another, or that of any."""
         if self._is_opened:
             self._published.changed()
-            self.broadcast.changed()
+            self.broadcast.changed(number)
 
     def _text(self) -> bytes:
         """round.pgn: what was recorded."""

@@ -3,6 +3,7 @@
 from __future__ import annotations
 
 import dataclasses
+import functools
 from dataclasses import dataclass
 from typing import Callable, Optional, Protocol, Tuple
 
@@ -52,11 +53,11 @@ class Hall:
 class HearsRow(Protocol):
     """Who is told of a board of a round."""
 
-    def changed(self) -> None:
-        """What its row shows is another."""
+    def changed(self, number: int) -> None:
+        """What the row of this board shows is another."""
 
-    def remade(self) -> None:
-        """Its PGN is another."""
+    def remade(self, number: int) -> None:
+        """The PGN of this board is another."""
 
     def owner(self, number: str) -> Optional[Board]:
         """The board that has this serial number."""
@@ -71,7 +72,7 @@ class RowScreen(Screen):
     def __init__(self, number: int, terminal: Optional[Terminal], hears: HearsRow) -> None:
         super().__init__(terminal)
         self._number, self._hears = number, hears
-        self.on_change = hears.changed
+        self.on_change = functools.partial(hears.changed, number)
         self._has_table = terminal is None
 
     def say(self, text: str, *more: str) -> None:
@@ -196,11 +197,11 @@ class Row:
         """What it shows is another."""
         if self._wants_result and self.board.is_recorded:
             self._loop.after(0, self._apply_result)
-        self._hears.changed()
+        self._hears.changed(self.number)
 
     def remade(self) -> None:
         """The text of its game is another."""
-        self._hears.remade()
+        self._hears.remade(self.number)
 
     def ended(self, why: Optional[Exception]) -> bool:
         """Its recording has ended, or couldn't be begun: it is tried again, where the game isn't over."""
