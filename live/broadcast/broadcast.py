@@ -19,7 +19,8 @@ from live.loop import Loop, Timer
 from live.round.published import Published
 from live.web.view import round_pgn
 
-GATHERED = 0.05  # seconds in which changes are taken at once
+GATHERED = 0.05  # seconds in which changes are taken at once, where a page shows them
+FOR_A_FILE = 0.5  # and where a file alone has them
 TICK = 1.0  # seconds between two looks at the clocks
 AGAIN = 1.0  # seconds after which it is begun again where an error has ended it
 NOT_PUBLISHED = "NOT PUBLISHED"
@@ -142,7 +143,7 @@ class Broadcast:
         elif self._changed is not None:
             self._changed.add(number)
         if self._is_known and self._timer is None:
-            self._timer = self._guard.after(GATHERED, self._take)
+            self._timer = self._guard.after(GATHERED if self.on_news else FOR_A_FILE, self._take)
 
     def _take(self) -> None:
         self._timer = None
@@ -165,10 +166,11 @@ class Broadcast:
         of: Dict[int, OneGame] = {}
         is_news = False
         for game in self._games():
-            if changed is not None and game.number not in changed and game.number in self._of:
-                of[game.number] = self._of[game.number]
+            number = game.number
+            if changed is not None and number not in changed and number in self._of:
+                of[number] = self._of[number]
                 continue
-            of[game.number] = one = self._one(game, now)
+            of[number] = one = self._one(game, now)
             try:
                 one.take(game, now)
                 is_news = one.show(game) or is_news
@@ -198,6 +200,8 @@ class Broadcast:
 
     def _wait(self) -> None:
         """It is looked at again when the next thing is due."""
+        if not self._out.delay:
+            return
         times = [at for at in (one.late.history.next_at for one in self._of.values()) if at is not None]
         if self._due:
             self._due.cancel()

@@ -33,6 +33,7 @@ PACE_OF = 8  # plies of which the pace is taken, and among which a position is l
 PACE = 3.0  # seconds that a ply takes where nobody knows it
 QUICKEST = 1.0  # seconds that one takes at least
 SIDES = (range(1, 7), range(7, 13))  # the piece codes of White and of Black
+NOWHERE: FrozenSet[int] = frozenset()
 
 IS_LATE = "it corrects a move late: moves may be missing"
 ELSEWHERE = "pieces of the other side were on other squares before it: moves may be missing"
@@ -63,6 +64,8 @@ class Gap:
 
 def elsewhere(position: Picture, picture: Picture, side: range) -> FrozenSet[int]:
     """The squares on which the picture shows a piece of this side that the position doesn't have there."""
+    if picture == position:
+        return NOWHERE
     return frozenset(at for at, (has, shown) in enumerate(zip(position, picture)) if shown != has and shown in side)
 
 
@@ -77,6 +80,8 @@ class Stood:
 
     def shows(self, now: float, squares: FrozenSet[int], stand: bool) -> None:
         """From here on pieces are on these squares; they `stand` there already, or come there."""
+        if not (squares or self._since):
+            return
         stood = {square for square, since in self._since.items() if now - since >= self.seconds}
         self.squares |= stood
         self.left |= stood - squares
@@ -125,6 +130,7 @@ class Doubts:
     _position: Optional[Picture] = None
     _before: Optional[Picture] = None  # the position before the last move
     _side: int = 0  # that is to move, of SIDES
+    _moved: FrozenSet[int] = NOWHERE  # where the piece that moved last belongs
     _reached: Deque[str] = field(default_factory=lambda: deque(maxlen=PACE_OF + 1))  # the last positions
     _shown: Optional[Picture] = None  # the last picture
     _last: str = ""  # the last move, as `4... Qg4+`
@@ -203,12 +209,9 @@ class Doubts:
             self._moved_at += now - self._taken_back_at
         self._taken_back_at = now if picture == self._before else None
         own, others = (elsewhere(self._position, picture, SIDES[side]) for side in (self._side, 1 - self._side))
-        is_off = False
-        reached: FrozenSet[int] = frozenset()
-        if self._before is not None:
+        if self._before is not None and own:
             own &= elsewhere(self._before, picture, SIDES[self._side])  # a piece that was taken may be put back
-            reached = elsewhere(self._before, self._position, SIDES[1 - self._side])
-            is_off = any(picture[square] != self._position[square] for square in reached)
+        is_off = any(picture[square] != self._position[square] for square in self._moved)
         if self._gap is not None:
             theirs = SIDES[1 - self._side]
             self._touched |= any(has in theirs and shown == 0 for has, shown in zip(self._position, picture))
@@ -216,8 +219,8 @@ class Doubts:
         since.own.shows(now, own, self._comes_first)
         since.others.shows(now, others, self._comes_first)
         for stood in (since.again, since.drawn):
-            stood.shows(now, others if is_off else frozenset(), self._comes_first)
-        since.last = reached
+            stood.shows(now, others if is_off else NOWHERE, self._comes_first)
+        since.last = self._moved
         self._comes_first = False
 
     def _reaches(self, fen: str) -> None:
@@ -228,6 +231,7 @@ class Doubts:
             self._reached.pop()
         self._reached.append(f"{placement} {side}")
         self._position, self._side = codes_of(placement), "wb".index(side)
+        self._moved = NOWHERE if self._before is None else elsewhere(self._before, self._position, SIDES[1 - self._side])
 
     def _hear(self, now: float, move: Optional[report.Move]) -> Optional[Look]:
         """A move or a correction; without one, the picture agrees with the game."""
