@@ -1,4 +1,4 @@
-"""Beside the loop: a thread for what waits for the disk, or for a program to start. The loop hears what came of it."""
+"""A thread for jobs that wait for the disk, or for a program to start. The loop gets their results."""
 
 from __future__ import annotations
 
@@ -13,7 +13,7 @@ Result = TypeVar("Result")
 
 
 class Worker:
-    """Does one job after the other. A job has what it needs by value, and changes nothing that the loop knows of."""
+    """Does one job after the other. A job gets what it needs by value, and changes nothing that the loop uses."""
 
     def __init__(self, loop: Turns) -> None:
         self._loop = loop
@@ -23,7 +23,7 @@ class Worker:
         self._thread.start()
 
     def do(self, job: Callable[[], Result], done: Callable[[Result], None]) -> None:
-        """Does this, and calls `done` in the loop. What the job raises is raised there, closed or not."""
+        """Does this, and calls `done` in the loop. An error in the job is raised there too, even after `close`."""
 
         def work() -> None:
             try:
@@ -36,17 +36,17 @@ class Worker:
         self._jobs.put(work)
 
     def close(self) -> None:
-        """No job is begun from here on, and none is heard."""
+        """Begins no further job, and reports no result any more."""
         self._closed = True
         self._jobs.put(None)
 
     def wait(self) -> None:
-        """After `close`: waits for the job that is under way."""
+        """After `close`: waits for the running job."""
         self._thread.join()
 
     def _work(self) -> None:
         try:
-            signal.pthread_sigmask(signal.SIG_BLOCK, ENDING)  # the loop hears them
+            signal.pthread_sigmask(signal.SIG_BLOCK, ENDING)  # wakes the loop
         except Exception as error:
             self._loop.raised(error)
         for job in iter(self._jobs.get, None):

@@ -1,4 +1,4 @@
-"""File descriptors: the system gives a process so many, and the boards come before the readers of a page."""
+"""File descriptors: the system limits their number for each process, and boards come before readers of a page."""
 
 from __future__ import annotations
 
@@ -13,36 +13,36 @@ MOST_TURNED_AWAY = 64
 
 @dataclass(frozen=True)
 class Room:
-    """How many readers there may be, and how many more who are told that there are too many."""
+    """How many readers are allowed, and how many more get an answer that there are too many."""
 
     readers: int
     turned_away: int
 
 
 def raise_limit() -> None:
-    """From here on there may be as many as the system allows: a shell gives fewer."""
+    """Raises the limit to the most that the system allows: a shell sets a lower one."""
     _, most = resource.getrlimit(resource.RLIMIT_NOFILE)
     try:
         resource.setrlimit(resource.RLIMIT_NOFILE, (most, most))
     except (OSError, ValueError):
-        pass  # the limit stays as it was
+        pass  # the limit stays
 
 
 def room_now(readers: int) -> Room:
-    """The room for readers, where there are so many now."""
+    """The room for readers, while this many are connected."""
     most, _ = resource.getrlimit(resource.RLIMIT_NOFILE)
     if most == resource.RLIM_INFINITY:
         return room(1 << 30, 0)
     try:
         used = len(os.listdir(OWN)) - 1  # without the one that lists them
     except OSError:
-        used = most  # as where none is left for the list
+        used = most  # as if none were left for the list
     return room(most, max(0, used - readers))
 
 
 def room(most: int, others: int) -> Room:
-    """The room for readers, where there may be so many descriptors, and the boards and all else have so many. As many stay free
-    as these have, since all boards may start their programs and write their files in the same moment."""
+    """The room for readers if `most` descriptors are allowed and boards and everything else use `others`. As many again stay free,
+    since all boards may start their programs and write their files at the same moment."""
     free = max(0, most - others)
     turned_away = min(MOST_TURNED_AWAY, free // 8)
     return Room(max(0, free - others - SET_ASIDE - turned_away), turned_away)

@@ -1,4 +1,4 @@
-"""What stands between one part of the recorder and the loop: an error in one board or one reader ends that one alone."""
+"""A guard between one part of the recorder and the loop: an error in one board or one reader ends only that one."""
 
 from __future__ import annotations
 
@@ -10,22 +10,22 @@ from live.loop import Callback, Timer, Turns
 
 
 class Guard:
-    """The calls of a loop for one part. What a callback raises ends this part: nothing that it registered is called any more,
-    what it has open is closed, and `broke` is told. `notes` is told of every other error: what else went wrong as it was closed,
-    and what a job raised after that."""
+    """The loop's calls for one part. If a callback raises an error, this part ends: none of its callbacks is called any more, what
+    it has open is closed, and `broke` gets the error. `notes` gets every other error: what else failed during closing, and what
+    a job raised later."""
 
     def __init__(self, loop: Turns, broke: Callable[[Exception], None], notes: Callable[[Exception], None]) -> None:
         self._loop, self._broke, self._notes = loop, broke, notes
         self._watched: Set[int] = set()
-        self._open: Dict[object, Callback] = {}  # what closes each thing that is open, in the order in which they were opened
+        self._open: Dict[object, Callback] = {}  # closes each open thing, in the order of opening
         self.ended = False
 
     def now(self) -> float:
-        """The time of all timers, which never goes back."""
+        """The time of all timers; it never goes back."""
         return self._loop.now()
 
     def watch(self, number: int, readable: Optional[Callback] = None, writable: Optional[Callback] = None) -> None:
-        """From here on this is what is called for the file descriptor; nothing where both are None."""
+        """Calls these from now on for the file descriptor; none if both are None."""
         if self.ended:
             return
         if readable or writable:
@@ -35,13 +35,13 @@ class Guard:
             self.forget(number)
 
     def forget(self, number: int) -> None:
-        """To be called before the file descriptor is closed."""
+        """Call this before you close the file descriptor."""
         if number in self._watched:
             self._watched.discard(number)
             self._forget(number)
 
     def _forget(self, number: int) -> None:
-        """Tries twice, and raises the first error: a file that gets a number which is still watched isn't heard."""
+        """Tries twice, and raises the first error: a new file with a number that is still watched would not be heard."""
         try:
             self._loop.forget(number)
         except Exception:
@@ -49,19 +49,19 @@ class Guard:
             raise
 
     def after(self, seconds: float, callback: Callback) -> Timer:
-        """Calls it once, so many seconds from now."""
+        """Calls it once, after this many seconds."""
         return self._loop.after(seconds, lambda: self.call(callback))
 
     def soon(self, callback: Callback) -> None:
-        """Calls it once, in the next turn. Any thread may ask for that."""
+        """Calls it once, in the next turn. Any thread may call this."""
         self._loop.soon(lambda: self.call(callback))
 
     def raised(self, error: Exception) -> None:
-        """Another thread has raised this for the part: in the next turn it ends the part, or is noted where that has ended."""
+        """Another thread has raised this error for the part: in the next turn it ends the part, or is noted if the part has ended."""
         self._loop.soon(lambda: self._notes(error) if self.ended else self._ends_by(error))
 
     def call(self, callback: Callback) -> None:
-        """Calls it now, unless the part has ended. What it raises ends the part."""
+        """Calls it now, unless the part has ended. An error ends the part."""
         if self.ended:
             return
         try:
@@ -74,8 +74,8 @@ class Guard:
         self._broke(error)
 
     def opened(self, close: Callback) -> Callback:
-        """Something was opened, and this closes it. What is returned closes it too: it is closed once, when the part ends at
-        the latest."""
+        """Something was opened, and this closes it. The returned function closes it too: it is closed only once, at the latest
+        when the part ends."""
         key = object()
         self._open[key] = close
 
@@ -86,7 +86,7 @@ class Guard:
         return once
 
     def end(self) -> None:
-        """Nothing is called from here on, and what is open is closed, the last first. A second call changes nothing."""
+        """Ends the part: calls nothing further, and closes what is open, the last first. A second call does nothing."""
         if self.ended:
             return
         self.ended = True

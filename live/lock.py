@@ -1,4 +1,4 @@
-"""Locks of the kernel's: nothing of them is left by a kill or a power cut."""
+"""Kernel locks: a kill or a power cut releases them."""
 
 from __future__ import annotations
 
@@ -7,7 +7,7 @@ import time
 
 
 def locked(number: int, patience: float) -> bool:
-    """Whether nobody else has the lock of this open file, or gives it up within so many seconds. It is taken then."""
+    """Takes the lock of this open file. Returns whether that succeeded within this many seconds."""
     ends = time.monotonic() + patience
     while True:
         try:

@@ -1,4 +1,4 @@
-"""One loop for all boards: file descriptors that are ready, times that have come, signals that end it."""
+"""One loop for all boards: file descriptors that are ready, timers that are due, signals that end it."""
 
 from __future__ import annotations
 
@@ -20,7 +20,7 @@ ENDING = (signal.SIGINT, signal.SIGTERM, signal.SIGHUP)
 
 @dataclass
 class Watch:
-    """What is to be called where a file descriptor can be read, or written."""
+    """What to call when a file descriptor can be read, or written."""
 
     readable: Optional[Callback]
     writable: Optional[Callback]
@@ -31,7 +31,7 @@ class Watch:
 
 @dataclass(order=True)
 class Timer:
-    """A call at a time, which may be taken back."""
+    """A call at a time; it can be cancelled."""
 
     when: float
     number: int
@@ -43,29 +43,29 @@ class Timer:
 
 
 class Turns(Protocol):
-    """What a part of the recorder asks of the loop."""
+    """What a part of the recorder needs of the loop."""
 
     def now(self) -> float:
-        """The time of all timers, which never goes back."""
+        """The time of all timers; it never goes back."""
 
     def watch(self, number: int, readable: Optional[Callback] = None, writable: Optional[Callback] = None) -> None:
-        """From here on this is what is called for the file descriptor; nothing where both are None."""
+        """Calls these from now on for the file descriptor; none if both are None."""
 
     def forget(self, number: int) -> None:
-        """To be called before the file descriptor is closed."""
+        """Call this before you close the file descriptor."""
 
     def after(self, seconds: float, callback: Callback) -> Timer:
-        """Calls it once, so many seconds from now."""
+        """Calls it once, after this many seconds."""
 
     def soon(self, callback: Callback) -> None:
-        """Calls it once, in the next turn. Any thread may ask for that."""
+        """Calls it once, in the next turn. Any thread may call this."""
 
     def raised(self, error: Exception) -> None:
-        """A thread has raised this: it is raised in the next turn."""
+        """A thread has raised this error: it is raised in the next turn."""
 
 
 class Loop:
-    """Calls what is ready, one after the other, until it is stopped. Nothing that it calls may wait for long."""
+    """Calls what is ready, one after the other, until it is stopped. No call may wait for long."""
 
     def __init__(self) -> None:
         self._selector = selectors.DefaultSelector()
@@ -80,11 +80,11 @@ class Loop:
 
     @staticmethod
     def now() -> float:
-        """The time of all timers, which never goes back."""
+        """The time of all timers; it never goes back."""
         return time.monotonic()
 
     def watch(self, number: int, readable: Optional[Callback] = None, writable: Optional[Callback] = None) -> None:
-        """From here on this is what is called for the file descriptor; nothing where both are None."""
+        """Calls these from now on for the file descriptor; none if both are None."""
         watch = Watch(readable, writable)
         if number not in self._selector.get_map():
             if watch.events():
@@ -95,23 +95,23 @@ class Loop:
             self._selector.unregister(number)
 
     def forget(self, number: int) -> None:
-        """To be called before the file descriptor is closed."""
+        """Call this before you close the file descriptor."""
         self.watch(number)
 
     def after(self, seconds: float, callback: Callback) -> Timer:
-        """Calls it once, so many seconds from now."""
+        """Calls it once, after this many seconds."""
         timer = Timer(self.now() + seconds, next(self._numbers), callback)
         heapq.heappush(self._timers, timer)
         return timer
 
     def soon(self, callback: Callback) -> None:
-        """Calls it once, in the next turn. Any thread may ask for that."""
+        """Calls it once, in the next turn. Any thread may call this."""
         self._soon.append(callback)
-        with contextlib.suppress(Exception):  # where it is full the loop is woken all the same
+        with contextlib.suppress(Exception):  # a full pipe wakes the loop all the same
             self._wakes.send(b"\0")
 
     def raised(self, error: Exception) -> None:
-        """A thread has raised this: it is raised in the next turn."""
+        """A thread has raised this error: it is raised in the next turn."""
 
         def again() -> None:
             raise error
@@ -126,16 +126,16 @@ class Loop:
             self._soon.popleft()()
 
     def stop(self) -> None:
-        """The loop ends after the call that is under way."""
+        """The loop ends after the present call."""
         self._stopped = True
 
     def run(self) -> None:
-        """Until it is stopped."""
+        """Runs until it is stopped."""
         self._stopped = False
         while not self._stopped:
             for watch, number, events in self._ready():
                 for event, callback in ((selectors.EVENT_READ, watch.readable), (selectors.EVENT_WRITE, watch.writable)):
-                    # A call before this one may have closed it, or watched it for something else.
+                    # An earlier call may have closed it, or watched it for something else.
                     key = self._selector.get_map().get(number)
                     if events & event and callback and key is not None and key.data is watch and not self._stopped:
                         callback()
@@ -158,9 +158,9 @@ class Loop:
 
 
 class Signals:
-    """INT, TERM and HUP call one function, in the loop. HUP that the caller has this process ignore stays ignored, as `nohup`
-    wants it; INT is heard all the same, which a shell's background ignores. What a terminal sends to stop a process is
-    ignored: a recorder that is stopped hears no board."""
+    """INT, TERM and HUP call one function, in the loop. If the caller ignores HUP, as `nohup` does, it stays ignored; INT is taken
+    even if a shell has started this in the background and ignores it. A terminal's stop signals are ignored: a recorder that is
+    stopped takes no bytes from its boards."""
 
     def __init__(self) -> None:
         self._woken, wakes = socket.socketpair()
@@ -182,7 +182,7 @@ class Signals:
             self.came = True
 
     def tell(self, loop: Loop, ends: Callback, hangs_up: Optional[Callback] = None) -> None:
-        """From here on each signal calls this, one that has come already too; HUP another function, where there is one."""
+        """From now on each signal calls this, also one that has already come; HUP calls another function, if given."""
 
         def heard() -> None:
             hung_up, self.hung_up = self.hung_up, False

@@ -1,4 +1,4 @@
-"""What ends a call before its time, with what to do about it."""
+"""An error that ends a call early, with what to do about it."""
 
 from __future__ import annotations
 
@@ -17,7 +17,7 @@ ANOTHER_CALL = (
 
 
 class Refused(Exception):
-    """A complaint for standard error, in lines, and the status that goes with it."""
+    """A complaint for standard error, in lines, and its exit status."""
 
     def __init__(self, status: int, message: str, *more: str) -> None:
         super().__init__(message)
@@ -25,5 +25,5 @@ class Refused(Exception):
         self.lines = (message, *more)
 
     def text(self, command: str) -> str:
-        """As a command prints it."""
+        """The text as a command prints it."""
         return "".join(("  " if number else f"{command}: ") + line + "\n" for number, line in enumerate(self.lines))

@@ -1,4 +1,4 @@
-"""One board, whatever goes wrong on it: it is recorded, or it is said why not, and it is tried again."""
+"""One board: it is recorded; or, if that fails, the reason is kept and recording is tried again."""
 
 from __future__ import annotations
 
@@ -45,26 +45,26 @@ class Wanted:
 
 
 class HearsBoard(Protocol):
-    """Whoever wants to know what happens on a board."""
+    """Gets the events of a board."""
 
     def wanted(self) -> Wanted:
-        """What is to be recorded, as it is begun or begun again."""
+        """What to record, each time that recording begins."""
 
     def changed(self) -> None:
-        """What it shows is another."""
+        """What the board shows has changed."""
 
     def remade(self) -> None:
-        """The text of its game is another."""
+        """The text of its game has changed."""
 
     def ended(self, why: Optional[Exception]) -> bool:
-        """Its recording has ended, or couldn't be begun. Whether it is to be tried again."""
+        """Its recording has ended, or couldn't begin. Returns whether to try again."""
 
     def owner(self, number: str) -> Optional["Board"]:
         """The other board that has this serial number."""
 
 
 class Board:
-    """One board. Its calls raise nothing: an error ends what is recorded here, and it is tried again."""
+    """One board. Its calls raise nothing: an error ends the recording here, and it is tried again."""
 
     def __init__(self, loop: Turns, program: Program, screen: Screen, paths: Paths, hears: HearsBoard) -> None:
         self._loop, self._program, self._screen, self._hears = loop, program, screen, hears
@@ -72,23 +72,23 @@ class Board:
         self.options = Options()
         self.course: Course = new_course(self.options)
         self.trouble = ""  # why it isn't recorded
-        self.refused: Optional[Refused] = None  # why its recording has ended, where that is no good
+        self.refused: Optional[Refused] = None  # why its recording has ended, if that was an error
         self.is_over = False
-        self.is_new = True  # nothing is known of it yet
+        self.is_new = True  # nothing is known about it yet
         self.pgn = b""
-        self._looks = Looks()  # what somebody is to look at in a game that isn't recorded
-        self._guard: Optional[Guard] = None  # of what is opened or recorded
+        self._looks = Looks()  # alarms of a game that isn't recorded
+        self._guard: Optional[Guard] = None  # of the game that is opened or recorded
         self._recorder: Optional[Recorder] = None
-        self.called = ""  # beside other boards
-        self._number = ""  # the serial number of its board, while it isn't recorded
-        self._done: Optional[Callable[[], None]] = None  # what is to be called when it has ended
+        self.called = ""  # among the boards of a round
+        self._number = ""  # the serial number of its board while it isn't recorded
+        self._done: Optional[Callable[[], None]] = None  # called when it has ended
         self._again: Optional[Timer] = None
         self._tries = 0
-        self._begun_at = math.inf  # when it was recorded last
-        self.cable = ""  # the name that its cable keeps, whatever becomes of its device
+        self._begun_at = math.inf  # when it was last recorded
+        self.cable = ""  # the cable's name, which stays when the device's name changes
         self._read_pgn()
 
-    # It is recorded, if it can be.
+    # Recording it, if possible.
 
     def begin(self) -> None:
         """Records it, now or as soon as it can."""
@@ -117,7 +117,7 @@ class Board:
         worker.do(lambda: opening.open(now, today()), opened)
 
     def _opened(self, guard: Guard, worker: Worker, plan: Plan, opened: Opened) -> None:
-        """The game is open: it is recorded, where it isn't over."""
+        """The game is open: recording begins, unless the game is over."""
         self.trouble, self.is_new, self._begun_at = "", False, self._loop.now()
         self._paths, self.options, self.course = opened.game.paths, opened.game.options, opened.old.course
         self._read_pgn()
@@ -138,25 +138,25 @@ class Board:
         self._hears.changed()
 
     def _broke(self, error: Exception) -> None:
-        """Something was raised: all that was open is closed."""
+        """An error was raised: everything that was open is closed."""
         self._note(error)
         self._leave()
         self._put_off(reason_of(error) if isinstance(error, (Refused, OSError)) else f"{type(error).__name__}: {error}", error)
 
     def _leave(self) -> None:
-        """Nothing is recorded from here on."""
+        """Stops recording."""
         if self._recorder:
             self.course, self._paths, self.cable = self._recorder.course, self._recorder.game.paths, self._recorder.cable
             self._number = self._recorder.number
         self._guard = self._recorder = None
 
     def _put_off(self, why: str, error: Optional[Exception]) -> None:
-        """It isn't recorded: this is why. It is tried again later, where it isn't to end."""
+        """Not recorded, for this reason. It is tried again later unless it is ending."""
         if self.is_new:
             self.is_new = False
             self._hears.remade()
         if self._done:
-            self.trouble = why if error else self.trouble  # what kept it from being recorded, where it was just tried again
+            self.trouble = why if error else self.trouble  # the reason for the last failure, if recording was just tried again
             done, self._done = self._done, None
             done()
         elif self._hears.ended(error):
@@ -171,23 +171,23 @@ class Board:
         self._hears.changed()
 
     def placed(self) -> None:
-        """The text of the game was made anew."""
+        """A new text of the game is in place."""
         self._read_pgn()
         self._hears.remade()
         self._hears.changed()
 
     def over(self) -> None:
-        """The game is over, and the board is listened to."""
+        """The game is over, and the board is watched for more moves."""
         self.is_over = True
         self.placed()
 
     def reopened(self) -> None:
-        """The game goes on, which was over."""
+        """A game that was over goes on."""
         self.is_over = False
         self.placed()
 
     def stopped(self, refused: Optional[Refused]) -> None:
-        """All that was recorded has ended."""
+        """The recording has ended."""
         if self._guard:
             self._guard.after(0, lambda: self._release(refused))
 
@@ -207,17 +207,17 @@ class Board:
         self._hears.changed()
 
     def owner(self, number: str) -> Optional[Owner]:
-        """The other game that is recorded from the board of this serial number."""
+        """The other game that is recorded from the board with this serial number."""
         board = self._hears.owner(number)
         return Owner(board.called, bool(board.plies)) if board else None
 
     def lends(self, number: str, heard: Heard) -> bool:
-        """The board of this number, which is on the cable of this one, has sent this: whether its game takes it."""
+        """The board with this number is on this board's cable, and has sent this. Returns whether its own game takes it."""
         board = self._hears.owner(number)
         return board is not None and board.takes(heard)
 
     def takes(self, heard: Heard) -> bool:
-        """Its board has sent this on another's cable: whether it is recorded. An error there is this board's."""
+        """Its board has sent this on another board's cable. Returns whether it is recorded. An error there is this board's."""
         if self._guard is None or self._recorder is None:
             return False
         hears = self._recorder.heard
@@ -225,7 +225,7 @@ class Board:
         return True
 
     def end(self, done: Callable[[], None]) -> None:
-        """Ends its recording in order, and calls this then."""
+        """Ends its recording in order, then calls this."""
         if self._again:
             self._again.cancel()
             self._again = None
@@ -243,24 +243,24 @@ class Board:
             done()
 
     def try_at_once(self) -> None:
-        """Where it isn't recorded it is tried now, and soon again."""
+        """If it isn't recorded: tries now, and again soon."""
         self._tries = 0
         self.begin()
 
-    # What is typed.
+    # Typed lines.
 
     def typed(self, text: str) -> Answer:
         """A line of the terminal of a single board."""
         return self._answered(text, self._recorder.typed) if self._recorder else self.add(text)
 
     def add(self, text: str) -> Answer:
-        """Adds a result or moves. An answer."""
+        """Adds a result or moves. Returns an answer."""
         answer = self._answered(text, self._recorder.add if self._recorder else self._add_to_closed)
         self._hears.changed()
         return answer
 
     def _answered(self, text: str, call: Callable[[str], Answer]) -> Answer:
-        """What a call answers. What it raises is answered too: a typed line ends nothing."""
+        """The answer of a call. An error becomes an answer too: a typed line ends nothing."""
         try:
             return call(text)
         except Exception as error:
@@ -268,7 +268,7 @@ class Board:
             return refusal(text, error)
 
     def _add_to_closed(self, text: str) -> Answer:
-        """To a game that isn't recorded now; what it is then is read."""
+        """Adds to a game that isn't recorded now, and reads its new state."""
         answer = add_by_name(self._program, self.paths, text, 0)
         if answer[0] == DONE:
             self._read_pgn()
@@ -278,7 +278,7 @@ class Board:
         return answer
 
     def _note(self, error: Exception) -> None:
-        """Where it was raised, in NAME.log; or what it is, where that can't be written. A refusal says all in its own words."""
+        """Writes to NAME.log where the error was raised; if that can't be written, returns the error. A refusal explains itself."""
         if isinstance(error, Refused):
             return
         try:
@@ -287,16 +287,16 @@ class Board:
             for one in (error, another):
                 self._screen.say(f"{type(one).__name__}: {one}")
 
-    # What others see.
+    # What others read.
 
     @property
     def is_recorded(self) -> bool:
-        """Whether it is just now."""
+        """Whether it is recorded now."""
         return self._recorder is not None
 
     @property
     def number(self) -> str:
-        """The serial number of its board; nothing where none is known."""
+        """The serial number of its board, empty if unknown."""
         return self._recorder.number if self._recorder else self._number
 
     @property
@@ -306,12 +306,12 @@ class Board:
 
     @property
     def result(self) -> str:
-        """That of its text."""
+        """The result in its text."""
         return result_of(self.pgn)
 
     @property
     def plies(self) -> List[Move]:
-        """The moves of the game; those of the last one while none is recorded."""
+        """The moves of the game; of the last game while none is recorded."""
         return self._course.plies
 
     @property
@@ -321,17 +321,17 @@ class Board:
 
     @property
     def clock(self) -> Optional[Clock]:
-        """What the clocks showed last."""
+        """The last clock times."""
         return self._course.clock
 
     @property
     def recovered(self) -> List[str]:
-        """The pairs of its moves that two hands hid."""
+        """The pairs of moves that were recovered."""
         return self._course.recovered
 
     @property
     def looks(self) -> Looks:
-        """What somebody is to look at in the game."""
+        """The alarms of the game."""
         return self._recorder.looks if self._recorder else self._looks
 
     @property
@@ -340,7 +340,7 @@ class Board:
 
     @property
     def state(self) -> Optional[State]:
-        """How the board stands; None where nothing is recorded."""
+        """The board's state; None if nothing is recorded."""
         standing = self._recorder.standing if self._recorder else None
         return standing.board.state(self._loop.now()) if standing else None
 

@@ -1,4 +1,4 @@
-"""The cable of a board: what is printed when it goes and comes, how the board's state follows, and whose board is on it."""
+"""The cable of a board: messages when it is unplugged or plugged in, the board's state with it, and whose board is on it."""
 
 from __future__ import annotations
 
@@ -14,46 +14,46 @@ from live.refused import ANOTHER_CALL
 from live.terminal.screen import Screen
 
 
-Heard = Tuple[bytes, Came]  # what a board has sent, and what has ended in it
+Heard = Tuple[bytes, Came]  # what a board has sent, and what ended in it
 
 
 class HearsCable(Protocol):
-    """Who hears the board."""
+    """Gets what the cable brings."""
 
     @property
     def standing(self) -> Optional[Standing]:
-        """How it stands."""
+        """The board's state."""
 
     def heard(self, heard: Heard) -> None:
-        """It has sent this."""
+        """The board has sent this."""
 
     def numbered(self, number: str) -> None:
-        """This is its serial number from here on."""
+        """The board's serial number is this from now on."""
 
     def another(self, number: str) -> None:
-        """The board of this number is on the cable, and not the game's own."""
+        """The board with this number is on the cable, not the game's own."""
 
     def back(self, other: str) -> None:
-        """Its own board is on the cable again, and not the one of this number."""
+        """The game's own board is on the cable again, instead of the one with this number."""
 
     def lends(self, number: str, heard: Heard) -> bool:
-        """The board of this number has sent this: whether another game takes it."""
+        """The board with this number has sent this. Returns whether another game takes it."""
 
     def gone(self, message: str, is_busy: bool) -> None:
-        """It has gone away and isn't waited for, or another process has its line."""
+        """The board has gone away and isn't waited for, or another process has its line."""
 
 
 class Cable:
-    """Tells how the line of a board is. One that is to be heard `once` isn't waited for where it goes away. What another board
-    than that of the game's number sends is lent to the game that has it, and else kept back."""
+    """The state of a board's line. If it listens `once`, a board that goes away isn't waited for. What a board with another number
+    sends is lent to the game that has this board; if there is none, it is kept back."""
 
     def __init__(self, guard: Guard, screen: Screen, device: str, once: bool, number: str, hears: HearsCable) -> None:
         self._guard, self._screen, self._device, self._once, self._hears = guard, screen, device, once, hears
         self._unplugged = self._silent = self._was_plugged = False
         self._whose = Whose(number)
-        self._other = ""  # the other board that was named last, while it is on the cable
-        self._unsure: List[Heard] = []  # what came since the board was asked whose it is
-        self._foreign: List[Heard] = []  # what another board has sent, which nobody has taken
+        self._other = ""  # the number of the other board that was last reported, while it is on the cable
+        self._unsure: List[Heard] = []  # what came since the board was asked for its number
+        self._foreign: List[Heard] = []  # what another board has sent and no game has taken
         self._connection = Connection(guard, device, self)
         if number:
             self._connection.has_number()
@@ -65,12 +65,12 @@ class Cable:
 
     @property
     def number(self) -> str:
-        """The serial number of the game's board; nothing where none is known."""
+        """The serial number of the game's board, empty if unknown."""
         return self._whose.own
 
     @property
     def other(self) -> str:
-        """That of the board on the cable, where it is another one."""
+        """The serial number of the board on the cable, if it is another board."""
         return self._whose.shown if self._whose.is_other else ""
 
     def begin(self) -> None:
@@ -78,15 +78,15 @@ class Cable:
         self._connection.begin()
 
     def added(self, put: bytes) -> None:
-        """This was added by hand: it may have cut a frame, so the board is asked how it stands."""
+        """Bytes were added by hand and may have cut a frame, so the board is asked for a dump."""
         self._connection.added(put)
 
     def last_words(self) -> None:
-        """Takes what has come so far, and closes the line for good."""
+        """Takes what has come so far, and closes the line."""
         self._connection.last_words()
 
     def tell(self, standing: Standing) -> None:
-        """One that is new hears how the line is."""
+        """Reports the line's state to a new listener."""
         if self._unplugged:
             standing.unplugged()
         if self._silent:
@@ -95,11 +95,11 @@ class Cable:
     # What the line does.
 
     def asked_whose(self) -> None:
-        """The board is asked for its number: another may be on the line."""
+        """The board is asked for its number: another board may be on the line."""
         self._whose.asked(self._guard.now())
 
     def came(self, sent: bytes, ended: Came) -> None:
-        """The board has sent this, and that has ended in it."""
+        """The board has sent this, and that ended in it."""
         if ended.dumped:
             self._whose.dumped()
         if ended.serial:
@@ -123,13 +123,13 @@ class Cable:
                 self._hears.back(before)
 
     def _is_own(self, number: str) -> None:
-        """From here on the board of this number is the game's."""
+        """From now on the board with this number is the game's."""
         self._whose.own = number
         self._connection.has_number()
         self._hears.numbered(number)
 
     def _pass_on(self, heard: List[Heard]) -> None:
-        """To the game whose board this is. What nobody takes is kept back."""
+        """Gives it to the game of this board. What no game takes is kept back."""
         if not self._whose.is_other:
             for one in heard:
                 self._hears.heard(one)
@@ -140,7 +140,7 @@ class Cable:
             self._foreign.pop(0)
 
     def take(self) -> None:
-        """The board on the cable is the game's from here on, and so is what it has sent."""
+        """From now on the board on the cable is the game's, with all that it has sent."""
         if self._whose.is_other:
             self._is_own(self._whose.shown)
             self._other = ""
@@ -159,10 +159,10 @@ class Cable:
             self._hears.standing.plugged()
 
     def unplugged(self) -> None:
-        """The line has gone away, or isn't there."""
+        """The line has gone away, or wasn't there."""
         self._unplugged, self._silent = True, False
         self._unsure.clear()
-        if not self._once and self._hears.standing:  # a game that is over goes on without it
+        if not self._once and self._hears.standing:  # a game that is over ends without it
             again = "plug it in again; the recording then goes on"
             what = again if self._was_plugged else f"plug it in. Is it another device? {self._screen.other_device()}"
             self._screen.say(f"{self.name} isn't there: {what}")
@@ -172,7 +172,7 @@ class Cable:
             self._hears.gone(f"{self._device} has gone away", False)
 
     def silence(self, silent: bool) -> None:
-        """The board gives no dump, or gives them again."""
+        """The board sends no dumps, or sends them again."""
         self._silent = silent
         if silent:
             self._screen.say(
@@ -190,7 +190,7 @@ class Cable:
 
 
 def keep(kept: List[Heard], heard: Heard) -> None:
-    """Keeps this too, and of all that came before it no more than there is memory for."""
+    """Keeps this, and drops the oldest bytes beyond the limit."""
     kept.append(heard)
     size = sum(len(sent) for sent, _ in kept)
     while size > MEMORY:

@@ -1,4 +1,4 @@
-"""What can't be written, and that it ends nothing."""
+"""Write errors, which end nothing."""
 
 from __future__ import annotations
 
@@ -12,24 +12,24 @@ from live.terminal.screen import Screen
 
 
 class HearsDisk(Protocol):
-    """Who knows of the other files of a game, and is told of its capture."""
+    """Gets reports on the capture, and knows the write errors of a game's other files."""
 
     def text_trouble(self) -> str:
-        """What keeps the text from being written, as a state tells it; nothing where nothing does."""
+        """What keeps the text from being written, in the words of a state; empty if nothing does."""
 
     def restored(self) -> None:
-        """The capture was removed, and is written anew."""
+        """The capture was removed, and is written again."""
 
 
 class Disk:
-    """Appends to a capture, tries again what couldn't be written, and says so once."""
+    """Appends to a capture, tries failed writes again, and reports each error once."""
 
     def __init__(self, screen: Screen, standing: Standing, capture: Capture, hears: HearsDisk) -> None:
         self._screen, self._standing, self._capture, self._hears = screen, standing, capture, hears
         self._not_restored = ""
 
     def append(self, sent: bytes) -> None:
-        """The board has sent this, or somebody has added it."""
+        """Appends what the board has sent or somebody has added."""
         lost = self._capture.lost
         self._capture.append(sent)
         self.look()
@@ -44,7 +44,7 @@ class Disk:
         self.look()
 
     def look(self) -> None:
-        """Says what has changed."""
+        """Reports changes."""
         before = self._standing.trouble
         trouble = DISK_FULL if self._capture.full else self._hears.text_trouble()
         if trouble == before:
@@ -60,7 +60,7 @@ class Disk:
         self._standing.disk(trouble)
 
     def restore(self) -> bool:
-        """Where the capture was removed it is written anew, whole: it is open still, and has its bytes. Whether that was so."""
+        """If the capture was removed, writes it again as a whole: the open file still has its bytes. Returns whether it was."""
         path = self._capture.path
         if os.path.lexists(path) or not path.parent.is_dir():
             return False

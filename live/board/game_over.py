@@ -1,5 +1,5 @@
-"""A board whose game has a result: it is listened to until its pieces are set up, since the result may have been meant for
-another board, or kings may have stood in the centre by mistake. What comes is kept behind the game."""
+"""A board whose game has a result. It is watched until its pieces are set up: the result may have been meant for another board, or
+the kings may have been in the centre by mistake. What it sends is kept behind the game."""
 
 from __future__ import annotations
 
@@ -16,25 +16,25 @@ from live.game.report import Picture, line_of
 from live.guard import Guard
 from live.terminal.screen import Screen
 
-TICK = 1.0  # seconds between two looks at what waits
-MOST = 4 * 1024 * 1024  # bytes that are listened to, some fifteen hours
+TICK = 1.0  # seconds between two checks
+MOST = 4 * 1024 * 1024  # bytes to watch, some fifteen hours
 
 
 class HearsListening(Protocol):
-    """Who is told of such a board."""
+    """Gets reports on such a board."""
 
     def set_up(self) -> None:
-        """Its pieces stand at the start."""
+        """Its pieces are at the start."""
 
     def looked(self) -> None:
-        """Somebody is to look at it."""
+        """There is an alarm."""
 
     def broken(self, what: str) -> None:
-        """A part of it fails again and again."""
+        """A child process fails again and again."""
 
 
 class Heard:
-    """What a board has sent since its game is over."""
+    """What a board has sent since its game ended."""
 
     def __init__(self) -> None:
         self._content = bytearray()
@@ -45,7 +45,7 @@ class Heard:
         return len(self._content)
 
     def read(self, offset: int, count: int) -> bytes:
-        """So many of them, or fewer, from an offset on."""
+        """At most this many bytes, from an offset on."""
         return bytes(self._content[offset : offset + count])
 
     def append(self, sent: bytes) -> None:
@@ -54,7 +54,7 @@ class Heard:
 
 
 class Listening:
-    """Says where moves are made after the end of a game."""
+    """Reports moves that are made after the end of a game."""
 
     def __init__(self, guard: Guard, screen: Screen, game: Game, course: Course, hears: HearsListening) -> None:
         self._guard, self._screen, self._game, self._hears = guard, screen, game, hears
@@ -76,7 +76,7 @@ class Listening:
             self._hears.set_up()
 
     def dumped(self) -> None:
-        """What came ends a whole dump."""
+        """What came ends a complete dump."""
 
     def _each_second(self) -> None:
         self._tick = self._guard.after(TICK, self._each_second)
@@ -109,18 +109,18 @@ class Listening:
         self._after.result = result
 
     def acknowledged(self) -> None:
-        """Somebody has looked."""
+        """Somebody has acknowledged the alarms."""
         self.looks = kept_looks(self._game.paths)
 
     def says(self, text: str) -> None:
-        """A child has ended, and is started again."""
+        """A child process has ended, and is started again."""
         self._screen.say(text)
 
     def broken(self, what: str) -> None:
-        """A child has ended again and again."""
+        """A child process has ended again and again."""
         self._hears.broken(what)
 
     def close(self) -> None:
-        """Nothing is heard from here on."""
+        """Stops watching."""
         self._tick.cancel()
         self._watch.close()

@@ -1,4 +1,4 @@
-"""What is to be recorded on a board: a device, and a game or a series of games; and who is told of it."""
+"""What to record on a board: a device, and a game or a series of games; and who gets the reports."""
 
 from __future__ import annotations
 
@@ -19,7 +19,7 @@ def numbered(name: str, number: int) -> Paths:
 
 
 def last_number(name: str) -> int:
-    """That of the last game of a series that is there, else 1."""
+    """The number of the last existing game of a series, else 1."""
     number = 1
     while os.path.lexists(numbered(name, number + 1).capture):
         number += 1
@@ -28,9 +28,8 @@ def last_number(name: str) -> int:
 
 @dataclass(frozen=True)
 class Plan:
-    """What is to be recorded, and how: a device, and the name of a game or of a series. `board` is its number in a round, and
-    `serial` the number of the board itself, where it is said. Of a game that is over it `shows` what there is, and hears no
-    board."""
+    """What to record, and how: a device, and the name of a game or of a series. `board` is its number in a round; `serial` is the
+    board's own serial number, if given. For a game that is over, only `shows` is used, and no board is opened."""
 
     device: str
     name: str
@@ -42,27 +41,27 @@ class Plan:
 
     @property
     def paths(self) -> Paths:
-        """The files of the game, or of the last one of the series that is there."""
+        """The files of the game, or of the last existing game of the series."""
         return numbered(self.name, last_number(self.name)) if self.rules.series else Paths(self.name)
 
 
 class HearsRecorder(Protocol):
-    """Whoever wants to know what happens on a board."""
+    """Gets the events of a recorder."""
 
     def placed(self) -> None:
-        """The text of its game was made anew."""
+        """A new text of its game is in place."""
 
     def over(self) -> None:
-        """The game is over, and the board is listened to."""
+        """The game is over, and the board is watched for more moves."""
 
     def reopened(self) -> None:
-        """The game goes on, which was over."""
+        """A game that was over goes on."""
 
     def stopped(self, refused: Optional[Refused]) -> None:
-        """All that was recorded has ended; why, where that is no good."""
+        """The recording has ended; with the reason if that was an error."""
 
     def owner(self, number: str) -> Optional[Owner]:
-        """The other game that is recorded from the board of this serial number."""
+        """The other game that is recorded from the board with this serial number."""
 
     def lends(self, number: str, heard: Heard) -> bool:
-        """That board has sent this: whether its game takes it."""
+        """That board has sent this. Returns whether its own game takes it."""

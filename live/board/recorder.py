@@ -1,4 +1,4 @@
-"""The games of one board while it is recorded: a single one, or one after the other."""
+"""The games of one board while it is recorded: a single game, or one after the other."""
 
 from __future__ import annotations
 
@@ -35,20 +35,20 @@ from live.terminal.screen import Screen
 
 
 class Recorder(TakesOff):
-    """Records the games of one board, one after the other, until it has ended them."""
+    """Records the games of one board, one after the other, until it is ended."""
 
     def __init__(
         self, guard: Guard, worker: Worker, screen: Screen, plan: Plan, opened: Opened, hears: HearsRecorder
     ) -> None:
         self._guard, self._worker, self._screen, self._plan, self._hears = guard, worker, screen, plan, hears
         self._refused: Optional[Refused] = None
-        self._before: Optional[Paths] = None  # the game before this one, of this call
+        self._before: Optional[Paths] = None  # the game before this one, in this call
         self._reason: Optional[Reason] = None  # why the game is over
         self._ending = self._closing = False
-        self._begins_anew = False  # whether this game begins when the start stands, and not the next one
+        self._begins_anew = False  # whether the start begins this game, and not the next one
         number = plan.serial or kept_serial(opened.game.paths)
         self._cable = Cable(guard, screen, plan.device, plan.once, number, self)
-        self._now: Union[Recording, SettingUp, Listening, None] = None  # what hears the board
+        self._now: Union[Recording, SettingUp, Listening, None] = None  # what takes the board's bytes
         self._take(opened.game, opened.close)
         if plan.serial:
             self._keep_number(plan.serial)
@@ -60,7 +60,7 @@ class Recorder(TakesOff):
         self._cable.begin()
 
     def _take(self, game: Game, close: Optional[Callback] = None) -> None:
-        """This is the game from here on: its log is kept, and others may ask for it."""
+        """Makes this the game: its log is kept, and other calls may ask for it."""
         self.game = game
         self._close_capture = close or self._guard.opened(game.capture.close)
         self._screen.keep(Log(game.paths.log))
@@ -71,12 +71,12 @@ class Recorder(TakesOff):
         self._close_control = self._guard.opened(control.close)
 
     def restored(self) -> None:
-        """The capture is another file."""
+        """The capture is another file now."""
         self._close_control()
         self._listen()
 
     def _leave(self) -> None:
-        """The game is another one from here on."""
+        """Closes this game, before another one."""
         self._close_control()
         self._close_capture()
 
@@ -84,7 +84,7 @@ class Recorder(TakesOff):
 
     def _record(self, opened: Opened, says: bool = True) -> None:
         self._reason = None
-        ends = "" if self._plan.board else "; Ctrl-C ends it"  # there it would end all boards
+        ends = "" if self._plan.board else "; Ctrl-C ends it"  # an error there would end all boards
         paths = self.game.paths
         if says:
             self._screen.say(f"records {self._plan.device} in {paths.capture} and {paths.pgn}{ends}")
@@ -130,15 +130,15 @@ class Recorder(TakesOff):
             self._end_with(written)
 
     def _await_moves(self) -> None:
-        """The game is over: it is said where moves are made all the same."""
+        """The game is over: moves that are still made are reported."""
         self._now = Listening(self._guard, self._screen, self.game, self.course, self)
 
     def set_up(self) -> None:
-        """The pieces of a game that is over were set up."""
+        """The pieces were set up again after a game."""
         self._guard.after(0, self.end)
 
     def looked(self) -> None:
-        """Somebody is to look at a game that is over."""
+        """There is an alarm in a game that is over."""
         self._hears.placed()
 
     def _end_with(self, written: bool) -> None:
@@ -147,7 +147,7 @@ class Recorder(TakesOff):
         self._all_closed(written)
 
     def _await_start(self, end: Optional[int]) -> None:
-        """The game is over, and the next one begins when the pieces stand at the start."""
+        """The game is over, and the next one begins when the pieces are at the start."""
         paths = self.game.paths
         mark = end_mark(paths)
         if end is None:
@@ -167,7 +167,7 @@ class Recorder(TakesOff):
         return numbered(self._plan.name, int(self.game.paths.name.rpartition("-")[2]) + 1)
 
     def anew(self) -> None:
-        """What was taken for the first move of this game was a part of its set-up."""
+        """What looked like the first move of this game was part of its set-up."""
         self._guard.after(0, self._look_for_this_start)
 
     def _look_for_this_start(self) -> None:
@@ -177,7 +177,7 @@ class Recorder(TakesOff):
             self._look_for_start(0)
 
     def ready(self, content: bytes) -> bool:
-        """The start stands: a capture begins with it. Whether it could be begun."""
+        """The pieces are at the start: a capture begins with it. Returns whether it could begin."""
         game = self._begin_this(content) if self._begins_anew else self._begin_next(content)
         if game is None:
             return False
@@ -190,11 +190,11 @@ class Recorder(TakesOff):
         self._begins_anew = False
         self._record(Opened(game, nothing_old(game.options, game.capture.size)))
         if isinstance(self._now, Recording):
-            self._now.remake()  # what is under way of the game before may come late
+            self._now.remake()  # what is under way for the game before may arrive late
         return True
 
     def _begin_next(self, content: bytes) -> Optional[Game]:
-        """The next game."""
+        """Begins the next game."""
         paths = self._next()
         try:
             if paths.pgn.exists():
@@ -212,7 +212,7 @@ class Recorder(TakesOff):
         return game
 
     def _begin_this(self, content: bytes) -> Optional[Game]:
-        """The capture begins with the start; what came before it is kept beside."""
+        """The capture begins with the start; what came before is kept beside it."""
         paths = self.game.paths
         try:
             put_in_place(paths.before, self.game.capture.bytes())
@@ -220,12 +220,12 @@ class Recorder(TakesOff):
         except OSError:
             return None
         with contextlib.suppress(OSError):
-            keep_looks(paths, Looks())  # what there was to look at was the set-up
+            keep_looks(paths, Looks())  # the alarms were about the set-up
         self._screen.say(f"the pieces have been set up: {paths.name} begins now")
         return game
 
     def _begun(self, paths: Paths, content: bytes, options: Options) -> Game:
-        """A game whose capture has this, and whose text was made. An OSError comes where it can't be."""
+        """A game whose capture has this content, with its text made. Raises OSError if it can't be made."""
         game = dataclasses.replace(self.game, paths=paths, capture=Capture.begin(paths.capture, content), options=options)
         made = Text(game).make(None)
         if made.trouble:
@@ -234,10 +234,10 @@ class Recorder(TakesOff):
         return game
 
     def placed(self) -> None:
-        """The text of the game was made anew."""
+        """A new text of the game is in place."""
         self._hears.placed()
 
-    # What others see of it.
+    # What others read.
 
     @property
     def cable(self) -> str:
@@ -246,23 +246,23 @@ class Recorder(TakesOff):
 
     @property
     def number(self) -> str:
-        """The serial number of its board; nothing where none is known."""
+        """The serial number of its board, empty if unknown."""
         return self._cable.number
 
     @property
     def standing(self) -> Optional[Standing]:
-        """How the board stands; None where its game is over."""
+        """The board's state; None if its game is over."""
         return self._now.standing if isinstance(self._now, (Recording, SettingUp)) else None
 
     @property
     def looks(self) -> Looks:
-        """What somebody is to look at in the game."""
+        """The alarms of the game."""
         return self._now.looks if isinstance(self._now, (Recording, Listening)) else kept_looks(self.game.paths)
 
     # What its cable brings.
 
     def heard(self, heard: Heard) -> None:
-        """The board has sent this, on its own cable or on another's."""
+        """The board has sent this, on its own cable or on another one."""
         sent, ended = heard
         if self._now:
             self._now.came(sent)
@@ -272,11 +272,11 @@ class Recorder(TakesOff):
             self._now.timed(ended.time)
 
     def lends(self, number: str, heard: Heard) -> bool:
-        """The board of this number has sent this: whether another game takes it."""
+        """The board with this number has sent this. Returns whether another game takes it."""
         return self._hears.lends(number, heard)
 
     def numbered(self, number: str) -> None:
-        """This is the serial number of its board from here on."""
+        """The serial number of its board is this from now on."""
         self._keep_number(number)
 
     def _keep_number(self, number: str) -> None:
@@ -288,7 +288,7 @@ class Recorder(TakesOff):
             self._screen.say(f"{self.game.paths.serial} can't be written ({text_of(error)})")
 
     def another(self, number: str) -> None:
-        """The board of this number is on its cable, and not its own. Where it was said which board is which, both are found."""
+        """The board with this number is on its cable, not its own. If the table says which board is where, each is found by itself."""
         owner = self._hears.owner(number)
         if owner and self._plan.serial:
             self._screen.say(f"{self.cable} has the board of {owner.name}, serial number {number}: it goes to that game")
@@ -301,7 +301,7 @@ class Recorder(TakesOff):
             self._look(back(self.number, other))
 
     def _look(self, look: Look) -> None:
-        """Somebody is to look at this."""
+        """Raises an alarm."""
         if isinstance(self._now, Recording):
             self._now.look_at(look)
             return
@@ -325,17 +325,17 @@ class Recorder(TakesOff):
         self._fail(message if is_busy else f"{message}; what was played is in {self.game.paths.pgn}")
 
     def _look_at(self, now: Union[Recording, SettingUp]) -> None:
-        """This hears the board from here on, and how its cable is."""
+        """From now on this takes the board's bytes and the cable's state."""
         self._now = now
         now.standing.look(self.looks.short)
         self._cable.tell(now.standing)
 
     def asks(self, put: bytes) -> None:
-        """This was added by hand, and the board is asked how it stands."""
+        """Bytes were added by hand, and the board is asked for a dump."""
         self._cable.added(put)
 
     def broken(self, what: str) -> None:
-        """A part of the program has ended again and again."""
+        """A child process has ended again and again."""
         pgn = self.game.paths.pgn
         self._fail(f"a part of the program failed again and again ({what}); what was played is in {pgn}")
 
@@ -344,10 +344,10 @@ class Recorder(TakesOff):
             self._refused = Refused(FAILED, message, "Start again with the same NAME")
         self._guard.after(0, self.end)
 
-    # What is typed.
+    # Typed lines.
 
     def typed(self, text: str) -> Answer:
-        """A line of the terminal. The name of the game before, or of this one, may stand behind it."""
+        """A line of the terminal. It may end with the name of this game or of the one before."""
         words, _, name = text.rpartition(" ")
         named = self._before is not None and name in (self._before.name, self.game.paths.name)
         before = self._before if self._before and name == self._before.name else None
@@ -355,7 +355,7 @@ class Recorder(TakesOff):
         return status, answer + added.QUIT_TOO if answer.endswith((added.WAYS, added.ALL_WAYS)) else answer
 
     def add(self, text: str) -> Answer:
-        """Adds what was typed; an answer, and the status that goes with it."""
+        """Adds what was typed. Returns an answer, with its status."""
         return self._add(text, None, sure=True, may_quit=False)
 
     def _asked(self, text: str) -> Answer:
@@ -394,7 +394,7 @@ class Recorder(TakesOff):
             return refusal(text, error)
 
     def _acknowledge(self, before: Optional[Paths]) -> Answer:
-        """Somebody has looked at what he was to look at, in this game or in the one before it."""
+        """Acknowledges the alarms of this game and of the one before it."""
         takes = before is None and self._may_take()
         if before is None and isinstance(self._now, Recording):
             seen = self._now.acknowledge()
@@ -411,14 +411,14 @@ class Recorder(TakesOff):
         return DONE, seen
 
     def _add_before(self, paths: Paths, text: str) -> Answer:
-        """To the game before this one."""
+        """Adds to the game before this one."""
         status, answer = add_by_name(self.game.program, paths, text, 0)
         if status == DONE:
             self._screen.say(answer.replace("added to", "added by hand to", 1))
         return status, answer
 
     def _add_last(self, typed: added.Typed) -> Answer:
-        """To the game that is over, while the pieces are set up."""
+        """Adds to the game that is over while the pieces are set up."""
         if isinstance(self._now, Listening) and not self.game.capture.full:
             return self._add_after(self._now, typed)
         if not isinstance(self._now, SettingUp) or self._begins_anew or self.game.capture.full:
@@ -426,7 +426,7 @@ class Recorder(TakesOff):
         name = self.game.paths.name
         try:
             what = add_to_closed(self.game, typed)
-        finally:  # the capture may be another file, whatever came of it
+        finally:  # the capture may be another file, even after an error
             self._now.close()
             self.restored()
             self._look_for_start(self._end())
@@ -434,11 +434,11 @@ class Recorder(TakesOff):
         return DONE, f"added to {name}: {what}"
 
     def _add_after(self, listening: Listening, typed: added.Typed) -> Answer:
-        """To the game that is over, whose board is listened to."""
+        """Adds to the game that is over and whose board is watched."""
         name = self.game.paths.name
         try:
             what = add_to_closed(self.game, typed)
-        finally:  # the capture may be another file, whatever came of it
+        finally:  # the capture may be another file, even after an error
             self.restored()
         self._screen.say(f"added by hand to {name}: {what}")
         self._hears.placed()
@@ -450,16 +450,16 @@ class Recorder(TakesOff):
             self._await_moves()
         return DONE, f"added to {name}: {what}"
 
-    # How it ends.
+    # Ending.
 
     def end(self) -> None:
-        """Ends it all in order. A second call changes nothing."""
+        """Ends everything in order. A second call does nothing."""
         if self._ending:
             return
         self._ending = True
         self._cable.last_words()
         if self._closing:
-            return  # the game is being closed, and then all is
+            return  # the game is being closed, and everything after it
         if isinstance(self._now, Recording):
             self._now.finish(self._game_closed)
         else:

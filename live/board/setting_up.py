@@ -1,4 +1,4 @@
-"""Between two games of a series: what comes is kept behind the game that is over, until the start stands again."""
+"""Between two games of a series: what comes is kept behind the game that is over, until the pieces are at the start again."""
 
 from __future__ import annotations
 
@@ -16,28 +16,28 @@ from live.guard import Guard
 from live.loop import Timer
 from live.terminal.screen import Screen
 
-TICK = 1.0  # seconds between two looks at what waits
-LOOKED_BACK = 65536  # bytes before the end in which the last dump is looked for
+TICK = 1.0  # seconds between two checks
+LOOKED_BACK = 65536  # bytes before the end that are searched for the last dump
 
 
 class HearsSettingUp(Protocol):
-    """Who is told that the start stands."""
+    """Is called when the pieces are at the start."""
 
     def ready(self, content: bytes) -> bool:
-        """It does: the next game's capture may begin with this. Whether it could be begun; else it is asked again."""
+        """They are: the next game's capture may begin with this. Returns whether it could begin; if not, this is called again."""
 
     def broken(self, what: str) -> None:
-        """A part of it fails again and again."""
+        """A child process fails again and again."""
 
     def restored(self) -> None:
-        """The capture was removed, and is written anew."""
+        """The capture was removed, and is written again."""
 
 
 class SettingUp:
     """Looks for the first picture of the start behind an offset of a capture.
 
-    What the next game's capture begins with is a dump of the start, and all that came after the byte with which the start
-    stood. So a first move that is made at once is in it.
+    The next game's capture begins with a dump of the start, followed by all that came after the byte that completed the start.
+    So a first move that is made at once is in it.
     """
 
     def __init__(self, guard: Guard, screen: Screen, game: Game, end: int, hears: HearsSettingUp) -> None:
@@ -45,20 +45,20 @@ class SettingUp:
         self._start = protocol.picture_of_placement(game.options.start)
         self.standing = Standing(guard, screen, self._start, game.options.rotated, played=False)
         self._disk = Disk(screen, self.standing, game.capture, self)
-        game.capture.limit = None  # the game is over: what comes now may go past what a game may have
+        game.capture.limit = None  # the game is over: the file may now grow past a game's limit
         self._tick = guard.after(TICK, self._each_second)
         self._tries: Optional[Timer] = None
         self._begin(end)
 
     def _begin(self, end: int) -> None:
-        """Looks behind this offset. It is read from the last dump before it on: without one no update would count."""
+        """Looks behind this offset. Reading begins at the last dump before it: without one no update would count."""
         self._end = self._from = end
         looks_at = max(0, end - LOOKED_BACK)
         before = self._game.capture.bytes(looks_at, end)
         dump = before.rfind(DUMP_BEGINS)
         words = self._game.options.of_pictures()
         if dump >= 0:
-            # A picture is reported where it is another one than before: the start, where it doesn't stand already.
+            # A picture is reported if it differs from the one before: so also the start, unless the board shows it already.
             shown = self._game.program.lines("pictures", *words, given=before[dump:])
             if shown[-1:] != [self._game.options.start]:
                 self._from = looks_at + dump
@@ -71,7 +71,7 @@ class SettingUp:
         self._feed()
 
     def dumped(self) -> None:
-        """What came ends a whole dump."""
+        """What came ends a complete dump."""
 
     def _feed(self) -> None:
         self._watch.feed()
@@ -100,19 +100,19 @@ class SettingUp:
             self.standing.show()
 
     def says(self, text: str) -> None:
-        """A child has ended, and is started again."""
+        """A child process has ended, and is started again."""
         self._screen.say(text)
 
     def broken(self, what: str) -> None:
-        """A child has ended again and again."""
+        """A child process has ended again and again."""
         self._hears.broken(what)
 
     def text_trouble(self) -> str:
-        """No text is written now."""
+        """No text is written in this state."""
         return ""
 
     def restored(self) -> None:
-        """The capture was removed, and is written anew."""
+        """The capture was removed, and is written again."""
         self._hears.restored()
 
     def close(self) -> None:

@@ -1,4 +1,4 @@
-"""The board of a call of dgt_live: a single one, whose call ends with its recording."""
+"""The single board of a call of dgt_live. The call ends with its recording."""
 
 from __future__ import annotations
 
@@ -28,8 +28,8 @@ QUITS = ("q", "quit")
 
 @dataclass(frozen=True)
 class Choice:
-    """The options that were given, what is told of those that were turned into what PGN takes, and whether a game that is over
-    may be opened, since spectators haven't seen all of it."""
+    """The given options, the messages about those that were changed to what PGN allows, and whether a game that is over may be
+    opened because spectators haven't seen all of it."""
 
     given: Options
     told: Tuple[str, ...] = ()
@@ -37,7 +37,7 @@ class Choice:
 
 
 class Single:
-    """The only board. What it can't be begun with ends the call; an error later doesn't: it is tried again."""
+    """The only board. If it can't begin, the call ends; after a later error it is tried again."""
 
     number = 1
 
@@ -47,12 +47,12 @@ class Single:
         self.board = Board(loop, program, self._screen, plan.paths, self)
         self.refused: Optional[Refused] = None
         self.on_change: Callable[[], None] = lambda: None
-        self.over: Callable[[], None] = loop.stop  # what is called when its recording has ended
-        self.asked: Callable[[], None] = loop.stop  # and where somebody wants that
-        self.goes_on: Callable[[], None] = lambda: None  # and where it is recorded again
-        self.greeting: Tuple[str, ...] = ()  # what is said once it is recorded
+        self.over: Callable[[], None] = loop.stop  # called when its recording has ended
+        self.asked: Callable[[], None] = loop.stop  # and when somebody ends it
+        self.goes_on: Callable[[], None] = lambda: None  # and when it is recorded again
+        self.greeting: Tuple[str, ...] = ()  # what to print once it is recorded
         self.is_open = False  # whether its game has been opened
-        self._is_faulty = False  # whether an error has ended that
+        self._is_faulty = False  # whether an error has ended its recording
 
     def begin(self) -> None:
         """Records it."""
@@ -67,7 +67,7 @@ class Single:
         self.asked()
 
     def wanted(self) -> Wanted:
-        """What the call says."""
+        """What the command line says."""
         plan, choice = self._plan, self._choice
         paths = plan.paths
         shows = (choice.is_unseen or self.is_open) and not plan.rules.series and end_mark(paths) is not None
@@ -88,7 +88,7 @@ class Single:
         return Wanted(dataclasses.replace(plan, shows=shows), lambda: Opening(self._program, paths, prepares))
 
     def changed(self) -> None:
-        """What it shows is another."""
+        """What it shows has changed."""
         if self.board.is_recorded:
             self._opened()
             self._is_faulty = False
@@ -103,11 +103,11 @@ class Single:
             self._screen.say(line)
 
     def remade(self) -> None:
-        """The text of its game is another."""
+        """The text of its game has changed."""
         self.on_change()
 
     def ended(self, why: Optional[Exception]) -> bool:
-        """Its recording has ended, or couldn't be begun. Whether it is to be tried again."""
+        """Its recording has ended, or couldn't begin. Returns whether to try again."""
         if why is None:
             self._opened()
         elif self.is_open and (self._is_faulty or not isinstance(why, Refused)):
@@ -136,24 +136,24 @@ class Single:
         self._screen.note(traced(error))
 
     def trouble(self, text: str) -> None:
-        """What should never happen, and where: for the log."""
+        """An error that should never happen, and where: for the log."""
         self._screen.note(text)
 
     def say(self, text: str) -> None:
-        """A line for whoever looks at the screen."""
+        """A line for the screen."""
         self._screen.say(text)
 
-    # What the page asks for.
+    # What the page reads.
 
     @property
     def name(self) -> str:
-        """What the files of its game are called."""
+        """The name of its game's files."""
         return os.path.basename(self.board.paths.name)
 
     in_front = ""
 
     def standing(self) -> Tuple[str, Optional[float], bool]:
-        """How it stands in words, since when, and whether somebody must look at it."""
+        """The board's state in words, since when, and whether it is an alarm."""
         state, now = self.board.state, self._loop.now()
         if self.board.trouble:
             return f"NOT RECORDED: {self.board.trouble}", None, True
@@ -168,12 +168,12 @@ class Single:
 
     @property
     def tags(self) -> Tags:
-        """Those that are published and not recorded, or that are published in other letters; none where the two texts are one."""
+        """The tags that are published but not recorded, or published in other letters; none if both texts are the same."""
         return dict(self.board.options.tags)
 
 
 def refuse_over(paths: Paths, given: Options) -> None:
-    """Refused where the game is over, or has all bytes that one may have."""
+    """Refuses a game that is over, or whose capture is full."""
     if end_mark(paths) is not None:
         what = [
             f"{paths.name} is over: choose another name. To add to it: dgt_live --add 1-0 {paths.name}.",

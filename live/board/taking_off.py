@@ -1,4 +1,4 @@
-"""Plies and results that an arbiter takes off the game of a board, while it is recorded or listened to."""
+"""Takes plies and results off a game, while its board is recorded or watched."""
 
 from __future__ import annotations
 
@@ -37,7 +37,7 @@ class TakesOff:
     _begins_anew: bool
 
     def restored(self) -> None:
-        """The capture is another file."""
+        """The capture is another file now."""
         raise NotImplementedError
 
     def _record(self, opened: Opened, says: bool = True) -> None:
@@ -50,7 +50,7 @@ class TakesOff:
         raise NotImplementedError
 
     def _reopen(self) -> Answer:
-        """The result is taken off: the game goes on."""
+        """Takes the result off: the game goes on."""
         if isinstance(self._now, Recording):
             sent = self._sent()
             return DONE, self._put(without_result(self.game, sent, sent))
@@ -59,8 +59,8 @@ class TakesOff:
         return DONE, said
 
     def _go_back(self, typed: added.Back) -> Answer:
-        """Plies are taken off, and a game that was over goes on; between two games of a series it stays over where the board
-        still shows what was taken off."""
+        """Takes plies off, and a game that was over goes on; between two games of a series it stays over if the board still shows
+        what was taken off."""
         if isinstance(self._now, Recording):
             sent = self._sent()
             return DONE, self._put(way_back(self.game, typed, sent, sent))
@@ -83,7 +83,7 @@ class TakesOff:
         return f"{go_back_over(self.game, typed)}. The game stays over"
 
     def _sent(self) -> bytes:
-        """What the board has sent. Refused where the capture of a game that is recorded can't be made anew."""
+        """What the board has sent. Refused if the capture of the recorded game can't be made anew."""
         if self._closing or self._reason is not None:
             raise added.Refused("the game is just being ended. Type it again")
         if self.game.capture.full:
@@ -91,12 +91,12 @@ class TakesOff:
         return self.game.capture.bytes()
 
     def _put(self, way: Way) -> str:
-        """The game that is recorded has this capture from here on. What was done."""
+        """The recorded game has this capture from now on. Returns what was done."""
         assert self._now
         self._now.close()
         try:
             done = put_way(self.game, way)
-        finally:  # it goes on, whatever came of it
+        finally:  # it goes on, even after an error
             self.restored()
             self._begin_anew()
         self._screen.say(done)
@@ -105,13 +105,13 @@ class TakesOff:
         return f"{self.game.paths.name}: {done}"
 
     def _change_closed(self, change: Callable[[], Changed]) -> Changed:
-        """Changes a game that is over. Refused where that can't be: then all is as it was."""
+        """Changes a game that is over. If that is refused, everything stays as it was."""
         now = self._now
         if not isinstance(now, (Listening, SettingUp)) or self._begins_anew or self.game.capture.full:
             raise added.Refused("nothing can be taken off just now. Type it again")
         try:
             changed = change()
-        except OSError:  # its capture may have lost what stood behind its end
+        except OSError:  # its capture may have lost what was behind its end
             now.close()
             self.restored()
             if isinstance(now, Listening):
@@ -124,21 +124,21 @@ class TakesOff:
         return changed
 
     def _end(self) -> int:
-        """How many bytes are the game's."""
+        """The number of bytes of the game."""
         mark = end_mark(self.game.paths)
         return self.game.capture.size if mark is None else mark
 
     def _go_on(self, said: str) -> None:
-        """The game isn't over any more."""
+        """The game is no longer over."""
         self._screen.say(said)
         self._begin_anew()
         self._cable.added(STRAY)
         self._hears.reopened()
 
     def _begin_anew(self) -> None:
-        """Records the game, of which all was told, from its capture as it is now."""
+        """Starts the recording again from the game's new capture. Nothing of it is reported again."""
         opened = Opened(self.game, read_game(self.game, None, self._guard.now()))
         opened.old.course.news.clear()
         self._record(opened, says=False)
         if isinstance(self._now, Recording):
-            self._now.remake()  # what was under way may come late
+            self._now.remake()  # what was under way may arrive late

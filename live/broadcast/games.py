@@ -1,4 +1,4 @@
-"""What goes out of a game, and under which names."""
+"""What is published of a game, and under which names."""
 
 from __future__ import annotations
 
@@ -15,34 +15,34 @@ from live.web.view import Ply
 
 
 class Game(Protocol):
-    """What is asked of a board and its game."""
+    """What is read of a board and its game."""
 
     board: Board
 
     @property
     def number(self) -> int:
-        """That of its board."""
+        """Its board's number."""
 
     @property
     def name(self) -> str:
-        """What its files are called."""
+        """The name of its files."""
 
     @property
     def tags(self) -> Tags:
-        """Those that are published and not recorded, or that are published in other letters."""
+        """The tags that are published but not recorded, or published in other letters."""
 
     def player_name(self, option: str) -> str:
         """The name behind `--white` or `--black`."""
 
 
 def written_name(game: Game, side: str) -> str:
-    """A player as he is published: in the letters of the table where those are other ones."""
+    """A player's name as it is published: in the letters of the table, if they differ."""
     return game.tags.get(side) or game.player_name(f"--{side.lower()}")
 
 
 @dataclass(frozen=True)
 class Seen:
-    """What tells whether a game is another than when it was seen last: its lists only grow at their ends, or are others."""
+    """Shows whether a game has changed since it was last seen: its lists only grow at their ends, or are replaced."""
 
     lists: Tuple[int, int]
     sizes: Tuple[int, int]
@@ -57,7 +57,7 @@ class Seen:
 
 
 class Shots:
-    """Takes shots of one game."""
+    """Takes snapshots of one game."""
 
     def __init__(self) -> None:
         self._seen: Optional[Seen] = None
@@ -66,7 +66,7 @@ class Shots:
         self._clocks = STANDING
 
     def take(self, board: Board, now: float) -> Shot:
-        """The game as it is now. The same shot as before where nothing is new."""
+        """The game as it is now. Returns the same shot as before if nothing is new."""
         seen = Seen.of(board)
         clocks = self._running.look(now, board.clock, self._shot.result == "*")
         if seen != self._seen or clocks is not self._clocks:

@@ -1,4 +1,4 @@
-"""How a round goes out: how late, and by which command. What was said of a delay stays until something else is said."""
+"""How a round is published: with what delay, and by which command. A delay stays in force until another one is given."""
 
 from __future__ import annotations
 
@@ -25,7 +25,7 @@ class GoingOut:
 
 
 def read_delay(text: str) -> float:
-    """`15` minutes in seconds. Refused where it is no such number."""
+    """`15` minutes in seconds. Refused if the text is not such a number."""
     front, dot, rest = text.partition(".")
     is_number = (front + rest).isdecimal() and text.isascii() and len(text) < 9
     seconds = float(text) * MINUTE if is_number else LONGEST + 1
@@ -35,7 +35,7 @@ def read_delay(text: str) -> float:
 
 
 def read_command(text: str) -> Tuple[str, ...]:
-    """The words of a command. Refused where it has none."""
+    """The words of a command. Refused if it has none."""
     try:
         words = tuple(shlex.split(text))
     except ValueError:
@@ -55,7 +55,7 @@ def minutes(seconds: float) -> str:
 
 
 def kept_delay(paths: Paths) -> float:
-    """What was said of it last. Refused where that can't be read: nobody is to see too soon what was to be late."""
+    """The delay that was given last. Refused if it can't be read: nobody may see too soon what was to be late."""
     try:
         text = beginning(paths.delay, LONGEST_FILE).decode("ascii", "replace").strip()
     except OSError as error:
@@ -69,7 +69,7 @@ def kept_delay(paths: Paths) -> float:
 
 
 def keep_delay(paths: Paths, seconds: float) -> None:
-    """Keeps it. Refused where it can't be written."""
+    """Keeps it. Refused if it can't be written."""
     try:
         if seconds:
             put_in_place(paths.delay, minutes(seconds).split()[0].encode("ascii") + b"\n")
@@ -81,7 +81,7 @@ def keep_delay(paths: Paths, seconds: float) -> None:
 
 
 def delay_of(paths: Paths, given: Optional[float]) -> float:
-    """The delay of a round or a game from here on, where this is given or nothing is."""
+    """The delay of a round or a game from now on; nothing may be given."""
     kept = kept_delay(paths) if given is None else given
     if given is not None:
         keep_delay(paths, given)

@@ -1,6 +1,6 @@
-"""What spectators are shown of a game, and when: moves, clocks and results go out some minutes late. Pure: times are passed in.
+"""What spectators see of a game, and when: moves, clocks and results are shown some minutes late. Pure: times are passed in.
 
-All times are those of a clock that never goes back and that all processes have together until the computer is started again.
+All times are of a clock that never goes back and that all processes share until the computer is restarted.
 """
 
 from __future__ import annotations
@@ -13,13 +13,13 @@ from typing import List, Optional, Sequence, Tuple
 from live.broadcast.running import STANDING, Clocks
 from live.web.view import Ply
 
-ALWAYS = -math.inf  # when something came that was never hidden
+ALWAYS = -math.inf  # the time of something that was never hidden
 RESULT = re.compile(rb'^\[Result "[^"]*"\]$', re.MULTILINE)
 
 
 @dataclass(frozen=True)
 class Shot:
-    """A game at a moment. `positions` are FENs, of the start and after each ply; `text` is that of NAME.pgn."""
+    """A game at one moment. `positions` are FENs, of the start and after each ply; `text` is the text of NAME.pgn."""
 
     result: str = "*"
     moves: Tuple[Ply, ...] = ()
@@ -37,7 +37,7 @@ NOTHING = Shot()
 
 
 def unplayed(shot: Shot) -> Shot:
-    """The game as it was before its first move."""
+    """The game before its first move."""
     head = RESULT.sub(b'[Result "*"]', shot.text.partition(b"\n\n")[0])
     return Shot(positions=shot.positions[:1], text=head + b"\n\n*\n\n" if shot.text else b"")
 
@@ -51,8 +51,7 @@ class Entry:
 
 
 def due(came: Sequence[float], now: float, delay: float, shown: int = 0) -> int:
-    """How many of these, which came at these times in their order, are shown: each that came a delay ago, and those that were
-    shown before."""
+    """How many of these, whose times are in order, are shown: each that is older than the delay, and those that were shown before."""
     count = max(0, min(shown, len(came)))
     while count < len(came) and came[count] <= now - delay:
         count += 1
@@ -61,7 +60,7 @@ def due(came: Sequence[float], now: float, delay: float, shown: int = 0) -> int:
 
 @dataclass
 class History:
-    """What a game was, from the newest that is shown on. `shown` is how many of the entries are; as many were `dropped`."""
+    """What a game was, beginning with the newest entry that is shown. `shown` entries are shown; as many were `dropped`."""
 
     delay: float
     entries: List[Entry] = field(default_factory=list)
@@ -69,8 +68,8 @@ class History:
     dropped: int = 0
 
     def take(self, now: float, shot: Shot) -> bool:
-        """The game is this now. Whether that is news. A game that has had no move yet is shown at once, but for its clocks: its
-        players are no secret. One that is seen first with moves is shown without them."""
+        """The game is this now. Returns whether that is new. A game without a move is shown at once, except for its clocks: its
+        players are no secret. A game that already has moves when first seen is shown without them."""
         if self.delay and not self.entries and not shot.says_nothing:
             self.entries.append(Entry(ALWAYS, unplayed(shot)))
         if shot.says_nothing and all(entry.shot.says_nothing for entry in self.entries):
@@ -83,7 +82,7 @@ class History:
         return True
 
     def look(self, now: float) -> bool:
-        """The time has come so far. Whether another shot is shown than before."""
+        """Moves on to this time. Returns whether another shot is shown now."""
         before, self.shown = self.shown, due([entry.came for entry in self.entries], now, self.delay, self.shown)
         is_news, gone = self.shown > before, max(0, self.shown - 1)
         del self.entries[:gone]
@@ -98,20 +97,20 @@ class History:
 
     @property
     def shown_since(self) -> float:
-        """When what is shown was so on the board."""
+        """When the board showed what is shown now."""
         return self.entries[self.shown - 1].came if self.shown else ALWAYS
 
     @property
     def is_hidden(self) -> bool:
-        """Whether something isn't shown yet."""
+        """Whether something is still hidden."""
         return self.shown < len(self.entries)
 
     @property
     def next_at(self) -> Optional[float]:
-        """When the next one is shown."""
+        """When the next shot is shown."""
         return self.entries[self.shown].came + self.delay if self.is_hidden else None
 
     @property
     def ends_at(self) -> Optional[float]:
-        """When the last one is shown."""
+        """When the last shot is shown."""
         return self.entries[-1].came + self.delay if self.is_hidden else None

@@ -1,9 +1,9 @@
-"""NAME.delayed: what spectators haven't seen yet of a game, with the times at which it came, so that a restart hides it as long
-as it would have been hidden.
+"""NAME.delayed: what spectators haven't seen yet of a game, with its times, so that a restart hides it as long as it would have
+been hidden.
 
-Each line is a JSON object. The first one names the start of the computer to whose clock the times belong. An entry has what is
-new in it, and how much it has of the one before. What can't be read was never there: the game as it is then came just now. So
-what isn't certain is hidden longer, and nothing is hidden for a shorter time than it should be.
+Each line is a JSON object. The first line names the computer's start to whose clock the times belong. An entry has what is new
+in it, and how much of the entry before it stays. What can't be read is ignored: then the game counts as having come just now.
+So if anything is uncertain it is hidden longer, and nothing is hidden for a shorter time than it should be.
 """
 
 from __future__ import annotations
@@ -24,7 +24,7 @@ def line(values: Json) -> bytes:
 
 
 def entry_line(entry: Entry, before: Shot) -> bytes:
-    """An entry behind one that had this."""
+    """The line of an entry that follows one with this content."""
     shot = entry.shot
     moves, positions = same_front(before.moves, shot.moves), same_front(before.positions, shot.positions)
     text = same_front(before.text, shot.text)
@@ -41,7 +41,7 @@ def entry_line(entry: Entry, before: Shot) -> bytes:
 
 
 def shown_line(count: int) -> bytes:
-    """So many of the entries before this line are shown."""
+    """This many of the entries before this line are shown."""
     return line({"shown": count})
 
 
@@ -56,7 +56,7 @@ def content_of(history: History, boot: str) -> bytes:
 
 
 def _entry(values: Json, before: Shot) -> Entry:
-    """Raises an error of Python's where the line is none."""
+    """Raises one of Python's errors if the line is not an entry."""
     moves, *plies = values["moves"]
     positions, *fens = values["positions"]
     text, rest = values["text"]
@@ -72,8 +72,8 @@ def _entry(values: Json, before: Shot) -> Entry:
 
 
 def read(content: bytes, boot: str, now: float, delay: float) -> History:
-    """What was kept, for the clock of this start of the computer. What another start has hidden came just now, since nobody
-    knows how long the computer was off."""
+    """What was kept, in the times of this start of the computer. What was hidden under another start counts as having come just
+    now, since nobody knows how long the computer was off."""
     entries: List[Entry] = []
     shown = 0
     kept_boot: Optional[str] = None
@@ -95,6 +95,6 @@ def read(content: bytes, boot: str, now: float, delay: float) -> History:
 
 
 def _of_another_start(entry: Entry, came: float) -> Entry:
-    """What another clock timed: it came then, and its clocks are taken to stand."""
+    """An entry with the times of another clock: it came just now, and its clocks count as stopped."""
     clocks = Clocks(entry.shot.clocks.white, entry.shot.clocks.black)
     return Entry(came, dataclasses.replace(entry.shot, clocks=clocks))

@@ -1,4 +1,4 @@
-"""One game as spectators are shown it: what it was some minutes ago. What is still hidden is kept beside it."""
+"""One game as spectators see it: as it was some minutes ago. What is still hidden is kept beside the game."""
 
 from __future__ import annotations
 
@@ -16,7 +16,7 @@ BOOT = "/proc/sys/kernel/random/boot_id"
 
 @functools.lru_cache(maxsize=None)
 def this_start() -> str:
-    """A name for this start of the computer, to which the time of the loop belongs; a new one each time where it has none."""
+    """A name for this start of the computer, to which the loop's time belongs; if the system has none, a new name each time."""
     with contextlib.suppress(OSError):
         with open(BOOT, encoding="ascii", errors="replace") as file:
             return file.read().strip()
@@ -24,7 +24,7 @@ def this_start() -> str:
 
 
 def is_hidden(paths: Paths) -> bool:
-    """Whether a game goes out late, and spectators haven't seen it as it is now."""
+    """Whether a game is published late and spectators haven't seen it as it is now."""
     try:
         content = existing(paths.delayed)
         history = kept.read(content, "", 0.0, 0.0)
@@ -34,7 +34,7 @@ def is_hidden(paths: Paths) -> bool:
 
 
 def is_unseen(paths: Paths, published: Callable[[bytes], bytes]) -> bool:
-    """Whether that is so, or its last text was never put in place. `published` makes of a text what goes out."""
+    """Whether that is so, or its last text was never put in place. `published` turns a text into the published one."""
     with contextlib.suppress(OSError):
         if existing(paths.delayed):
             return is_hidden(paths) or existing(paths.broadcast) != published(existing(paths.pgn))
@@ -42,13 +42,13 @@ def is_unseen(paths: Paths, published: Callable[[bytes], bytes]) -> bool:
 
 
 class Late:
-    """What is shown of a game. Times are those of the loop."""
+    """What is shown of a game. Times are the loop's."""
 
     def __init__(self, paths: Paths, delay: float, now: float) -> None:
         self._path = paths.delayed
-        self._number: Optional[int] = None  # of the file, open; None where it is to be written whole
+        self._number: Optional[int] = None  # the open file; None if it is to be written as a whole
         self.trouble: Optional[Exception] = None
-        self._last = NOTHING  # what the last line of the file tells of
+        self._last = NOTHING  # what the file's last line says
         content = b""
         with contextlib.suppress(OSError):
             content = existing(self._path)
@@ -57,7 +57,7 @@ class Late:
             with contextlib.suppress(OSError):
                 os.unlink(self._path)
         if self.history.entries and delay:
-            self._keep(b"")  # times that were another start's are this one's from here on
+            self._keep(b"")  # times under another start become times of this one
         self.look(now)
 
     @property
@@ -66,21 +66,21 @@ class Late:
         return self.history.shot
 
     def take(self, now: float, shot: Shot) -> bool:
-        """The game is this now. Whether something else is shown than before."""
+        """The game is this now. Returns whether the shown game has changed."""
         if self.history.take(now, shot) and self.history.delay:
             self._keep(kept.entry_line(self.history.entries[-1], self._last))
             self._last = self.history.entries[-1].shot
         return self.look(now)
 
     def look(self, now: float) -> bool:
-        """The time has come so far. Whether something else is shown than before."""
+        """Moves on to this time. Returns whether the shown game has changed."""
         is_news = self.history.look(now)
         if is_news and self.history.delay:
             self._keep(kept.shown_line(self.history.dropped + self.history.shown))
         return is_news
 
     def _keep(self, text: bytes) -> None:
-        """Writes a line, or the whole file where it couldn't be written before. The next line is another try."""
+        """Writes a line, or the whole file if it couldn't be written before. The next line is another try."""
         try:
             if self._number is None:
                 self._renew()
@@ -88,12 +88,12 @@ class Late:
                 self._close()
                 self._renew()
             self.trouble = None
-        except Exception as error:  # a restart hides longer then; the game goes on
+        except Exception as error:  # then a restart hides longer; the game goes on
             self._close()
             self.trouble = error
 
     def _renew(self) -> None:
-        """Writes the whole file. It needn't be on the disk: what a power cut takes is hidden longer."""
+        """Writes the whole file. It isn't forced to the disk: what a power cut removes is hidden longer."""
         self.history.dropped = 0
         new = new_of(self._path)
         self._number = open_new(new, os.O_WRONLY | os.O_APPEND)
@@ -110,5 +110,5 @@ class Late:
                 os.close(number)
 
     def close(self) -> None:
-        """Nothing is kept from here on."""
+        """Keeps nothing further."""
         self._close()

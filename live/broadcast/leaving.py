@@ -1,5 +1,5 @@
-"""How a call of `dgt_live` ends while spectators haven't seen the last moves: it goes on until they have. One call alone shows
-a game late."""
+"""How a call of `dgt_live` ends while spectators haven't seen the last moves: it goes on until they have. Only one call shows a
+game late."""
 
 from __future__ import annotations
 
@@ -17,14 +17,14 @@ LOOK = 0.5  # seconds
 
 
 def clock_in(seconds: float) -> str:
-    """The time of day in so many seconds: the next full minute."""
+    """The time of day after this many seconds: the next full minute."""
     at = datetime.datetime.now() + datetime.timedelta(seconds=seconds + 59)
     return f"{at:%H:%M}"
 
 
 def hold(paths: Paths) -> Optional[int]:
-    """The lock of the only call that shows a game late; None where there is no file to lock. Refused where another call has
-    it. The log is locked, which nobody puts another file in the place of."""
+    """The lock of the only call that shows a game late; None if there is no file to lock. Refused if another call has it. The log
+    is locked, because nobody replaces that file."""
     try:
         number = open_regular(paths.log, os.O_WRONLY | os.O_APPEND | os.O_CREAT)
     except OSError:
@@ -36,16 +36,16 @@ def hold(paths: Paths) -> Optional[int]:
 
 
 class Leaving:
-    """Ends the loop when all is shown and published. Whoever ends it before is told first what is hidden. A second time ends it
-    with that hidden, a third one waits for nothing."""
+    """Ends the loop when everything is shown and published. The first request to end earlier only prints what is hidden. The
+    second one ends it with that hidden, the third one waits for nothing."""
 
     def __init__(self, loop: Loop, broadcast: Broadcast, says: Callable[[str], None]) -> None:
         self._loop, self._broadcast, self._says = loop, broadcast, says
         self._waits = self._was_asked = False
-        self.ends = False  # it waits for nothing but the last run of the command
+        self.ends = False  # wait only for the command's last run
 
     def over(self) -> None:
-        """What was recorded has ended by itself."""
+        """The recording has ended by itself."""
         left = self._left()
         if left is None and not self._waits:
             self._finish()
@@ -54,7 +54,7 @@ class Leaving:
             self._wait()
 
     def asked(self) -> None:
-        """Somebody ends it, and what was recorded has ended."""
+        """Somebody ends it, and the recording has ended."""
         left = self._left()
         if self.ends:
             self._loop.stop()
@@ -71,7 +71,7 @@ class Leaving:
         self._waits = self._was_asked = False
 
     def _left(self) -> Optional[float]:
-        """For how many seconds something of the game as it is now is hidden."""
+        """The number of seconds for which something of the game is still hidden."""
         self._broadcast.look()
         return self._broadcast.hidden_for
 

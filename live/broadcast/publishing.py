@@ -1,7 +1,7 @@
-"""`--publish COMMAND`: the command is run with the path of the broadcast's file whenever that has changed, beside the loop.
+"""`--publish COMMAND`: runs the command with the path of the broadcast's file after each change, beside the loop.
 
-When it is run is decided by `Plan`, which is pure. What it prints on standard output goes nowhere; the last line of its standard
-error is told where it fails. Its own words are told nowhere: there may be a secret among them.
+`Plan` decides when it runs, and is pure. The command's standard output is dropped; if it fails, the last line of its standard
+error is reported. The command's own words are never reported: they may contain a secret.
 """
 
 from __future__ import annotations
@@ -20,29 +20,29 @@ from live.loop import ENDING, Timer, Turns
 
 EACH = 5.0  # seconds between the beginnings of two runs, at least
 LONGEST = 30.0  # seconds that a run may take
-PAUSES = (5.0, 10.0, 20.0, 40.0, 60.0)  # seconds between the end of a run that failed and the next
-LOOK = 0.1  # seconds between two looks at a command whose standard error says nothing
+PAUSES = (5.0, 10.0, 20.0, 40.0, 60.0)  # seconds from the end of a failed run to the next run
+LOOK = 0.1  # seconds between two checks of a command that writes nothing to standard error
 LONGEST_LINE = 300  # characters of its last line
 PART = 4096  # bytes
 
 
 @dataclass
 class Plan:
-    """When a command is run: one run at a time, and again after a failure."""
+    """When a command runs: one run at a time, and again after a failure."""
 
     began_at: float = -EACH
     fails: int = 0  # runs in a row
     again_at: float = 0.0
-    wanted: bool = False  # whether the file is another one than the last run had, or that run failed
+    wanted: bool = False  # whether the file has changed since the last run, or that run failed
     running: bool = False
 
     def changed(self) -> None:
-        """The file is another one."""
+        """The file has changed."""
         self.wanted = True
 
     @property
     def begins_at(self) -> Optional[float]:
-        """When the next run begins; None where there is nothing to do, or one is under way."""
+        """When the next run begins; None if there is nothing to do, or a run is under way."""
         if self.running or not self.wanted:
             return None
         return max(self.began_at + EACH, self.again_at if self.fails else self.began_at)
@@ -63,12 +63,12 @@ class Plan:
 
 
 def run(words: Sequence[str], path: pathlib.Path, seconds: float) -> str:
-    """Runs the command, and waits for its end, or ends it and all that it has started when its time is over. What went wrong,
-    in a line; nothing where it ended well."""
+    """Runs the command and waits for its end; when its time is over, ends it with all processes that it started. Returns what went
+    wrong, in one line; empty if it ended well."""
     errors, into = os.pipe()
     try:
         try:
-            # The thread of a worker hears no signals, and a child would go on not to.
+            # A worker's thread blocks signals, and a child would inherit that.
             signal.pthread_sigmask(signal.SIG_UNBLOCK, ENDING)
             child = subprocess.Popen(
                 [*words, str(path)],
@@ -94,7 +94,7 @@ def run(words: Sequence[str], path: pathlib.Path, seconds: float) -> str:
 
 
 def _until_it_ends(child: subprocess.Popen[bytes], errors: int, ends: float) -> Tuple[bytes, bool]:
-    """The last part of what it writes there, and whether it has ended in time. What it has started may go on."""
+    """The last part of what it writes there, and whether it ended in time. Processes that it started may go on."""
     tail, is_open = b"", True
     while child.poll() is None and time.monotonic() < ends:
         if not is_open:
@@ -111,14 +111,14 @@ def _until_it_ends(child: subprocess.Popen[bytes], errors: int, ends: float) -> 
 
 
 def _end(child: subprocess.Popen[bytes]) -> None:
-    """Nothing of a command that is too slow is left."""
+    """Ends all processes of a command that is too slow."""
     if child.poll() is None:
         os.killpg(child.pid, signal.SIGKILL)
         child.wait()
 
 
 def last_line(text: bytes) -> str:
-    """The last line that says something, as a terminal may show it."""
+    """The last line that isn't empty, safe to show on a terminal."""
     lines = [line.strip() for line in text.decode("utf-8", "replace").replace("\r", "\n").split("\n")]
     said = next((line for line in reversed(lines) if line), "")
     return "".join(letter if letter.isprintable() else "?" for letter in said)[:LONGEST_LINE]
@@ -129,10 +129,10 @@ def _status(status: int) -> str:
 
 
 class HearsPublisher(Protocol):
-    """Who is told of the runs."""
+    """Gets the results of the runs."""
 
     def published(self, trouble: str) -> None:
-        """A run has ended: what went wrong, or nothing."""
+        """A run has ended; with what went wrong, or nothing."""
 
 
 class Publisher:
@@ -146,7 +146,7 @@ class Publisher:
         self._done: Optional[Callable[[], None]] = None
 
     def changed(self) -> None:
-        """The file is another one."""
+        """The file has changed."""
         self._plan.changed()
         self._wait()
 
@@ -173,11 +173,11 @@ class Publisher:
 
     @property
     def is_idle(self) -> bool:
-        """Whether the file has gone out as it is now."""
+        """Whether the file is published as it is now."""
         return not (self._plan.running or self._plan.wanted)
 
     def finish(self, done: Callable[[], None]) -> None:
-        """Calls this when the file has gone out as it is now, or couldn't: a run that has failed is tried once more, at once."""
+        """Calls this when the current file is published, or couldn't be: after a failed run it tries once more, at once."""
         self._done = done
         if self._plan.running:
             return
@@ -195,7 +195,7 @@ class Publisher:
             self._loop.after(0, done)
 
     def close(self) -> None:
-        """No run is begun from here on."""
+        """Begins no further run."""
         if self._timer:
             self._timer.cancel()
         self._worker.close()

@@ -1,7 +1,7 @@
-"""The clocks of a game as spectators see them run. Pure: times are passed in.
+"""The running clocks of a game, as spectators see them. Pure: times are passed in.
 
-A clock that runs is told once, with the time at which it stood so, and a browser counts on from there. It is told anew where
-that would be wrong: a move, a clock that was stopped, set or started.
+A running clock is sent once, with the time at which it showed that, and a browser counts on from there. It is sent again only
+if that would be wrong: after a move, or if a clock was stopped, set or started.
 """
 
 from __future__ import annotations
@@ -12,15 +12,15 @@ from typing import List, Optional
 
 from live.game.report import Clock
 
-WRONG = 2  # seconds by which a clock may differ from what a browser counts
-STANDS = 3.0  # seconds without another reading, after which a clock stands
+WRONG = 2  # seconds by which a clock may differ from the browser's count
+STANDS = 3.0  # seconds without another reading, after which a clock counts as stopped
 WHITE, BLACK = "w", "b"
 OTHER = {WHITE: BLACK, BLACK: WHITE, "": ""}
 
 
 @dataclass(frozen=True)
 class Clocks:
-    """Both clocks, whose runs (`w`, `b` or nobody's), and since when it has run from what is said."""
+    """Both clocks, whose clock runs (`w`, `b`, or empty), and since when it has run from these times."""
 
     white: str = ""
     black: str = ""
@@ -33,7 +33,7 @@ STANDING = Clocks()
 
 @functools.lru_cache(maxsize=1024)
 def seconds_of(text: str) -> Optional[int]:
-    """`1:29:55` in seconds; None where it is no time."""
+    """`1:29:55` in seconds; None if it isn't a time."""
     parts = text.split(":")
     if not all(part.isascii() and part.isdigit() and len(part) < 6 for part in parts):
         return None
@@ -45,15 +45,15 @@ def seconds_of(text: str) -> Optional[int]:
 
 @dataclass
 class Running:
-    """Follows the clocks of one game. `told` are those from which a browser counts."""
+    """Follows the clocks of one game. `told` are the ones from which a browser counts."""
 
     told: Clocks = STANDING
     _read: Optional[Clock] = None
     _read_at: float = 0.0
-    _side: str = ""  # whose clock ran last
+    _side: str = ""  # whose clock was running last
 
     def look(self, now: float, read: Optional[Clock], goes_on: bool) -> Clocks:
-        """The clocks show this now, and the game goes on or is over: the clocks from which a browser counts."""
+        """The clocks show this now, and the game is in play or over. Returns the clocks from which a browser counts."""
         if read is None:
             return self.told
         if self._read is None or read != self._read:
@@ -66,7 +66,7 @@ class Running:
 
 
 def side_between(before: Optional[Clock], now: Clock) -> str:
-    """Whose clock runs, by two readings: the one that alone went down; or the other's, where one was given time for its move."""
+    """Whose clock runs, by two readings: the only one that went down; or the other one, if this one got time added for its move."""
     if before is None:
         return ""
     down: List[str] = []
@@ -81,7 +81,7 @@ def side_between(before: Optional[Clock], now: Clock) -> str:
 
 
 def counts_to(told: Clocks, now: float, read: Clock, runs: str) -> bool:
-    """Whether a browser that was told this shows now what was read, or nearly."""
+    """Whether a browser that got this shows the new reading by now, or nearly."""
     if told.runs != runs:
         return False
     for side, text, before in ((WHITE, read.white, told.white), (BLACK, read.black, told.black)):

@@ -1,4 +1,4 @@
-"""What the spectators' page shows of a board, as a value, and its text in JSON. It has no word of the recorder's."""
+"""What the spectators' page shows of a board, as a value, and its JSON text. It has no message of the recorder."""
 
 from __future__ import annotations
 
@@ -12,7 +12,7 @@ from live.web.view import json_text, pgn_path, same_front
 
 @dataclass(frozen=True)
 class Player:
-    """A player as the table has him."""
+    """A player as named in the table."""
 
     name: str = ""
     title: str = ""
@@ -28,7 +28,7 @@ class Player:
 
 @dataclass(frozen=True)
 class SpectatorBoard:
-    """A board as spectators see it. `pgn` is the text that goes out; what is in `shot` was so `delay` seconds ago."""
+    """A board as spectators see it. `pgn` is the published text; what is in `shot` was so `delay` seconds ago."""
 
     number: int
     white: Player
@@ -38,7 +38,7 @@ class SpectatorBoard:
     delay: float = 0.0
 
     def text(self, offset: float, before: Optional[SpectatorBoard]) -> bytes:
-        """In JSON; `kept` counts the moves and positions that are left out, since the page has them."""
+        """The JSON text; `kept` counts the moves and positions that are left out because the page has them."""
         shot, had = self.shot, before.shot if before else None
         moves = same_front(had.moves, shot.moves) if had else 0
         positions = same_front(had.positions, shot.positions) if had else 0

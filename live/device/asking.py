@@ -1,4 +1,4 @@
-"""When the board is asked for a dump and for its number: a pure function of what came and of the time, which is passed in."""
+"""When to ask the board for a dump and for its number: a pure function of what came and of the time, which is passed in."""
 
 from __future__ import annotations
 
@@ -8,22 +8,22 @@ from dataclasses import dataclass, field
 from live.device.protocol import DUMP_ID, DUMP_REQUEST, HEADER, SERIAL_REQUEST, SIZES, START_REQUEST
 from live.device.protocol import FrameKind, Frames, serial_of
 
-UNFINISHED = 0.2  # seconds that a frame may stay so
-POLL = 1.0  # seconds that the last whole dump may be old, from when it was asked for
-QUIET = 0.5  # seconds without an update before the board is asked for nothing but that
-RESTLESS = 4.0  # seconds that the last whole dump may be old though updates keep coming
+UNFINISHED = 0.2  # seconds that a frame may stay unfinished
+POLL = 1.0  # seconds that the last complete dump may be old, counted from its request
+QUIET = 0.5  # seconds without an update before that request is made
+RESTLESS = 4.0  # seconds that the last complete dump may be old while updates keep coming
 BETWEEN = 0.2  # seconds between two requests, at least
 PATIENCE = 1.0  # seconds that a request is open; then it counts as lost
-SILENCE = 5.0  # seconds without a whole dump after which the board is silent
-NUMBER_ASKED = 3  # requests that ask for a number which a board is known to have, until it gives it
+SILENCE = 5.0  # seconds without a complete dump after which the board is silent
+NUMBER_ASKED = 3  # requests that ask for a number again, if the board is known to have one and hasn't sent it
 LONGEST = SIZES[DUMP_ID]  # bytes that are looked at together
-LOST = 3  # requests that must have been lost before it is called so: a recorder that was held up has sent none
+LOST = 3  # requests without a dump before silence is reported: a recorder that was held up has sent none
 
 
 @dataclass(frozen=True)
 class Came:
-    """What has ended in some bytes: a whole dump; a time message, of which these are the last one's seven bytes; the board's
-    serial number."""
+    """What has ended in some bytes: a complete dump; a time message, with the seven bytes of the last one; the board's serial
+    number."""
 
     dumped: bool = False
     time: bytes = b""
@@ -35,36 +35,36 @@ class Asking:
     """What one board is sent, and when.
 
     - `42 4B` when the line is open: a dump, and updates from then on.
-    - `42` at a fault; where a frame stays unfinished for 0.2 s; where the last whole dump is 1 s old, so that an update that
-      was lost whole is made up for. A whole dump settles all that came before it.
-    - The last of these waits until no update has come for 0.5 s, or the dump is 4 s old: where a board answers late, updates
-      that come meanwhile would be taken back by an older dump.
-    - A request is open until a whole dump comes, or for 1 s: then it is lost. One is open at a time, and two are 0.2 s apart.
-      So noise brings no more than one request a second, and what brings the most (a whole dump after each request, and a
-      fault after each) no more than five: a third of the line.
-    - `42 4B` again after a request that was lost, and where a dump shows another picture than the dump before it and no update
-      came between: a board that was off has forgotten that updates are wanted.
+    - `42` at a fault; if a frame stays unfinished for 0.2 s; if the last complete dump is 1 s old, which makes up for an update
+      that was lost as a whole. A complete dump settles everything that came before it.
+    - The last of these waits until no update has come for 0.5 s, or the dump is 4 s old: if a board answers late, an older dump
+      would undo updates that come meanwhile.
+    - A request is open until a complete dump comes, or for 1 s: then it counts as lost. One request is open at a time, and two
+      are at least 0.2 s apart. So noise causes at most one request a second, and the worst case (a complete dump after each
+      request, and a fault after each dump) at most five: a third of the line.
+    - `42 4B` again after a lost request, and if a dump differs from the dump before it with no update in between: a board that
+      was off has forgotten that updates are wanted.
     - `45` before each `42 4B`: another board may be on the line. A board that has a number is asked for it with the next two
-      requests too, until it gives it.
-    - A board that gives no whole dump for 5 s, though it was asked, is silent until it gives one.
+      requests too, until it sends it.
+    - A board that sends no complete dump for 5 s, although it was asked, is silent until it sends one.
     """
 
     quiet: float = QUIET
     silent: bool = False
-    has_number: bool = False  # the board gives one
-    dump: bytes = b""  # the last whole dump since the connection
+    has_number: bool = False  # the board sends its number
+    dump: bytes = b""  # the last complete dump since the connection
     _frames: Frames = field(default_factory=Frames)
     _open_line: bool = False
-    _wanted: bool = False  # at a fault, or a start, that no whole dump has followed
+    _wanted: bool = False  # at a fault, or a start, with no complete dump since
     _start: bool = True  # the next request asks for updates too
-    _number_asked: int = 0  # with so many of the next requests too
+    _number_asked: int = 0  # the next requests that ask for the number too
     _byte_at: float = 0.0
-    _dump_at: float = 0.0  # when the last whole dump was asked for, or came unasked; or the connection
+    _dump_at: float = 0.0  # when the last complete dump was requested, or came unrequested; or the connection began
     _heard_at: float = 0.0  # when it came
     _asked_at: float = -math.inf
     _asked_open: bool = False
-    _unanswered: int = 0  # requests since the last whole dump
-    _updated: bool = False  # by a whole update since then
+    _unanswered: int = 0  # requests since the last complete dump
+    _updated: bool = False  # by a complete update since then
     _update_at: float = -math.inf
 
     def connected(self, now: float) -> None:
@@ -77,11 +77,11 @@ class Asking:
         self._unanswered, self.dump = 0, b""
 
     def disconnected(self) -> None:
-        """The line is gone: there is nobody to ask. Whether a board was silent isn't known then."""
+        """The line is gone: there is no board to ask, and a silence is no longer known."""
         self._open_line = self.silent = False
 
     def came(self, now: float, sent: bytes) -> Came:
-        """The board has sent this: what has ended in it."""
+        """The board has sent this. Returns what has ended in it."""
         self._byte_at, dumped, time, serial = now, False, b"", ""
         at = 0
         while at < len(sent):
@@ -106,7 +106,7 @@ class Asking:
         return Came(dumped, time, serial)
 
     def _take_dump(self, now: float) -> None:
-        """A whole dump has come: it settles all that came before it."""
+        """A complete dump has come: it settles everything that came before it."""
         if self.dump and self._frames.whole != self.dump and not self._updated:
             self._start = True
         self.dump, self._updated = self._frames.whole, False
@@ -115,13 +115,13 @@ class Asking:
         self._wanted = self._asked_open = self.silent = False
 
     def added(self, sent: bytes) -> None:
-        """This was put into the capture by hand. It may have cut a frame of the board's, so a dump is asked for."""
+        """Bytes were added to the capture by hand. They may have cut one of the board's frames, so a dump is requested."""
         for byte in sent:
             self._frames.take(byte)
         self._wanted, self._asked_open = True, False
 
     def due(self) -> float:
-        """When `request` is to be called, where nothing comes before."""
+        """When to call `request`, if nothing comes before."""
         if not self._open_line:
             return math.inf
         wish = min(
@@ -132,7 +132,7 @@ class Asking:
         return max(wish, self._asked_at + (PATIENCE if self._asked_open else BETWEEN))
 
     def request(self, now: float) -> bytes:
-        """What the board is to be sent now, if anything. What came is to be told before this is asked."""
+        """What to send the board now, if anything. Report all that came before you call this."""
         if now < self.due():
             return b""
         if self._asked_open:

@@ -1,4 +1,4 @@
-"""The connection to one board: its line, opened again where it went away, and asked as `asking` says."""
+"""The connection to one board: its line, which is opened again after it went away, and the requests that `asking` decides."""
 
 from __future__ import annotations
 
@@ -11,33 +11,33 @@ from live.device.serial_line import BUSY_PATIENCE, Busy, SerialLine, cable_name
 from live.guard import Guard
 from live.loop import Timer
 
-LOOK_AGAIN = 0.5  # seconds, where the device isn't there
+LOOK_AGAIN = 0.5  # seconds between two tries to open a device that isn't there
 
 
 class Hears(Protocol):
-    """What is told of a board."""
+    """Gets reports about a board."""
 
     def came(self, sent: bytes, ended: Came) -> None:
-        """The board has sent this, and that has ended in it."""
+        """The board has sent this, and that ended in it."""
 
     def asked_whose(self) -> None:
         """The board is asked for its number: another may be on the line."""
 
     def plugged(self) -> None:
-        """The line is open, and the board is asked how it stands."""
+        """The line is open, and the board is asked for a dump."""
 
     def unplugged(self) -> None:
-        """The line has gone away, or isn't there."""
+        """The line has gone away, or wasn't there."""
 
     def silence(self, silent: bool) -> None:
-        """The board gives no dump, or gives them again."""
+        """The board sends no dumps, or sends them again."""
 
     def busy(self) -> None:
         """Another process has the line."""
 
 
 class Connection:
-    """A device that may go away and come again, under the name that its cable keeps."""
+    """A device that may be unplugged and come back, found by the name of its cable."""
 
     def __init__(self, guard: Guard, device: str, hears: Hears) -> None:
         self._guard, self._hears = guard, hears
@@ -114,7 +114,7 @@ class Connection:
         self._silent = False
 
     def _ask(self) -> None:
-        """Sends what is due, and looks again when the next request is."""
+        """Sends the request that is due, and calls itself again when the next one is."""
         if self._line.number is None:
             return
         now = self._guard.now()
@@ -144,12 +144,12 @@ class Connection:
         self._asking.has_number = True
 
     def added(self, sent: bytes) -> None:
-        """This was put into the capture by hand: it may have cut a frame, so the board is asked for a dump."""
+        """Bytes were added to the capture by hand and may have cut a frame, so the board is asked for a dump."""
         self._asking.added(sent)
         self._ask()
 
     def last_words(self) -> None:
-        """Takes what has come so far, once more, and closes the line for good."""
+        """Takes what has come, once more, and closes the line for good."""
         self._closed = True
         if self._line.number is not None:
             sent = self._line.read()

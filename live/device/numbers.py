@@ -1,4 +1,4 @@
-"""The serial numbers of the boards that are plugged in, for a list of them: each is asked once."""
+"""The serial numbers of the boards that are plugged in, for a list: each board is asked once."""
 
 from __future__ import annotations
 
@@ -14,7 +14,7 @@ IN_USE = "in use"
 
 
 def numbers_of(devices: Sequence[str], seconds: float = ANSWERS_IN) -> Dict[str, str]:
-    """The number of each board that gives one within so many seconds, all at once; `in use` where another call has it."""
+    """The number of each board that answers within this many seconds, all asked at once; `in use` if another call has the board."""
     found: Dict[str, str] = {}
     lines: Dict[int, SerialLine] = {}
     try:
@@ -34,7 +34,7 @@ def numbers_of(devices: Sequence[str], seconds: float = ANSWERS_IN) -> Dict[str,
 
 
 def _answers(lines: Dict[int, SerialLine], seconds: float) -> Dict[str, str]:
-    """What the boards on these lines answer."""
+    """The answers of the boards on these lines."""
     found: Dict[str, str] = {}
     frames = {number: Frames() for number in lines}
     over = time.monotonic() + seconds

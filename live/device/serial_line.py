@@ -1,4 +1,4 @@
-"""The serial line of a board: its device by the cable's own name, how it is opened, read, asked and closed."""
+"""The serial line of a board: its device, named by the cable, and how it is opened, read, asked and closed."""
 
 from __future__ import annotations
 
@@ -16,18 +16,18 @@ from live.refused import ANOTHER_CALL, FAILED, Refused
 
 SEE_DEVICES = "see which devices there are with dgt_live --devices"
 PLUGGED = ("ttyUSB*", "ttyACM*")
-CONTROLLING_TERMINAL = os.makedev(5, 0)  # the number of /dev/tty, by whatever name
+CONTROLLING_TERMINAL = os.makedev(5, 0)  # the number of /dev/tty, under any name
 BUSY_PATIENCE = 3.0  # seconds: a call that was just killed may still hold the lock
 
 
 def serial_folders() -> List[pathlib.Path]:
-    """Where the system keeps the names of cables: by the cable itself, then by where it is plugged in."""
+    """Where the system keeps the names of cables: first by the cable itself, then by its socket."""
     top = pathlib.Path(os.environ.get("DGT_LIVE_SERIAL", "/dev/serial"))
     return [top / "by-id", top / "by-path"]
 
 
 def cable_name(device: str) -> str:
-    """The name that the cable of a device keeps, whatever number it is plugged in as; the device itself where it has none."""
+    """The name of a device's cable, which stays when the device's number changes; the device itself if there is no such name."""
     if any(pathlib.Path(device).parent == folder for folder in serial_folders()):
         return device
     wanted = os.path.realpath(device)
@@ -40,7 +40,7 @@ def cable_name(device: str) -> str:
 
 
 def devices() -> List[Tuple[str, str]]:
-    """Each device that may be a board, with the name that its cable keeps, or an empty one."""
+    """Each device that may be a board, with the name of its cable, or an empty one."""
     found = [str(path) for pattern in PLUGGED for path in pathlib.Path("/dev").glob(pattern)]
     for folder in serial_folders():
         if folder.is_dir():
@@ -50,15 +50,15 @@ def devices() -> List[Tuple[str, str]]:
 
 
 def listing(found: Sequence[Tuple[str, str]], numbers: Mapping[str, str]) -> List[str]:
-    """What is printed of the devices: each with the name that its cable keeps and its board's serial number, as far as it has
-    them, or what to do where there is none."""
+    """The printed list of devices: each with the name of its cable and its board's serial number, as far as known; or what to do
+    if there is none."""
     if not found:
         return ["dgt_live: no board is plugged in: there is no /dev/ttyUSB* and no /dev/ttyACM*. Plug it in, and try again"]
     return ["  ".join(filter(None, (device, name, numbers.get(device)))) for device, name in found]
 
 
 def login_name() -> str:
-    """That of the one who runs this."""
+    """The name of the user who runs this."""
     try:
         return pwd.getpwuid(os.getuid()).pw_name
     except KeyError:
@@ -66,19 +66,19 @@ def login_name() -> str:
 
 
 def may_not_open(device: str, user: str) -> str:
-    """What is told where the system doesn't let this user have it."""
+    """The message if the system doesn't let this user open the device."""
     return f"{device} may not be opened: let an administrator type 'sudo adduser {user} dialout', and then log in again"
 
 
 def is_terminal(device: str) -> str:
-    """What is told where a device is the terminal of this call."""
+    """The message if a device is this call's own terminal."""
     return f"{device} is this terminal, and no board: {SEE_DEVICES}"
 
 
 def is_own_terminal(line: int) -> bool:
-    """Whether an open device is the terminal of this call: the one whose Ctrl-C it hears, or one of its standard streams."""
+    """Whether an open device is this call's terminal: the one that sends its Ctrl-C, or one of its standard streams."""
     with contextlib.suppress(OSError):
-        os.tcgetpgrp(line)  # nothing but the controlling terminal has an answer
+        os.tcgetpgrp(line)  # only the controlling terminal answers
         return True
     for stream in (0, 1, 2):
         with contextlib.suppress(OSError):
@@ -88,7 +88,7 @@ def is_own_terminal(line: int) -> bool:
 
 
 def check(device: str, may_wait: bool) -> None:
-    """Refused where it is no serial line that may be opened; one that isn't there may be waited for."""
+    """Refused if it is not a serial line that may be opened; a missing one may be waited for."""
     try:
         found = os.stat(device)
     except FileNotFoundError:
@@ -119,7 +119,7 @@ def check(device: str, may_wait: bool) -> None:
 
 
 def check_free(device: str) -> None:
-    """Refused where another process records it, and goes on doing so; one that can't be opened may be waited for."""
+    """Refused if another process records it and goes on; one that can't be opened may be waited for."""
     try:
         line = os.open(device, os.O_RDWR | os.O_NOCTTY | os.O_NONBLOCK)
     except OSError:
@@ -136,14 +136,14 @@ class Busy(Exception):
 
 
 class SerialLine:
-    """A device while it is open: 9,600 baud, eight bits, no parity, one stop bit, raw, and nobody else's."""
+    """An open device: 9,600 baud, eight bits, no parity, one stop bit, raw, and locked for this process."""
 
     def __init__(self, device: str) -> None:
         self.device = device
         self.number: Optional[int] = None
 
     def open(self) -> bool:
-        """Whether it is there, and open now. Busy where another process has it."""
+        """Opens it if it is there, and returns whether it is open. Raises Busy if another process has it."""
         try:
             number = os.open(self.device, os.O_RDWR | os.O_NOCTTY | os.O_NONBLOCK)
         except OSError:
@@ -163,7 +163,7 @@ class SerialLine:
         return self.number is not None
 
     def read(self) -> Optional[bytes]:
-        """What has come, or None where the device has gone away."""
+        """What has come, or None if the device has gone away."""
         assert self.number is not None
         try:
             return os.read(self.number, 4096) or None
@@ -173,7 +173,7 @@ class SerialLine:
             return None
 
     def ask(self, request: bytes) -> None:
-        """Sends it. Where that fails the next read tells, or the board's silence."""
+        """Sends this. A failure shows at the next read, or as the board's silence."""
         if self.number is not None and request:
             try:
                 os.write(self.number, request)
@@ -185,7 +185,7 @@ class SerialLine:
         if number is None:
             return
         try:
-            fcntl.flock(number, fcntl.LOCK_UN)  # whatever becomes of the close, no lock of this process stays
+            fcntl.flock(number, fcntl.LOCK_UN)  # even if the close fails, this process keeps no lock
         finally:
             os.close(number)
 

@@ -1,8 +1,8 @@
 """What an arbiter adds to a game: a result, or moves that no picture showed.
 
 Both become bytes in the capture, as if the board had shown them: dumps, and then one stray byte. So the game is still what the
-program makes of the capture. The stray byte is a fault, after which no update counts up to the next dump: what was added may
-have cut a frame of the board's, and need not be what stands on the board. A dump is to be asked for at once.
+program makes of the capture. The stray byte is a fault, after which no update counts until the next dump: the added bytes may
+have cut one of the board's frames, and the board may show something else. So a dump must be requested at once.
 """
 
 from __future__ import annotations
@@ -18,10 +18,10 @@ WAYS = "Type 1-0, 0-1, 1/2-1/2, moves as Nf3 Nc6, back, *, ok or help"
 ALL_WAYS = "Type 1-0, 0-1, 1/2-1/2, moves (Nf3 Nc6), back (a ply off), back 14. Bxf6, * (no result) or ok"
 HELPS = ("help", "?", "undo")
 BACK = "back"
-OK = "ok"  # acknowledges what somebody was to look at
-REOPENS = "*"  # takes a typed result back
+OK = "ok"  # acknowledges the alarms
+REOPENS = "*"  # takes a typed result off
 ALONE = "type {} alone, in a line of its own"
-NOUGHTS = "0-0"  # a result, or castling that is typed with noughts
+NOUGHTS = "0-0"  # a result, or castling typed with noughts
 BOTH_LOSE = f"{NOUGHTS}: do both lose? PGN has no such result: leave the game without one, and note it. Castling is O-O"
 QUIT_TOO = ", or q to end the recording"
 
@@ -42,15 +42,15 @@ LONGEST = 7  # characters of a move in SAN, as exd8=Q+
 
 
 class Refused(Exception):
-    """What was typed isn't done. Its text says why, and what to type."""
+    """What was typed isn't done. The text says why, and what to type."""
 
 
 class Asked(Refused):
-    """What was typed takes much away: it is done where it is typed again."""
+    """What was typed would remove a lot: it is done if it is typed again."""
 
 
 class Helped(Refused):
-    """Somebody wants to know what can be typed."""
+    """Somebody asks what can be typed."""
 
 
 @dataclass(frozen=True)
@@ -62,19 +62,19 @@ class Result:
 
 @dataclass(frozen=True)
 class Moves:
-    """Moves in SAN, in their order. That they are legal is for the program to say."""
+    """Moves in SAN, in order. The program checks that they are legal."""
 
     words: Tuple[str, ...]
 
 
 @dataclass(frozen=True)
 class Quit:
-    """The recording is to end."""
+    """Ends the recording."""
 
 
 @dataclass(frozen=True)
 class Acknowledged:
-    """Somebody has looked at what he was to look at."""
+    """Acknowledges the alarms."""
 
 
 @dataclass(frozen=True)
@@ -84,8 +84,8 @@ class Reopened:
 
 @dataclass(frozen=True)
 class Back:
-    """The game is to end with this ply, named as `14.` or `14...` and a move in SAN; without a number its last ply is taken
-    off, and with `all` each one."""
+    """The game is to end with this ply, given as `14.` or `14...` and a move in SAN; without a number its last ply is taken off,
+    and with `all` every ply."""
 
     number: str = ""
     san: str = ""
@@ -101,8 +101,8 @@ Typed = Union[Result, Moves, Acknowledged, Reopened, Back, Quit, Nothing]
 
 
 def read_words(text: str, name: str = "") -> Typed:
-    """What was typed in one line. Refused where it is none of these, and where it is two of them, or where the game's own name
-    stands behind a result: that may be spelt as a move is."""
+    """What was typed in one line. Refused if it is none of these or two of them, or if the game's own name follows a result: the
+    name may look like a move."""
     words = text.replace("–", "-").replace("—", "-").split()
     if not words:
         return Nothing()
@@ -136,7 +136,7 @@ def read_words(text: str, name: str = "") -> Typed:
 
 
 def _back(words: Sequence[str]) -> Back:
-    """What stands behind `back`: nothing, 0, or a ply with its number, as the screen prints it."""
+    """What follows `back`: nothing, 0, or a ply with its number, as the screen prints it."""
     if not words:
         return Back()
     text = "".join(words).replace("…", "...")
@@ -154,7 +154,7 @@ def is_result(text: str) -> bool:
 
 
 def _two_in_one(results: Sequence[str], others: Sequence[str]) -> str:
-    """What is told of a line with results in it, and with other words."""
+    """The message for a line that has results and other words."""
     outcome = _outcome(results[0])
     try:
         are_moves = any([_move(word) for word in others])
@@ -166,13 +166,13 @@ def _two_in_one(results: Sequence[str], others: Sequence[str]) -> str:
 
 
 def _outcome(word: str) -> Optional[str]:
-    """The result that is spelt so: 1-0, 1:0, 1/2, ½ .."""
+    """The result with this spelling: 1-0, 1:0, 1/2, ½ .."""
     word = SPELT.get(word.replace(":", "-"), word.replace(":", "-"))
     return word if word in SHOWN_ON else None
 
 
 def _move(word: str) -> str:
-    """The move of a word; nothing where the word is only its number."""
+    """The move of a word; empty if the word is only its number."""
     numbered = NUMBER.match(word)
     move = (word[numbered.end() :] if numbered else word).rstrip("!?")
     if numbered and not move:
@@ -188,38 +188,39 @@ def _move(word: str) -> str:
 
 
 def _shown(text: str) -> str:
-    """The beginning of a text, where it can be printed."""
+    """The beginning of a text, with only what can be printed."""
     shown = "".join(letter if letter.isprintable() else "?" for letter in text.strip())
     return shown if len(shown) <= 20 else shown[:20] + ".."
 
 
 def spellings(move: str) -> Tuple[str, ...]:
-    """The move as it was typed, and with another mark at its end: a check may be left out, or be seen where none is."""
+    """The move as it was typed, and with other marks at its end: the mark of a check may be missing, or wrong."""
     bare = move.rstrip("+#")
     return (move, *(spelt for spelt in (bare, bare + "+", bare + "#") if spelt != move))
 
 
 def check_result(legal_moves: Sequence[str]) -> None:
-    """Refused where the game's position has no legal move: mate or stalemate is its result, whatever is shown."""
+    """Refused if the game's position has no legal move: mate or stalemate is its result, whatever is shown."""
     if not legal_moves:
         raise Refused("the game has ended on the board, by mate or stalemate: that is its result. Nothing was added")
 
 
 def dumps_of_moves(fens: Sequence[str], rotated: bool) -> bytes:
-    """Shows the positions after the moves, one after the other; the stray byte comes behind what is put behind them.
+    """Shows the positions after the moves, one after the other; the stray byte comes after what follows them.
 
-    Each is one legal move from the one before it, and the first from the game's position; so each is settled as that move.
-    What the board shows then, where it stands as before, changes nothing after one move or two. Three or more may lead pieces
-    back to where the board still has them, and then its picture may be another move's: the pieces are to be set as the game
-    stands.
+    Each position is one legal move from the one before, and the first is one move from the game's position; so each is settled
+    as that move. If the board still shows the old position, that changes nothing after one move or two. Three or more may lead
+    pieces back to where the board still has them, and then its picture may be that of another move: the pieces must be set up
+    as in the game.
     """
     return b"".join(dump(picture_of_placement(fen), rotated) for fen in fens)
 
 
 def dumps_of_result(outcome: str, game_fen: str, board: Optional[Picture], rotated: bool) -> bytes:
-    """Shows the kings in the centre over the game's position, and then the board as it stood last, where that is known.
+    """Shows the kings in the centre over the game's position, and then the board's last picture, if known.
 
-    The sign stands then: the board's last picture settles no move of the game's position, else it would have been played.
+    The result stays then: the board's last picture settles no move from the game's position, or that move would have been
+    played.
     """
     pictures: List[Picture] = [sign_of_result(outcome, picture_of_placement(game_fen))]
     if board is not None:
@@ -228,7 +229,7 @@ def dumps_of_result(outcome: str, game_fen: str, board: Optional[Picture], rotat
 
 
 def sign_of_result(outcome: str, position: Picture) -> Picture:
-    """The position with its kings taken off and set into the centre; what stands under them is covered.
+    """The position with its kings moved into the centre; they cover what is there.
 
     Both on light squares for 1-0, both on dark ones for 0-1, one on each for a draw.
     """
@@ -241,8 +242,8 @@ def sign_of_result(outcome: str, position: Picture) -> Picture:
 def outcome_of_sign(picture: Picture, position: Picture) -> Optional[str]:
     """The result that a picture shows over a position, if it is a sign over it.
 
-    It is one where each king stands once in the centre and nowhere else, and each square outside the centre shows what the
-    position has, or nothing where the position has a king.
+    It is a sign if each king is in the centre once and nowhere else, and each square outside the centre shows what the position
+    has, or nothing if the position has a king there.
     """
     kings = [square for square in CENTRE if picture[square] in KINGS]
     if sorted(picture[square] for square in kings) != list(KINGS):
@@ -255,7 +256,7 @@ def outcome_of_sign(picture: Picture, position: Picture) -> Optional[str]:
 
 
 def without_typed_result(sent: bytes, position: Picture, rotated: bool) -> bytes:
-    """What a board has sent, without the bytes of a result that was added last, if one was: over this position of the game."""
+    """What a board has sent, without the bytes of a result that was added last, if any, over this position of the game."""
     size = SIZES[DUMP_ID]
     for dumps in (1, 2):
         put = sent[-dumps * size - len(STRAY) :]

@@ -1,4 +1,4 @@
-"""What an arbiter adds, with the program's help: the bytes for a capture, and what is refused."""
+"""What an arbiter adds, checked by the program: the bytes for a capture, and the refusals."""
 
 from __future__ import annotations
 
@@ -22,16 +22,16 @@ from live.game.report import Move
 from live.refused import DONE, FAILED, REFUSED, Refused
 
 MOST = 100  # moves that may be added in one line
-Answer = Tuple[int, str]  # a status, and what is said with it
+Answer = Tuple[int, str]  # a status, and its message
 
 
 def printable(text: str) -> str:
-    """The beginning of what was typed, where it can be printed."""
+    """The beginning of what was typed, with only what can be printed."""
     return "".join(letter if letter.isprintable() else "?" for letter in text[:60])
 
 
 def reason_of(error: Exception) -> str:
-    """What is told of an error."""
+    """The message for an error."""
     if isinstance(error, OSError):
         name = f"{os.fsdecode(error.filename)}: " if isinstance(error.filename, (str, bytes)) else ""
         return name + text_of(error)
@@ -39,7 +39,7 @@ def reason_of(error: Exception) -> str:
 
 
 def refusal(text: str, error: Exception) -> Answer:
-    """The answer to what was typed, where that isn't done, or not yet."""
+    """The answer to what was typed, if that isn't done, or not yet."""
     if isinstance(error, (added.Asked, added.Helped)):
         return REFUSED, str(error)
     reason = reason_of(error)
@@ -52,7 +52,7 @@ def sans_of(plies: Sequence[Move]) -> List[str]:
 
 
 class Addition:
-    """Additions to the game of these bytes of its capture, which somebody has typed."""
+    """Additions to the game of these bytes of its capture, as somebody types them."""
 
     def __init__(self, game: Game, sent: bytes) -> None:
         self._program, self._options, self._sent = game.program, game.options, sent
@@ -61,7 +61,7 @@ class Addition:
         self._present = Reading.of_clock(course.clock)
 
     def of(self, typed: added.Typed) -> Tuple[bytes, str]:
-        """The bytes to add, and what they are in words. Refused where the game would be another one than is meant."""
+        """The bytes to add, and their meaning in words. Refused if the game would become another one than is meant."""
         if isinstance(typed, added.Result):
             return self._of_result(typed.outcome), f"the result {typed.outcome}"
         if isinstance(typed, added.Moves):
@@ -83,7 +83,7 @@ class Addition:
         return put
 
     def _of_moves(self, words: Sequence[str]) -> Tuple[bytes, List[str]]:
-        """The bytes that play these moves, and the moves as they are spelt."""
+        """The bytes that play these moves, and the moves as spelt in SAN."""
         if len(words) > MOST:
             raise added.Refused(f"more than {MOST} moves in one line")
         spelt: List[str] = []
@@ -116,7 +116,7 @@ class Addition:
 
 
 def _whose_move(moves: Sequence[str], fens: Sequence[str]) -> str:
-    """Who is to move after these moves, by the FENs of the start and of all positions up to there."""
+    """Who is to move after these moves, given the FENs of the start and of all positions so far."""
     if not fens:
         return "the position isn't known"
     side, _, _, _, number = fens[-1].split()[1:]
@@ -127,8 +127,8 @@ def _whose_move(moves: Sequence[str], fens: Sequence[str]) -> str:
 
 
 def add_to_closed(game: Game, typed: added.Typed) -> str:
-    """Adds to a game that nobody records now, behind its last byte; what came after that stays behind it. What was added, in
-    words. Refused where it can't be; OSError where a file can't be written."""
+    """Adds to a game that nobody records now, behind its last byte; what came after that byte stays behind it. Returns in words
+    what was added. Refused if it can't be added; OSError if a file can't be written."""
     mark = end_mark(game.paths)
     end = game.capture.size if mark is None else mark
     sent = game.capture.bytes(0, end)
@@ -142,16 +142,16 @@ def add_to_closed(game: Game, typed: added.Typed) -> str:
 
 
 def _made(game: Game, made: Made) -> str:
-    """What is told behind something else of a text that was made. An OSError comes where it couldn't be."""
+    """What is added to a message about a text that was made. Raises OSError if it couldn't be made."""
     if made.trouble:
         raise OSError(made.trouble)
     return f"; {told_of_edit(game.paths.pgn, made.edited)}" if made.edited else ""
 
 
 def reopen(game: Game, listens: bool = False) -> str:
-    """Takes the result off a game; where it is over by one, what was played after it is the game's from here on. What is told of
-    that. Refused where it has none and isn't over, or one by mate, or one that the board shows, where that is listened to;
-    OSError where a file can't be written."""
+    """Takes the result off a game; if that result ended it, what was played after it belongs to the game from now on. Returns the
+    message. Refused if the game has no result and isn't over, if it ended by mate, or if the board itself shows the result and
+    is watched; OSError if a file can't be written."""
     mark = end_mark(game.paths)
     sent = game.capture.bytes(0, mark)
     course = game_of(game.program, game.options, sent)
@@ -172,14 +172,14 @@ def reopen(game: Game, listens: bool = False) -> str:
 
 
 def _went_on(game: Game, course: Course) -> bool:
-    """Whether the board has taken the result of a game back after its end, as kings do that leave the centre."""
+    """Whether the board has taken a result back after the game's end, as kings do when they leave the centre."""
     whole = game_of(game.program, game.options, game.capture.bytes())
     return back.went_on(course.plies, course.result, whole.plies, whole.result)
 
 
 def add_by_name(program: Program, paths: Paths, text: str, patience: float) -> Answer:
-    """Adds what was typed to the game of this name, which nobody records now, and keeps that in its log. Refused where its
-    capture can't be opened."""
+    """Adds what was typed to the game of this name, which nobody records now, and writes that to its log. Refused if its capture
+    can't be opened."""
     capture = open_game(paths, patience)
     try:
         typed = added.read_words(text, os.path.basename(paths.name))
@@ -208,5 +208,5 @@ def add_by_name(program: Program, paths: Paths, text: str, patience: float) -> A
 
 
 def cannot_be_written(paths: Paths, why: str) -> str:
-    """What is told of a file of a game."""
+    """The message for a game's file that can't be written."""
     return f"{paths.name} can't be written ({why}): is the disk full?"

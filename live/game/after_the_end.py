@@ -1,8 +1,8 @@
-"""Moves on a board whose game is over: its result may have been typed for the wrong board, or shown by mistake. Pure: events
-come in.
+"""Moves on a board whose game is over: its result may have been typed for the wrong board, or shown by mistake. Pure: events are
+passed in.
 
-The pieces are set up again, too. Of what is carried home the first piece may look like a move, seldom the second one; so it
-takes two moves, and one of them that brings no piece home.
+The pieces are also set up again. The first piece that is carried home may look like a move, the second one seldom. So it takes
+two moves, one of which brings no piece home.
 """
 
 from __future__ import annotations
@@ -21,17 +21,17 @@ WHATEVER = 3  # moves, though all of them bring pieces home
 
 @dataclass
 class AfterTheEnd:
-    """Takes what is reported of a board from the game's last position on."""
+    """Takes the reported events of a board, from the game's last position on."""
 
-    start: Picture  # of the game
+    start: Picture  # the game's position
     after: str  # its last move, as `38. Kf2`
     result: str
     count: int = 0
     _played: bool = False  # a move that brought no piece home
-    is_set_up: bool = False  # the start has stood again: what comes is none of this game's
+    is_set_up: bool = False  # the start has been shown again: later events are not this game's
 
     def take(self, event: report.Event) -> Optional[Look]:
-        """The next event: what is to be looked at, if anything."""
+        """The next event. Returns an alarm, if any."""
         if isinstance(event, report.Picture) and event.codes == self.start:
             self.is_set_up = True
         if not isinstance(event, report.Move) or self.is_set_up:

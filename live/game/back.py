@@ -1,7 +1,7 @@
-"""The way back: with which ply a game ends, and the capture that is made anew of the plies that stay.
+"""Going back: the ply with which a game is to end, and the new capture of the plies that stay.
 
-No rule of settling is changed for that, and nothing is cut out of a capture. The new one shows the positions of the game one
-after the other, each one legal move from the one before it, as a board would; then the board as it stands.
+The rules of settling are the same, and nothing is cut out of a capture. The new one shows the positions of the game one after
+the other, each one legal move from the one before, as a board would; then the board as it is now.
 """
 
 from __future__ import annotations
@@ -14,13 +14,13 @@ from live.game.added import STRAY, Back, Refused
 from live.game.clocks import Reading, time_message
 from live.game.report import Move
 
-WITHOUT_A_QUESTION = 2  # plies that may go at once
+WITHOUT_A_QUESTION = 2  # plies that may go without a question
 SAME_MOVE = 4  # plies by which the same move counts as nearer
 
 
 def readings(plies: Sequence[Move]) -> List[Optional[Reading]]:
-    """A reading for each ply in which its player has the ply's clock; None where it has none. Of the other player's time only
-    his own plies speak."""
+    """A reading for each ply that gives its player the ply's clock; None if there is none. Only the other player's own plies give
+    his time."""
     found: List[Optional[Reading]] = []
     last: List[str] = ["", ""]
     for ply in plies:
@@ -34,8 +34,8 @@ def readings(plies: Sequence[Move]) -> List[Optional[Reading]]:
 
 @dataclass(frozen=True)
 class Stays:
-    """What a game keeps: its plies, the positions at its start and after each, what the clocks show now, and what the board
-    shows, where that is known."""
+    """What stays of a game: its plies, the positions at its start and after each, what the clocks show now, and what the board
+    shows, if known."""
 
     plies: Sequence[Move]
     fens: Sequence[str]
@@ -44,8 +44,8 @@ class Stays:
 
 
 def capture_of(stays: Stays, rotated: bool, black_first: bool) -> bytes:
-    """The bytes of a board that shows it. The stray byte is a fault: a frame of the board's may be under way. Without a ply it is
-    a game that begins: the start is shown where the board shows it."""
+    """The bytes of a board that shows this. The stray byte is a fault: one of the board's frames may be cut. Without a ply the
+    game begins anew: the start is shown if the board shows it."""
     pictures = [dump(picture_of_placement(fen), rotated) for fen in stays.fens]
     times = [time_message(reading, black_first) for reading in readings(stays.plies)]
     game = b"".join(time + picture for time, picture in zip(times, pictures[1:]))
@@ -55,7 +55,7 @@ def capture_of(stays: Stays, rotated: bool, black_first: bool) -> bytes:
 
 
 def plies_that_stay(plies: Sequence[Move], typed: Back) -> int:
-    """How many stay. Refused where there is nothing to take off, or where the game has no such ply: with the nearest one."""
+    """How many stay. Refused if there is nothing to take off, or if the game has no such ply: then with the nearest one."""
     if typed.all:
         return 0
     if not plies:
@@ -76,18 +76,18 @@ def _bare(san: str) -> str:
 
 
 def _half_moves(number: str) -> int:
-    """The place of a ply, by its number: 14. or 14..."""
+    """The index of a ply, by its number: 14. or 14..."""
     return 2 * int(number.rstrip(".")) + number.endswith("...")
 
 
 def _distance(ply: Move, typed: Back) -> int:
-    """How far a ply is from the one that was typed, in plies. A number is mistyped sooner than a move."""
+    """The distance of a ply from the typed one, in plies. A number is mistyped more often than a move."""
     far = abs(_half_moves(ply.number) - _half_moves(typed.number))
     return far - SAME_MOVE if _bare(ply.san) == _bare(typed.san) else far
 
 
 def question(gone: Sequence[Move]) -> str:
-    """What is asked before so many go; nothing where they may go at once."""
+    """The question before so many plies go; empty if they may go at once."""
     return f"takes off {len(gone)} plies, from {gone[0].short}: type it again" if len(gone) > WITHOUT_A_QUESTION else ""
 
 
@@ -105,7 +105,8 @@ def reached(plies: Sequence[Move]) -> str:
 
 
 def settled(plies: Sequence[Move], stays: int) -> List[str]:
-    """What nobody need look at any more where only so many plies stay: those that are gone, and the moves since the last one."""
+    """The alarms that end if only so many plies stay: those about plies that are gone, and about moves since the last one that
+    stays."""
     gone = [ply.short for ply in plies[stays:]]
     if not gone:
         return []
@@ -113,7 +114,7 @@ def settled(plies: Sequence[Move], stays: int) -> List[str]:
 
 
 def words_of(plies: Sequence[Move], stays: int, result: str) -> str:
-    """What was done: `back to 14. Bxf6; taken off: 14... Qd7 15. Rd1`. The result was the one of before."""
+    """What was done: `back to 14. Bxf6; taken off: 14... Qd7 15. Rd1`. The result is the earlier one."""
     gone = plies[stays:]
     parts = [f"back to {reached(plies[:stays])}", f"taken off: {moves_of(gone)}" if gone else "no ply is taken off"]
     if result != "*":
@@ -122,7 +123,7 @@ def words_of(plies: Sequence[Move], stays: int, result: str) -> str:
 
 
 def went_on(plies: Sequence[Move], result: str, after: Sequence[Move], result_after: str) -> bool:
-    """Whether a game that ended so went on to be this one, without its result."""
+    """Whether a game with this earlier end went on to become this one, without its result."""
     front = [ply.san for ply in after[: len(plies)]] == [ply.san for ply in plies]
     return result != "*" and front and (result_after == "*" or len(after) > len(plies))
 

@@ -1,4 +1,4 @@
-"""What the clocks show, and the time messages that say so."""
+"""What the clocks show, and the time messages for it."""
 
 from __future__ import annotations
 
@@ -9,7 +9,7 @@ from live.device.protocol import SIZES, TIME_ID
 from live.game.report import Clock
 from live.game.stopped_clock import NO_CLOCK
 
-NO_TIME = "--:--:--"  # of a clock that isn't connected
+NO_TIME = "--:--:--"  # for a clock that isn't connected
 
 
 @dataclass(frozen=True)
@@ -21,12 +21,12 @@ class Reading:
 
     @staticmethod
     def of_clock(clock: Optional[Clock]) -> Optional[Reading]:
-        """As `watch` reports it last; None where no clock is connected, or none was ever."""
+        """The last report of `watch`; None if no clock is connected, or none ever was."""
         return None if clock is None or clock.white == NO_TIME else Reading(clock.white, clock.black)
 
 
 def time_message(reading: Optional[Reading], black_first: bool) -> bytes:
-    """The frame that says so: hours, minutes and seconds of each side, each digit in four bits."""
+    """The frame for this: hours, minutes and seconds of each side, each digit in four bits."""
     front = bytes((TIME_ID, 0, SIZES[TIME_ID]))
     if reading is None:
         return front + bytes((0, 0, 0, 0, 0, 0, NO_CLOCK))
@@ -35,7 +35,7 @@ def time_message(reading: Optional[Reading], black_first: bool) -> bytes:
 
 
 def without_clock(put: bytes, present: Optional[Reading], black_first: bool) -> bytes:
-    """Pictures that are put in while the clocks show this: what they show as moves has no clock, and later ones do."""
+    """Pictures that are added while the clocks show this: the moves in them get no clock, and later moves do."""
     if present is None:
         return put
     return time_message(None, black_first) + put + time_message(present, black_first)

@@ -1,8 +1,8 @@
-"""How one call of dgt_live speaks to the one that records a game: a socket whose name is the capture's place on the disk.
+"""How one call of dgt_live talks to the call that records a game: a socket named after the capture's place on the disk.
 
-It has no file, so nothing of it is left by a power cut. Anybody on the machine may take such a name first, so each end looks
-whose process the other one is. The recorder hears only the same user and the administrator; an answer counts only where it
-comes from one of them or from the owner of the capture.
+It has no file, so a power cut leaves nothing behind. Anybody on the machine may take such a name first, so each end checks
+whose process the other one is. The recorder accepts only the same user and the administrator; an answer counts only if it comes
+from one of them or from the owner of the capture.
 """
 
 from __future__ import annotations
@@ -18,7 +18,7 @@ from live.game.files import open_regular
 from live.loop import Turns
 from live.refused import DONE
 
-LONGEST = 4096  # bytes of what is asked, and of an answer
+LONGEST = 4096  # bytes of a request, and of an answer
 WHO = "\0"  # asks who records the game: no argument has such a byte
 PATIENCE = 10.0  # seconds that an answer may take
 MOST_CALLS = 8  # at once
@@ -26,7 +26,7 @@ MOST_CALLS = 8  # at once
 CREDENTIALS = struct.Struct("3i")  # of a process: its number, its user, its group
 ADMINISTRATOR = 0
 
-Answer = Tuple[int, str]  # a status, and what is said with it
+Answer = Tuple[int, str]  # a status, and its message
 
 
 def address(capture: int) -> bytes:
@@ -36,30 +36,30 @@ def address(capture: int) -> bytes:
 
 
 def user_of(call: socket.socket) -> int:
-    """Whose process the other end is, as the system knows it."""
+    """The user of the process at the other end, as the system knows it."""
     _, user, _ = CREDENTIALS.unpack(call.getsockopt(socket.SOL_SOCKET, socket.SO_PEERCRED, CREDENTIALS.size))
     return int(user)
 
 
 def printable(text: str) -> str:
-    """Without what a terminal would take for a command."""
+    """Without what a terminal would take as a command."""
     return "".join(letter if letter.isprintable() else "?" for letter in text)
 
 
 class Control:
-    """Listens for what is to be added to a game that is being recorded, on this `board` of a round, or on none."""
+    """Waits for additions to a game that is being recorded, on this `board` of a round, or on none."""
 
     def __init__(self, loop: Turns, capture: int, asked: Callable[[str], Answer], board: str) -> None:
         self._loop, self._asked, self._board = loop, asked, board
         self._calls: Dict[int, socket.socket] = {}
-        self._answering: Optional[int] = None  # the call that is just being answered: what it asks may close this
+        self._answering: Optional[int] = None  # the call that is being answered: its request may close this
         self._socket: Optional[socket.socket] = socket.socket(socket.AF_UNIX, socket.SOCK_SEQPACKET)
         self._socket.setblocking(False)
         try:
             self._socket.bind(address(capture))
             self._socket.listen(MOST_CALLS)
         except OSError:
-            # No such sockets here: what is typed in the terminal is heard all the same.
+            # No such sockets here: lines that are typed in the terminal still work.
             self._socket.close()
             self._socket = None
             return
@@ -112,7 +112,7 @@ class Control:
 
 
 def ask(capture: pathlib.Path, words: str) -> Optional[Answer]:
-    """What the call that records this game answers, or None where none does, or another user's process would."""
+    """The answer of the call that records this game; None if there is none, or if it is another user's process."""
     with contextlib.suppress(OSError), open(open_regular(capture, os.O_RDONLY), "rb") as file:
         believed = (ADMINISTRATOR, os.getuid(), os.fstat(file.fileno()).st_uid)
         with socket.socket(socket.AF_UNIX, socket.SOCK_SEQPACKET) as call:
@@ -128,6 +128,6 @@ def ask(capture: pathlib.Path, words: str) -> Optional[Answer]:
 
 
 def board_of(capture: pathlib.Path) -> Optional[str]:
-    """The board of a round on which this game is recorded; nothing where a dgt_live records it, None where nobody says so."""
+    """The board of a round that records this game; empty if a dgt_live records it, None if nobody answers."""
     answer = ask(capture, WHO)
     return answer[1] if answer and answer[0] == DONE else None

@@ -1,4 +1,4 @@
-"""The course of a game: what the program's report of it comes to. Pure: lines and times are passed in."""
+"""The course of a game, as the program reports it. Pure: lines and times are passed in."""
 
 from __future__ import annotations
 
@@ -15,23 +15,23 @@ NO_PICTURE: protocol.Picture = ()
 
 
 class Course:
-    """The moves of a game with their positions, its result, what the board shows, and what the end of the game may ask for."""
+    """The moves of a game with their positions, its result, what the board shows, and what is needed to find the end of the game."""
 
     def __init__(self, start: protocol.Picture) -> None:
         self.start = start
         self.plies: List[Move] = []
-        self.fens: List[str] = []  # of the start and after each ply, as far as they were reported
+        self.fens: List[str] = []  # of the start and after each ply, as far as they are reported
         self.result = "*"
-        self.recovered: List[str] = []  # the pairs that were put in
+        self.recovered: List[str] = []  # the pairs that were recovered
         self.placement = ""  # what the board shows
-        self.clock: Optional[Clock] = None  # what the clocks show, as far as it was reported
+        self.clock: Optional[Clock] = None  # what the clocks show, as far as it is reported
         self.changed_at = -1  # the offset of the last line that changed the game
-        self.has_agreed = False  # whether the board has stood as the game says
-        self.stands_again = False  # whether the start has come to stand again with the last picture
-        self.stood_again = False  # whether it has before, since there are moves
+        self.has_agreed = False  # whether the board has shown the game's position
+        self.stands_again = False  # whether the last picture brought the start back
+        self.stood_again = False  # whether an earlier one did, since the first move
         self.moved_at: Deque[float] = collections.deque(maxlen=PACE_OF + 1)  # when the last moves came
-        self.news: List[News] = []  # what was told of the game: its changes, and the pairs before them
-        self._stands: Optional[Event] = None  # how the board stood last
+        self.news: List[News] = []  # the reported lines of the game: its changes, and the pairs before them
+        self._stands: Optional[Event] = None  # the board's last state
         self._lines = ending.Lines()
         self._start_again = StartAgain(start)
 
@@ -72,12 +72,12 @@ class Course:
 
     @property
     def board(self) -> Optional[protocol.Picture]:
-        """What the board shows, where that is known."""
+        """What the board shows, if known."""
         return Picture(self.placement).codes if self.placement else None
 
     @property
     def position(self) -> protocol.Picture:
-        """That of the game."""
+        """The game's position."""
         return Picture(self.fens[-1].split(" ")[0]).codes if self.fens else self.start
 
     @property
@@ -86,7 +86,7 @@ class Course:
         return not self.plies or (len(self.fens) > len(self.plies) and Picture(self.fens[-1]).codes == self.start)
 
     def standing(self) -> Sequence[Event]:
-        """As few lines as say how the board stands."""
+        """The fewest lines that give the board's state."""
         last: List[Event] = [*self.plies[-1:]]
         if self.result != "*":
             last.append(Result(self.result))
@@ -95,7 +95,7 @@ class Course:
         return last
 
     def lines(self) -> Sequence[ending.Line]:
-        """The lines of the game, as far as its end may ask for them."""
+        """The lines of the game, as far as its end may depend on them."""
         return self._lines.all()
 
 

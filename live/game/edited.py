@@ -1,4 +1,4 @@
-"""NAME.pgn where somebody has edited it by hand: that text is kept beside the game before a new one takes its place."""
+"""A NAME.pgn that somebody has edited by hand: that text is kept beside the game before a new one replaces it."""
 
 from __future__ import annotations
 
@@ -13,18 +13,17 @@ from live.game.options import Options
 from live.game.program import Program
 from live.game.report import Move, Result, line_of
 
-CHANGES = 16  # of a game, after which its text may have been made last
-LARGEST = 4 * 1024 * 1024  # bytes of a capture that is looked at so closely
+CHANGES = 16  # changes of a game, after which its text may have been made last
+LARGEST = 4 * 1024 * 1024  # bytes of a capture that is compared so closely
 
 
 def told_of_edit(pgn: pathlib.Path, kept: pathlib.Path) -> str:
-    """What is told where a text was edited."""
+    """The message about an edited text."""
     return f"{pgn} was edited by hand: that text is kept in {kept}, and a new one takes its place"
 
 
 def keep(paths: Paths, text: bytes) -> pathlib.Path:
-    """Keeps a text under the first name that is free, unless it is kept already. The name under which it is. An OSError comes
-    where it can't be written."""
+    """Keeps a text under the first free name, unless it is kept already. Returns its name. Raises OSError if it can't be written."""
     for number in itertools.count(1):
         place = paths.edited(number)
         if not os.path.lexists(place):
@@ -37,8 +36,8 @@ def keep(paths: Paths, text: bytes) -> pathlib.Path:
 
 
 def is_recorded(program: Program, options: Options, sent: bytes, text: bytes) -> bool:
-    """Whether `record` gives this text of what a board has sent, or gave it after one of the last changes of the game: who was
-    killed may have left that. An OSError comes where the program fails."""
+    """Whether `record` makes this text of what a board has sent, or made it after one of the game's last changes: a killed call
+    may have left that. Raises OSError if the program fails."""
     return any(recorded == text for recorded in _texts(program, options, sent))
 
 

@@ -1,8 +1,8 @@
-"""Where a game ended that has no result: before its pieces were set up for the next one.
+"""Where a game without a result ended: before its pieces were set up for the next one.
 
-Pieces that are carried home look like moves as long as the picture of each is that of a legal move: the first one or two may.
-Such a move brings a piece to a square of its own at the start, and is followed soon by the next piece. What is drawn over the
-board may look like a move on its way too: it stands for a moment.
+Pieces that are carried home look like moves as long as each picture is that of a legal move: the first one or two may be. Such
+a move brings a piece to one of its squares at the start, and the next piece follows soon. A piece that is drawn over the board
+may look like a move on its way too: it stays for a moment.
 """
 
 from __future__ import annotations
@@ -15,15 +15,15 @@ from typing import List, Optional, Sequence, Tuple
 from live.device.protocol import LETTERS, SQUARES, Picture, differing
 from live.game.report import Agrees, Event, Move, Result
 
-ONE_MOVE = 4  # squares that a move changes, at most: e4 that is taken back is no set-up
-STANDS = 1.0  # seconds that the last move of a game stands, at least, before somebody sets up
-HOME_STANDS = 3.0  # seconds that it does where it brought a piece home
+ONE_MOVE = 4  # squares that a move changes, at most: taking e4 back is no set-up
+STANDS = 1.0  # seconds that the last move of a game stays, at least, before somebody sets up
+HOME_STANDS = 3.0  # the same if it brought a piece home
 TARGET = re.compile(r"(?P<kind>[KQRBN]?)[a-h]?[1-8]?x?(?P<square>[a-h][1-8])")
 
 
 @dataclass(frozen=True)
 class Line:
-    """What the program reported of a game, the offset of its byte, and when it came."""
+    """A report of the program about a game, the offset of its byte, and when it came."""
 
     offset: int
     at: float
@@ -31,7 +31,7 @@ class Line:
 
     @property
     def move(self) -> Optional[Move]:
-        """The move that the picture settled, if it did."""
+        """The move that the picture settled, if any."""
         return self.event if isinstance(self.event, Move) else None
 
 
@@ -40,10 +40,10 @@ Numbered = Tuple[int, Line]
 
 @dataclass(frozen=True)
 class End:
-    """The end of a game: so many bytes of the capture are the game's.
+    """The end of a game: this many bytes of the capture are the game's.
 
-    `dropped` are the lines after it that were taken for setting up. Where it isn't sure, somebody is to look at the last
-    moves: some were dropped, or the last one brought a piece home, as setting up does.
+    `dropped` are the lines after it that were taken for a set-up. If the end isn't sure, somebody must look at the last moves:
+    some were dropped, or the last one brought a piece home, as a set-up does.
     """
 
     size: int
@@ -52,18 +52,18 @@ class End:
 
 
 class Lines:
-    """The lines of a game, as far as its end may ask for them: of a square that chatters for hours a few are kept.
+    """The lines of a game, as far as its end may depend on them: if a square chatters for hours, only a few are kept.
 
-    Behind each move these are asked for: the first two lines, for how soon hands went on; the last one that agrees with the one
-    after it, for how long the move stood; and the first result and the last.
+    Behind each move these are needed: the first two lines, to see how soon hands went on; the last one that agrees and the one
+    after it, to see how long the move stayed; and the first result and the last.
     """
 
     def __init__(self) -> None:
         self._count = 0
         self._before: List[Line] = []
         self._first: List[Numbered] = []  # a move, and the two lines behind it
-        self._agreed: List[Numbered] = []  # the last one that agrees since, and the one after it
-        self._results: List[Numbered] = []  # the first one since, and the last
+        self._agreed: List[Numbered] = []  # the last one that agrees since then, and the one after it
+        self._results: List[Numbered] = []  # the first one since then, and the last
         self._last: List[Numbered] = []
 
     def take(self, line: Line) -> None:
@@ -84,26 +84,26 @@ class Lines:
         self._last = [numbered]
 
     def _since(self) -> List[Line]:
-        """Those since the last move, and it."""
+        """The move and the lines since then."""
         return list(dict(sorted([*self._first, *self._agreed, *self._results, *self._last], key=lambda one: one[0])).values())
 
     def all(self) -> List[Line]:
-        """Those that are kept, in their order."""
+        """The kept lines, in order."""
         return self._before + self._since()
 
 
 def game_end(lines: Sequence[Line], start: Picture) -> End:
-    """Where the game ended, after which the start stood again.
+    """Where the game ended after which the start was shown again.
 
-    `lines` are those of the whole game and of the set-up after it, `start` is the picture at the game's start. From the last
-    move on backwards a line was setting up
+    `lines` are those of the whole game and of the set-up after it, `start` is the picture at the game's start. Backwards from
+    the last move, a line was part of the set-up
 
-    - where it brought a piece home, and stood for less than 3 s;
-    - where it stood for less than 1 s, and hands went on at once; and it was the last move, or its ply is that of a line that
-      was setting up: a piece was drawn.
+    - if it brought a piece home and stayed for less than 3 s;
+    - if it stayed for less than 1 s and hands went on at once; and it was the last move, or its ply is that of a line that was
+      part of the set-up: a piece was drawn.
 
-    The game ends before these. But where its last move would have stood for less than 1 s it ends with the one of them that
-    stood longest, since nobody sets up so soon. Where no move would be left, all are kept.
+    The game ends before these. But if its last move would have stayed for less than 1 s, it ends with the one of them that
+    stayed longest, since nobody sets up so soon. If no move would be left, all are kept.
     """
     moves = [at for at, line in enumerate(lines) if line.move]
     kept = len(moves)
@@ -120,7 +120,7 @@ def game_end(lines: Sequence[Line], start: Picture) -> End:
 
 
 def ending_with_sign(lines: Sequence[Line], size: int) -> int:
-    """The end of a game, with the kings' result that was shown after its last move and before the next one was seen."""
+    """The end of a game, including a result that the kings showed after its last move and before the next one was seen."""
     for line in lines:
         if line.offset >= size:
             if line.move:
@@ -131,7 +131,7 @@ def ending_with_sign(lines: Sequence[Line], size: int) -> int:
 
 
 def _stood(lines: Sequence[Line], at: int) -> float:
-    """For how long the board showed the position after a move, from the move on; a piece may have been lifted and set back."""
+    """How long the board showed the position after a move, from the move on; a piece may have been lifted and put back."""
     last = at
     for number in range(at + 1, len(lines)):
         if lines[number].move:
@@ -142,7 +142,7 @@ def _stood(lines: Sequence[Line], at: int) -> float:
 
 
 def _sets_up(lines: Sequence[Line], moves: Sequence[int], after: Sequence[int], start: Picture) -> bool:
-    """Whether the last of these moves was setting up, as those after it were."""
+    """Whether the last of these moves was part of the set-up, as the moves after it were."""
     line, stood = lines[moves[-1]], _stood(lines, moves[-1])
     if goes_home(line.move, start) or _uncastles(line, lines[moves[-2]] if len(moves) > 1 else None):
         return stood < HOME_STANDS
@@ -151,12 +151,12 @@ def _sets_up(lines: Sequence[Line], moves: Sequence[int], after: Sequence[int], 
 
 
 def _goes_on(changes: Sequence[Line]) -> bool:
-    """Whether hands went on at once after a change, and nobody thought with a piece in hand."""
+    """Whether hands went on at once after a change, and nobody was thinking with a piece in hand."""
     return len(changes) < 2 or changes[1].at - changes[0].at < HOME_STANDS
 
 
 def _uncastles(line: Line, before: Optional[Line]) -> bool:
-    """Whether a king that had castled was carried home, which shows as the rook's move alone."""
+    """Whether a castled king was carried home, which shows only as the rook's move."""
     if before is None or before.move is None or line.move is None or not before.move.san.startswith("O-O"):
         return False
     return line.move.corrects and line.move.number == before.move.number and line.move.san.startswith("R")
@@ -168,7 +168,7 @@ def _ply(line: Line) -> str:
 
 
 def goes_home(move: Optional[Event], start: Picture) -> bool:
-    """Whether a move brought a piece to a square on which one like it stands at the start."""
+    """Whether a move brought a piece to a square that has the same piece at the start."""
     target = TARGET.match(move.san) if isinstance(move, Move) else None
     if not isinstance(move, Move) or not target:
         return False
@@ -179,7 +179,7 @@ def goes_home(move: Optional[Event], start: Picture) -> bool:
 
 @dataclass
 class StartAgain:
-    """Whether the start stands again after a game, by the pictures of the board."""
+    """Whether the start is shown again after a game, by the pictures of the board."""
 
     start: Picture
     _was_away: bool = field(default=False, init=False)
@@ -187,8 +187,8 @@ class StartAgain:
     def takes(self, picture: Picture, game: Picture) -> bool:
         """Whether this picture ends the game, whose position has the picture `game`.
 
-        It does where it is the start, the game doesn't stand there, and more than four squares were off the start since it
-        stood there last.
+        It does if it is the start, the game isn't at its start, and more than four squares were off the start since the start
+        was last shown.
         """
         if picture != self.start:
             self._was_away = self._was_away or len(differing(picture, self.start)) > ONE_MOVE

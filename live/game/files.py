@@ -1,4 +1,4 @@
-"""The files of a game: the capture that only grows, the log; and what is put in place whole."""
+"""The files of a game: the capture, which only grows; the log; and files that are replaced as a whole."""
 
 from __future__ import annotations
 
@@ -16,12 +16,12 @@ from live.lock import locked
 from live.refused import ANOTHER_CALL, ARGUMENTS, FAILED, REFUSED, Refused
 
 LARGEST = 64 * 1024 * 1024  # bytes of a capture: the program reads no more
-MEMORY = 1024 * 1024  # bytes that a full disk leaves in memory
+MEMORY = 1024 * 1024  # bytes that are kept in memory while the disk is full
 LOGGED = "%Y-%m-%d %H:%M:%S"  # when a line of a log was written
-MOST_TROUBLES = 8  # that are told of a log
-NO_SUCH_FILE = (errno.ENOENT, errno.ENOTDIR, errno.ENAMETOOLONG)  # nothing is kept under a name that no file can have
-LOCK_PATIENCE = 3.0  # seconds: a call that was just killed may still hold the lock
-# The last is what a shell completes to.
+MOST_TROUBLES = 8  # messages about a log
+NO_SUCH_FILE = (errno.ENOENT, errno.ENOTDIR, errno.ENAMETOOLONG)  # no file can have this name, and nothing is kept under it
+LOCK_PATIENCE = 3.0  # seconds: a call that was just killed may still have the lock
+# A shell completes to the last one.
 ENDINGS = (
     ".before.dgt", ".dgt", ".edited.pgn", ".broadcast.pgn", ".pgn", ".options", ".log", ".look", ".back", ".serial", ".end",
     ".delayed", ".delay", ".",
@@ -59,7 +59,7 @@ class Paths:
 
     @property
     def look(self) -> pathlib.Path:
-        """What somebody is still to look at."""
+        """The open alarms."""
         return self._with("look")
 
     @property
@@ -69,12 +69,12 @@ class Paths:
 
     @property
     def delay(self) -> pathlib.Path:
-        """How late they see it."""
+        """The delay for spectators."""
         return self._with("delay")
 
     @property
     def broadcast(self) -> pathlib.Path:
-        """The text that goes out."""
+        """The published text."""
         return self._with("broadcast.pgn")
 
     @property
@@ -88,16 +88,16 @@ class Paths:
 
     @property
     def before(self) -> pathlib.Path:
-        """What the board sent before the game, where some of it looked like a move."""
+        """What the board sent before the game, if some of it looked like a move."""
         return self._with("before.dgt")
 
     def before_back(self, number: int) -> pathlib.Path:
-        """The capture of before an arbiter took plies off."""
+        """The capture from before an arbiter took plies off."""
         return self._with(f"before-{number}.dgt")
 
     @property
     def last_before_back(self) -> Optional[pathlib.Path]:
-        """The last one that is there."""
+        """The last existing one."""
         number = 1
         while os.path.lexists(self.before_back(number)):
             number += 1
@@ -105,7 +105,7 @@ class Paths:
 
     @property
     def question(self) -> pathlib.Path:
-        """What was asked before many plies would go."""
+        """The question that was asked before many plies would go."""
         return self._with("back")
 
     @property
@@ -114,12 +114,12 @@ class Paths:
 
 
 def new_of(path: pathlib.Path) -> pathlib.Path:
-    """Where a file is made before it is put in place."""
+    """Where a file is made before it is moved into place."""
     return path.with_name(path.name + ".new")
 
 
 def sync_folder(folder: pathlib.Path) -> None:
-    """What was put in place in it is on the disk from here on."""
+    """Forces to the disk what was moved into this folder."""
     number = os.open(folder, os.O_RDONLY | os.O_DIRECTORY)
     try:
         os.fsync(number)
@@ -128,7 +128,7 @@ def sync_folder(folder: pathlib.Path) -> None:
 
 
 def open_regular(path: pathlib.Path, flags: int) -> int:
-    """Opens a file without waiting. An OSError comes where it is no regular file: a pipe might keep all boards waiting."""
+    """Opens a file without waiting. Raises OSError if it isn't a regular file: a pipe might hold up all boards."""
     number = os.open(path, flags | os.O_NONBLOCK | os.O_NOCTTY, 0o666)
     try:
         if not stat.S_ISREG(os.fstat(number).st_mode):
@@ -140,14 +140,14 @@ def open_regular(path: pathlib.Path, flags: int) -> int:
 
 
 def open_new(path: pathlib.Path, flags: int = os.O_WRONLY) -> int:
-    """Makes a file anew. What a call that was killed has left under its name is removed; nothing is written through a link."""
+    """Makes a new file. What a killed call left under its name is removed; nothing is written through a link."""
     with contextlib.suppress(FileNotFoundError):
         os.unlink(path)
     return os.open(path, flags | os.O_CREAT | os.O_EXCL | os.O_NOFOLLOW, 0o666)
 
 
 def write_all(number: int, content: bytes) -> None:
-    """Writes all of it, and has it on the disk. An OSError comes where that can't be."""
+    """Writes all of it, and forces it to the disk. Raises OSError on failure."""
     left = memoryview(content)
     while left:
         left = left[os.write(number, left) :]
@@ -155,7 +155,7 @@ def write_all(number: int, content: bytes) -> None:
 
 
 def put_in_place(path: pathlib.Path, content: bytes) -> None:
-    """The file has this content, at once and on the disk, or it is as it was and an OSError comes."""
+    """Replaces the file's content at once and on the disk; on an OSError the file stays as it was."""
     new = new_of(path)
     try:
         number = open_new(new)
@@ -187,13 +187,13 @@ class Capture:
         self.number = number
         self.size = os.fstat(number).st_size
         self.pending = bytearray()
-        self.lost = 0  # bytes for which there was no memory left
+        self.lost = 0  # bytes that were dropped because the memory for them was full
         self.limit: Optional[int] = LARGEST
         self.trouble = ""
 
     @staticmethod
     def open(path: pathlib.Path, patience: float = LOCK_PATIENCE) -> Capture:
-        """Refused where it can't be written, or where another process records it."""
+        """Refused if it can't be written, or if another process records it."""
         try:
             while True:
                 number = open_regular(path, os.O_RDWR | os.O_APPEND | os.O_CREAT)
@@ -205,13 +205,13 @@ class Capture:
                 except BaseException:
                     os.close(number)
                     raise
-                os.close(number)  # whoever had the lock has put a new file in its place
+                os.close(number)  # the last owner of the lock has put a new file in its place
         except OSError as error:
             raise Refused(FAILED, f"{path} can't be written ({text_of(error)}): choose another name") from None
 
     @staticmethod
     def begin(path: pathlib.Path, content: bytes) -> Capture:
-        """A new one with this content, put in place at once: so there is none without it."""
+        """A new capture with this content, put in place at once: so it never exists without it."""
         new = new_of(path)
         number = open_new(new, os.O_RDWR | os.O_APPEND)
         try:
@@ -219,7 +219,7 @@ class Capture:
             write_all(number, content)
             capture = Capture(path, number)
             new.replace(path)
-            with contextlib.suppress(OSError):  # it is in its place, whatever becomes of this
+            with contextlib.suppress(OSError):  # it is in place, even if a later step fails
                 sync_folder(path.parent)
             return capture
         except BaseException:
@@ -228,7 +228,7 @@ class Capture:
             raise
 
     def renew(self, content: bytes) -> None:
-        """The file has this content from here on, put in place at once. Where an OSError comes it is as it was."""
+        """Replaces the file's content at once. On an OSError the file stays as it was."""
         new = Capture.begin(self.path, content)
         os.close(self.number)
         self.number, self.size = new.number, new.size
@@ -243,7 +243,7 @@ class Capture:
         return self.limit is not None and self.size >= self.limit
 
     def append(self, sent: bytes) -> None:
-        """Appended to the file, or kept for the next try where that fails. What is past the limit is dropped."""
+        """Appends to the file, or keeps this for the next try if that fails. What is past the limit is dropped."""
         room = MEMORY - len(self.pending)
         if self.limit is not None:
             room = min(room, self.limit - self.size - len(self.pending))
@@ -253,7 +253,7 @@ class Capture:
         self.write()
 
     def write(self) -> None:
-        """Writes what waits, as far as that succeeds."""
+        """Writes what waits, as far as possible."""
         try:
             while self.pending:
                 count = os.write(self.number, self.pending)
@@ -267,7 +267,7 @@ class Capture:
         return os.pread(self.number, count, offset)
 
     def bytes(self, start: int = 0, end: Optional[int] = None) -> bytes:
-        """What stands in the file from one offset to another."""
+        """The file's bytes from one offset to another."""
         parts = []
         end = self.size if end is None else end
         while start < end:
@@ -283,13 +283,13 @@ class Capture:
 
     def close(self) -> None:
         try:
-            fcntl.flock(self.number, fcntl.LOCK_UN)  # whatever becomes of the close, no lock of this process stays
+            fcntl.flock(self.number, fcntl.LOCK_UN)  # even if the close fails, this process keeps no lock
         finally:
             os.close(self.number)
 
 
 def _has_name(number: int, path: pathlib.Path) -> bool:
-    """Whether this open file is still the one of that name."""
+    """Whether this open file still has that name."""
     try:
         return os.path.samestat(os.fstat(number), os.stat(path))
     except FileNotFoundError:
@@ -297,7 +297,7 @@ def _has_name(number: int, path: pathlib.Path) -> bool:
 
 
 def check_name(name: str) -> None:
-    """Refused where it is a device's, or a file's of a game: a shell completes to those. A game of that name goes on."""
+    """Refuses a name of a device, or of one of a game's files: a shell completes to those. An existing game of that name goes on."""
     try:
         is_device = "\0" not in name and stat.S_ISCHR(os.stat(name).st_mode)
     except OSError:
@@ -313,13 +313,13 @@ def check_name(name: str) -> None:
 
 
 def beginning(path: pathlib.Path, most: int) -> bytes:
-    """What the file has, up to so many bytes. An OSError comes where it can't be read, or is no regular file."""
+    """The beginning of a file, up to this many bytes. Raises OSError if it can't be read, or isn't a regular file."""
     with open(open_regular(path, os.O_RDONLY), "rb") as file:
         return file.read(min(most, os.fstat(file.fileno()).st_size))
 
 
 def existing(path: pathlib.Path) -> bytes:
-    """What the file has; nothing where there is none."""
+    """The content of a file; empty if there is none."""
     try:
         return beginning(path, LARGEST)
     except FileNotFoundError:
@@ -327,7 +327,7 @@ def existing(path: pathlib.Path) -> bytes:
 
 
 def size_of(path: pathlib.Path) -> int:
-    """The bytes of a file; none where it isn't there, or can't be."""
+    """The size of a file; 0 if there is none, or there can be none."""
     try:
         return path.stat().st_size if path.is_file() else 0
     except OSError:
@@ -347,19 +347,19 @@ def open_game(paths: Paths, patience: float = LOCK_PATIENCE) -> Capture:
 
 
 class Log:
-    """NAME.log: a line for all that was told, with date and time of day. Where it can't be written the game goes on, and what
-    kept it from being written stands in it before the next line."""
+    """NAME.log: a line for each message, with date and time of day. If it can't be written the game goes on, and the reason is
+    written before the next line."""
 
     def __init__(self, path: pathlib.Path) -> None:
         self._path = path
         self._number: Optional[int] = None
         self._missing = 0
-        self._troubles: Dict[str, None] = {}  # since the last line that was written, each once
-        self._unexpected: Optional[Exception] = None  # the last of them that is no error of the system
+        self._troubles: Dict[str, None] = {}  # since the last written line, each once
+        self._unexpected: Optional[Exception] = None  # the last of these errors that isn't the system's
         self._open()
 
     def _open(self) -> None:
-        """Opens it, where that succeeds: else it is tried again at the next line."""
+        """Opens it if possible: else the next line tries again."""
         try:
             self._number = open_regular(self._path, os.O_WRONLY | os.O_APPEND | os.O_CREAT)
         except Exception as error:
@@ -400,7 +400,7 @@ class Log:
         return f"({lines} missing here: the log couldn't be written: {why})"
 
     def close(self) -> None:
-        """Nothing is written from here on. An error that nobody reckons with is raised where the log doesn't tell of it."""
+        """Writes nothing further. An unexpected error is raised here if the log couldn't report it."""
         if self._number is None and self._unexpected:
             self._open()
         number, self._number = self._number, None
@@ -420,7 +420,7 @@ class Log:
 
 
 def log_once(paths: Paths, *lines: str) -> None:
-    """Lines for the log of a game that nobody records now."""
+    """Writes lines to the log of a game that nobody records now."""
     log = Log(paths.log)
     for line in lines:
         log.write(f"{datetime.datetime.now():{LOGGED}}", line)

@@ -1,4 +1,4 @@
-"""A game that is open, and what is kept beside its capture: its options, its board's number, and the mark of its end."""
+"""An open game, and what is kept beside its capture: its options, its board's number, and the mark of its end."""
 
 from __future__ import annotations
 
@@ -13,13 +13,13 @@ from live.refused import FAILED, REFUSED, Refused
 
 RESULT = re.compile(rb'^\[Result "([^"]*)"\]$', re.MULTILINE)
 SERIAL = re.compile(rb"([!-~]{5})\s*")
-LONGEST_SERIAL = 80  # bytes of the file with the number of a board, whoever has written it
+LONGEST_SERIAL = 80  # bytes of the file with a board's number, whoever wrote it
 LONGEST_MARK = 18  # digits of the mark of an end
 
 
 @dataclass
 class Written:
-    """The text that was put in the place of NAME.pgn last; None where that isn't known."""
+    """The text that last replaced NAME.pgn; None if that isn't known."""
 
     text: Optional[bytes] = None
 
@@ -36,13 +36,13 @@ class Game:
 
 
 def result_of(pgn: bytes) -> str:
-    """The result that a PGN text has."""
+    """The result in a PGN text."""
     found = RESULT.search(pgn)
     return found.group(1).decode("ascii", "replace") if found else "*"
 
 
 def result_in(paths: Paths) -> str:
-    """The result that NAME.pgn has, as far as it can be read."""
+    """The result in NAME.pgn, as far as it can be read."""
     try:
         return result_of(existing(paths.pgn))
     except OSError:
@@ -50,18 +50,18 @@ def result_in(paths: Paths) -> str:
 
 
 def end_mark(paths: Paths) -> Optional[int]:
-    """How many bytes of the capture are the game's, where its end was marked."""
+    """How many bytes of the capture are the game's, if its end is marked."""
     words = existing(paths.end).split()
     return int(words[0]) if words and words[0].isdigit() and len(words[0]) <= LONGEST_MARK else None
 
 
 def mark_end(paths: Paths, size: int) -> None:
-    """Marks it. An OSError comes where that can't be."""
+    """Marks the end. Raises OSError on failure."""
     put_in_place(paths.end, b"%d\n" % size)
 
 
 def kept_serial(paths: Paths) -> str:
-    """The serial number of its board; nothing where none was kept that can be read."""
+    """The serial number of its board; empty if none was kept that can be read."""
     try:
         found = SERIAL.fullmatch(beginning(paths.serial, LONGEST_SERIAL))
     except OSError:
@@ -70,18 +70,18 @@ def kept_serial(paths: Paths) -> str:
 
 
 def keep_serial(paths: Paths, number: str) -> None:
-    """Keeps it. An OSError comes where that can't be."""
+    """Keeps it. Raises OSError on failure."""
     put_in_place(paths.serial, f"{number}\n".encode("ascii"))
 
 
 def is_over(game: Game) -> bool:
-    """Whether it has ended: its end is marked, its text has a result, or its capture may have no more."""
+    """Whether it has ended: its end is marked, its text has a result, or its capture is full."""
     text = existing(game.paths.pgn)
     return end_mark(game.paths) is not None or (bool(text) and result_of(text) != "*") or game.capture.at_limit
 
 
 def kept_options(paths: Paths) -> Optional[Options]:
-    """The options that were kept beside a game. Refused where they can't be read."""
+    """The options that were kept beside a game. Refused if they can't be read."""
     try:
         text = beginning(paths.options, LARGEST).decode("utf-8", "surrogateescape")
     except OSError as error:
@@ -95,7 +95,7 @@ def kept_options(paths: Paths) -> Optional[Options]:
 
 
 def keep_options(paths: Paths, options: Options) -> None:
-    """Keeps them. Refused where they can't be written."""
+    """Keeps the options. Refused if they can't be written."""
     try:
         put_in_place(paths.options, options.text().encode("utf-8", "surrogateescape"))
     except OSError as error:

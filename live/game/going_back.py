@@ -1,7 +1,7 @@
-"""Takes plies, or a result, off a game, with the program's help. Its capture is made anew; the old one is kept whole beside.
+"""Takes plies, or a result, off a game, and checks that with the program. The capture is made anew; the old one is kept beside it.
 
-Whenever this process is killed, the game is the one of before or the one of after: first the old capture has a second name,
-then the new one is shown to give the front of the game, and then it is put in place at once.
+Whenever this process is killed, the game is the old one or the new one: first the old capture gets a second name, then the new
+one is checked to give the front of the game, and then it is put in place at once.
 """
 
 from __future__ import annotations
@@ -25,7 +25,7 @@ from live.game.making_pgn import Text
 from live.game.reading import game_of
 from live.game.report import Move
 
-NO_LINKS = (errno.EPERM, errno.EOPNOTSUPP, errno.EMLINK)  # a file system that has no second names
+NO_LINKS = (errno.EPERM, errno.EOPNOTSUPP, errno.EMLINK)  # a file system without hard links
 
 
 def movetext(pgn: bytes) -> List[str]:
@@ -35,7 +35,7 @@ def movetext(pgn: bytes) -> List[str]:
 
 @dataclass(frozen=True)
 class Way:
-    """A game as its capture has it, and the capture that leaves so many of its plies, without a result."""
+    """A game as its capture has it, and the capture with this many of its plies and no result."""
 
     course: Course
     stays: int
@@ -48,13 +48,13 @@ class Way:
 
     @property
     def settled(self) -> List[str]:
-        """What nobody need look at any more."""
+        """The alarms that end with it."""
         return back.settled(self.course.plies, self.stays)
 
 
 def way_back(game: Game, typed: added.Back, sent: bytes, shown: bytes = b"") -> Way:
-    """Back to the ply that was typed, of the game of the bytes `sent`; it goes on with a board that has sent `shown`, or with
-    none. Refused with what is to be typed; with a question, where many plies would go and that wasn't asked just before."""
+    """Back to the typed ply, in the game of the bytes `sent`; the game goes on with a board that has sent `shown`, or with none.
+    Refused with what to type; or with a question, if many plies would go and that wasn't just asked."""
     course = game_of(game.program, game.options, sent)
     stays = back.plies_that_stay(course.plies, typed)
     if stays == len(course.plies) and course.result == "*" and end_mark(game.paths) is None:
@@ -67,7 +67,7 @@ def way_back(game: Game, typed: added.Back, sent: bytes, shown: bytes = b"") -> 
 
 
 def without_result(game: Game, sent: bytes, shown: bytes = b"") -> Way:
-    """All plies, without the result. Refused where there is none, and the game isn't over."""
+    """All plies, without the result. Refused if there is none and the game isn't over."""
     course = game_of(game.program, game.options, sent)
     if course.result == "*" and end_mark(game.paths) is None:
         raise added.Refused("the game has no result")
@@ -75,7 +75,7 @@ def without_result(game: Game, sent: bytes, shown: bytes = b"") -> Way:
 
 
 def _checked(game: Game, course: Course, stays: int, sent: bytes, shown: bytes) -> Way:
-    """Refused where the new capture doesn't give the front of the game."""
+    """Refused if the new capture doesn't give the front of the game."""
     now = game_of(game.program, game.options, shown or sent)
     present, board = Reading.of_clock(now.clock), now.board if shown else None
     plies, fens = course.plies[:stays], course.fens[: stays + 1]
@@ -101,13 +101,13 @@ def _sans(plies: Sequence[Move]) -> List[str]:
 
 
 def _recorded(game: Game, sent: bytes) -> bytes:
-    """The text of a game of these bytes. An OSError comes where it can't be made."""
+    """The text of a game of these bytes. Raises OSError if it can't be made."""
     whole = game.program.whole(game.options, sent)
     return "\n".join(game.program.lines("record", *game.options.of_record(), given=whole)).encode()
 
 
 def keep_before(capture: Capture, paths: Paths) -> pathlib.Path:
-    """A second name for the capture as it is, on the disk from here on. An OSError comes where it can't have one."""
+    """Gives the present capture a second name, on the disk. Raises OSError if that fails."""
     capture.sync()
     number = 1
     while True:
@@ -116,7 +116,7 @@ def keep_before(capture: Capture, paths: Paths) -> pathlib.Path:
             os.link(paths.capture, kept)
         except FileExistsError:
             if os.path.samefile(kept, paths.capture):
-                return kept  # of a call that was killed just then
+                return kept  # of a call that was killed at this point
             number += 1
             continue
         except OSError as error:
@@ -128,12 +128,13 @@ def keep_before(capture: Capture, paths: Paths) -> pathlib.Path:
 
 
 def put_way(game: Game, way: Way, is_over: bool = False) -> str:
-    """The game is the new one from here on, and goes on where its end was marked, but for one that stays over. What is told of
-    that. An OSError comes where a file can't be written."""
+    """Makes the new game the current one; it goes on from where its end was marked, unless it stays over. Returns the message.
+    Raises OSError if a file can't be written."""
     kept = keep_before(game.capture, game.paths)
     mark = end_mark(game.paths)
     if mark is not None:
-        # What came behind the end goes first, and then the mark lets the longer one through: each time it is a whole game.
+        # First what came after the end is removed; then the mark is moved, to allow the longer capture: each step leaves a
+        # whole game.
         game.capture.renew(game.capture.bytes(0, mark))
         mark_end(game.paths, max(mark, len(way.content)))
     game.capture.renew(way.content)
@@ -145,7 +146,7 @@ def put_way(game: Game, way: Way, is_over: bool = False) -> str:
 
 
 def _settle(paths: Paths, way: Way) -> str:
-    """Nobody need look any more at what was taken off. What is told of that; nothing where there was no alarm."""
+    """Ends the alarms about what was taken off. Returns the message; empty if there was no alarm."""
     before = kept_looks(paths)
     left = before.without(way.settled)
     if left == before:
@@ -153,27 +154,27 @@ def _settle(paths: Paths, way: Way) -> str:
     try:
         keep_looks(paths, left)
     except OSError:
-        return ""  # it stays, and is to be acknowledged
+        return ""  # it stays, and must be acknowledged
     return f"Settled: {', '.join(look.short for look in before.open if look not in left.open)}. "
 
 
 def go_back_closed(game: Game, typed: added.Back, listens: bool = False) -> str:
-    """Takes plies off a game that nobody records now, and makes its text. One that was over goes on: with the board as it
-    stands, where that is listened to. What was done."""
+    """Takes plies off a game that nobody records now, and makes its text. A game that was over goes on: with the board as it is
+    now, if the board is watched. Returns what was done."""
     sent = game.capture.bytes(0, end_mark(game.paths))
     stood = listens or typed.all or _has_no_result(game, sent)
     return _put_closed(game, _with_board(game, lambda shown: way_back(game, typed, sent, shown), stood, listens))
 
 
 def go_back_over(game: Game, typed: added.Back) -> str:
-    """Takes plies off a game that nobody records now, and that stays over. What was done."""
+    """Takes plies off a game that nobody records now and that stays over. Returns what was done."""
     sent = game.capture.bytes(0, end_mark(game.paths))
     return _put_closed(game, way_back(game, typed, sent), is_over=True)
 
 
 def take_result_off(game: Game, listens: bool = False) -> str:
-    """Takes off a result that was not typed, of a game that nobody records now, and opens one that is over without a result; it
-    goes on, with the board as it stands where that is listened to. What was done."""
+    """Takes off a result that was not typed, in a game that nobody records now, and opens a game that is over without a result; it
+    goes on, with the board as it is now if the board is watched. Returns what was done."""
     sent = game.capture.bytes(0, end_mark(game.paths))
     stood = listens or _has_no_result(game, sent)
     return _put_closed(game, _with_board(game, lambda shown: without_result(game, sent, shown), stood, listens))
@@ -184,8 +185,8 @@ def _has_no_result(game: Game, sent: bytes) -> bool:
 
 
 def _with_board(game: Game, way_with: Callable[[bytes], Way], stood: bool, listens: bool) -> Way:
-    """With the board as it stood last, where that is wanted: a start that ended the game ends it no second time. Where it isn't
-    listened to, and may stand otherwise now, the game needn't allow for it."""
+    """With the board's last picture, if wanted: a start that ended the game doesn't end it a second time. If the board isn't
+    watched and may have changed, the game need not agree with it."""
     if stood:
         try:
             return way_with(game.capture.bytes())
@@ -208,7 +209,7 @@ def _put_closed(game: Game, way: Way, is_over: bool = False) -> str:
 
 
 def _is_new(paths: Paths, asked: str) -> bool:
-    """Whether this is another question than the last one, which NAME.back keeps; then it is the last one from here on."""
+    """Whether this question differs from the last one, which NAME.back keeps; this one replaces it."""
     if existing(paths.question) != asked.encode():
         put_in_place(paths.question, asked.encode())
         return True

@@ -1,4 +1,4 @@
-"""What somebody is to look at: alarms that stay until they are acknowledged, whatever the board shows then."""
+"""Alarms that stay until they are acknowledged, whatever the board shows."""
 
 from __future__ import annotations
 
@@ -8,7 +8,7 @@ from typing import Container, Iterable, List, Tuple
 
 @dataclass(frozen=True)
 class Look:
-    """An alarm. A row has room for `LOOK` and `what`: `at 4... Qg4+`. Another one about the same thing takes its place."""
+    """An alarm. A row has room for `LOOK` and `what`: `at 4... Qg4+`. A new alarm about the same thing replaces it."""
 
     what: str
     why: str
@@ -27,22 +27,22 @@ class Look:
 
 @dataclass(frozen=True)
 class Looks:
-    """The alarms of a game that nobody has acknowledged yet, the newest last."""
+    """The alarms of a game that nobody has acknowledged, the newest last."""
 
     open: Tuple[Look, ...] = ()
 
     def with_one_more(self, look: Look) -> "Looks":
-        """With this one too."""
+        """With one more."""
         same = [one for one in self.open if one.what == look.what or (look.about and one.about == look.about)]
         return Looks((*(one for one in self.open if one not in same), look))
 
     def without(self, settled: Container[str]) -> "Looks":
-        """Without those about something that was settled."""
+        """Without those about something that is settled."""
         return Looks(tuple(look for look in self.open if look.what not in settled))
 
     @property
     def short(self) -> str:
-        """The first one in a few words, and how many more there are; nothing where there is none."""
+        """The first one in a few words, and how many more there are; empty if there is none."""
         if not self.open:
             return ""
         more = len(self.open) - 1
@@ -54,12 +54,12 @@ class Looks:
         return "; ".join(look.text for look in self.open)
 
     def content(self) -> bytes:
-        """As they are kept beside the game: a line for each."""
+        """The text that is kept beside the game: a line for each."""
         return "".join("\t".join((look.what, look.why, look.about)) + "\n" for look in self.open).encode("utf-8", "replace")
 
     @staticmethod
     def of_content(content: bytes) -> "Looks":
-        """What was kept. A line that can't be read is an alarm all the same."""
+        """What was kept. A line that can't be read counts as an alarm."""
         return Looks(tuple(_read(content.decode("utf-8", "replace").splitlines())))
 
 

@@ -1,7 +1,6 @@
-"""Names and dates as they are typed, turned into what a PGN text takes.
+"""Typed names and dates, changed to what a PGN text allows.
 
-A tag's value has at most 100 characters, each a printable one of ASCII. A date is `2024.05.31`, with `?` for each digit that
-isn't known.
+A tag's value has at most 100 characters, all printable ASCII. A date is `2024.05.31`, with `?` for each unknown digit.
 """
 
 from __future__ import annotations
@@ -34,11 +33,11 @@ PARTS = {
 
 
 class Unreadable(Exception):
-    """What was typed can't be turned. Its text says why, behind what it is, and what to write."""
+    """What was typed can't be changed to PGN. The text says why, and what to write; the name of the value goes before it."""
 
 
 def ascii_name(text: str) -> str:
-    """A name in printable ASCII: `Jörg Müller` is `Joerg Mueller`, `José` is `Jose`; one that is in ASCII stays as it is."""
+    """A name in printable ASCII: `Jörg Müller` becomes `Joerg Mueller`, `José` becomes `Jose`; an ASCII name stays as it is."""
     composed = unicodedata.normalize("NFC", text)
     turned: List[str] = []
     for at, letter in enumerate(composed):
@@ -53,12 +52,12 @@ def ascii_name(text: str) -> str:
 
 
 def _written(letter: str, before: str, after: str) -> Optional[str]:
-    """What is written for one character, or None where nothing is known for it."""
+    """What is written for one character, or None if nothing is known for it."""
     if " " <= letter <= "~":
         return letter
     if letter == "\t" or unicodedata.category(letter) == "Zs":
         return " "
-    if unicodedata.category(letter) == "Cf":  # it isn't seen: a soft hyphen, a mark of the direction
+    if unicodedata.category(letter) == "Cf":  # it can't be seen: a soft hyphen, a mark of the direction
         return ""
     if letter in SIGNS:
         return SIGNS[letter]
@@ -73,7 +72,7 @@ def _written(letter: str, before: str, after: str) -> Optional[str]:
 
 
 def _shown(text: str) -> str:
-    """The text, where it can be printed."""
+    """The text, with only what can be printed."""
     return "".join(letter if letter.isprintable() else "?" for letter in text)
 
 
@@ -87,15 +86,15 @@ def pgn_date(text: str) -> str:
 
 
 def today() -> str:
-    """The day that it is here, as PGN has it."""
+    """Today's local date, as PGN has it."""
     return f"{datetime.date.today():%Y.%m.%d}"
 
 
 def _date(text: str, match: Match[str]) -> str:
-    """The date of its parts, where there is such a day."""
+    """The date with these parts, if there is such a day."""
     given = match.groupdict()
     year, month, day = given["year"], _padded(given.get("month")), _padded(given.get("day"))
-    # A leap year and a long month stand for those that aren't known.
+    # A leap year and a long month replace unknown ones.
     numbers = [int(part) if part.isdigit() else known for part, known in ((year, 2000), (month, 1), (day, 1))]
     try:
         datetime.date(*numbers)
@@ -105,7 +104,7 @@ def _date(text: str, match: Match[str]) -> str:
 
 
 def _padded(part: Optional[str]) -> str:
-    """A month or a day in two characters."""
+    """A month or a day, as two characters."""
     if part is None or part == "?":
         return "??"
     return part.zfill(2)

@@ -1,4 +1,4 @@
-"""How a game is opened, to be recorded or to be made anew: the one place. It waits for the program and the disk."""
+"""How a game is opened, to be recorded or to be made anew. All calls go through here. It waits for the program and the disk."""
 
 from __future__ import annotations
 
@@ -18,7 +18,7 @@ from live.game.reading import Old, nothing_old, read_game
 from live.loop import Callback
 from live.refused import FAILED, REFUSED, Refused
 
-# What each tag is turned into, and what it is called where that can't be.
+# What changes each tag, and what it is called if that fails.
 TURNS: Dict[str, Callable[[str], str]] = {
     "--event": names.ascii_name,
     "--site": names.ascii_name,
@@ -38,13 +38,13 @@ CALLED: Dict[str, str] = {
 
 
 def unknown(option: str) -> str:
-    """What is recorded for a text that can't be written in ASCII, where nothing is known that stands for it."""
+    """What is recorded for a text that can't be written in ASCII, if no replacement is known."""
     return UNKNOWN
 
 
 def recordable(typed: Options, instead: Optional[Callable[[str], str]] = None) -> Options:
-    """With something instead of each text that can't be written in ASCII, where there is something; the tags of what is
-    published have all texts as they were typed."""
+    """With a replacement for each text that can't be written in ASCII, if there is one; the published tags keep all texts as they
+    were typed."""
     values: Dict[str, str] = {}
     written: Dict[str, str] = {}
     for option, name in PUBLISHED.items():
@@ -64,7 +64,7 @@ def recordable(typed: Options, instead: Optional[Callable[[str], str]] = None) -
 
 
 def turned(given: Options) -> Options:
-    """With names and dates as PGN takes them."""
+    """With names and dates as PGN has them."""
 
     def turn(option: str) -> Callable[[str], str]:
         def of_value(value: str) -> str:
@@ -79,7 +79,7 @@ def turned(given: Options) -> Options:
 
 
 def checked(program: Program, typed: Options) -> Options:
-    """With names and dates as PGN takes them. Refused where the program refuses them."""
+    """With names and dates as PGN has them. Refused if the program refuses them."""
     typed.refuse_breaks()
     given = turned(recordable(typed))
     answer = program.run("record", *given.of_record())
@@ -90,36 +90,36 @@ def checked(program: Program, typed: Options) -> Options:
 
 @dataclass(frozen=True)
 class Chosen:
-    """The options with which a game goes on, and what is told of that."""
+    """The options with which a game goes on, and the message about them."""
 
     options: Options
     told: Tuple[str, ...] = ()
 
 
 class Chooses(Protocol):
-    """Which options a game goes on with, by those that were kept beside it, and by whether it has a move. Refused where it
-    can't go on."""
+    """Chooses the options with which a game goes on, given those that were kept and whether it has a move. Refused if it can't go
+    on."""
 
     def __call__(self, kept: Optional[Options], has_moves: Callable[[], bool]) -> Chosen:
-        """Nothing was kept beside a new game."""
+        """A new game has no kept options."""
 
 
 @dataclass(frozen=True)
 class Opened:
-    """A game whose text was just made: what it had, and what is told of that."""
+    """A game whose text was just made: what it had, and the messages."""
 
     game: Game
     old: Old
     is_over: bool = False
-    told: Tuple[str, ...] = ()  # of its options
-    read_anew: Tuple[str, ...] = ()  # where its capture is read otherwise than before
-    results: Tuple[str, ...] = ()  # where its result is another one
-    close: Optional[Callback] = None  # closes its capture, where somebody sees to that already
+    told: Tuple[str, ...] = ()  # about its options
+    read_anew: Tuple[str, ...] = ()  # if its capture is read in another way than before
+    results: Tuple[str, ...] = ()  # if its result has changed
+    close: Optional[Callback] = None  # closes its capture, unless that is done already
 
 
 class Opening:
-    """The opening of a game, which a worker does: what `prepares` does first, and then what its options choose. Where nobody
-    wants it any more its capture is closed."""
+    """The opening of a game, which a worker does: first `prepares`, and then the choice of its options. If it is no longer wanted,
+    its capture is closed."""
 
     def __init__(
         self, program: Program, paths: Paths, prepares: Callable[[], Chooses], patience: float = LOCK_PATIENCE
@@ -130,7 +130,7 @@ class Opening:
         self._dropped = False
 
     def open(self, now: float, today: str) -> Opened:
-        """Opens it at this time of the loop, and on this day. Refused where that can't be."""
+        """Opens it at this time of the loop, and on this day. Refused if that isn't possible."""
         chooses = self._prepares()
         capture = open_game(self._paths, self._patience)
         with self._lock:
@@ -145,12 +145,12 @@ class Opening:
             raise
 
     def take(self) -> None:
-        """From here on the capture is its caller's."""
+        """From now on the caller owns the capture."""
         with self._lock:
             self._capture = None
 
     def drop(self) -> None:
-        """Closes the capture, and what comes of the opening is of no use."""
+        """Closes the capture; the result of the opening isn't used."""
         with self._lock:
             self._dropped = True
             capture, self._capture = self._capture, None
@@ -191,7 +191,7 @@ class Opening:
 
 
 def strictly(given: Options, name: str, told_first: Sequence[str] = ()) -> Chooses:
-    """For a game that is recorded by itself: what it was begun with, or the same again."""
+    """For a game that is recorded by itself: the same options as at its beginning, or none."""
 
     def chooses(kept: Optional[Options], has_moves: Callable[[], bool]) -> Chosen:
         wanted: Optional[Options] = given if kept is None else kept
@@ -213,7 +213,7 @@ def strictly(given: Options, name: str, told_first: Sequence[str] = ()) -> Choos
 
 
 def of_a_line(given: Options, name: str) -> Chooses:
-    """For a game of a round: the options of its line; but one that has moves keeps how the board lies and how it began."""
+    """For a game of a round: the options of its line; but a game that has moves keeps how its board lies and its start position."""
 
     def chooses(kept: Optional[Options], has_moves: Callable[[], bool]) -> Chosen:
         told: List[str] = []
@@ -234,7 +234,7 @@ def of_a_line(given: Options, name: str) -> Chooses:
 
 
 def read_otherwise(given: Options) -> Chooses:
-    """For a game that is made anew: its own options, but for how its capture is read."""
+    """For a game that is made anew: its own options, except for how its capture is read."""
 
     def chooses(kept: Optional[Options], has_moves: Callable[[], bool]) -> Chosen:
         before = kept or Options()

@@ -1,4 +1,4 @@
-"""The options of a game: how its board lies, how it begins, what its tags say. They are read here, and written here."""
+"""The options of a game: how its board lies, its start position, its tags. They are read and written here."""
 
 from __future__ import annotations
 
@@ -13,10 +13,10 @@ FIRST, FEN = "--first", "--fen"
 DATE = "--date"
 PLAYERS = ("--white", "--black")
 TAGS = ("--event", "--site", DATE, "--round", *PLAYERS)
-TAG = "--tag"  # NAME=VALUE: a tag of what is published
+TAG = "--tag"  # NAME=VALUE: a tag that is published
 PUBLISHED = {"--event": "Event", "--site": "Site", "--round": "Round", "--white": "White", "--black": "Black"}
-UNKNOWN = "?"  # what PGN has for a tag that isn't known
-BEGAN = "--began"  # the day on which a game began; it is kept beside the game, and never typed
+UNKNOWN = "?"  # PGN's value for an unknown tag
+BEGAN = "--began"  # the day on which a game began; kept beside the game, never typed
 VALUED = (FIRST, FEN, *TAGS)
 ROTATED, RECOVER, STRICT = "--rotated", "--recover", "--strict"
 PLAIN = (ROTATED, RECOVER, STRICT)
@@ -26,9 +26,9 @@ INITIAL = "rnbqkbnr/pppppppp/8/8/8/8/PPPPPPPP/RNBQKBNR"
 
 @dataclass(frozen=True)
 class Options:
-    """Those of a game; None where one isn't given. `recover` says whether moves that two hands hid are put in. The day on which
-    the game began is its date, where no other is given. `tags` are those of what is published alone, or are published in other
-    letters than they are recorded; one without a value is taken out."""
+    """The options of a game; None for one that isn't given. `recover` says whether moves that two hands hid are added. The day on
+    which the game began is its date, unless another one is given. `tags` are those that are only published, or published in
+    other letters than recorded; a tag without a value is removed."""
 
     rotated: bool = False
     first: Optional[str] = None
@@ -41,13 +41,13 @@ class Options:
     black: Optional[str] = None
     recover: Optional[bool] = None
     began: Optional[str] = None
-    tags: Tuple[Tuple[str, str], ...] = ()  # in the order of their names
+    tags: Tuple[Tuple[str, str], ...] = ()  # in order of their names
 
     # Words and text.
 
     @staticmethod
     def of_words(words: Sequence[str]) -> Options:
-        """As they are typed: `--fen TEXT` or `--fen=TEXT`. Refused where a word is none, or stands twice."""
+        """The options as they are typed: `--fen TEXT` or `--fen=TEXT`. Refused if a word isn't one, or is there twice."""
         values: Dict[str, object] = {}
         tags: Dict[str, str] = {}
         left = list(words)
@@ -72,7 +72,7 @@ class Options:
         return Options(**values, tags=sorted_pairs(tags))  # type: ignore[arg-type]
 
     def words(self) -> Tuple[str, ...]:
-        """As they may be typed, in one order."""
+        """The words as they may be typed, in a fixed order."""
         words = [ROTATED] if self.rotated else []
         if self.recover is not None:
             words.append(RECOVER if self.recover else STRICT)
@@ -85,46 +85,46 @@ class Options:
 
     @staticmethod
     def of_text(text: str) -> Options:
-        """As they were kept, a word a line."""
+        """From the kept text, one word a line."""
         if "\0" in text:
             raise Refused(REFUSED, "it has a character that no option has")
         return Options.of_words(text.split("\n")[:-1])
 
     def text(self) -> str:
-        """As they are kept."""
+        """The text to keep."""
         began = [BEGAN, self.began] if self.began else []
         return "".join(word + "\n" for word in (*self.words(), *began))
 
     def value(self, option: str) -> Optional[str]:
-        """What is given for one of them that has a value."""
+        """The value of an option that has one."""
         value: Optional[str] = getattr(self, option[2:])
         return value
 
     def refuse_breaks(self) -> None:
-        """A word that is broken in two lines couldn't be read again."""
+        """Refuses a word with a line break: it couldn't be read again."""
         for word in self.words():
             if "\n" in word:
                 raise Refused(REFUSED, f"an option has a line break in it: {word!r}")
 
-    # Which calls of the program are given which.
+    # Which calls of the program get which options.
 
     def of_board(self) -> Tuple[str, ...]:
-        """Those that `watch` and `recover` know."""
+        """The options that `watch` and `recover` have."""
         return Options(self.rotated, self.first, self.fen).words()
 
     def of_record(self) -> Tuple[str, ...]:
-        """Those that `record` knows."""
+        """The options that `record` has."""
         return self._with(recover=None, date=self.date or self.began, tags=()).words()
 
     def of_pictures(self) -> Tuple[str, ...]:
-        """Those that `pictures` knows."""
+        """The options that `pictures` has."""
         return Options(self.rotated).words()
 
     # What they say.
 
     @property
     def start(self) -> str:
-        """The placement at the start."""
+        """The start position's placement."""
         return (self.fen or INITIAL).split(" ")[0]
 
     @property
@@ -133,12 +133,12 @@ class Options:
         return self.first or "white"
 
     def tag(self, option: str) -> str:
-        """What a tag says."""
+        """The value of a tag."""
         value = self.value(option)
         return (value or self.began if option == DATE else value) or UNKNOWN
 
     def written(self, option: str) -> str:
-        """What is published for an option, in the letters in which it was typed; nothing where it isn't given."""
+        """What is published for an option, in the letters in which it was typed; empty if it isn't given."""
         return dict(self.tags).get(PUBLISHED[option]) or self.value(option) or ""
 
     @property
@@ -148,7 +148,7 @@ class Options:
 
     @property
     def said(self) -> str:
-        """All of them in a line."""
+        """All of them in one line."""
         return " ".join(self.words()) or "none"
 
     # What a game goes on with.
@@ -157,90 +157,89 @@ class Options:
         return dataclasses.replace(self, **changes)
 
     def fixed(self) -> Options:
-        """Those that stay as they are once the game has a move: without those that only say how its capture is read, and
-        without the tags of what is published."""
+        """The options that stay once the game has a move: not those that only say how its capture is read, and not the published
+        tags."""
         return self._with(first=None, recover=None, began=None, tags=())
 
     def reading(self) -> Options:
-        """Those alone that only say how a capture is read."""
+        """Only the options that say how a capture is read."""
         return Options(first=self.first, recover=self.recover)
 
     def is_said_by(self, given: Options) -> bool:
-        """Whether a game that was kept with these goes on as it is where those are given: none of them, or the same. The day on
-        which it began may be given or left out."""
+        """Whether a game with these options goes on unchanged if those are given: none, or the same. The day on which it began may
+        be given or left out."""
         return given.of_record() in ((), self._with(began=None).of_record(), self.of_record())
 
     def going_on(self, given: Options, has_moves: bool) -> Optional[Options]:
-        """What a game that was kept with these goes on with where those are given. Whose time comes first may be changed at
-        any time, and stays where nothing is said. All others are taken while the game has no move; None where it has one."""
+        """The options with which a game goes on if those are given. Which side's time comes first may change at any time, and
+        stays if nothing is said. All others are taken while the game has no move; None if it has one."""
         if given.fixed() == Options() or (has_moves and given.fixed() == self.fixed()):
             return self.with_first(given.first)
         return None if has_moves else given
 
     def with_first(self, side: Optional[str]) -> Options:
-        """The same, but whose time comes first, where that is said."""
+        """The same, with this side's time first, if said."""
         return self if side in (None, self.side) else self._with(first=side)
 
     def with_tags_of(self, other: Options) -> Options:
-        """The same game with the tags of another one."""
+        """These options with the tags of another game."""
         return self._with(tags=other.tags, **{option[2:]: other.value(option) for option in TAGS}).recovering(self.recover)
 
     def filled(self, kept: Options, tags: Sequence[str]) -> Options:
-        """With what was kept of these tags, and of those of what is published, where nothing is given."""
+        """With the kept tags, also the published ones, for those that aren't given."""
         values = {option[2:]: kept.value(option) for option in tags if self.value(option) is None}
         return self.tagged_over(kept)._with(**values)
 
     def tagged(self, tags: Mapping[str, str]) -> Options:
-        """With these tags of what is published, and no other."""
+        """With exactly these published tags."""
         return self._with(tags=sorted_pairs(tags))
 
     def tagged_over(self, kept: Options) -> Options:
-        """With the tags of what is published that were kept, where neither they nor the option that has them are given."""
+        """With the kept published tags, if neither they nor the option for them are given."""
         given = {name for option, name in PUBLISHED.items() if self.value(option) is not None}
         tags = {**{name: value for name, value in kept.tags if name not in given}, **dict(self.tags)}
         return self.tagged({name: value for name, value in tags.items() if value})
 
     def only(self, tags: Sequence[str]) -> Options:
-        """These tags alone."""
+        """Only these tags."""
         return Options().filled(self, tags)
 
     def begun(self, day: Optional[str]) -> Options:
-        """The same, but begun on this day, or on one that isn't known."""
+        """The same, with this day as the beginning, or an unknown one."""
         return self._with(began=day)
 
     def day(self, today: str, has_moves: Callable[[], bool]) -> Optional[str]:
-        """The day on which a game began that was kept with these: today, where it has no move yet. It isn't known where none
-        was kept."""
+        """The day on which a game with these options began: today, if it has no move yet. Unknown if none was kept."""
         return self.began if self.began in (None, today) or has_moves() else today
 
     def recovering(self, recover: Optional[bool]) -> Options:
-        """The same, but whether pairs are recovered."""
+        """The same, with pairs recovered or not."""
         return self._with(recover=recover or None)
 
     def recovers_with(self, given: Options) -> bool:
-        """Whether pairs are recovered where these were kept and those are given."""
+        """Whether pairs are recovered if these were kept and those are given."""
         return bool(self.recover if given.recover is None else given.recover)
 
     def has_other_players_than(self, before: Options) -> bool:
-        """Whether neither player is the one of before. Nobody is another one than somebody who wasn't known."""
+        """Whether neither player is the same as before. Nobody counts as another player than an unknown one."""
 
         def is_other(option: str) -> bool:
             now, then = dict(self.tags).get(PUBLISHED[option]), dict(before.tags).get(PUBLISHED[option])
-            if now and then:  # two names may have to be recorded as one
+            if now and then:  # two names may be the same when recorded
                 return now != then
             return before.tag(option) not in (UNKNOWN, self.tag(option))
 
         return all(map(is_other, PLAYERS))
 
     def turned(self, turns: Dict[str, Callable[[str], str]]) -> Options:
-        """With the value of each of these options turned into what PGN takes."""
+        """With the value of each of these options changed to what PGN allows."""
         values = {option: self.value(option) for option in turns}
         return self._with(**{option[2:]: turns[option](value) for option, value in values.items() if value is not None})
 
-    # What is told of other ones.
+    # Messages about changed options.
 
     def told_of_tags(self, before: Options) -> str:
-        """What is told where the tags are others than before; nothing where they are the same."""
+        """The message if the tags differ from before; empty if they are the same."""
         told = []
         if self.players != before.players:
             told.append(f"its game is now {self.players}, and was {before.players}")
@@ -250,22 +249,22 @@ class Options:
         return "; ".join(told)
 
     def told_of_all(self, before: Options) -> str:
-        """What is told where a game without a move has others than before; nothing where it hasn't."""
+        """The message if a game without a move has other options than before; empty if it doesn't."""
         return "" if self.fixed() == before.fixed() else f"its options are now {self.said}, and were {before.said}"
 
     def told_of_turned(self, typed: Options) -> List[str]:
-        """What is told of values that were turned."""
+        """The message about values that were changed to what PGN allows."""
         pairs = [(option, typed.value(option), self.value(option)) for option in VALUED]
         return [f"{option} {old} is written as {new}" for option, old, new in pairs if old != new]
 
 
 def sorted_pairs(tags: Mapping[str, str]) -> Tuple[Tuple[str, str], ...]:
-    """In the order of their names."""
+    """In order of their names."""
     return tuple(sorted(tags.items()))
 
 
 def typed_tag(text: str, see_help: str = SEE_HELP) -> str:
-    """`NAME=VALUE`, as it was typed, with the name and the value as PGN has them."""
+    """`NAME=VALUE` as it was typed, with the name and the value as PGN has them."""
     try:
         return "=".join(pair_of(text))
     except Malformed as error:
@@ -273,7 +272,7 @@ def typed_tag(text: str, see_help: str = SEE_HELP) -> str:
 
 
 def value_of(option: str, left: List[str]) -> str:
-    """The value of an option, which is the next word."""
+    """The value of an option: the next word."""
     if not left:
         raise Refused(ARGUMENTS, f"{option} wants a value: {SEE_HELP}")
     return left.pop(0)

@@ -1,5 +1,5 @@
-"""Calls of `dgt_replay`: at once, or as children that the loop hears. No child hears INT, TERM or HUP, and each meets the
-end of its input where this process ends, however it ends."""
+"""Calls of `dgt_replay`: at once, or as children that the loop reads. No child gets INT, TERM or HUP, and each child's input ends
+when this process ends, however it ends."""
 
 from __future__ import annotations
 
@@ -18,13 +18,13 @@ from live.loop import ENDING, Timer
 from live.refused import NO_PROGRAM, Refused
 
 CHUNK = 65536  # bytes that are read or written at once
-FAILURES = 5  # of one child in a row, with nothing told in between
-FRESH = 60.0  # seconds after which earlier failures count no more
+FAILURES = 5  # failures of one child in a row, with no line in between
+FRESH = 60.0  # seconds after which earlier failures no longer count
 
 
 @contextlib.contextmanager
 def _deaf_children() -> Iterator[None]:
-    """A child that is started within keeps these signals blocked; one that comes meanwhile waits for this process."""
+    """A child that is started inside keeps these signals blocked; a signal that comes meanwhile waits for this process."""
     before = signal.pthread_sigmask(signal.SIG_BLOCK, ENDING)
     try:
         yield
@@ -40,8 +40,8 @@ class Program:
 
     @staticmethod
     def find(beside: pathlib.Path) -> Program:
-        """The one in the folder of dgt_live. In the repository a script tells which one belongs to the sources; where it has
-        to build it, that is done here and not in the midst of a game."""
+        """The program in the folder of dgt_live. In the repository a script finds the one that belongs to the sources; if it must
+        build it, that is done here and not in the middle of a game."""
         finder, path = beside / "program", beside / "dgt_replay"
         if finder.exists():
             with _deaf_children():
@@ -62,7 +62,7 @@ class Program:
         return Program(str(path))
 
     def run(self, *words: str, given: bytes = b"") -> subprocess.CompletedProcess[bytes]:
-        """Calls it and waits: for what takes a few milliseconds."""
+        """Calls it and waits: for calls of a few milliseconds."""
         with _deaf_children():
             child = subprocess.Popen(
                 [self.path, *words], stdin=subprocess.PIPE, stdout=subprocess.PIPE, stderr=subprocess.PIPE
@@ -71,21 +71,21 @@ class Program:
         return subprocess.CompletedProcess(list(words), child.returncode, output, error)
 
     def lines(self, *words: str, given: bytes = b"") -> List[str]:
-        """The lines that it writes, once it has read all. An OSError comes where it fails."""
+        """The lines that it writes after it has read everything. Raises OSError if it fails."""
         answer = self.run(*words, given=given)
         if answer.returncode != 0:
             raise OSError(f"{words[0]} {ending_of(answer.returncode)}")
         return lines_of(answer.stdout)
 
     def positions(self, fen: Optional[str], moves: Sequence[str]) -> Tuple[List[str], str]:
-        """The FENs of the start and after each move, and what is wrong with the first move that isn't legal."""
+        """The FENs of the start and after each move, and the error of the first move that isn't legal."""
         start = [FEN, fen] if fen else []
         answer = self.run("positions", *start, given=" ".join(moves).encode())
         return lines_of(answer.stdout), answer.stderr.decode("utf-8", "replace").strip() if answer.returncode else ""
 
     def whole(self, options: Options, sent: bytes) -> bytes:
-        """What a game is read from: what the board sent, and the pairs that `recover` puts in, where that is asked for. An
-        OSError comes where it can't."""
+        """The bytes from which a game is read: what the board sent, with the pairs that `recover` adds, if requested. Raises
+        OSError on failure."""
         if not options.recover:
             return sent
         answer = self.run("recover", *options.of_board(), given=sent)
@@ -94,25 +94,25 @@ class Program:
         return answer.stdout
 
     def start(self, words: Sequence[str], stdin: int, stdout: int, stderr: int) -> subprocess.Popen[bytes]:
-        """Starts it and goes on."""
+        """Starts it without waiting."""
         with _deaf_children():
             return subprocess.Popen([self.path, *words], stdin=stdin, stdout=stdout, stderr=stderr, bufsize=0)
 
 
 class Source(Protocol):
-    """Bytes of which more and more come: a capture."""
+    """Bytes that grow: a capture."""
 
     @property
     def size(self) -> int:
         """How many there are."""
 
     def read(self, offset: int, count: int) -> bytes:
-        """So many of them, or fewer, from an offset on."""
+        """At most this many bytes, from an offset on."""
 
 
 @dataclass(frozen=True)
 class Task:
-    """What a child does: its words, and the source that it reads from an offset on."""
+    """The work of a child: its words, and the source that it reads from an offset on."""
 
     program: Program
     words: Tuple[str, ...]
@@ -122,20 +122,20 @@ class Task:
 
 
 class HearsChild(Protocol):
-    """Who is told of a child that has ended too soon."""
+    """Gets reports about a child that has ended too soon."""
 
     def says(self, text: str) -> None:
-        """It has, and is started again."""
+        """It has ended, and is started again."""
 
     def broken(self, what: str) -> None:
-        """It has again and again, and isn't started any more."""
+        """It has ended again and again, and isn't started any more."""
 
 
 class Reader:
     """A child that reads a source from an offset on.
 
-    It is given what is there, and no more, as fast as it takes it. Where it ends before its input has, another one is started
-    from the same offset, and what was taken of the first is taken once.
+    It gets the bytes that are there as fast as it takes them. If it ends before its input, another one is started from the same
+    offset, and lines that were taken from the first child are taken only once.
     """
 
     def __init__(self, guard: Guard, task: Task, hears: HearsChild) -> None:
@@ -166,7 +166,7 @@ class Reader:
         self.feed()
 
     def feed(self) -> None:
-        """To be called where more stands in the source."""
+        """Call this when the source has grown."""
         if self._child is None or self._child.stdin is None or self._child.stdin.closed or self._blocked:
             return
         number = self._child.stdin.fileno()
@@ -182,7 +182,7 @@ class Reader:
             self._guard.watch(number, None, self._writable)
             return
         except OSError:
-            return  # it has ended, as its output tells
+            return  # it has ended, as its output shows
         if self._finished:
             self._close_input()
 
@@ -210,10 +210,10 @@ class Reader:
             self._ended()
 
     def _begins_anew(self) -> None:
-        """A child is about to be started."""
+        """Is called before a child is started."""
 
     def _takes(self, part: bytes) -> None:
-        """It has written this."""
+        """The child has written this."""
 
     def _ended(self) -> None:
         status = self._reap()
@@ -224,7 +224,7 @@ class Reader:
             self._fail(ending_of(status))
 
     def _fail(self, how: str) -> None:
-        """Tries again, at once and then each half second; gives up where it fails again and again."""
+        """Tries again, at once and then every half second; gives up after repeated failures."""
         now = self._guard.now()
         self._failures = 1 if now - self._failed_at > FRESH else self._failures + 1
         self._failed_at = now
@@ -236,17 +236,17 @@ class Reader:
             self._timer = self._guard.after(0 if self._failures == 1 else 0.5, self._begin)
 
     def finish(self, done: Callable[[], None]) -> None:
-        """Ends its input where the source ends, and calls this when all that it writes has been heard."""
+        """Ends its input at the source's end, and calls this after all of its output was taken."""
         self._finished = done
         self.feed()
 
     def wake(self) -> None:
-        """To be called now and then: one that was stopped from outside goes on."""
+        """Call this now and then: a child that was stopped from outside goes on."""
         if self._child is not None:
             wake(self._child)
 
     def close(self) -> None:
-        """Ends it; nothing is heard from here on."""
+        """Ends it; nothing more is reported."""
         if self._timer:
             self._timer.cancel()
         self._finished = None
@@ -255,7 +255,7 @@ class Reader:
             self._reap()
 
     def _reap(self) -> int:
-        """Its status. Its output has ended, so it ends now; or it is being ended."""
+        """Its exit status. Its output has ended, so it ends now; or it is being ended."""
         child, self._child = self._child, None
         assert child and child.stdin and child.stdout
         self._guard.forget(child.stdout.fileno())
@@ -271,13 +271,13 @@ class Listing(Reader):
 
     def __init__(self, guard: Guard, task: Task, heard: Callable[[str], None], hears: HearsChild, skipped: int = 0) -> None:
         self._heard = heard
-        self._known = skipped  # lines that were heard
+        self._known = skipped  # lines that were reported
         self._came = 0  # lines of this child
         super().__init__(guard, task, hears)
 
     @property
     def caught_up(self) -> bool:
-        """Whether this child has come as far as those before it."""
+        """Whether this child has reached the point of those before it."""
         return self._came >= self._known
 
     def _begins_anew(self) -> None:
@@ -294,17 +294,17 @@ class Listing(Reader):
             self._known += 1
             self._heard(line.decode("ascii", "replace"))
             if self._child is not child:
-                return  # what was heard has ended this listing
+                return  # the report has ended this listing
 
 
 def _end(child: subprocess.Popen[bytes]) -> None:
-    """Ends it, whatever it does."""
+    """Ends it at once."""
     child.kill()
     _let_go(child)
 
 
 def _let_go(child: subprocess.Popen[bytes]) -> None:
-    """Closes what leads to it and from it, and waits for its end."""
+    """Closes its pipes, and waits for its end."""
     for stream in (child.stdin, child.stdout, child.stderr):
         if stream:
             with contextlib.suppress(OSError):
@@ -318,12 +318,12 @@ def _let_go(child: subprocess.Popen[bytes]) -> None:
 
 
 def ending_of(status: int) -> str:
-    """How a child has ended that should not have."""
+    """How a child ended that should have gone on."""
     return "was killed" if status < 0 else f"ended with status {status}"
 
 
 def wake(child: subprocess.Popen[bytes]) -> None:
-    """A child that was stopped goes on."""
+    """Lets a stopped child go on."""
     with contextlib.suppress(OSError):
         if child.returncode is None and os.waitid(os.P_PID, child.pid, os.WSTOPPED | os.WNOHANG | os.WNOWAIT):
             child.send_signal(signal.SIGCONT)

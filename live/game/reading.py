@@ -1,4 +1,4 @@
-"""The course of a game as its capture stands: by one call of `watch`, for whom may wait for it."""
+"""The course of a game from its capture: by one call of `watch`, for callers that may wait for it."""
 
 from __future__ import annotations
 
@@ -21,21 +21,21 @@ from live.game.program import CHUNK, Program, ending_of
 from live.game.report import Agrees, Clock, Differs, Picture, event_of, line_of
 from live.game.whole import Pair, Places, pairs_in
 
-DUMP_BEGINS = b"\x86\x00\x43"  # such bytes begin a dump wherever they stand, since only a frame's first has its top bit set
+DUMP_BEGINS = b"\x86\x00\x43"  # such bytes begin a dump wherever they are, since only a frame's first byte has its top bit set
 
 
 @dataclass(frozen=True)
 class Old:
-    """What a capture had when it was opened: so many bytes, whose report has so many lines, and the course of the game."""
+    """What a capture had when it was opened: its bytes, the number of their lines in the report, and the course of the game."""
 
     size: int
     lines: int
     course: Course
-    gap: float = 0.0  # the seconds since its last byte came
+    gap: float = 0.0  # the seconds since its last byte
 
 
 def new_course(options: Options) -> Course:
-    """That of a game of which nothing is reported yet."""
+    """The course of a game without a report yet."""
     return Course(protocol.picture_of_placement(options.start))
 
 
@@ -45,7 +45,7 @@ def nothing_old(options: Options, size: int) -> Old:
 
 
 def read_game(game: Game, limit: Optional[int], now: float) -> Old:
-    """What the capture has, or so many bytes of it, at this time. An OSError comes where it can't be read."""
+    """What the capture has, or this many bytes of it, at this time. Raises OSError if it can't be read."""
     with contextlib.ExitStack() as opened:
         source = source_of(game, limit)
         opened.callback(os.close, source)
@@ -73,7 +73,7 @@ def game_of(program: Program, options: Options, sent: bytes) -> Course:
 
 
 class Times:
-    """When the bytes of a capture came, as far as that is known: there is a dump for each second, and the last was now."""
+    """When the bytes of a capture came, as far as known: there is a dump every second, and the last one came now."""
 
     def __init__(self, source: int, now: float) -> None:
         self.size = os.fstat(source).st_size
@@ -81,14 +81,14 @@ class Times:
         self._began, self._at = now - len(self._dumps), 0
 
     def of(self, offset: int) -> float:
-        """Of one byte; they are asked for in their order."""
+        """The time of one byte; they are requested in order."""
         while self._at < len(self._dumps) and self._dumps[self._at] <= offset:
             self._at += 1
         return self._began + self._at
 
 
 def dumps_in(source: int, size: int) -> Iterator[int]:
-    """Where the dumps of a file begin."""
+    """The offsets of the dumps in a file."""
     at, before = 0, b""
     while at < size:
         part = os.pread(source, 1 << 20, at)
@@ -104,7 +104,7 @@ def dumps_in(source: int, size: int) -> Iterator[int]:
 
 
 def take_all(course: Course, program: Program, words: Sequence[str], source: int, places: Places, times: Times) -> int:
-    """Takes the lines of a child that reads a file. How many there were."""
+    """Takes the lines of a child that reads a file. Returns their number."""
     into, out = os.pipe()
     try:
         child = program.start(words, source, out, subprocess.DEVNULL)
@@ -130,7 +130,7 @@ def take_all(course: Course, program: Program, words: Sequence[str], source: int
 
 
 def _lines(source: int) -> Iterator[List[str]]:
-    """The whole lines that come there, some at once."""
+    """The complete lines that come, several at once."""
     part = ""
     while True:
         more = os.read(source, CHUNK).decode("ascii", "replace")
@@ -142,9 +142,9 @@ def _lines(source: int) -> Iterator[List[str]]:
 
 
 def wanted(texts: Sequence[str], start: protocol.Picture) -> Sequence[str]:
-    """Those of some lines in a row that a course asks for. Where nothing has changed the game, of a square that chatters, these
-    are the first lines that say how the board stands, the last that agrees with the one behind it, and the last; of the
-    pictures the first one of the start and the last, unless one of them was far from the start."""
+    """Those of some consecutive lines that a course needs. If nothing has changed the game and a square chatters, these are: the
+    first lines that give the board's state, the last one that agrees with the one after it, and the last; of the pictures the
+    first one of the start and the last, unless one of them was far from the start."""
     words = [text.partition(" ")[2] for text in texts]
     kinds = {word: event_of(word) for word in set(words)}
     if not all(isinstance(event, (Picture, Differs, Agrees, Clock)) for event in kinds.values()):
@@ -160,12 +160,12 @@ def wanted(texts: Sequence[str], start: protocol.Picture) -> Sequence[str]:
 
 
 def _last(words: Sequence[str], letter: str) -> Sequence[int]:
-    """The place of the last of the words that begins with this letter, if one does."""
+    """The index of the last word that begins with this letter, if any."""
     return next(([at] for at in range(len(words) - 1, -1, -1) if words[at][0] == letter), [])
 
 
 def _recovered(game: Game, source: int, opened: contextlib.ExitStack) -> "tuple[int, List[Pair]]":
-    """A file with the pairs put in, and the pairs."""
+    """A file with the recovered pairs added, and the pairs."""
     files = [os.memfd_create(name) for name in ("whole", "pairs")]
     for file in files:
         opened.callback(os.close, file)
@@ -177,7 +177,7 @@ def _recovered(game: Game, source: int, opened: contextlib.ExitStack) -> "tuple[
 
 
 def _mapped(source: int, opened: contextlib.ExitStack) -> Sequence[int]:
-    """The bytes of a file, as far as they are looked at."""
+    """The bytes of a file, read only where they are used."""
     if not os.fstat(source).st_size:
         return b""
     content = mmap.mmap(source, 0, access=mmap.ACCESS_READ)

@@ -1,4 +1,4 @@
-"""What the program says of options that it refuses, in words for the one who typed them."""
+"""The program's reasons for refusing options, in words for whoever typed them."""
 
 from __future__ import annotations
 
@@ -6,7 +6,7 @@ from typing import Dict, Optional, Tuple
 
 from live.game.options import SEE_HELP, Options
 
-# The conditions of a position, and of the text that has it, in docs/CHESS.md.
+# The conditions for a position and its text, in docs/CHESS.md.
 OF_FEN: Dict[str, str] = {
     "form": "give six fields, or the first four, as in '8/8/4k3/8/8/4K3/4P3/8 w - - 0 1'",
     "counters": "the two numbers at its end are 0 to 9999 and 1 to 9999",
@@ -20,7 +20,7 @@ OF_FEN: Dict[str, str] = {
 
 
 def reason(error: str) -> str:
-    """What is to be told, of what the program has printed."""
+    """The message, given what the program has printed."""
     first = (error.strip().splitlines() or ["the program gave no reason"])[0]
     kind, _, why = first.partition(": ")
     if kind == "fen":
@@ -29,7 +29,7 @@ def reason(error: str) -> str:
 
 
 def is_recorded(name: str, board: Optional[str], given: Options) -> Tuple[str, ...]:
-    """What is told where a game is to be made anew while it is recorded: on this board of a round, on none, or who knows."""
+    """The message if a game is to be made anew while it is recorded: on this board of a round, on none, or unknown."""
     if board == "":
         return (f"{name} is being recorded: Ctrl-C there, and then this again",)
     columns = [f"{given.first} in its column first"] if given.first else []

@@ -1,4 +1,4 @@
-"""What the program reports of a game: the lines of `watch`, and the pairs of `recover`, each read here and nowhere else."""
+"""The program's report of a game: the lines of `watch`, and the pairs of `recover`. They are read only here."""
 
 from __future__ import annotations
 
@@ -11,8 +11,8 @@ from live.device import protocol
 
 @dataclass(frozen=True)
 class Move:
-    """The picture settled a move: one more, or another one in the place of the last, which it corrects. `number` is `12.` or
-    `12...`; `clock` is its player's time after it, empty where none is known."""
+    """The picture settled a move: a new one, or a correction that replaces the last one. `number` is `12.` or `12...`; `clock` is
+    its player's time after it, empty if unknown."""
 
     number: str
     san: str
@@ -37,7 +37,7 @@ class Move:
 
 @dataclass(frozen=True)
 class Result:
-    """The result of the game has become this one; `*` where there is none any more."""
+    """The game's result is now this; `*` if it has none any more."""
 
     outcome: str
 
@@ -52,7 +52,7 @@ class Result:
 
 @dataclass(frozen=True)
 class Differs:
-    """The picture waits, and differs from the position on these squares."""
+    """The picture isn't settled, and differs from the position on these squares."""
 
     squares: Tuple[str, ...]
 
@@ -63,7 +63,7 @@ class Differs:
 
 @dataclass(frozen=True)
 class Agrees:
-    """The picture is that of the position."""
+    """The picture shows the position."""
 
     words = "agrees"
 
@@ -92,14 +92,14 @@ class Picture:
 
 @dataclass(frozen=True)
 class Position:
-    """The position that the game has reached: at the start, and behind each move and result."""
+    """The position that the game has reached: at the start, and after each move and result."""
 
     fen: str
 
 
 @dataclass(frozen=True)
 class Clock:
-    """Both clocks show another time than before: White's, and Black's."""
+    """The clocks show another time than before: White's, and Black's."""
 
     white: str
     black: str
@@ -107,7 +107,7 @@ class Clock:
 
 @dataclass(frozen=True)
 class Recovered:
-    """Two moves that no picture showed were put in: `recovered 3. Bc4 3... Nc6`."""
+    """Two moves that no picture showed were added: `recovered 3. Bc4 3... Nc6`."""
 
     text: str
 
@@ -122,19 +122,19 @@ Event = Union[Move, Result, Differs, Agrees, Fault, Picture, Position, Clock, Re
 
 
 class Line(NamedTuple):
-    """An event, and the offset of the byte at which it came."""
+    """An event, and the offset of its byte."""
 
     offset: int
     event: Event
 
     @property
     def is_picture(self) -> bool:
-        """Whether it says what the board shows, and not what the game makes of that."""
+        """Whether it says what the board shows, and not what that means for the game."""
         return isinstance(self.event, Picture)
 
 
 def line_of(text: str) -> Optional[Line]:
-    """A line of `watch`, `follow` or `recover`; None for its last one, `rest N`, and for whatever else a program may say."""
+    """A line of `watch`, `follow` or `recover`; None for the last line, `rest N`, and for anything else that a program may print."""
     offset, _, words = text.partition(" ")
     event = event_of(words) if offset.isascii() and offset.isdigit() and len(offset) < 16 else None
     return Line(int(offset), event) if event else None
@@ -142,7 +142,7 @@ def line_of(text: str) -> Optional[Line]:
 
 @functools.lru_cache(maxsize=4096)
 def event_of(words: str) -> Optional[Event]:
-    """The event of a line, of its words behind the offset. The same words are the same event."""
+    """The event of a line, from its words after the offset. The same words are the same event."""
     kind, _, rest = words.partition(" ")
     parts = rest.split(" ")
     if kind in ("move", "correction") and len(parts) in (2, 3):

@@ -1,7 +1,7 @@
 """Moves that were made while the clock was stopped: players try moves after they have agreed on a draw, or the clock was forgotten.
 
-The seventh byte of a time message says whether the clock runs (bit 0), and whether one is there (bit 5). An acknowledgement of
-a command to the clock, which has 10 in the low four bits of its first or fourth byte, says nothing of either.
+The seventh byte of a time message says whether the clock runs (bit 0), and whether it is connected (bit 5). An acknowledgement
+of a command to the clock, which has 10 in the low four bits of its first or fourth byte, says neither.
 """
 
 from __future__ import annotations
@@ -15,12 +15,12 @@ from live.game.report import Move
 
 RUNS, NO_CLOCK = 0x01, 0x20  # bits of the status
 ACKNOWLEDGES = 10
-STANDS = 3.0  # seconds: a move that a player made before he stopped the clock may be seen after it, by the next dump
+STANDS = 3.0  # seconds: a move from before the clock was stopped may be seen only after it, with the next dump
 ABOUT = "clock"
 
 
 def runs(data: bytes) -> Optional[bool]:
-    """Whether the clock runs, by the seven bytes of a time message; None where they don't say so."""
+    """Whether the clock runs, by the seven bytes of a time message; None if they don't say."""
     if ACKNOWLEDGES in (data[0] & 0x0F, data[3] & 0x0F) or data[6] & NO_CLOCK:
         return None
     return bool(data[6] & RUNS)
@@ -43,7 +43,7 @@ class StoppedClock:
     last: str = ""  # the last move
     count: int = 0
     _stands_since: float = math.inf
-    _before: str = ""  # the last one before those that are counted
+    _before: str = ""  # the last one before the counted moves
 
     def time(self, now: float, data: bytes) -> None:
         """A time message has come, with these seven bytes."""
@@ -55,19 +55,19 @@ class StoppedClock:
             self._stands_since = now
 
     def gone(self) -> None:
-        """The board isn't heard: nobody knows whether the clock runs."""
+        """The board isn't heard: it isn't known whether the clock runs."""
         self._stands_since = math.inf
 
     def acknowledged(self) -> None:
-        """Somebody has looked at what was counted: later moves are counted anew."""
+        """The counted moves are acknowledged: later moves are counted from zero."""
         self.count = 0
 
     def added(self, move: Move) -> None:
-        """Somebody has typed this move: it was played."""
+        """This move was typed: it was played."""
         self.last = move.short
 
     def moved(self, now: float, move: Move) -> Optional[Look]:
-        """A move or a correction was reported: what is to be looked at, if anything."""
+        """A move or a correction was reported. Returns an alarm, if any."""
         before, self.last = self.last, move.short
         if move.corrects:
             return None

@@ -1,8 +1,7 @@
-"""The tags of a game as it is published, in UTF-8: which there are, what their values may be, and the text with them.
-Pure.
+"""The tags of a published game, in UTF-8: which tags there are, what values they may have, and the text with them. Pure.
 
-`record` writes seven tags in ASCII, and that text stays as it is. What is published has its movetext, byte for byte,
-under tag pairs that are written anew.
+`record` writes seven tags in ASCII, and that text stays as it is. The published text has its movetext, byte for byte, after tag
+pairs that are written anew.
 """
 
 from __future__ import annotations
@@ -13,10 +12,10 @@ from typing import Callable, Dict, List, Mapping, Optional, Tuple
 
 Tags = Mapping[str, str]
 
-ROSTER = ("Event", "Site", "Date", "Round", "White", "Black", "Result")  # the first ones of a PGN text, in their order
-OF_PLAYER = ("Title", "Elo", "FideId", "Team", "Fed", "USCF", "NA", "Type")  # behind White and Black
+ROSTER = ("Event", "Site", "Date", "Round", "White", "Black", "Result")  # the first tags of a PGN text, in order
+OF_PLAYER = ("Title", "Elo", "FideId", "Team", "Fed", "USCF", "NA", "Type")  # after White and Black
 SIDES = ("White", "Black")
-# The others of the PGN standard and those that broadcasts have added; those that the game itself says are not among them.
+# The other tags of the PGN standard and those that broadcasts have added; but not those that come from the game itself.
 OTHERS = (
     *(side + name for side in SIDES for name in OF_PLAYER),
     *("Board", "TimeControl", "EventDate", "EventSponsor", "EventType", "EventRounds", "EventCountry", "Section", "Stage"),
@@ -27,23 +26,23 @@ BY_NAME = {name.lower(): name for name in (*ROSTER[:-1], *OTHERS)}
 GAME_SAYS = ("Result", "FEN", "SetUp", "PlyCount", "Termination", "Variant")
 LONGEST = 255  # characters of a value, as PGN has it
 TITLES = ("GM", "IM", "FM", "CM", "WGM", "WIM", "WFM", "WCM", "AGM", "AIM", "AFM", "ACM", "NM", "WNM", "LM")
-NONE = ("", "-", "0")  # what pairing programs write for a player without a rating, a title or a FIDE id
+NONE = ("", "-", "0")  # what pairing programs write if a player has no rating, title or FIDE id
 HIGHEST_RATING = 3999
-JOINERS = "\u200c\u200d"  # they aren't seen, and Persian and Indian scripts need them
+JOINERS = "\u200c\u200d"  # they can't be seen, and Persian and Indian scripts need them
 PAIR = re.compile(r'\[(\w+) "((?:[^"\\]|\\.)*)"\]')
 TIME_CONTROL = re.compile(r"(?:\d+/)?\d+(?:\+\d+)?(?::(?:\d+/)?\d+(?:\+\d+)?)*|\*\d+|[?-]", re.ASCII)
 MINUTES = re.compile(
     r"(\d{1,3}) ?(?:'|′|m|min|minutes|Min\.?)? ?\+ ?(\d{1,2}) ?(?:\"|″|s|sec|seconds|Sek\.?)?(?: ?/ ?(?:move|Zug))?", re.ASCII
 )
-MOST_MINUTES = 150  # a base with an increment that is no more than this was written in minutes
+MOST_MINUTES = 150  # a base time with an increment counts as minutes up to this
 
 
 class Malformed(Exception):
-    """A value that its tag can't have. The text says what to type, behind what it is."""
+    """A value that its tag can't have. The text says what to type; the name of the value goes before it."""
 
 
 def cleaned(text: str) -> str:
-    """As it is seen: a blank for each kind of blank, and without marks that aren't seen."""
+    """The visible text: each kind of blank as a blank, and no invisible marks."""
     letters = []
     for letter in text:
         kind = unicodedata.category(letter)
@@ -55,17 +54,17 @@ def cleaned(text: str) -> str:
 
 
 def is_seen(text: str) -> bool:
-    """Whether each character can be printed, but for those that join letters."""
+    """Whether each character can be printed, except those that join letters."""
     return all(letter.isprintable() or letter in JOINERS for letter in text)
 
 
 def known_name(text: str) -> Optional[str]:
-    """The tag of this name, however its letters are written; None where there is none that may be given."""
+    """The tag with this name, in any case; None if no such tag may be given."""
     return BY_NAME.get(text.strip().lower())
 
 
 def value_of(name: str, text: str) -> str:
-    """The value of a tag as it is published; nothing where there is none. Raises Malformed."""
+    """The published value of a tag; empty if there is none. Raises Malformed."""
     value = cleaned(text)
     if not is_seen(value):
         raise Malformed("has a character that can't be seen: type it anew")
@@ -116,18 +115,18 @@ CHECKS: Dict[str, Callable[[str], str]] = {
 
 
 def escaped(value: str) -> str:
-    """As it stands between the quotes of a tag pair."""
+    """The text between the quotes of a tag pair."""
     return value.replace("\\", "\\\\").replace('"', '\\"')
 
 
 def pairs_of(head: str) -> Dict[str, str]:
-    """The tags of a text that `record` has made."""
+    """The tags of a text that `record` made."""
     return {name: re.sub(r"\\(.)", r"\1", value) for name, value in PAIR.findall(head)}
 
 
 def published(recorded: bytes, tags: Tags) -> bytes:
-    """The text of a game with these tags, as it is published: the roster first, the others in the order of their
-    names. What the game itself says, its result among it, comes from the text that was recorded."""
+    """The text of a game with these tags, as it is published: the roster first, the others in order of their names. What the game
+    itself says, also its result, comes from the recorded text."""
     if not recorded:
         return b""
     head, gap, movetext = recorded.partition(b"\n\n")

@@ -1,5 +1,4 @@
-"""The program's report of a game while its capture grows: one child tells everything, with `recover` in front of it where pairs
-of moves are put in."""
+"""The program's report of a game while its capture grows: one child reports everything, after `recover` if pairs of moves are added."""
 
 from __future__ import annotations
 
@@ -15,14 +14,14 @@ from live.guard import Guard
 
 
 class HearsReport(HearsChild, Protocol):
-    """Who is told what the program reports."""
+    """Gets the program's report."""
 
     def heard(self, line: Line) -> None:
-        """The next line. Its offset is that of the capture."""
+        """The next line. Its offset is an offset in the capture."""
 
 
 class Watching:
-    """Reports a game from the first byte on; the first `known` lines were reported before."""
+    """Reports a game from its first byte; the first `known` lines were reported before."""
 
     def __init__(self, guard: Guard, game: Game, hears: HearsReport, known: int) -> None:
         self._hears = hears
@@ -52,21 +51,21 @@ class Watching:
 
     @property
     def caught_up(self) -> bool:
-        """Whether all that was reported before has been reported again."""
+        """Whether everything that was reported before has been reported again."""
         return self._watch is not None and self._watch.caught_up
 
     def feed(self) -> None:
-        """To be called where more stands in the capture."""
+        """Call this when the capture has grown."""
         for child in self._children:
             child.feed()
 
     def wake(self) -> None:
-        """To be called now and then: what was stopped from outside goes on."""
+        """Call this now and then: a child that was stopped from outside goes on."""
         for child in self._children:
             child.wake()
 
     def finish(self, done: Callable[[], None]) -> None:
-        """Calls this when all is reported that stands in the capture."""
+        """Calls this when everything in the capture is reported."""
         assert self._watch
         if self._whole:
             self._whole.finish(functools.partial(self._watch.finish, done))
@@ -74,6 +73,6 @@ class Watching:
             self._watch.finish(done)
 
     def close(self) -> None:
-        """Nothing is reported from here on."""
+        """Reports nothing further."""
         for child in self._children:
             child.close()

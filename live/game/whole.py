@@ -1,4 +1,4 @@
-"""A capture with the pairs of moves that two hands hid put in, as `recover` gives it while it grows."""
+"""A capture with the pairs of moves that two hands hid, as `recover` makes it while the capture grows."""
 
 from __future__ import annotations
 
@@ -15,35 +15,35 @@ from live.guard import Guard
 
 @dataclass(frozen=True)
 class Pair:
-    """Two moves that were recovered, and the offset of the byte of the capture that confirmed them."""
+    """Two moves that were recovered, and the offset of the byte in the capture that confirmed them."""
 
     offset: int
     text: str
 
     @staticmethod
     def of_line(text: str) -> Optional[Pair]:
-        """Of a line of `recover`: `350 recovered 3. Bc4 3... Nc6`. None for any other."""
+        """The pair of a line of `recover`: `350 recovered 3. Bc4 3... Nc6`. None for any other line."""
         line = line_of(text)
         return Pair(line.offset, line.event.text) if line and isinstance(line.event, Recovered) else None
 
 
 def pairs_in(text: bytes) -> List[Pair]:
-    """Those of the lines of `recover`."""
+    """The pairs in the lines of `recover`."""
     found = map(Pair.of_line, text.decode("ascii", "replace").split("\n"))
     return [pair for pair in found if pair]
 
 
 @dataclass(frozen=True)
 class Place:
-    """Where a byte comes from: the offset of a byte of the capture, and the pair with which it was put in behind it, if any."""
+    """Where a byte comes from: the offset of a byte of the capture, and the pair with which it was added after it, if any."""
 
     offset: int
     pair: Optional[Pair] = None
 
 
 class Places:
-    """The lines of what was read of a capture with pairs put in, with the offsets that they have in the capture. They come in
-    the order of their offsets. Before the first line that comes from a pair, and is none of a picture, stands the pair."""
+    """The lines of a capture with pairs added, with the offsets that they have in the capture, in order. Before the first line
+    that comes from a pair, and isn't a picture, comes the pair."""
 
     def __init__(self, content: Sequence[int], pairs: Sequence[Pair]) -> None:
         self._content, self._pairs = content, pairs
@@ -51,18 +51,18 @@ class Places:
 
     @property
     def has_pairs(self) -> bool:
-        """Whether anything was put in."""
+        """Whether anything was added."""
         return bool(self._pairs)
 
     def of(self, line: Line) -> List[Line]:
-        """The lines that this one makes."""
+        """The lines that this line becomes."""
         if not self._pairs:
             return [line]
         place = place_in(self._content, self._pairs, line.offset)
         here = Line(place.offset, line.event)
         if place.pair is None:
             return [here]
-        if line.is_picture:  # it was put in, and the last of them is what stood there before
+        if line.is_picture:  # it was added, and the last of these pictures is the one from before
             return []
         number = self._pairs.index(place.pair) + 1
         pair = [Line(place.offset, Recovered(place.pair.text))] if number > self._told else []
@@ -71,9 +71,9 @@ class Places:
 
 
 class Whole(Reader):
-    """What is read in the place of a capture. It is kept in memory alone, since it can be made anew at any time.
+    """What is read instead of a capture. It is kept only in memory, since it can be made again at any time.
 
-    `recover` tells of a pair before it writes the bytes that were put in with it.
+    `recover` reports a pair before it writes the bytes that it adds with it.
     """
 
     def __init__(self, guard: Guard, task: Task, grown: Callable[[], None], hears: HearsChild) -> None:
@@ -90,7 +90,7 @@ class Whole(Reader):
         return bytes(self._content[offset : offset + count])
 
     def places(self) -> Places:
-        """Where each line of what is read comes from."""
+        """Where each line of this comes from."""
         return Places(self._content, self.pairs)
 
     def _begins_anew(self) -> None:
@@ -121,8 +121,8 @@ class Whole(Reader):
 
 
 def place_in(content: Sequence[int], pairs: Sequence[Pair], offset: int) -> Place:
-    """Where a byte comes from, of what `recover` has written with these pairs."""
-    more = 0  # bytes that were put in so far
+    """Where a byte comes from in what `recover` has written with these pairs."""
+    more = 0  # bytes that were added so far
     for pair in pairs:
         begins = pair.offset + 1 + more
         if offset < begins:
@@ -135,7 +135,7 @@ def place_in(content: Sequence[int], pairs: Sequence[Pair], offset: int) -> Plac
 
 
 def put_in(first: int) -> int:
-    """How many bytes were put in where this is the first of them: three dumps; and a time before and behind two of them, where
-    the moves were made at another time than the last one."""
+    """How many bytes were added, if this is the first of them: three dumps; and a time before and after two of them, if the moves
+    were made at another time than the last one."""
     return 3 * SIZES[DUMP_ID] + (2 * SIZES[TIME_ID] if first == TIME_ID else 0)
 
