@@ -27,7 +27,7 @@ def terminal_of_lines(loop: Loop) -> Optional[Terminal]:
 
 
 class Display:
-    """Shows the rows and the last messages; where there is no table, the messages alone, as lines."""
+    """Shows the rows and the last messages; without a table, only the messages, as lines."""
 
     def __init__(
         self,
@@ -38,26 +38,26 @@ class Display:
         trouble: Callable[[str], None],
     ) -> None:
         self._loop, self._title, self._views, self._terminal, self._trouble = loop, title, views, terminal, trouble
-        self._told = ""  # what kept the table from being drawn, as it was told last
+        self._told = ""  # the last reported reason why the table couldn't be drawn
         self._painter = None if terminal else Painter(loop)
         self._messages: List[str] = []
         self._draws: Optional[Timer] = None
         self._tick = loop.after(TICK, self._each_second)
 
     def say(self, text: str) -> None:
-        """A line for whoever looks at the screen."""
+        """A line for the screen."""
         line = f"{datetime.datetime.now():%H:%M:%S}  {text}"
         self._messages = [*self._messages[1 - KEPT :], line]
         if self._terminal:
             self._terminal.line(line)
 
     def changed(self) -> None:
-        """What is shown is another: it is drawn soon."""
+        """What is shown has changed: it is drawn soon."""
         if self._painter and self._draws is None:
             self._draws = self._loop.after(DRAWS_EACH, self._draw)
 
     def forget(self) -> None:
-        """All is drawn anew: somebody has typed a line."""
+        """Everything is drawn again: somebody has typed a line."""
         if self._painter:
             self._painter.forget()
 

@@ -1,4 +1,4 @@
-"""What the columns of a table are, by their headings: as it is written by hand, and as pairing programs write it in
+"""What the columns of a table are, by their headings: in tables that are written by hand, and in those of pairing programs in
 English, German, French, Spanish and Italian. Pure."""
 
 from __future__ import annotations
@@ -11,10 +11,10 @@ from live.game.tags import OTHERS, SIDES, known_name
 
 BOARD, WHITE, BLACK, RESULT = "board", "white", "black", "result"
 DEVICE, SERIAL, NAME = "device", "serial", "name"
-BY_HAND = (DEVICE, SERIAL, "rotated", "first", "fen", NAME, "recover")  # in English alone
+BY_HAND = (DEVICE, SERIAL, "rotated", "first", "fen", NAME, "recover")  # only in English
 COLUMNS = (BOARD, DEVICE, WHITE, BLACK, "rotated", "first", "fen", NAME, RESULT, "recover", SERIAL)
-NOT_NEEDED = ""  # a column that is known, and has nothing that a recorder needs
-PERHAPS = "?"  # behind a tag: a column without a heading may have it
+NOT_NEEDED = ""  # a known column that a recorder doesn't need
+PERHAPS = "?"  # after a tag: such a column may have no heading
 
 # Words as `normal` makes them.
 WORDS: Dict[str, Tuple[str, ...]] = {
@@ -44,26 +44,26 @@ _OF_SIDE = {word: name for name, words in OF_SIDE.items() for word in words}
 
 @dataclass(frozen=True)
 class Heading:
-    """What each column has: one of COLUMNS, a tag, or nothing that is needed; and the columns that aren't known."""
+    """What each column is: one of COLUMNS, a tag, or not needed; and the unknown columns."""
 
     roles: Tuple[str, ...]
     unknown: Tuple[str, ...] = ()
-    twice: str = ""  # the heading of a column that another one has too
+    twice: str = ""  # a heading that two columns have
 
     @property
     def has_devices(self) -> bool:
-        """Whether the table says where its boards are plugged in."""
+        """Whether the table names the devices of its boards."""
         return DEVICE in self.roles or SERIAL in self.roles
 
 
 def normal(text: str) -> str:
-    """Its letters and digits, small and without marks: `Échiquier` is `echiquier`, `Weiß` is `weiss`, `Bo.` is `bo`."""
+    """Only letters and digits, in lower case and without marks: `Échiquier` becomes `echiquier`, `Weiß` `weiss`, `Bo.` `bo`."""
     parts = unicodedata.normalize("NFKD", text.casefold())
     return "".join(letter for letter in parts if letter.isalnum())
 
 
 def heading_of(fields: Sequence[str]) -> Optional[Heading]:
-    """The heading that these fields are; None where they are none."""
+    """The heading that these fields are; None if they aren't one."""
     words = [normal(field) for field in fields]
     by_hand = [word if word in BY_HAND else None for word in words]
     has_device = DEVICE in words or SERIAL in words
@@ -85,7 +85,7 @@ def heading_of(fields: Sequence[str]) -> Optional[Heading]:
 
 
 def _role(word: str) -> Optional[str]:
-    """What a heading says by itself; None where it isn't known, or where it says it of a player and not of which one."""
+    """What a heading means by itself; None if it is unknown, or if it doesn't say which player it means."""
     if word in _ROLES:
         return _ROLES[word]
     sided = _sided(word)
@@ -109,7 +109,7 @@ def _sided(word: str) -> Optional[str]:
 
 
 def _without_hands(words: Sequence[str], roles: Sequence[Optional[str]]) -> List[Optional[str]]:
-    """A table of a pairing program: a name is a player's, and no file's. Two names are White's and Black's."""
+    """A pairing program's table: a name is a player's, not a file's. Two names are White's and Black's."""
     names = [at for at, word in enumerate(words) if word in PLAYER]
     found = [NOT_NEEDED if at in names else role for at, role in enumerate(roles)]
     if len(names) == 2 and WHITE not in found and BLACK not in found:
@@ -118,8 +118,8 @@ def _without_hands(words: Sequence[str], roles: Sequence[Optional[str]]) -> List
 
 
 def _of_sides(words: Sequence[str], roles: Sequence[Optional[str]]) -> List[Optional[str]]:
-    """Two columns with a rating, a title .. are those of the players in the order in which these stand. A column
-    without a heading before a player may have his title."""
+    """Two columns with a rating, a title .. belong to the players in the players' order. A column without a heading before a
+    player may have his title."""
     found = list(roles)
     if WHITE not in found or BLACK not in found:
         return found

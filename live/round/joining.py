@@ -1,5 +1,4 @@
-"""The table of a hall's boards, which is kept all season, and the pairs of a round: which board has which device and
-which game. Pure."""
+"""The table of a hall's boards, kept all season, and the pairs of a round: which board has which device and game. Pure."""
 
 from __future__ import annotations
 
@@ -11,7 +10,7 @@ from live.round.table import boards_are
 
 
 def joined(hall: Pairings, hall_name: str, pairs: Pairings, pairs_name: str) -> Pairings:
-    """The pairs with the devices of their boards. What is said of each table names it."""
+    """The pairs with the devices of their boards. Messages name the table that they are about."""
     places = {place.board: place for place in hall.boards}
     wrong = {line.board for line in hall.wrong}
     boards = [_at(places[pair.board], pair) for pair in pairs.boards if pair.board in places]
@@ -41,12 +40,12 @@ def _at(place: Pairing, pair: Pairing) -> Pairing:
 
 
 def named(name: str, remarks: Sequence[str]) -> List[str]:
-    """What is said of a table, with its name."""
+    """A message about a table, with the table's name."""
     return [f"{name}: {remark}" for remark in remarks]
 
 
 def of_file(name: str, wrong: Sequence[Wrong]) -> Tuple[Wrong, ...]:
-    """Lines that are wrong, with the name of their table."""
+    """Wrong lines, with the name of their table."""
     return tuple(dataclasses.replace(line, file=name) for line in wrong)
 
 
@@ -58,13 +57,12 @@ def numbers(boards: Sequence[int]) -> str:
 
 
 def serials_wanted(read: Pairings) -> List[str]:
-    """The boards that are named by their own numbers alone."""
+    """The boards that are given only by their serial numbers."""
     return [pairing.serial for pairing in read.boards if not pairing.device]
 
 
 def placed(read: Pairings, plugged: Mapping[str, str]) -> Pairings:
-    """With the devices of boards that are named by their own numbers alone, of those that are plugged in. A board
-    that isn't is a line that is wrong."""
+    """With the devices of those boards that are given by serial number and are plugged in. A missing board is a wrong line."""
     boards: List[Pairing] = []
     wrong: List[Wrong] = list(read.wrong)
     taken: Dict[str, int] = {pairing.device: pairing.board for pairing in read.boards if pairing.device}

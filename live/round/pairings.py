@@ -1,4 +1,4 @@
-"""The table of a round: a board and a pairing a line, as a spreadsheet saves it."""
+"""The table of a round: one board and pairing a line, as a spreadsheet saves it."""
 
 from __future__ import annotations
 
@@ -19,15 +19,15 @@ RESULTS = {
     "1-0": "1-0", "0-1": "0-1", DRAW: DRAW, "1/2": DRAW, "½": DRAW, "½-½": DRAW, "0.5-0.5": DRAW, ".5-.5": DRAW, "=-=": DRAW,
 }  # fmt: skip
 NOT_YET = ("", "*", "-", "--", "---")
-UNPLAYED = ("+--", "--+", "+-", "-+", "1-0F", "0-1F", "1-0K", "0-1K", "1F-0F", "0F-1F")  # of those who haven't come
+UNPLAYED = ("+--", "--+", "+-", "-+", "1-0F", "0-1F", "1-0K", "0-1K", "1F-0F", "0F-1F")  # for players who haven't come
 BYES = (  # what pairing programs write instead of an opponent, as `normal` makes it
     *("", "bye", "pairingallocatedbye", "notpaired", "unpaired", "absent", "spielfrei", "freilos", "nichtausgelost", "abwesend"),
     *("exempt", "nonapparie", "libre", "descansa", "descanso", "ausente", "riposa", "riposo", "assente", "nonabbinato"),
 )
 HIGHEST = 999
 LONGEST = 1000  # characters of a value
-LONGEST_SHOWN = 40  # of one that is wrong
-MOST_UNKNOWN = 5  # columns that are told one by one
+LONGEST_SHOWN = 40  # characters of a wrong value
+MOST_UNKNOWN = 5  # columns that are reported one by one
 SERIAL = re.compile(f"[!-~]{{{SERIAL_LENGTH}}}")
 NAME = re.compile(r"[\w][\w .+-]*")
 ROUND = "round"  # what the files of the round itself are called
@@ -36,7 +36,7 @@ EXAMPLE = "1,/dev/ttyUSB0,Anna,Ben"
 
 @dataclass(frozen=True)
 class Pairing:
-    """A line that is right: a board, its device, and its game."""
+    """A correct line: a board, its device, and its game."""
 
     line: int
     board: int
@@ -48,18 +48,18 @@ class Pairing:
     fen: str = ""
     name: str = ""
     result: str = ""
-    recover: Optional[bool] = None  # as the call has it, where nothing is said
-    serial: str = ""  # the number of the board itself
-    tags: Tuple[Tuple[str, str], ...] = ()  # of what is published
-    remarks: Tuple[str, ...] = ()  # what is said of values that are left out
+    recover: Optional[bool] = None  # as on the command line, if nothing is given
+    serial: str = ""  # the board's serial number
+    tags: Tuple[Tuple[str, str], ...] = ()  # the published ones
+    remarks: Tuple[str, ...] = ()  # messages about values that are left out
 
     @property
     def file_name(self) -> str:
-        """What the files of the game are called."""
+        """The name of the game's files."""
         return self.name or f"{self.board:02}"
 
     def words(self, tags: Sequence[str]) -> Tuple[str, ...]:
-        """The options of the game, with those that all games have."""
+        """The options of the game, with those for all games."""
         words = ["--rotated"] if self.rotated else []
         for option, value in (("--first", self.first), ("--fen", self.fen)):
             words += [option, value] if value else []
@@ -75,34 +75,34 @@ class Pairing:
 
 @dataclass(frozen=True)
 class Wrong:
-    """A line that is wrong, and why; its board where that could be read."""
+    """A wrong line, and the reason; its board if that could be read."""
 
     line: int
     board: Optional[int]
     why: str
-    file: str = ""  # the name of its table, where there is more than one
+    file: str = ""  # the name of its table, if there is more than one
 
 
 @dataclass(frozen=True)
 class Pairings:
-    """The table: the boards by their numbers, the lines that are wrong, and what else is to be said."""
+    """The table: the boards by number, the wrong lines, and other messages."""
 
     boards: Tuple[Pairing, ...]
     wrong: Tuple[Wrong, ...] = ()
     remarks: Tuple[str, ...] = ()
-    has_devices: bool = True  # it says where its boards are plugged in
+    has_devices: bool = True  # it names the devices of its boards
 
 
 @dataclass(frozen=True)
 class LeftOut:
-    """A line that is no board's, or has no game, and why."""
+    """A line that isn't a board's, or has no game, and why."""
 
     why: str
 
 
 @dataclass
 class Taken:
-    """The lines that are right, by what each has alone, and those that are wrong."""
+    """The correct lines, by what must be unique, and the wrong ones."""
 
     boards: Dict[int, Pairing] = field(default_factory=dict)
     devices: Dict[str, Pairing] = field(default_factory=dict)
@@ -111,7 +111,7 @@ class Taken:
     wrong: List[Wrong] = field(default_factory=list)
 
     def take(self, read: Pairing) -> Tuple[str, ...]:
-        """Takes a line, unless another one has its board, device, number or name. What is said of its values."""
+        """Takes a line, unless another line has its board, device, number or name. Returns the messages about its values."""
         wrong = self._twice(read)
         if wrong:
             self.wrong.append(wrong)
@@ -141,7 +141,7 @@ class Taken:
 
 
 def read_pairings(content: bytes) -> Pairings:
-    """Reads the table. Refused where it has no line with headings that are known, and where it is too large."""
+    """Reads the table. Refused if no line has known headings, and if it is too large."""
     sheet = read_sheet(content)
     has_devices = sheet.heading.has_devices
     remarks = [*told_of_above(sheet.above), *unknown(sheet.heading.unknown)]
@@ -210,8 +210,7 @@ def _read(number: int, line: str, sheet: Sheet) -> Union[Pairing, Wrong, LeftOut
 
 
 def result_of(text: str) -> Tuple[str, str]:
-    """The result that a table has, as a pairing program writes it, without blanks; and what is wrong with it, if
-    anything is."""
+    """The result in a table, as a pairing program writes it, without blanks; and what is wrong with it, if anything."""
     result = text.replace(" ", "").replace("–", "-").replace(":", "-").replace(",", ".")
     if result in RESULTS or result in NOT_YET or result in UNPLAYED:
         return result, ""
@@ -219,12 +218,12 @@ def result_of(text: str) -> Tuple[str, str]:
 
 
 def no_result(text: str) -> str:
-    """What is said of a result that isn't one."""
+    """The message about a result that isn't one."""
     return f"result is {shown(text)}: type 1-0, 0-1 or 1/2-1/2"
 
 
 def without_a_game(board: int, white: str, black: str, result: str) -> str:
-    """Why a line of a pairing program has no game, and who has none; nothing where it has one."""
+    """Why a pairing program's line has no game, and who has none; empty if it has one."""
     for player, other in ((white, black), (black, white)):
         if normal(other) in BYES:
             return f"board {board}: {player or 'nobody'} has no opponent ({other or 'nobody'}), and no game is recorded"
@@ -234,14 +233,13 @@ def without_a_game(board: int, white: str, black: str, result: str) -> str:
 
 
 def tag_of(column: str) -> Optional[str]:
-    """The tag of a column that has one of what is published alone; None where it isn't. The board's number is the
-    table's own."""
+    """The tag of a column that is only published; None if it isn't one. The board's number comes from the table itself."""
     name = column.rstrip(PERHAPS)
     return name if name in OTHERS else None
 
 
 def _tags(line: int, values: Dict[str, str]) -> Tuple[Tuple[Tuple[str, str], ...], Tuple[str, ...]]:
-    """The tags of a line, and what is said of those that are left out."""
+    """The tags of a line, and the messages about those that are left out."""
     tags: Dict[str, str] = {}
     remarks: List[str] = []
     for column, text in values.items():
@@ -257,12 +255,12 @@ def _tags(line: int, values: Dict[str, str]) -> Tuple[Tuple[Tuple[str, str], ...
 
 
 def serial_number(text: str) -> str:
-    """A board's number as the board gives it: a spreadsheet drops the zeros in front."""
+    """A board's serial number as the board sends it: a spreadsheet drops leading zeros."""
     return text.zfill(SERIAL_LENGTH) if text.isascii() and text.isdigit() else text
 
 
 def shown(value: str) -> str:
-    """A value in quotes, and only the beginning of a long one."""
+    """A value in quotes; of a long one only the beginning."""
     return repr(value if len(value) <= LONGEST_SHOWN else value[:LONGEST_SHOWN] + "..")
 
 
@@ -272,7 +270,7 @@ def _number(text: str) -> Optional[int]:
 
 
 def _trouble(values: Dict[str, str], has_devices: bool) -> str:
-    """What is wrong with the values of a line, if anything is."""
+    """What is wrong with the values of a line, if anything."""
     if has_devices and not (values["device"] or values["serial"]):
         return "it names no device: type /dev/ttyUSB0, or what dgt_live --devices lists"
     odd = next((name for name, value in values.items() if not is_seen(value)), "")
@@ -296,25 +294,25 @@ def _trouble(values: Dict[str, str], has_devices: bool) -> str:
 
 
 def unknown(columns: Sequence[str]) -> List[str]:
-    """What is said of columns that aren't known."""
+    """The message about unknown columns."""
     told = [f"the column {shown(name)} isn't known, and isn't used" for name in columns[:MOST_UNKNOWN]]
     more = len(columns) - len(told)
     return [*told, f"{more} more columns aren't known, and aren't used"] if more > 0 else told
 
 
 def more_lines(number: int) -> List[str]:
-    """What is said of so many lines that aren't told one by one."""
+    """The message about so many lines that aren't reported one by one."""
     return [f"{number} more lines aren't used"] if number > 0 else []
 
 
 def device_twice(read: Pairing, other: Pairing) -> Wrong:
-    """A line whose device another line has."""
+    """A line whose device is on another line too."""
     why = f"{read.device} is the device of board {other.board}, line {other.line}: each has its own"
     return Wrong(read.line, read.board, why)
 
 
 def nameless(boards: Sequence[Pairing]) -> List[str]:
-    """What is said of lines that name one player and not the other."""
+    """The message about lines that name only one player."""
     lacks = [(one, "white" if one.black else "black") for one in boards if bool(one.white) != bool(one.black)]
     write = "type the name, save the table, and type r"
     return [f"line {one.line}: board {one.board} has no {side}: {write}" for one, side in lacks]

@@ -12,7 +12,7 @@ from live.round.headings import normal
 from live.round.pairings import NO, YES, shown
 from live.round.sheets import LARGEST, text_of
 
-ALSO = {"place": "site", "tournament": "event", "dates": "date"}  # what else arbiters call some
+ALSO = {"place": "site", "tournament": "event", "dates": "date"}  # other names that arbiters use for some
 FOR_A_ROUND = re.compile(r"(.*\D)\s+(\d{1,3})")  # `date 3`
 TEMPLATE = """\
 # The settings of the tournament, for all its rounds. A line is NAME = VALUE; one that begins with # isn't read.
@@ -33,8 +33,8 @@ publish =
 
 
 def words_of(content: bytes, round_number: int, options: Sequence[str]) -> List[str]:
-    """The settings of a round as the words of a command line that has these options with a value. Refused where a line
-    is none: a delay that isn't understood must not be passed over."""
+    """The settings of a round as words of a command line that has these options with a value. Refused if a line isn't a setting: a
+    delay that isn't understood must not be ignored."""
     if len(content) > LARGEST:
         raise Refused(REFUSED, f"it has more than {LARGEST // 1024} kB")
     known = {normal(option): option for option in options if option != TAG}

@@ -1,5 +1,4 @@
-"""A table as a spreadsheet or a pairing program saves it: its text, its separator, the line with its headings, and
-its fields. Pure."""
+"""A table as a spreadsheet or a pairing program saves it: its text, its separator, the line with the headings, and its fields. Pure."""
 
 from __future__ import annotations
 
@@ -13,15 +12,15 @@ from live.round.headings import Heading, heading_of
 
 SEPARATORS = (",", ";", "\t")
 LARGEST = 256 * 1024  # bytes
-MOST_LINES = 1000  # the first one, and one for each board that there may be
-MOST_ABOVE = 30  # lines that may stand above the headings
-BINARY = (b"PK\x03\x04", b"\xd0\xcf\x11\xe0")  # what a spreadsheet's own files begin with
+MOST_LINES = 1000  # the first one, and one for each possible board
+MOST_ABOVE = 30  # lines that may be above the headings
+BINARY = (b"PK\x03\x04", b"\xd0\xcf\x11\xe0")  # the first bytes of a spreadsheet's own files
 HEADER = "board,device,white,black"
 
 
 @dataclass(frozen=True)
 class Sheet:
-    """A table: its headings, the lines below them, and the numbers of those above."""
+    """A table: its headings, the lines below them, and the numbers of the lines above."""
 
     heading: Heading
     separator: str
@@ -30,10 +29,10 @@ class Sheet:
 
 
 def text_of(content: bytes) -> str:
-    """As spreadsheets save it: UTF-8 or UTF-16, with or without a mark in front, else Latin-1 as Windows has it."""
+    """As spreadsheets save it: UTF-8 or UTF-16, with or without a byte order mark, else Latin-1 in the Windows form."""
     if content[:2] in (b"\xff\xfe", b"\xfe\xff"):
         return content.decode("utf-16", "replace")
-    if b"\0" in content[:2]:  # half of a letter of UTF-16
+    if b"\0" in content[:2]:  # half of a UTF-16 letter
         return content.decode("utf-16-be" if content[:1] == b"\0" else "utf-16-le", "replace")
     for encoding in ("utf-8-sig", "cp1252"):
         try:
@@ -44,7 +43,7 @@ def text_of(content: bytes) -> str:
 
 
 def refuse_others(content: bytes) -> None:
-    """Refused where it is too large, or no text."""
+    """Refused if it is too large, or not text."""
     if len(content) > LARGEST:
         raise Refused(REFUSED, f"it has more than {LARGEST // 1024} kB, and a table has a line for each board: save it as CSV")
     if content.startswith(BINARY):
@@ -52,16 +51,16 @@ def refuse_others(content: bytes) -> None:
 
 
 def lines_of(content: bytes) -> List[Tuple[int, str]]:
-    """The lines that have something, with their numbers."""
+    """The lines that aren't empty, with their numbers."""
     lines = enumerate(re.split("\r\n|\r|\n", text_of(content)), 1)
     return [(number, line) for number, line in lines if line.strip(" \t,;\"")]
 
 
 def read_sheet(content: bytes) -> Sheet:
-    """Reads a table. Refused where none of its first lines has headings that are known, and where it is too large."""
+    """Reads a table. Refused if none of its first lines has known headings, and if it is too large."""
     refuse_others(content)
     lines = lines_of(content)
-    if lines and re.fullmatch("sep=.?", lines[0][1].strip().lower()):  # what a spreadsheet says to itself
+    if lines and re.fullmatch("sep=.?", lines[0][1].strip().lower()):  # a line for spreadsheets alone
         lines.pop(0)
     if not lines:
         raise Refused(REFUSED, f"it is empty: its first line is {HEADER}")
@@ -84,7 +83,7 @@ def which(at: int) -> str:
 
 
 def fields_of(line: str, separator: str) -> Optional[List[str]]:
-    """None where its quotes are wrong."""
+    """None if its quotes are wrong."""
     try:
         return [field.strip() for field in next(csv.reader([line], delimiter=separator, strict=True), [])]
     except csv.Error:
@@ -92,7 +91,7 @@ def fields_of(line: str, separator: str) -> Optional[List[str]]:
 
 
 def told_of_above(above: Sequence[int]) -> List[str]:
-    """What is said of lines above the headings."""
+    """The message about lines above the headings."""
     if not above:
         return []
     return [f"line {above[0]} is above the headings, and isn't used" if len(above) == 1 else

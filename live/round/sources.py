@@ -1,5 +1,5 @@
-"""Where a round's pairs and boards are read: a table with both, or a table or a report with the pairs and one with
-the hall's boards."""
+"""Where a round's pairs and boards are read: a table with both, or a table or report with the pairs and a table of the hall's
+boards."""
 
 from __future__ import annotations
 
@@ -19,8 +19,7 @@ BOARDS = "boards.csv"
 
 
 def plugged_in() -> Dict[str, str]:
-    """The device of each board that gives its number, under the name that its cable keeps. It waits for up to two
-    seconds."""
+    """The device of each board that sends its number, under the name of its cable. It waits for up to two seconds."""
     found = serial_line.devices()
     names = {device: name or device for device, name in found}
     numbers = numbers_of(list(names))
@@ -28,7 +27,7 @@ def plugged_in() -> Dict[str, str]:
 
 
 class Source:
-    """The files of a round. The hall's boards stand beside the pairs, unless these name their devices themselves."""
+    """The files of a round. The hall's boards are in a second file, unless the pairs name their devices themselves."""
 
     def __init__(
         self, file: pathlib.Path, round_number: Optional[int] = None, looks: Callable[[], Mapping[str, str]] = plugged_in
@@ -36,12 +35,12 @@ class Source:
         self.file = file
         self.boards = file.parent / BOARDS
         self._round, self._looks = round_number, looks
-        self.in_tournament = False  # the number of the round is in its file's name
+        self.in_tournament = False  # the round's number is in its file's name
         self._plugged: Dict[str, str] = {}
-        self.wants: List[str] = []  # the numbers of boards that weren't found when it was read last
+        self.wants: List[str] = []  # the numbers of boards that weren't found at the last reading
 
     def read(self) -> Pairings:
-        """Reads them. An OSError comes where one can't be read; refused where one is no table."""
+        """Reads the files. Raises OSError if one can't be read; refused if one isn't a table."""
         content = files.beginning(self.file, LARGEST + 1)
         read = read_report(content, self._round) if is_report(content) else read_pairings(content)
         if not read.has_devices:
@@ -62,9 +61,9 @@ class Source:
         return hall
 
     def look(self) -> Dict[str, str]:
-        """Which boards are plugged in. It waits for up to two seconds, and changes nothing here."""
+        """The boards that are plugged in. It waits for up to two seconds, and changes nothing here."""
         return dict(self._looks())
 
     def found(self, plugged: Mapping[str, str]) -> None:
-        """These are."""
+        """Takes the boards that were found."""
         self._plugged.update(plugged)

@@ -1,4 +1,4 @@
-"""A round on the screen: a row for each board, and what was said last below them. Pure: the time comes in."""
+"""A round on the screen: a row for each board, and the last messages below. Pure: the time is passed in."""
 
 from __future__ import annotations
 
@@ -6,18 +6,18 @@ import textwrap
 from dataclasses import dataclass
 from typing import List, Optional, Sequence, Tuple
 
-WIDTH = 80  # columns for which a row is made; more of them are the names' and the state's
+WIDTH = 80  # columns for which a row is made; names and state get those beyond
 NARROW = 72  # columns below which there are no clocks
-INDENT = " " * 4  # a name of a cable has room behind it
+INDENT = " " * 4  # the space for a cable's name
 MESSAGES = 3  # lines that messages always have
 MOST_MESSAGES = 8  # and where there is room
-MOST_LISTED = 8  # boards, or boards in a row, whose numbers are listed
-LONGEST_ROW = 3  # lines of a row that tells a trouble
+MOST_LISTED = 8  # boards, or ranges of boards, whose numbers are listed
+LONGEST_ROW = 3  # lines of a row that explains a trouble
 
 
 @dataclass(frozen=True)
 class RowView:
-    """What a row shows. `number` is none where a line of the file could not be read."""
+    """What a row shows. `number` is None if a line of the file couldn't be read."""
 
     number: Optional[int]
     white: str = ""
@@ -28,8 +28,8 @@ class RowView:
     rest: str = ""  # after that
     since: Optional[float] = None
     alarm: bool = False
-    is_board: bool = True  # and not a line of the file that is wrong
-    is_of_all: bool = False  # of the round as a whole, and of no board
+    is_board: bool = True  # and not a wrong line of the file
+    is_of_all: bool = False  # of the whole round, and not of a board
 
 
 @dataclass(frozen=True)
@@ -42,7 +42,7 @@ class Columns:
 
     @staticmethod
     def of(width: int) -> Columns:
-        """The last column stays empty: what is written there would begin another line on some terminals."""
+        """The last column stays empty: on some terminals text there would begin another line."""
         if width >= WIDTH:
             names = min(30, 12 + (width - WIDTH) // 3)
         else:
@@ -60,18 +60,18 @@ def since(seconds: float) -> str:
 
 
 def plain(text: str) -> str:
-    """What any terminal shows."""
+    """Only what any terminal shows."""
     return "".join(letter if " " <= letter <= "~" else "?" for letter in text)
 
 
 def fitted(text: str, width: int) -> str:
-    """In so many columns: cut off with two dots where it is longer."""
+    """Within this many columns: a longer text is cut off with two dots."""
     seen = plain(text)
     return (seen if len(seen) <= width else seen[: max(0, width - 2)] + "..").ljust(width)
 
 
 def wrapped(text: str, width: int, indent: str, most: int) -> List[str]:
-    """In lines of so many columns, those after the first indented; what is longer than `most` of them ends in two dots."""
+    """In lines of this many columns, indented after the first; more than `most` lines end in two dots."""
     lines = textwrap.wrap(plain(text), width, subsequent_indent=indent, break_on_hyphens=False) or [""]
     if len(lines) > most:
         lines[most - 1] = lines[most - 1][: width - 2] + ".."
@@ -87,7 +87,7 @@ def head(width: int = WIDTH) -> str:
 
 
 def row(view: RowView, now: float, width: int = WIDTH) -> List[str]:
-    """A board in a line. A trouble that stands in the place of a game is told in as many lines as it needs."""
+    """A board's line. A trouble that replaces a game gets as many lines as it needs."""
     columns = Columns.of(width)
     number = "" if view.is_of_all else "?" if view.number is None else str(view.number)
     front = f"{'!' if view.alarm else ' '}{number:>3} "
@@ -107,7 +107,7 @@ def counted(number: int, what: str) -> str:
 
 
 def lines_are_wrong(number: int) -> str:
-    """What is added to that for lines of the file."""
+    """The note on wrong lines of the file."""
     return "" if number == 0 else ", 1 line is wrong" if number == 1 else f", {number} lines are wrong"
 
 
@@ -130,7 +130,7 @@ def boards_are(numbers: Sequence[int]) -> str:
 
 
 def title_line(title: str, rows: Sequence[RowView], width: int) -> str:
-    """What is recorded, and how many boards there are, and alarms, and lines of the file that are wrong."""
+    """What is recorded, and how many boards, alarms and wrong lines of the file there are."""
     boards = [view for view in rows if view.is_board and not view.is_of_all]
     lines = sum(not view.is_board for view in rows)
     alarms = counted(sum(view.alarm for view in rows if view.is_board), "alarm")
@@ -139,7 +139,7 @@ def title_line(title: str, rows: Sequence[RowView], width: int) -> str:
 
 
 def last_messages(messages: Sequence[str], width: int, room: int) -> List[str]:
-    """The last ones, as many as there is room for, each as a whole."""
+    """The last messages, as many as there is room for, none of them cut."""
     lines: List[str] = []
     for message in reversed(messages):
         more = wrapped(message, width, INDENT, room)
@@ -152,8 +152,8 @@ def last_messages(messages: Sequence[str], width: int, room: int) -> List[str]:
 def screen(
     title: str, rows: Sequence[RowView], messages: Sequence[str], now: float, height: int, width: int = WIDTH
 ) -> List[str]:
-    """The whole screen, but for the line in which somebody types. Where not all rows fit, alarms come first. It has the same
-    number of lines whatever happens on the boards, so that what is being typed stays in its place."""
+    """The whole screen except the line in which somebody types. If not all rows fit, alarms come first. The number of lines is
+    always the same, so that what is being typed stays in its place."""
     above = [title_line(title, rows, width), head(width)]
     whole = max(len(above) + 2 + MESSAGES, min(height - 2, len(above) + len(rows) + 1 + MOST_MESSAGES))
     room = whole - len(above) - 1 - MESSAGES

@@ -1,5 +1,4 @@
-"""A tournament in a folder: its settings, its hall's boards, the tables of its rounds as they come, and a folder for
-each round."""
+"""A tournament in a folder: its settings, its hall's boards, the tables of its rounds as they come, and a folder for each round."""
 
 from __future__ import annotations
 
@@ -32,7 +31,7 @@ MOST_LISTED = 5  # files
 
 @dataclass(frozen=True)
 class Tournament:
-    """A round of a tournament, by the tournament's folder."""
+    """A round of a tournament in its folder."""
 
     folder: pathlib.Path
     number: int
@@ -49,16 +48,15 @@ class Tournament:
 
     @property
     def settings(self) -> pathlib.Path:
-        """What is said once for all its rounds."""
+        """What is said once for all rounds."""
         return self.folder / SETTINGS
 
     def words(self, table: pathlib.Path, options: Tuple[str, ...]) -> List[str]:
-        """What its report and its settings say of the round, as words of a command line that has these options with a
-        value."""
+        """What the report and the settings say about the round, as words of a command line that has these options with a value."""
         return [*self._reported(table), *self._set(options)]
 
     def _reported(self, table: pathlib.Path) -> List[str]:
-        """What the report of the tournament says of it, where the round's pairs are read of one."""
+        """What the tournament's report says about the round, if the pairs are read from one."""
         try:
             content = files.beginning(table, LARGEST + 1)
         except OSError:
@@ -82,7 +80,7 @@ class Tournament:
             raise Refused(REFUSED, f"{path}: {refused.lines[0]}") from None
 
     def table(self) -> pathlib.Path:
-        """The table of the round, or the report that has it. Refused where there is none, or more than one."""
+        """The table of the round, or the report that has it. Refused if there is none, or more than one."""
         try:
             names = sorted(path for path in self.folder.iterdir() if path.is_file())
         except OSError as error:
@@ -107,7 +105,7 @@ class Tournament:
         return bool(number) and len(number.group()) <= 3 and int(number.group()) == self.number if number else False
 
     def other_rounds(self) -> List[Tuple[int, bytes]]:
-        """The published texts of the other rounds, with their numbers."""
+        """The published texts of the other rounds, with the rounds' numbers."""
         texts = []
         for path in self.folder.glob("round*/broadcast.pgn"):
             number = path.parent.name[len("round") :]
@@ -125,7 +123,7 @@ def _is_report(path: pathlib.Path) -> bool:
 
 
 def tournament_of(file: str, folder: str) -> Optional[Tournament]:
-    """The tournament that `dgt_round cup 3` names; None where a table is named. Refused where there is none yet."""
+    """The tournament in `dgt_round cup 3`; None if a table is named. Refused if there is none yet."""
     path = pathlib.Path(file)
     if path.is_dir() and not folder:
         raise Refused(REFUSED, f"{file} is a folder: say which round of its tournament is played, as dgt_round {file} 1")
@@ -139,7 +137,7 @@ def tournament_of(file: str, folder: str) -> Optional[Tournament]:
 
 
 def made(folder: pathlib.Path) -> List[str]:
-    """Makes the files of a tournament that aren't there yet. What is to be done with them."""
+    """Makes the missing files of a tournament. Returns what to do with them."""
     try:
         folder.mkdir(exist_ok=True)
         contents = {SETTINGS: settings.TEMPLATE, BOARDS: boards_text(), "round1.csv": ROUND_HEADER + "\n"}
@@ -160,7 +158,7 @@ def made(folder: pathlib.Path) -> List[str]:
 
 
 def boards_text() -> str:
-    """A table of the boards that are plugged in, in the order of their own numbers."""
+    """A table of the plugged-in boards, in order of their serial numbers."""
     found = serial_line.devices()
     numbers = numbers_of([device for device, _ in found])
     lines = [BOARDS_HEADER]

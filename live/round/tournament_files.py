@@ -1,5 +1,5 @@
-"""What a tournament's folder gets of a round while it is played: all.pgn, with what is published of all rounds, and
-the results of the round as a table."""
+"""What a round in play writes to the tournament's folder: all.pgn, with the published texts of all rounds, and the results of the
+round as a table."""
 
 from __future__ import annotations
 
@@ -12,8 +12,8 @@ from live.guard import Guard, traced
 from live.loop import Turns
 from live.round.published import Published
 
-LOOK = 1.0  # seconds between two looks; a text that is the same isn't written
-AGAIN = 5.0  # seconds after which it is begun again where an error has ended it
+LOOK = 1.0  # seconds between two checks; an unchanged text isn't written
+AGAIN = 5.0  # seconds until it is started again after an error
 RESULTS = "results.csv"
 HEADER = ("Board", "White", "Black", "Result")
 
@@ -21,7 +21,7 @@ Result = Tuple[int, str, str, str]  # a board, White's name, Black's, and the re
 
 
 def results_text(results: Iterable[Result]) -> bytes:
-    """A line for each board; one without a result has none. In UTF-8 with a mark in front, which spreadsheets want."""
+    """A line for each board, with an empty field if there is no result. In UTF-8 with a byte order mark, as spreadsheets need."""
     text = io.StringIO()
     writer = csv.writer(text, delimiter=";", lineterminator="\r\n")
     writer.writerow(HEADER)
@@ -31,13 +31,13 @@ def results_text(results: Iterable[Result]) -> bytes:
 
 
 def all_text(others: Iterable[Tuple[int, bytes]], number: int, published: bytes) -> bytes:
-    """What is published of all rounds, in their order."""
+    """The published texts of all rounds, in order."""
     texts = sorted([*others, (number, published)])
     return b"".join(text for _, text in texts)
 
 
 class TournamentFiles:
-    """Keeps files up to date, each with the text that is asked for."""
+    """Keeps files up to date, each with its requested text."""
 
     def __init__(
         self,
@@ -59,7 +59,7 @@ class TournamentFiles:
         self._guard.after(LOOK, self._look)
 
     def _broke(self, error: Exception) -> None:
-        """An error has ended it: it is begun again."""
+        """An error has ended it: it is started again."""
         self._trouble(traced(error))
         self._loop.after(AGAIN, self._begin_again)
 
@@ -73,7 +73,7 @@ class TournamentFiles:
             file.changed()
 
     def close(self) -> List[str]:
-        """Writes them a last time. What can't be written."""
+        """Writes them a last time. Returns what can't be written."""
         self._closed = True
         troubles = [(file.path, file.close()) for file in self._files]
         self._guard.end()

@@ -23,7 +23,7 @@ NOT_NEEDED = ("032", "042", "052", "062", "072", "082", "092", "102", "112")
 EXTENSION = re.compile(r"XX[A-Z]|BB[A-Z]|\d{3}")  # of programs, or of a later edition
 FIRST_ROUND, ROUND_WIDTH = 91, 10
 MOST_NAMED = 5  # players without an opponent
-# Half points of what stands behind a game: played, not rated, forfeited, and without an opponent.
+# Half points for the code after a game: played, not rated, forfeited, and without an opponent.
 HALF_POINTS = {"1": 2, "W": 2, "+": 2, "F": 2, "U": 2, "=": 1, "D": 1, "H": 1}
 OUTCOMES = {"1": "1-0", "W": "1-0", "0": "0-1", "L": "0-1", "=": "1/2-1/2", "D": "1/2-1/2"}  # of White
 FORFEITS = ("+", "-")
@@ -32,7 +32,7 @@ WITHOUT = {"F": "a full point", "H": "half a point", "U": "the bye"}  # an oppon
 
 @dataclass(frozen=True)
 class Game:
-    """What a player has in a round; no opponent is 0."""
+    """A player's game in a round; no opponent is 0."""
 
     opponent: int = 0
     colour: str = ""
@@ -46,11 +46,11 @@ class Player:
     line: int
     number: int
     name: str
-    values: Tuple[Tuple[str, str], ...]  # what stands in the columns of a title, a rating ..
+    values: Tuple[Tuple[str, str], ...]  # the columns of the title, the rating ..
     games: Tuple[Game, ...]
 
     def game(self, round_number: int) -> Game:
-        """That of a round."""
+        """The game of that round."""
         return self.games[round_number - 1] if round_number <= len(self.games) else Game()
 
     def score(self, before: int) -> int:
@@ -59,12 +59,12 @@ class Player:
 
 
 def is_report(content: bytes) -> bool:
-    """Whether it is a tournament's report, and no table."""
+    """Whether it is a tournament's report, and not a table."""
     return len(content) <= LARGEST and re.search(r"^\ufeff?001 [ \d]{3}\d ", text_of(content), re.MULTILINE) is not None
 
 
 def read_report(content: bytes, round_number: Optional[int]) -> Pairings:
-    """The pairs of a round. Refused where there is no such round."""
+    """The pairs of a round. Refused if there is no such round."""
     if len(content) > LARGEST:
         raise Refused(REFUSED, f"it has more than {LARGEST // 1024} kB")
     if round_number is None:
@@ -96,12 +96,12 @@ def read_report(content: bytes, round_number: Optional[int]) -> Pairings:
 
 
 def told_of_rounds(rounds: int) -> str:
-    """Which rounds there are."""
+    """The message with the rounds that there are."""
     return "it has no round at all" if not rounds else f"it has rounds 1 to {rounds}" if rounds > 1 else "it has round 1 alone"
 
 
 def _pairs(players: Dict[int, Player], teams: Dict[int, str], of: int, wrong: List[Wrong], told: List[str]) -> Pairings:
-    """The pairs of a round, by their boards."""
+    """The pairs of a round, by board."""
     pairs: List[Tuple[Player, Player]] = []
     for player in players.values():
         game = player.game(of)
@@ -134,7 +134,7 @@ def _pairs(players: Dict[int, Player], teams: Dict[int, str], of: int, wrong: Li
 
 
 def told_of_byes(players: Dict[int, Player], of: int) -> List[str]:
-    """Who has no opponent in a round."""
+    """The message about players without an opponent in a round."""
     names = []
     for player in players.values():
         game = player.game(of)
@@ -147,7 +147,7 @@ def told_of_byes(players: Dict[int, Player], of: int) -> List[str]:
 
 
 def tags_of(white: Player, black: Player, teams: Dict[int, str]) -> Tuple[Tuple[Tuple[str, str], ...], Tuple[str, ...]]:
-    """The tags of two players, and what is said of values that are left out."""
+    """The tags of two players, and messages about values that are left out."""
     tags: Dict[str, str] = {}
     remarks: List[str] = []
     for side, player in (("White", white), ("Black", black)):
@@ -160,8 +160,7 @@ def tags_of(white: Player, black: Player, teams: Dict[int, str]) -> Tuple[Tuple[
 
 
 def player_of(number: int, line: str) -> Optional[Player]:
-    """A player's line; None where it has no number. Some programs count the bytes of a name in UTF-8, and not its
-    letters."""
+    """A player's line; None if it has no number. Some programs count the bytes of a name in UTF-8, not its letters."""
     by_letters = _player(number, line)
     if by_letters and all(game.colour in ("w", "b") for game in by_letters.games if game.opponent):
         return by_letters
@@ -188,7 +187,7 @@ def _player(number: int, line: str, written: str = "") -> Optional[Player]:
 
 @dataclass(frozen=True)
 class Head:
-    """What a report says of the whole tournament, as the options of a round."""
+    """What a report says about the whole tournament, as the options of a round."""
 
     event: str = ""
     site: str = ""
@@ -197,7 +196,7 @@ class Head:
 
 
 def head_of(content: bytes, round_number: int) -> Head:
-    """What the report says of the tournament and of a round's day."""
+    """What the report says about the tournament and the round's day."""
     values: Dict[str, str] = {}
     for line in re.split("\r\n|\r|\n", text_of(content)):
         code = line.lstrip("\ufeff")[:3]
@@ -210,5 +209,5 @@ def head_of(content: bytes, round_number: int) -> Head:
     try:
         control = value_of("TimeControl", values.get(TIME_CONTROL, ""))
     except Malformed:
-        control = ""  # it is for readers, in words
+        control = ""  # text for readers
     return Head(values.get(EVENT, ""), values.get(SITE, ""), values.get(DATES, ""), control)

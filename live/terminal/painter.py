@@ -1,4 +1,4 @@
-"""A terminal with a table that is redrawn in place, above a line in which somebody types."""
+"""A table on a terminal that is redrawn in place, above a line in which somebody types."""
 
 from __future__ import annotations
 
@@ -14,7 +14,7 @@ PROMPT = "> "
 
 
 class Painter:
-    """Draws lines, and those alone that are others than before. A terminal that is stopped gets the newest when it goes on."""
+    """Draws only the lines that have changed. A stopped terminal gets the newest lines when it goes on."""
 
     def __init__(self, loop: Loop, number: int = 1) -> None:
         self._loop = loop
@@ -34,7 +34,7 @@ class Painter:
             return 80, 24
 
     def forget(self) -> None:
-        """All is drawn anew: somebody has typed a line."""
+        """Draws everything again: somebody has typed a line."""
         self._drawn = []
 
     def draw(self, lines: Sequence[str]) -> None:

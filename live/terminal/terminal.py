@@ -1,4 +1,4 @@
-"""What is printed, and what is typed. A terminal that is stopped, or a reader that is slow, holds up nothing."""
+"""What is printed, and what is typed. A stopped terminal or a slow reader holds up nothing."""
 
 from __future__ import annotations
 
@@ -11,14 +11,14 @@ from typing import Callable, List, Optional
 
 from live.loop import Loop
 
-WAITING = 64 * 1024  # bytes that may wait to be printed; lines past that are dropped
+WAITING = 64 * 1024  # bytes that may wait to be printed; later lines are dropped
 WIDEST = 79  # columns of the last line
-PAUSE = 1.0  # seconds, where a terminal can't be read just now
+PAUSE = 1.0  # seconds until a terminal is tried again that can't be read now
 ERASE = b"\r\x1b[K"
 
 
 def open_standard_streams() -> None:
-    """Where one of them is closed, a file that is opened would take its number, and get what is printed."""
+    """If one of them is closed, the next opened file would take its number, and get the printed lines."""
     for number in (0, 1, 2):
         try:
             os.fstat(number)
@@ -27,7 +27,7 @@ def open_standard_streams() -> None:
 
 
 class Terminal:
-    """Standard output: lines, and on a terminal below them one line that is rewritten in place."""
+    """Standard output: lines, and on a terminal one line below them that is rewritten in place."""
 
     def __init__(self, loop: Loop, number: int = 1) -> None:
         self._loop = loop
@@ -57,7 +57,7 @@ class Terminal:
         self._write()
 
     def state(self, text: str) -> None:
-        """The line below all others, where there is one."""
+        """The line below all others, if there is one."""
         if self.in_place and text != self._state:
             self._state = text
             if not self._stuck:
@@ -81,7 +81,7 @@ class Terminal:
             return WIDEST + 1
 
     def _write(self) -> None:
-        """Writes what waits, and the state below it. Where it is stuck the rest waits, and the newest state comes after it."""
+        """Writes what waits, and the state below it. If the output is blocked the rest waits, and the newest state follows it."""
         if self._number is None:
             self._waiting.clear()
             return
@@ -116,12 +116,12 @@ class Terminal:
             self._dropped = 0
 
     def clear(self) -> None:
-        """Takes the state away."""
+        """Removes the state."""
         self._state = ""
         self._erase()
 
     def end(self, seconds: float) -> None:
-        """What can't be printed within so many seconds is dropped."""
+        """Drops what can't be printed within this many seconds."""
         ends = time.monotonic() + seconds
         self._write()
         while self._waiting and self._number is not None and time.monotonic() < ends:
@@ -139,7 +139,7 @@ class Terminal:
 
 
 def opened_again(number: int) -> int:
-    """The same terminal or pipe under a number of its own, so that nobody else's use of it is made non-blocking."""
+    """The same terminal or pipe, opened a second time, so that making it non-blocking affects no other process."""
     try:
         return os.open(f"/proc/self/fd/{number}", os.O_WRONLY | os.O_NONBLOCK | os.O_NOCTTY)
     except OSError:
@@ -149,8 +149,8 @@ def opened_again(number: int) -> int:
 
 
 class Typed:
-    """Standard input: a call for each line that is typed. Its end means that nothing more is typed. What a call raises ends
-    nothing: `refused` is told of it."""
+    """Standard input: one call for each typed line. At its end nothing more is typed. An error in a call ends nothing: `refused`
+    gets it."""
 
     def __init__(
         self, loop: Loop, heard: Callable[[str], None], refused: Callable[[str, Exception], None], number: int = 0
@@ -176,7 +176,7 @@ class Typed:
             self._later(error)
 
     def _later(self, error: Exception) -> None:
-        """It can't be read just now, as where the terminal belongs to another group of processes: it is tried again."""
+        """It can't be read now, for example because another process group has the terminal: it is tried again."""
         self._loop.after(PAUSE, self._watch)
         if not isinstance(error, OSError):
             self._refused("", error)
@@ -208,7 +208,7 @@ class Typed:
             self._refused(text, error)
 
     def close(self) -> None:
-        """Nothing is heard from here on."""
+        """Reads nothing further."""
         if self._number is not None:
             self._loop.forget(self._number)
             self._number = None

@@ -1,6 +1,6 @@
-"""Requests and answers of HTTP/1.1, as bytes: as much of it as a page needs that is read alone.
+"""Requests and answers of HTTP/1.1, as bytes: only what a read-only page needs.
 
-What a reader sends is bounded before it is read: a request line of 2,048 bytes, a head of 8,192, no content.
+The size of a request is limited before it is read: a request line of 2,048 bytes, a head of 8,192, no content.
 """
 
 from __future__ import annotations
@@ -49,7 +49,7 @@ ABSOLUTE = re.compile(r"https?://([^/?#]*)", re.IGNORECASE)
 
 
 class Bad(Exception):
-    """A request that isn't answered with what it asks for, and the status that says why."""
+    """A request that can't be answered as asked, with the status that says why."""
 
     def __init__(self, status: int) -> None:
         super().__init__(REASONS[status])
@@ -58,14 +58,14 @@ class Bad(Exception):
 
 @dataclass(frozen=True)
 class Request:
-    """What is asked for. `path` is as it was sent, without a query; nothing in it is decoded. `host` is the server that is
-    named, as it was sent, perhaps with a port: by the target where that is a whole URI, else by the field Host (RFC 9112, 3.3);
-    None where neither is there, as HTTP/1.0 allows."""
+    """A request. `path` is as it was sent, without a query; nothing in it is decoded. `host` is the named server, as it was sent,
+    perhaps with a port: from the target if that is a whole URI, else from the field Host (RFC 9112, 3.3); None if neither is
+    there, as HTTP/1.0 allows."""
 
     method: str
     path: str
     keeps: bool = True  # whether the connection may be kept for the next one
-    fields: Mapping[str, str] = field(default_factory=dict)  # by their names in small letters
+    fields: Mapping[str, str] = field(default_factory=dict)  # by name, in lower case
     host: Optional[str] = None
 
     @property
@@ -74,7 +74,7 @@ class Request:
 
 
 def head_end(received: bytes) -> Optional[int]:
-    """How many bytes the first request's head has, or None where it isn't whole yet. Bad where it is too long."""
+    """The size of the first request's head, or None if it isn't complete yet. Raises Bad if it is too long."""
     line_end = received.find(b"\n")
     if (line_end if line_end >= 0 else len(received)) > LONGEST_LINE:
         raise Bad(414)
@@ -85,7 +85,7 @@ def head_end(received: bytes) -> Optional[int]:
 
 
 def read_request(head: bytes) -> Request:
-    """The request that a whole head makes. Bad where it makes none."""
+    """The request in a complete head. Raises Bad if there is none."""
     line, *lines = [line[:-1] if line.endswith(b"\r") else line for line in head.split(b"\n")]
     match = REQUEST_LINE.fullmatch(line)
     if not match:
@@ -106,7 +106,7 @@ def read_request(head: bytes) -> Request:
 
 
 def _parts(target: str) -> Tuple[Optional[str], str]:
-    """The host that a request's target names, where it is a whole URI, and its path."""
+    """The host in a request's target, if that is a whole URI, and its path."""
     absolute = ABSOLUTE.match(target)
     path = target[absolute.end() :] or "/" if absolute else target
     return absolute.group(1) if absolute else None, path.partition("?")[0]
@@ -129,7 +129,7 @@ def _fields(lines: "list[bytes]") -> Dict[str, str]:
 
 
 def has_tag(request: Request, tag: str) -> bool:
-    """Whether the reader has the content with this entity tag already (`If-None-Match`)."""
+    """Whether the reader already has the content with this entity tag (`If-None-Match`)."""
     given = request.fields.get("if-none-match")
     if given is None:
         return False
@@ -138,7 +138,7 @@ def has_tag(request: Request, tag: str) -> bool:
 
 
 def has_password(request: Request, password: str) -> bool:
-    """Whether the reader gives this password, under whatever name (RFC 7617)."""
+    """Whether the reader sends this password, with any user name (RFC 7617)."""
     scheme, _, given = request.fields.get("authorization", "").partition(" ")
     if scheme.lower() != "basic":
         return False
@@ -157,7 +157,7 @@ def answer(status: int, fields: Mapping[str, str], now: float) -> bytes:
 
 
 def complaint(status: int, now: float, keeps: bool, with_body: bool = True) -> Tuple[bytes, bytes]:
-    """The head and the content of an answer that says what is wrong."""
+    """The head and the content of an error answer."""
     content = "".join(f"{line}\n" for line in (f"{status} {REASONS[status]}", MORE.get(status, "")) if line).encode("ascii")
     fields = {"Content-Type": "text/plain; charset=utf-8", "Content-Length": str(len(content))}
     if status == 405:

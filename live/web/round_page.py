@@ -1,4 +1,4 @@
-"""A page that is begun again where an error ends it, and what the arbiter's page shows of a board."""
+"""A page that is started again if an error ends it, and what the arbiter's page shows of a board."""
 
 from __future__ import annotations
 
@@ -14,8 +14,8 @@ from live.web.page import Page, Site
 from live.web.view import BoardView, Ply, RoundView
 
 GATHERED = 0.05  # seconds in which changes are shown at once
-AGAIN = 1.0  # seconds after which a page that an error has ended is begun again
-NOT_RECORDED = "NOT RECORDED: the recorder's screen says why"  # the reason may have a folder's path, or who is logged in
+AGAIN = 1.0  # seconds until a page is started again after an error
+NOT_RECORDED = "NOT RECORDED: the recorder's screen says why"  # the reason may contain a folder's path, or a user's name
 NOT_PUBLISHED = "NOT PUBLISHED: the recorder's screen says why"
 
 
@@ -27,17 +27,17 @@ class RoundPage:
         self._view: Callable[[], RoundView] = lambda: RoundView("")
         self._timer: Optional[Timer] = None
         self._closed = False
-        self.trouble: Callable[[str], None] = lambda text: None  # is told of what should never happen
+        self.trouble: Callable[[str], None] = lambda text: None  # gets errors that should never happen
         self._begin()
 
     def _begin(self) -> None:
-        """Refused where no page can be served there."""
+        """Refused if no page can be served there."""
         self._guard = Guard(self._loop, self._broke, lambda error: self.trouble(traced(error)))
         self._page = Page(self._guard, self._door, self._site, lambda text: self.trouble(text))
         self._guard.opened(self._page.close)
 
     def _broke(self, error: Exception) -> None:
-        """The page has ended by an error: it is begun again."""
+        """An error has ended the page: it is started again."""
         self.trouble(traced(error))
         self._timer = None
         self._loop.after(AGAIN, self._begin_again)
@@ -58,7 +58,7 @@ class RoundPage:
         return self._page.url
 
     def shows(self, view: Callable[[], RoundView]) -> None:
-        """From here on this is shown. `changed` is to be called where it is another than before."""
+        """Shows this from now on. Call `changed` when it has changed."""
         self._view = view
         self.changed()
 
@@ -76,7 +76,7 @@ class RoundPage:
 
 
 def ways_to_mend(state: str, in_front: str) -> str:
-    """What an arbiter may type where the record may be wrong; nothing where no typing mends that."""
+    """What an arbiter may type if the record may be wrong; empty if typing can't mend it."""
     ok = f'"{in_front}ok" if the game is right, ' if "LOOK" in state else ""
     if not ok and "WRONG" not in state:
         return ""
@@ -85,31 +85,31 @@ def ways_to_mend(state: str, in_front: str) -> str:
 
 
 class Game(Protocol):
-    """What the arbiter's page asks of a board and its game."""
+    """What the arbiter's page reads of a board and its game."""
 
     board: Board
 
     @property
     def number(self) -> int:
-        """That of its board."""
+        """Its board's number."""
 
     @property
     def name(self) -> str:
-        """What its files are called."""
+        """The name of its files."""
 
     @property
     def in_front(self) -> str:
-        """What stands in front of a line that is typed for it: its number and a blank, or nothing."""
+        """What comes before a line that is typed for it: its number and a blank, or nothing."""
 
     def standing(self) -> Tuple[str, Optional[float], bool]:
-        """How it stands in words, since when, and whether somebody must look at it."""
+        """The board's state in words, since when, and whether it is an alarm."""
 
     def player_name(self, option: str) -> str:
         """The name behind `--white` or `--black`."""
 
 
 class ArbiterView:
-    """What the arbiter's page shows. `trouble` is told of what should never happen."""
+    """What the arbiter's page shows. `trouble` gets errors that should never happen."""
 
     def __init__(self, event: str, games: Callable[[], Iterable[Game]], trouble: Callable[[str], None]) -> None:
         self._event, self._games, self._trouble = event, games, trouble
@@ -124,7 +124,7 @@ class ArbiterView:
         return RoundView(self._event, tuple(boards), said)
 
     def _of(self, game: Game) -> BoardView:
-        """A game as it is shown; as it was, where that can't be told."""
+        """A game as it is shown; its last view, if an error prevents a new one."""
         try:
             return view_of(game)
         except Exception as error:
@@ -138,7 +138,7 @@ def plies_view(plies: Sequence[Move]) -> Tuple[Ply, ...]:
 
 
 def view_of(game: Game) -> BoardView:
-    """A game as it is shown. A move is shown with its position."""
+    """A game as it is shown. Each move is shown with its position."""
     board = game.board
     words, since, alarm = game.standing()
     plies = board.plies[: max(0, len(board.fens) - 1)]

@@ -1,8 +1,8 @@
-"""Serves readers over TCP, on the recorder's own loop: no call waits, and what a reader may use up is bounded.
+"""Serves readers over TCP, on the recorder's own loop: no call waits, and each reader's use of resources is limited.
 
-Threads would serve as well, but one that makes an answer holds the interpreter while a board's byte waits. Here a turn of the
-loop answers at most two requests of each reader, and writes at most 64 kB for each; then the boards have theirs. While a request
-waits nothing more is read of its reader. Descriptors that the boards may need are never a reader's.
+Threads would work as well, but a thread that makes an answer holds the interpreter while a board's byte waits. Here a turn of
+the loop answers at most two requests of each reader, and writes at most 64 kB for each; then it is the boards' turn. While a
+request waits, nothing more is read from its reader. Readers never get descriptors that the boards may need.
 """
 
 from __future__ import annotations
@@ -24,24 +24,24 @@ from live.web import http
 from live.web.address import Address, Door
 
 MOST_READERS = 256
-HERE = ("127.0.0.1", "::1")  # behind these may stand a server that passes on what many readers ask
-PART = 64 * 1024  # bytes that are written in a turn, or read where no request is taken any more
-KERNEL_BUFFER = 128 * 1024  # bytes that the system may keep for a reader, each way
-MOST_UNSENT = 32 * 1024 * 1024  # bytes that wait to be sent, of all readers; what many wait for counts once
+HERE = ("127.0.0.1", "::1")  # such an address may be a server that passes requests of many readers on
+PART = 64 * 1024  # bytes that are written in a turn, or read after the last request
+KERNEL_BUFFER = 128 * 1024  # bytes that the system may buffer for a reader, each way
+MOST_UNSENT = 32 * 1024 * 1024  # bytes that wait to be sent, of all readers; an answer to many counts once
 ACCEPTED_IN_A_TURN = 16
-MOST_DROPPED = 256 * 1024  # bytes that are read where no request is taken any more
+MOST_DROPPED = 256 * 1024  # bytes that are read after the last request
 IDLE = 30.0  # seconds between two requests
 WHOLE = 10.0  # seconds from a request's first byte to its last, and from the connection to its first request
-TAKEN = 30.0  # seconds in which a reader must take an answer or the events that wait, and a second more for each
+TAKEN = 30.0  # seconds in which a reader must take an answer or the waiting events, and a second more for each
 SLOWEST = 16 * 1024  # bytes
-LINGER = 2.0  # seconds in which a reader may still send where no request is taken any more
+LINGER = 2.0  # seconds in which a reader may still send after the last request
 SWEEP = 1.0  # seconds
 NO_MORE_ROOM = (errno.EMFILE, errno.ENFILE, errno.ENOBUFS, errno.ENOMEM)
 
 
 @dataclass(frozen=True)
 class Content:
-    """What stands at a path."""
+    """The content of a path."""
 
     kind: str
     body: bytes
@@ -52,17 +52,17 @@ class Stream(Protocol):
     """The events for one reader."""
 
     def more(self) -> bytes:
-        """What is to be sent next, at most a part or an event; nothing where there is nothing new."""
+        """What to send next, at most a part or an event; empty if there is nothing new."""
 
 
 class Site(Protocol):
     """What is served."""
 
     def content(self, path: str) -> Optional[Content]:
-        """What stands at this path, if anything does."""
+        """The content of this path, if any."""
 
     def stream(self, path: str, last: str) -> Optional[Stream]:
-        """The events at this path, from the one after `last` on, if events stand there."""
+        """The events of this path, from the one after `last` on, if it has events."""
 
 
 class Reader:
@@ -75,9 +75,9 @@ class Reader:
         self.unsent: Deque[memoryview] = collections.deque()
         self._keeps = True
         self._answers = False
-        self._goes_on = False  # whether what was received is looked at again in the next turn
+        self._goes_on = False  # whether the received bytes are looked at again in the next turn
         self._stream: Optional[Stream] = None
-        self._dropped: Optional[int] = None  # bytes that came where no request is taken any more
+        self._dropped: Optional[int] = None  # bytes that came after the last request
         self.ends_at = server.loop.now() + WHOLE
         self._watch()
 
@@ -124,7 +124,7 @@ class Reader:
                 self._ends_in(WHOLE)
 
     def _take_request(self) -> None:
-        """Answers the next request, where it is whole."""
+        """Answers the next request, if it is complete."""
         self._received = self._received.lstrip(b"\r\n")
         try:
             end = http.head_end(self._received)
@@ -137,7 +137,7 @@ class Reader:
         del self._received[:end]
         self._answer(request)
 
-    # What it is sent.
+    # What is sent.
 
     def _answer(self, request: http.Request) -> None:
         if not self._server.names.allow(request.host):
@@ -197,12 +197,12 @@ class Reader:
         self._watch()
 
     def _sent(self) -> None:
-        """All that waited is sent."""
+        """Everything that waited is sent."""
         if self._stream is not None:
             self.ends_at = math.inf
             self._top_up(self._stream)
         elif not self._keeps:
-            # A connection that is closed with bytes unread is reset, and the answer may be lost with it.
+            # If a connection is closed with unread bytes it is reset, and the answer may be lost.
             self._line.shutdown(socket.SHUT_WR)
             self._dropped = 0
             self._ends_in(LINGER)
@@ -227,7 +227,7 @@ class Reader:
             self._queue(more)
 
     def fill(self) -> None:
-        """Sends the next events, where there are any and those before them are sent."""
+        """Sends the next events, if there are any and those before them are sent."""
         if self._stream is not None and not self.unsent and not self.closed:
             self._top_up(self._stream)
             if self.unsent:
@@ -243,7 +243,7 @@ class Reader:
             self.close()
 
     def close(self) -> None:
-        """Ends the connection, whatever is under way."""
+        """Ends the connection, whatever it is doing."""
         self._server.readers.pop(self, None)
         self._stream = None
         self.unsent.clear()
@@ -255,9 +255,9 @@ class Reader:
 
 
 class Server:
-    """Listens at an address, and answers who asks for one of the names. Its readers stand in the order in which they came.
+    """Listens at an address, and answers requests for one of the names. Its readers are kept in the order in which they came.
 
-    `trouble` is told of what should never happen, where it does: it ends one reader's connection, and nothing else.
+    `trouble` gets errors that should never happen: each ends one reader's connection, and nothing else.
     """
 
     def __init__(self, loop: Turns, door: Door, site: Site, trouble: Callable[[str], None]) -> None:
@@ -269,7 +269,7 @@ class Server:
         self._sweep = loop.after(SWEEP, self._look_again)
 
     def _watch(self) -> None:
-        """Readers are taken from here on, or from a while on where that can't be heard."""
+        """Accepts readers from now on, or after a pause if that fails."""
         try:
             if self._line.fileno() >= 0:
                 self.loop.watch(self._line.fileno(), lambda: self._safely(self._accept))
@@ -286,7 +286,7 @@ class Server:
                 return
             except OSError as error:
                 if error.errno in NO_MORE_ROOM:
-                    # It can't be taken now, and would be ready all the time.
+                    # It can't be accepted now, and would be ready all the time.
                     self.loop.forget(self._line.fileno())
                     self.loop.after(SWEEP, self._watch)
                     return
@@ -297,7 +297,7 @@ class Server:
                 line.close()
 
     def _room(self) -> descriptors.Room:
-        """How many readers there may be."""
+        """How many readers are allowed."""
         room = descriptors.room_now(len(self.readers))
         return descriptors.Room(min(MOST_READERS, room.readers), room.turned_away)
 
@@ -323,13 +323,13 @@ class Server:
         return [reader for reader in self.readers if reader.host == host]
 
     def _drop_idle(self, readers: Iterable[Reader]) -> None:
-        """Ends the oldest of these that has no request under way, if there is one."""
+        """Ends the oldest of these that has no request under way, if any."""
         idle = next((reader for reader in readers if reader.idle), None)
         if idle is not None:
             self._drop(idle)
 
     def guard(self, reader: Reader, call: Callable[[], None]) -> None:
-        """Whatever goes wrong with a reader is this connection's end, and never the recorder's."""
+        """Any error with a reader ends this connection, and never the recorder."""
         try:
             call()
         except OSError:
@@ -342,7 +342,7 @@ class Server:
         self._safely(reader.close)
 
     def _safely(self, call: Callable[[], None]) -> None:
-        """What goes wrong here is told, and ends nothing."""
+        """Reports an error, which ends nothing."""
         try:
             call()
         except Exception:
@@ -359,7 +359,7 @@ class Server:
         self._safely(self._look)
 
     def _look(self) -> None:
-        """Ends what is too late, and what waits for too much."""
+        """Ends connections that are too late, or for which too much waits."""
         now = self.loop.now()
         for reader in [reader for reader in self.readers if reader.ends_at <= now]:
             self.guard(reader, reader.too_late)
@@ -369,7 +369,7 @@ class Server:
         self.wake()
 
     def _make_room(self) -> None:
-        """Boards that have begun since readers were taken may need what those have: the idle ones go first, then the oldest."""
+        """Boards that have begun since readers connected may need their descriptors: idle readers go first, then the oldest."""
         room = self._room()
         too_many = len(self.readers) - room.readers - room.turned_away
         for reader in sorted(self.readers, key=lambda reader: not reader.idle)[: max(0, too_many)]:
@@ -386,25 +386,25 @@ class Server:
 
 
 def host_of(address: str) -> str:
-    """A reader's address, the same whether IPv4 or IPv6 is listened to."""
+    """A reader's address, the same for IPv4 and IPv6."""
     mapped = ipaddress.IPv6Address(address.partition("%")[0]).ipv4_mapped if ":" in address else None
     return str(mapped or address)
 
 
 def share(readers: int, host: str) -> Tuple[int, int]:
-    """How many of so many places one machine may have: a quarter, this computer nearly all; and how many more of its readers
-    are told that there are too many."""
+    """How many of these places one machine may have: a quarter, this computer nearly all; and how many more of its readers get an
+    answer that there are too many."""
     return max(1, readers * 15 // 16 if host in HERE else readers // 4), max(1, readers // 32)
 
 
 def _unsent(readers: "list[Reader]") -> int:
-    """The bytes that are kept for these readers."""
+    """The bytes that are buffered for these readers."""
     kept = {id(part.obj): memoryview(part.obj).nbytes for reader in readers for part in reader.unsent}
     return sum(kept.values())
 
 
 def _listening(address: Address) -> socket.socket:
-    """A socket that listens there. Refused where that can't be."""
+    """A socket that listens there. Refused if that fails."""
     line: Optional[socket.socket] = None
     try:
         family, kind, protocol, _, where = socket.getaddrinfo(

@@ -9,7 +9,7 @@ from typing import Any, Dict, Iterable, Optional, Protocol, Sequence, Tuple
 
 @dataclass(frozen=True)
 class Ply:
-    """A ply of the game: its SAN, the clock of its player after it, and whether it was told as a correction."""
+    """A ply of the game: its SAN, its player's clock after it, and whether it was reported as a correction."""
 
     san: str
     clock: str = ""
@@ -21,7 +21,8 @@ class BoardView:
     """A board and its game.
 
     `positions` are FENs: of the start and after each ply, as far as they are known. `state` is in words, without a time;
-    `since` is when it began, as `Loop.now` tells it. `mend` is what an arbiter may type about it. The clocks are White's and Black's, empty where none is known.
+    `since` is when it began, in the time of `Loop.now`. `mend` is what an arbiter may type about it. The clocks are White's and
+    Black's, empty if unknown.
     """
 
     number: int
@@ -40,29 +41,28 @@ class BoardView:
     pgn: bytes = b""
 
     def text(self, offset: float, before: Optional[BoardView]) -> bytes:
-        """In JSON, for a page that has what it was before."""
+        """The JSON text, for a page that has the earlier view."""
         return board_text(self, offset, before)
 
 
 class Shows(Protocol):
-    """A board as some page shows it."""
+    """A board as a page shows it."""
 
     @property
     def number(self) -> int:
-        """Each has its own."""
+        """Each board has its own."""
 
     @property
     def pgn(self) -> bytes:
         """The game."""
 
     def text(self, offset: float, before: Any) -> bytes:
-        """In JSON. `before` is what the page has of it, if it has any. `offset` turns the time of the loop into seconds since
-        1970."""
+        """The JSON text. `before` is the view that the page has, if any. `offset` turns the loop's time into seconds since 1970."""
 
 
 @dataclass(frozen=True)
 class RoundView:
-    """All boards, in the order in which they are shown, and what is said of all of them. Each has a number of its own."""
+    """All boards, in the order in which they are shown, and what is common to them. Each has a number of its own."""
 
     event: str
     boards: Tuple[Shows, ...] = ()
@@ -70,19 +70,19 @@ class RoundView:
 
     @property
     def header(self) -> bytes:
-        """All but the boards, in JSON."""
+        """Everything except the boards, in JSON."""
         return json_text({"event": self.event, "numbers": [board.number for board in self.boards], **dict(self.said)})
 
 
 def pgn_path(number: int) -> str:
-    """Where the PGN of a board's game is fetched."""
+    """The path of a board's PGN."""
     return f"/{number:02}.pgn"
 
 
 def board_text(board: BoardView, offset: float, before: Optional[BoardView] = None) -> bytes:
-    """A board in JSON. `offset` turns the time of the loop into seconds since 1970.
+    """A board in JSON. `offset` turns the loop's time into seconds since 1970.
 
-    With `before`, which the page has, the moves and positions that are the same are left out, and `kept` counts them.
+    With `before`, which the page has, unchanged moves and positions at the front are left out, and `kept` counts them.
     """
     moves = same_front(before.moves, board.moves) if before else 0
     positions = same_front(before.positions, board.positions) if before else 0
@@ -113,7 +113,7 @@ def json_text(value: object) -> bytes:
 
 
 def same_front(one: Sequence[object], other: Sequence[object]) -> int:
-    """How many of the first ones are the same in both."""
+    """How many of the first items are the same in both."""
     count = 0
     for here, there in zip(one, other):
         if here != there:
@@ -123,7 +123,7 @@ def same_front(one: Sequence[object], other: Sequence[object]) -> int:
 
 
 def round_text(event: str, boards: Iterable[bytes]) -> bytes:
-    """The round in JSON, of the texts of its boards."""
+    """The round in JSON, from the texts of its boards."""
     return b'{"event":' + json_text(event) + b',"boards":[' + b",\n".join(boards) + b"]}\n"
 
 
