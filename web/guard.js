@@ -1,4 +1,4 @@
-// What stands between one board and the rest of the page: an error in one board ends that one alone.
+// A guard between one board and the rest of the page: an error in one board ends only that one.
 
 /**
  * The calls of a loop for one part. What a call throws ends this part: nothing of it is called any more, and `broke` is
@@ -16,12 +16,12 @@ export class Guard {
     return this.loop.now();
   }
 
-  /** Calls it once, so many seconds from now. */
+  /** Calls it once, after this many seconds. */
   after(seconds, call) {
     return this.loop.after(seconds, () => this.call(call));
   }
 
-  /** Calls it now, unless the part has ended. What comes later of a call that waits is guarded too. */
+  /** Calls it now, unless the part has ended. The later steps of an asynchronous call are guarded too. */
   call(call) {
     if (this.ended) return;
     try {
@@ -43,7 +43,7 @@ export class Guard {
     this.broke(error);
   }
 
-  /** Nothing is called from here on, and what is open is closed, the last first. */
+  /** Ends the part: calls nothing further, and closes what is open, the last first. */
   end() {
     if (this.ended) return;
     this.ended = true;

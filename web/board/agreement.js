@@ -1,12 +1,12 @@
-// Whether a board has gone on without its game for too long. Pure: the time comes in.
+// Whether a board has differed from its game for too long. Pure: the time is passed in.
 //
-// - A game with moves, or one whose start was shown, that hasn't agreed with the board for 15 s, whatever moves on it.
-// - A start that was never shown, where pieces are moved and the board comes no nearer to it for 15 s: nobody sets it
-//   up, and a game may be played. While pieces are set up, ever fewer squares differ.
+// - A game with moves, or whose start was shown, and the board hasn't agreed with it for 15 s, whatever moves.
+// - A start that was never shown: pieces are moved, and for 15 s the board comes no nearer to it. Then nobody is
+//   setting it up, and a game may be in play. While pieces are set up, fewer and fewer squares differ.
 
 const LEFT_FOR = 15.0; // seconds
 
-/** Takes on how many squares the board differs from the game, and says whether it has done so for too long. */
+/** Takes the number of squares on which the board differs from the game, and says whether that has lasted too long. */
 export class Agreement {
   constructor() {
     this.hasAgreed = false; // whether the board has ever shown the game's position
@@ -30,12 +30,12 @@ export class Agreement {
     }
   }
 
-  /** Whether it is an alarm by now. */
+  /** Whether it is an alarm at this time. */
   isOverdue(now) {
     return now >= this.due();
   }
 
-  /** When it is one, where nothing more happens. */
+  /** When it becomes an alarm if nothing more happens. */
   due() {
     return this.since + LEFT_FOR;
   }

@@ -1,5 +1,5 @@
-// The cable of a board: how its line is, and whose board is on it. What another board than the game's own sends is lent
-// to the game that has it, and else kept back.
+// The cable of a board: its line's state, and whose board is on it. What a board with another number sends is lent to
+// the game that has this board; if there is none, it is kept back.
 
 import { Connection } from '../device/connection.js';
 import { Taken } from '../device/line.js';
@@ -19,9 +19,9 @@ export class Cable {
     this.guard = guard;
     this.hears = hears;
     this.whose = new Whose(number);
-    this.told = ''; // the number of the other board that was told last, while it is on the cable
-    this.unsure = []; // what came since the board was asked whose it is
-    this.foreign = []; // what another board has sent, which nobody has taken
+    this.told = ''; // the number of the other board that was last reported, while it is on the cable
+    this.unsure = []; // what came since the board was asked for its number
+    this.foreign = []; // what another board has sent and no game has taken
     this.port = null;
     this.connection = null;
     this.timer = null;
@@ -29,7 +29,7 @@ export class Cable {
     guard.opened(() => this.close());
   }
 
-  /** The serial number of the game's board; nothing where none is known. */
+  /** The serial number of the game's board, empty if unknown. */
   get number() {
     return this.whose.own;
   }
@@ -130,7 +130,7 @@ export class Cable {
     this.hears.numbered(number);
   }
 
-  /** To the game whose board this is. What nobody takes is kept back. */
+  /** Gives it to the game of this board. What no game takes is kept back. */
   passOn(heard) {
     if (!this.whose.isOther) {
       heard.forEach((one) => this.hears.heard(one));
@@ -140,7 +140,7 @@ export class Cable {
     while (this.foreign.length > 0 && this.hears.lends(this.whose.shown, this.foreign[0])) this.foreign.shift();
   }
 
-  /** The board on the cable is the game's from here on, and so is what it has sent. */
+  /** From now on the board on the cable is the game's, with all that it has sent. */
   takeOther() {
     if (!this.whose.isOther) return;
     this.isOwn(this.whose.shown);

@@ -1,5 +1,5 @@
-// The games of one board while it is recorded. What came is kept first, then told, and the PGN is made anew where the
-// game changed.
+// The games of one board while it is recorded. What came is kept first, then reported, and the PGN is made anew when
+// the game has changed.
 
 import { DUMP_ID, SIZES, dump, joined, same } from '../device/protocol.js';
 import { Refused, STRAY } from '../game/added.js';
@@ -24,7 +24,7 @@ const SETTLES = 0.2; // seconds after which all lines of a byte have been heard
 const SURELY_SETTLES = 1.0; // and those where one that comes late would be taken for another
 const TICK = 1.0; // seconds between two looks at what waits
 const ROOM = 1 << 20; // bytes for what `recover` puts in: the program reads no more than LARGEST
-const SAID = [Kind.WRONG, Kind.NO_START]; // states that are told as lines too
+const SAID = [Kind.WRONG, Kind.NO_START]; // states that are reported as lines too
 const TOLD = ['move', 'result', 'differs', 'agrees'];
 
 const Reason = {
@@ -86,7 +86,7 @@ export class Recorder {
 
   // Reading the capture.
 
-  /** All is read anew: at the beginning, with other options, or of another capture. */
+  /** Everything is read again: at the beginning, with other options, or from another capture. */
   reread(isFirst = false) {
     this.old = this.reader.size; // bytes whose report isn't news
     this.isOld = true;
@@ -103,8 +103,8 @@ export class Recorder {
     this.state.disk(this.capture.trouble);
     this.cancelLingering();
     this.after = null;
-    this.startAt = null; // where the start came to stand last
-    this.starts = []; // where it did behind the game's end
+    this.startAt = null; // where the start was last shown
+    this.starts = []; // where it was shown behind the game's end
     this.isFirstReading = isFirst;
     this.wantText();
     this.reader.begin();
@@ -130,7 +130,7 @@ export class Recorder {
       return;
     }
     this.course.take(line, now);
-    this.course.news.length = 0; // it is told below
+    this.course.news.length = 0; // it is reported below
     if (isOld) return;
     const isByHand = offset >= this.byHand[0] && offset < this.byHand[1];
     const look = this.alarms.take(now, line, isByHand);
@@ -161,7 +161,7 @@ export class Recorder {
     if (!isOld) this.tellLook(look ? this.alarms.add(look) : null);
   }
 
-  /** What was played before, and how the board stood then, until it shows itself. */
+  /** What was played earlier, and the board's last state, until the board shows itself. */
   tellOld() {
     this.isOld = false;
     const now = this.guard.now();
@@ -199,7 +199,7 @@ export class Recorder {
     if (this.capture.size >= LARGEST - ROOM && !this.isOver) this.end(Reason.LIMIT);
   }
 
-  /** What came ends a whole dump. What the program makes of it is heard soon. */
+  /** What came ends a complete dump. The program's report on it follows soon. */
   dumped() {
     if (!this.showsItself) {
       this.showsItself = true;
@@ -265,7 +265,7 @@ export class Recorder {
     return this.hears.lends(number, heard);
   }
 
-  // What somebody is to look at.
+  // Alarms.
 
   tellLook(look) {
     if (!look) return;
@@ -308,7 +308,7 @@ export class Recorder {
     );
   }
 
-  /** Keeps something else beside the capture. Where that fails it is said. */
+  /** Keeps something else beside the capture. A failure is reported. */
   keep(change) {
     change().catch((error) => this.hears.says(`the browser can't keep a change (${error.message}): make room on the disk`));
   }
@@ -330,7 +330,7 @@ export class Recorder {
     this.hears.changed();
   }
 
-  /** An alarm of the state is told once. */
+  /** An alarm of the state is reported once. */
   sayState() {
     const state = this.state.state(this.guard.now());
     const news = JSON.stringify([this.game.id, ...state.news]);
@@ -366,7 +366,7 @@ export class Recorder {
     }
   }
 
-  // How it ends.
+  // Ending.
 
   hearResult(result, isOld = false) {
     this.cancelLingering();
@@ -381,8 +381,8 @@ export class Recorder {
   }
 
   /**
-   * The start stands after a set-up. It ends a game that doesn't stand there; but where the board has never stood as
-   * the game says, a move that was told was a part of the set-up.
+   * The pieces are at the start after a set-up. That ends a game that isn't at its start; but if the board has never
+   * shown the game's position, a reported move was part of the set-up.
    */
   lookAtStart() {
     const { course } = this;
@@ -416,7 +416,7 @@ export class Recorder {
     return endingWithSign(lines, found.size);
   }
 
-  /** The game's capture begins with the start, and what came behind it: what was told of it before was setting up. */
+  /** The game's capture begins with the start, and what came after it: what was reported before was the set-up. */
   async beginAnew() {
     await this.typing.exclusively(async () => {
       if (this.startAt === null) return;
@@ -431,7 +431,7 @@ export class Recorder {
     return joined(dump(this.course.start, this.options.rotated), this.capture.bytes().slice(offset + 1));
   }
 
-  /** The next game begins with the start, which stands since this byte. */
+  /** The next game begins with the start, which the board has shown since this byte. */
   beginNext(offset) {
     return this.typing.exclusively(async () => {
       if (!this.isOver || this.starts[0] !== offset) return;
@@ -440,7 +440,7 @@ export class Recorder {
     });
   }
 
-  /** Begins the next game. Where it can't be begun, what comes is kept behind the game that is over. */
+  /** Begins the next game. If that fails, what comes is kept behind the game that is over. */
   async tryNext() {
     try {
       await this.beginNext(this.starts[0]);
@@ -452,7 +452,7 @@ export class Recorder {
     }
   }
 
-  /** Somebody wants the next game, whatever stands on the board. */
+  /** Somebody wants the next game, whatever is on the board. */
   async nextGame() {
     await this.typing.exclusively(async () => {
       if (!this.isOver) {
@@ -509,7 +509,7 @@ export class Recorder {
     this.closeGame(this.byHand[1], Reason.TYPED);
   }
 
-  /** The capture is this from here on; it is kept as it was beside, where that is wanted. */
+  /** The capture is this from now on; the old one is kept beside it, if wanted. */
   async renew(content, keepsBefore, changes = {}) {
     const chunks = spread(content, this.guard.now());
     const before = { game: this.game.id, name: this.game.name, at: this.guard.now(), bytes: this.capture.bytes() };

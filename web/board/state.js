@@ -57,7 +57,8 @@ export class State {
   }
 
   /**
-   * The state in words: those before how long it has lasted, and those after. More squares than so many are counted.
+   * The state in words: those before how long it has lasted, and those after. Beyond a limit, squares are only
+   * counted.
    */
   parts(mostListed = MOST_LISTED) {
     const words = this.squares.length <= mostListed ? this.squares.join(' ') : `${this.squares.length} squares`;
@@ -93,7 +94,7 @@ export class BoardState {
   constructor(start = null, turnedHint = TURNED_ROUND) {
     this.start = start; // of the game, for the hint on a board that lies the other way round
     this.turnedHint = turnedHint;
-    this.look = ''; // what somebody is to look at
+    this.look = ''; // the open alarms, in few words
     this.since = 0; // of what was seen first, agreeing, or the first square that differs
     this.seen = false;
     this.squares = new Map(); // those that differ, and since when each has
@@ -159,12 +160,12 @@ export class BoardState {
     this.replugged = false;
   }
 
-  /** What is told next is from before this call, until the board shows itself. */
+  /** The next reports are from before this call, until the board shows itself. */
   goesOn() {
     this.isOld = true;
   }
 
-  /** From here on what was told is how it stands. */
+  /** From now on the reports give the board's present state. */
   showsItself() {
     this.isOld = false;
   }
@@ -187,7 +188,7 @@ export class BoardState {
     else if (this.silentSince === null) this.silentSince = now;
   }
 
-  /** What keeps something from being written, if anything does. */
+  /** What keeps something from being written, if anything. */
   disk(trouble) {
     this.trouble = trouble;
   }
@@ -204,7 +205,7 @@ export class BoardState {
     return new State(kind, since, { ...beside, squares, result: this.result, hint: this.hint });
   }
 
-  /** What the pictures say, and the squares that are told with it. */
+  /** What the pictures say, and the squares that are shown with it. */
   shown(now) {
     if (!this.seen) return [Kind.WAITS, []];
     if (this.result) return [Kind.RESULT, []];
@@ -221,7 +222,7 @@ export class BoardState {
     return old.length > 0 ? [Kind.WRONG, old] : [Kind.IN_HAND, all];
   }
 
-  /** When the state becomes another one though nothing happens. */
+  /** When the state changes even if nothing happens. */
   due(now) {
     if (this.squares.size === 0) return Infinity;
     const times = [...this.squares.values()].map((since) => since + HAND);

@@ -11,7 +11,7 @@ function clocks(course) {
   return clock && clock.white !== NO_TIME ? [clock.white, clock.black] : clocksOf(course.plies);
 }
 
-/** A state's words without how long it has lasted, and since when it does. */
+/** A state's words without its duration, and when it began. */
 export function standing(state, now) {
   const { kind, since, isAlarm, differing } = state;
   const words = new State(kind, now, state).text(now);
@@ -27,7 +27,7 @@ const MENDS = {
   [Kind.UNPLUGGED]: 'Plug the board in again, in any socket. The recording then goes on.',
 };
 
-/** What somebody may do about a state; nothing where it is no alarm. */
+/** What somebody may do about a state; empty if it isn't an alarm. */
 export function mendOf({ kind, disk }) {
   if (disk) return 'Make room on the disk, and choose a folder. What the board sends is in memory until then.';
   return MENDS[kind] || '';
@@ -38,7 +38,7 @@ export function resting(words, looks = '') {
   return { state: looks ? `${looks}; ${words}` : words, since: null, alarm: Boolean(looks), differing: [], mend: '' };
 }
 
-/** A board's number, its game and how it stands, as a card shows it. A move is shown with its position. */
+/** A board's number, its game and its state, as a card shows them. Each move is shown with its position. */
 export function viewOf(number, { options, name }, course, stands) {
   const plies = course.plies.slice(0, Math.max(0, course.fens.length - 1));
   return {
@@ -49,7 +49,7 @@ export function viewOf(number, { options, name }, course, stands) {
     result: course.result,
     ratings: [written(options, 'WhiteElo'), written(options, 'BlackElo')],
     clocks: clocks(course),
-    runs: '', // the board itself tells each second of them
+    runs: '', // the board itself reports each second of them
     at: null,
     moves: plies.map(({ san, clock, corrects }) => ({ san, clock, kind: corrects ? 'correction' : 'move' })),
     positions: [...course.fens],

@@ -1,8 +1,8 @@
-// Whose board is on a cable, by its serial number. Pure: the time comes in.
+// Which board is on a cable, by its serial number. Pure: the time is passed in.
 //
-// - A board gives its number right before it shows its pieces. Where the game's number is known, what comes from then
-//   on that the number is asked for is kept back until it has come: for 5 s, or three dumps.
-// - A board that gives none then is taken for the game's, and so is each board where the game has no number.
+// - A board sends its number right before it shows its pieces. If the game's number is known, what comes after the
+//   request is kept back until the number has come: for 5 s, or three dumps.
+// - A board that sends no number by then is taken for the game's, and so is every board if the game has no number.
 
 import { lookAt } from '../game/looks.js';
 
@@ -10,11 +10,11 @@ const KEPT_BACK = 5.0; // seconds
 const DUMPS = 3; // without a number
 const WHERE = 'at the cable';
 
-/** Takes what a board says of itself. */
+/** Takes what a board says about itself. */
 export class Whose {
   constructor(own = '') {
     this.own = own; // the number of the game's board, where it is known
-    this.shown = ''; // that of the board on the cable, where it has given one since the connection
+    this.shown = ''; // the number of the board on the cable, if it has sent one since it was connected
     this.askedAt = null; // when it was asked for first since it came
     this.dumps = 0; // that have come since then
   }
@@ -45,12 +45,12 @@ export class Whose {
     this.askedAt = null;
   }
 
-  /** Whether what comes is to be kept back, until the number has come. */
+  /** Whether to keep back what comes until the number has come. */
   isUnsure(now) {
     return Boolean(this.own) && this.askedAt !== null && now < this.askedAt + KEPT_BACK && this.dumps < DUMPS;
   }
 
-  /** Whether the board that gave its number last is another one than the game's. */
+  /** Whether the board that last sent its number is not the game's. */
   get isOther() {
     return Boolean(this.own && this.shown) && this.shown !== this.own;
   }
@@ -61,7 +61,7 @@ export function mayTake(owner, hasMoves) {
   return owner === null || !(owner.hasMoves || hasMoves);
 }
 
-/** What is told of the board of another number on the cable of a game. */
+/** The message about a board with another number on the cable of a game. */
 export function another(own, shown, owner, hasMoves) {
   if (owner === null) {
     const has = `it has the board with serial number ${shown}, and not ${own}: what it sends is kept back`;
@@ -72,7 +72,7 @@ export function another(own, shown, owner, hasMoves) {
   return lookAt(WHERE, `${has}: what it sends goes to the game of ${owner.name}. Put the cables right${right}`, WHERE);
 }
 
-/** What is told when its own board is on the cable again. */
+/** The message when the game's own board is on the cable again. */
 export function back(own, other) {
   return lookAt(WHERE, `it had the board with serial number ${other}; its own, ${own}, is back`, WHERE);
 }

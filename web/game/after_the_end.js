@@ -1,7 +1,8 @@
-// Moves on a board whose game is over: its result may have been typed for the wrong board. Pure: events come in.
+// Moves on a board whose game is over: its result may have been typed for the wrong board. Pure: events are passed
+// in.
 //
-// The pieces are set up again, too. Of what is carried home the first piece may look like a move, seldom the second
-// one; so it takes two moves, and one of them that brings no piece home.
+// The pieces are also set up again. The first piece that is carried home may look like a move, the second one seldom.
+// So it takes two moves, one of which brings no piece home.
 
 import { same } from '../device/protocol.js';
 import { goesHome } from './ending.js';
@@ -12,7 +13,7 @@ const ABOUT_THE_END = 'over';
 const SURE = 2; // moves
 const WHATEVER = 3; // moves, though all of them bring pieces home
 
-/** Takes what is reported of a board from the game's last position on. */
+/** Takes the reported events of a board, from the game's last position on. */
 export class AfterTheEnd {
   constructor(start, after, result) {
     this.start = start; // of the game
@@ -20,10 +21,10 @@ export class AfterTheEnd {
     this.result = result;
     this.count = 0;
     this.played = false; // a move that brought no piece home
-    this.isSetUp = false; // the start has stood again: what comes is none of this game's
+    this.isSetUp = false; // the start has been shown again: later events are not this game's
   }
 
-  /** The next event: what is to be looked at, if anything. */
+  /** The next event. Returns an alarm, if any. */
   take(event) {
     if (event.kind === 'picture' && same(codesOf(event.placement), this.start)) this.isSetUp = true;
     if (event.kind !== 'move' || this.isSetUp) return null;

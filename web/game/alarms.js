@@ -1,12 +1,11 @@
-// What somebody is to look at in a game, until he acknowledges it: of what is reported of it. Pure; who calls it keeps
-// `looks`.
+// The alarms of a game until they are acknowledged, from the program's report. Pure; the caller keeps `looks`.
 
 import { Doubts } from './doubts.js';
 import { Looks } from './looks.js';
 import { shortOf } from './report.js';
 import { StoppedClock, hasRun } from './stopped_clock.js';
 
-/** What is told of what was acknowledged. */
+/** The message about what was acknowledged. */
 export function acknowledged(seen) {
   return seen ? `acknowledged: ${seen}` : 'there is no LOOK here';
 }
@@ -28,7 +27,7 @@ export class Alarms {
     this.clock.gone();
   }
 
-  /** All is told of the board's first dump since then: what is to be looked at, if anything. */
+  /** The board's first dump since then is reported in full. Returns an alarm, if any. */
   stands(now) {
     return this.add(this.doubts.stands(now));
   }
@@ -38,7 +37,7 @@ export class Alarms {
     this.clock.time(now, data);
   }
 
-  /** The next line of the game: what is to be looked at, if anything. What was added by hand is not. */
+  /** The next line of the game. Returns an alarm, if any; none for what was added by hand. */
   take(now, { offset, event }, byHand) {
     let look = this.doubts.take(now, event);
     if (event.kind === 'move' && byHand) this.clock.added(event);
@@ -59,7 +58,7 @@ export class Alarms {
     this.looks = new Looks(this.looks.open.filter((look) => (this.since.get(look.what) || 0) < size));
   }
 
-  /** Somebody has looked: at what. */
+  /** Acknowledges the alarms. Returns what they were about. */
   acknowledge() {
     const seen = this.looks.all;
     this.looks = new Looks();

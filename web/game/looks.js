@@ -1,6 +1,6 @@
-// What somebody is to look at: alarms that stay until they are acknowledged, whatever the board shows then.
+// Alarms that stay until they are acknowledged, whatever the board shows.
 
-/** An alarm. `what` is short: `at 4... Qg4+`. Another one about the same thing takes its place. */
+/** An alarm. `what` is short: `at 4... Qg4+`. A new alarm about the same thing replaces it. */
 export function lookAt(what, why, about = '') {
   return { what, why, about };
 }
@@ -21,18 +21,18 @@ export class Looks {
     this.open = open;
   }
 
-  /** With this one too. */
+  /** With one more. */
   withOneMore(look) {
     const isOther = (one) => one.what !== look.what && !(look.about && one.about === look.about);
     return new Looks([...this.open.filter(isOther), look]);
   }
 
-  /** Without those about something that was settled. */
+  /** Without those about something that is settled. */
   without(settled) {
     return new Looks(this.open.filter((look) => !settled.includes(look.what)));
   }
 
-  /** The first one in a few words, and how many more there are; nothing where there is none. */
+  /** The first one in a few words, and how many more there are; empty if there is none. */
   get short() {
     if (this.open.length === 0) return '';
     const more = this.open.length - 1;

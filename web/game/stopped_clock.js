@@ -1,9 +1,9 @@
 // Moves that were made while the clock was stopped: players try moves after they have agreed on a draw, or the clock was
 // forgotten.
 //
-// The seventh byte of a time message says whether the clock runs (bit 0), and whether one is there (bit 5). An
+// The seventh byte of a time message says whether the clock runs (bit 0), and whether it is connected (bit 5). An
 // acknowledgement of a command to the clock, which has 10 in the low four bits of its first or fourth byte, says
-// nothing of either.
+// neither.
 
 import { lookAt } from './looks.js';
 import { shortOf } from './report.js';
@@ -14,7 +14,7 @@ const ACKNOWLEDGES = 10;
 const STOOD_FOR = 3.0; // seconds: a move that a player made before he stopped the clock may be seen after it, by the next dump
 const ABOUT_THE_CLOCK = 'clock';
 
-/** Whether the clock runs, by the seven bytes of a time message; null where they don't say so. */
+/** Whether the clock runs, by the seven bytes of a time message; null if they don't say. */
 export function runs(data) {
   if ((data[0] & 0x0f) === ACKNOWLEDGES || (data[3] & 0x0f) === ACKNOWLEDGES || data[6] & NO_CLOCK) return null;
   return Boolean(data[6] & RUNS);
@@ -39,7 +39,7 @@ export class StoppedClock {
     this.last = last; // the last move
     this.count = 0;
     this.standsSince = Infinity;
-    this.before = ''; // the last one before those that are counted
+    this.before = ''; // the last one before the counted moves
   }
 
   /** A time message has come, with these seven bytes. */
@@ -54,22 +54,22 @@ export class StoppedClock {
     }
   }
 
-  /** The board isn't heard: nobody knows whether the clock runs. */
+  /** The board isn't heard: it isn't known whether the clock runs. */
   gone() {
     this.standsSince = Infinity;
   }
 
-  /** Somebody has looked at what was counted: later moves are counted anew. */
+  /** The counted moves are acknowledged: later moves are counted from zero. */
   acknowledged() {
     this.count = 0;
   }
 
-  /** Somebody has typed this move: it was played. */
+  /** This move was typed: it was played. */
   added(move) {
     this.last = shortOf(move);
   }
 
-  /** A move or a correction was reported: what is to be looked at, if anything. */
+  /** A move or a correction was reported. Returns an alarm, if any. */
   moved(now, move) {
     const before = this.last;
     this.last = shortOf(move);

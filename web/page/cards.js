@@ -81,7 +81,7 @@ export class Cards {
     if (before) this.announce(view, before.view);
   }
 
-  /** How the page stands, in a line. */
+  /** The page's state, in a line. */
   showLine() {
     const { words, isAlarm, isLive } = this.hall.standing();
     say(at('line'), words);
@@ -106,7 +106,7 @@ export class Cards {
     }
   }
 
-  /** What somebody who doesn't see the page is told: the moves of the large board, and troubles and results of all. */
+  /** What a screen reader reads out: the moves of the large board, and troubles and results of all. */
   announce(board, before) {
     const words = [];
     const count = board.moves.length;

@@ -1,4 +1,4 @@
-// Small helps for the page's elements. Texts are set as text, never as markup.
+// Small helpers for the page's elements. Texts are set as text, never as markup.
 
 import { element } from '../../live/web/page/diagram.js';
 
@@ -26,7 +26,7 @@ export function save(name, content, kind) {
   setTimeout(() => URL.revokeObjectURL(link.href), 60000);
 }
 
-/** What is told of a step that somebody has taken back, and of one that failed. */
+/** The message about a step that somebody has cancelled, and about one that failed. */
 export function failed(messages, what) {
   return (error) => {
     if (error.name === 'AbortError' || error.name === 'NotFoundError') return; // nothing was chosen

@@ -1,4 +1,4 @@
-// What is told: lines with the time of day, the newest first; and notices that stay until somebody has seen to them.
+// Messages: lines with the time of day, the newest first; and notices that stay until somebody has acted on them.
 
 import { element } from '../../live/web/page/diagram.js';
 import { at, button } from './elements.js';
@@ -12,7 +12,7 @@ export class Messages {
     new ResizeObserver(() => style.setProperty('--notices', `${at('notices').offsetHeight}px`)).observe(at('notices'));
   }
 
-  /** A line, of a board where it has a number. */
+  /** A line, about a board if it has a number. */
   say(text, number = null) {
     const time = new Date().toTimeString().slice(0, 8);
     const line = element('li', '', `${time}  ${number === null ? '' : `${number}: `}${text}`);
@@ -22,7 +22,7 @@ export class Messages {
     while (list.children.length > KEPT) list.lastElementChild.remove();
   }
 
-  /** A notice of this name, with buttons: [text, what it does]; nothing where there is no text. */
+  /** A notice with this name and buttons: [text, action]; without a text it is removed. */
   notice(name, text, buttons = [], isAlarm = false) {
     const before = this.notices.get(name);
     if (before && before.text === text) return;

@@ -141,7 +141,7 @@ export class Panel {
     }
   }
 
-  /** A game that goes on ends only where that is pressed twice. */
+  /** A game in play ends only if the button is pressed twice. */
   nextGame() {
     const { seat } = this;
     if (seat.hasMoves && !seat.isOver && !this.ends) {

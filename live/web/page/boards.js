@@ -1,4 +1,5 @@
-// All boards in a grid, and one of them large where the page's address names it: `#3`. Each page says what it shows beside that.
+// All boards in a grid, and one of them large if the page's address names it: `#3`. Each page adds what only it
+// shows.
 
 import { numbered, printedResult, spoken } from './chess.js';
 import { drawPieces, say } from './diagram.js';
@@ -33,15 +34,15 @@ export class Boards {
   // What each page says in its own way: beside these `cardOf(number, now)`, which makes a board's card, `largeOf(now, stepped)`,
   // which makes what shows one large, and `line(how)`, which says how the page stands.
 
-  /** The round is another. */
+  /** The round has changed. */
   titled() {}
 
-  /** What is told of a board to somebody who doesn't see the page, beside its moves and its result: a list of words. */
+  /** What a screen reader reads out about a board, besides its moves and its result: a list of words. */
   troubles() {
     return [];
   }
 
-  /** What stands before the page's name. */
+  /** What comes before the page's name. */
   mark() {
     return '';
   }
@@ -105,7 +106,7 @@ export class Boards {
     return this.stream.event || UNNAMED;
   }
 
-  /** What somebody who doesn't see the page is told: the moves of the large board, and the results of all. */
+  /** What a screen reader reads out: the moves of the large board, and the results of all. */
   announce(board, before) {
     const words = [];
     const count = board.moves.length;
@@ -131,7 +132,7 @@ export class Boards {
     this.showLine();
   }
 
-  /** How the page stands: it isn't live for a reader who looks at a game as it was. */
+  /** The page's state: it isn't live for a reader who looks at an earlier position. */
   showLine() {
     const { how } = this;
     const looksBack = how === 'live' && this.open !== null && this.large.looksBack;

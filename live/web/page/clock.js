@@ -1,6 +1,6 @@
-// Clocks that run: the recorder tells how they stood, and a page counts on from there.
+// Running clocks: the recorder sends what they showed, and a page counts on from there.
 
-/** A time in seconds; NaN where it is none. */
+/** A time in seconds; NaN if it isn't one. */
 function secondsOf(text) {
   return text.split(':').reduce((seconds, part) => 60 * seconds + Number(part || NaN), 0);
 }

@@ -1,4 +1,4 @@
-// One board, large, as the arbiter sees it: its game, with how it stands.
+// One board, large, as the arbiter sees it: its game, with its state.
 
 import { lasting } from './chess.js';
 import { say } from './diagram.js';

@@ -1,4 +1,4 @@
-// The arbiter's page: all boards with how they stand, and those to which somebody must go.
+// The arbiter's page: all boards with their states, and those to which somebody must go.
 
 import { Boards } from './boards.js';
 import { element, say } from './diagram.js';

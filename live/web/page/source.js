@@ -5,7 +5,7 @@
 // only for HTTPS and for their own computer. Without them each tab that is seen has a connection of its own, a hidden one none.
 
 const NAME = 'round';
-const DEAD = 12000; // milliseconds without a word, after which the connection is made anew
+const DEAD = 12000; // milliseconds without a message, after which the connection is made anew
 const AGAIN = 2000; // milliseconds until the next try, where the browser has given up
 const ANSWER = 1500; // milliseconds that the leading tab has to answer
 const KINDS = ['beat', 'round', 'board'];
@@ -61,13 +61,13 @@ export class Source {
     this.release = null;
   }
 
-  /** What came is of no use: all of it is wanted again. */
+  /** What came is unusable: all of it is requested again. */
   again() {
     if (this.events || !this.channel) this.connect();
     else this.ask();
   }
 
-  /** To be called now and then. */
+  /** Call this now and then. */
   look() {
     const now = performance.now();
     if (this.events && now - Math.max(this.begun, this.heard) > DEAD) this.connect();

@@ -1,4 +1,4 @@
-// The round as the recorder tells it, through lost connections and sleeping computers.
+// The round as the recorder sends it, through lost connections and sleeping computers.
 
 import { SHARES, Source } from './source.js';
 
@@ -84,7 +84,7 @@ export class Stream {
     this.say();
   }
 
-  /** Says how the page stands. */
+  /** Shows the page's state. */
   say() {
     const { heard, wanted, isLost } = this.source;
     const now = performance.now();

@@ -1,4 +1,4 @@
-// One board among others, as the arbiter sees it: its card, with how it stands.
+// One board among others, as the arbiter sees it: its card, with its state.
 
 import { lasting } from './chess.js';
 import { Card } from './card.js';
