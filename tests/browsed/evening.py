@@ -3,8 +3,8 @@
 import pathlib
 from typing import List
 
-from browsed.folders import Chosen, names_of
-from browsed.games import QUEENS, QUEENS_SANS, RUY, RUY_SANS, answered, of_record, play, until_agrees
+from browsed.folders import Chosen, names_of, until_recorded_so
+from browsed.games import QUEENS, QUEENS_SANS, RUY, RUY_SANS, answered, play, until_agrees
 from browsed.hall import Hall, Port
 from browsed.page import Page
 from browsed.series import movetext_of
@@ -28,7 +28,7 @@ def until_recorded(stage: Hall, page: Page, port: Port) -> None:
     """The large board is known again by its number; if that came too late on a slow machine, it is chosen as the page asks."""
 
     def is_unknown() -> bool:
-        return any("can't be told which one" in line for line in page.messages)
+        return any("can't see which one it is" in line for line in page.messages)
 
     stage.until(lambda: "agrees" in page.text("#state") or is_unknown(), "a board that is recorded again")
     if is_unknown():
@@ -75,7 +75,7 @@ def one_evening(folder: pathlib.Path) -> None:
         play(stage, page, second, RUY[3:6], RUY_SANS[3:6])
         second.board.play("a6a7")
         stage.until(lambda: "agrees" not in page.text("#state"), "a board without the last ply")
-        stage.rest(1.5)
+        stage.until_dumped(page, second)
         answered(stage, page, "back", "back to 3. Bb5; taken off: 3... a6")
         stage.until_moves(page, RUY_SANS[:5])
         play(stage, page, second, ["g8f6"], ["Nf6"])
@@ -110,6 +110,5 @@ def one_evening(folder: pathlib.Path) -> None:
         stage.until(lambda: sorted(movetext_of(game) for game in texts() if game) == TEXTS, "each game in the folder")
         stage.until(lambda: sorted(games_of(chosen.files["round.pgn"])) == sorted(texts()), "all games in round.pgn")
         for name in names_of(chosen, ".pgn"):
-            game, capture = chosen.files[name], chosen.files[name.replace(".pgn", ".dgt")]
-            same(game, of_record(game, capture))
+            until_recorded_so(stage, chosen, name)
         same((first.was_shared, second.was_shared, page.tab.printed()), (False, False, []))

@@ -43,6 +43,7 @@ class Chosen:
             page.tab.call("Input.dispatchDragEvent", type=kind, x=20, y=20, data=data)
         stage.until(lambda: page.value("folder.has") == "chosen", "the folder that is dropped")
         page.click("#folder")
+        stage.until(lambda: page.keeps("folder"), "the folder to be kept")
 
 
 def until_text(stage: Hall, chosen: Chosen, name: str, movetext: str) -> None:
@@ -53,6 +54,15 @@ def until_text(stage: Hall, chosen: Chosen, name: str, movetext: str) -> None:
         return parts[1].replace("\n", " ") if len(parts) > 1 else ""
 
     stage.until(lambda: text() == movetext, f"{movetext} in {name}, among {sorted(chosen.files)}")
+
+
+def until_recorded_so(stage: Hall, chosen: Chosen, name: str) -> None:
+    """A game's text in the folder is that of `record` over its capture there, which may be written after it."""
+
+    def text() -> bytes:
+        return of_record(chosen.files[name], chosen.files.get(name.replace(".pgn", ".dgt"), b""))
+
+    stage.until(lambda: chosen.files[name] == text(), f"the game of the capture in {name}")
 
 
 def names_of(chosen: Chosen, suffix: str) -> List[str]:
@@ -73,10 +83,11 @@ def folder_chosen(folder: pathlib.Path) -> None:
         play(stage, page, port, RUY[2:3], RUY_SANS[2:3])
         until_text(stage, chosen, name, "1. e4 e5 2. Nf3 *")
         stage.until(lambda: chosen.files.get("round.pgn") == chosen.files[name], "the round with the game")
+        until_recorded_so(stage, chosen, name)
+        kept = chosen.files[name.replace(".pgn", ".dgt")]
         text, capture = stage.saved(page, "#save-game"), stage.saved(page, "#save-capture")
         same(text, chosen.files[name])
         same(text, of_record(text, capture))
-        kept = chosen.files[name.replace(".pgn", ".dgt")]
         same((capture[: len(kept)], of_record(text, kept)), (kept, text))
         same({name.rpartition(".")[2] for name in chosen.files}, {"pgn", "dgt"})
 

@@ -205,6 +205,11 @@ class Hall:
     def until_moves(self, page: Page, moves: Sequence[str]) -> None:
         self.until(lambda: page.moves == list(moves), f"the moves {list(moves)}")
 
+    def until_dumped(self, page: Page, port: Port) -> None:
+        """The board has said again how it stands, and the page has kept that, and so all that the board has sent before."""
+        start = len(page.kept(port.number))
+        self.until(lambda: port.board.dump() in page.kept(port.number)[start:], f"a dump of board {port.number} that is kept")
+
     def add(self, page: Page, port: Port) -> None:
         """Adds a board: a click, and the choice in the browser's list."""
         self.until(lambda: page.shows("#add:enabled"), "the button that adds a board")

@@ -3,6 +3,7 @@ that somebody would have call home."""
 
 import pathlib
 import random
+from typing import List
 
 from browsed import TOP
 from browsed.games import RUY, RUY_SANS, begin, of_record, play, until_agrees
@@ -97,9 +98,15 @@ def asks_nobody(folder: pathlib.Path) -> None:
         same(asked, [])
         for call in CALLS:
             assert page.value(call) in ("TypeError", "refused"), call
-        violated = [told for told in page.tab.printed() if "Content Security Policy" in str(told)]
-        assert len(violated) >= 3, violated
-        same([url for url in page.tab.requests() if "127.0.0.1" in url and not refused_by_policy(page, url)], [])
+
+        def violated() -> int:
+            return sum("Content Security Policy" in str(told) for told in page.tab.printed())
+
+        def let_out() -> List[str]:
+            return [url for url in page.tab.requests() if "127.0.0.1" in url and not refused_by_policy(page, url)]
+
+        stage.until(lambda: violated() >= 3, "a word on each call that was refused")
+        stage.until(lambda: not let_out(), "each call to be refused by the page's policy")
 
 
 def refused_by_policy(page: Page, url: str) -> bool:

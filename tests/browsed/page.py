@@ -7,7 +7,7 @@ import json
 import os
 import pathlib
 from dataclasses import dataclass
-from typing import Any, Dict, List, Protocol, Sequence
+from typing import Any, Callable, Dict, List, Protocol, Sequence
 
 from browsed import TOP
 from paged.devtools import Json, Tab
@@ -16,14 +16,18 @@ from paged.devtools import Json, Tab
 RECORDER = pathlib.Path(os.environ.get("RECORDER_PAGE") or TOP / "bin" / "recorder.html").resolve()
 SERIAL = pathlib.Path(__file__).with_name("serial.js")
 MOVES = "[...document.querySelectorAll('#moves button .san')].map((san) => san.textContent)"
+# Where an element can be clicked; whether the click came to it is kept.
 CENTRE = """
 (() => {{
   const element = document.querySelector({where});
-  if (!element) return null;
+  if (!element || element.disabled) return null;
   const folded = element.closest('details');
   if (folded) folded.open = true;
   element.scrollIntoView({{ block: 'center', inline: 'center' }});
   const {{ left, top, width, height }} = element.getBoundingClientRect();
+  window.wasHit = false;
+  const hit = ({{ target }}) => (window.wasHit = element.contains(target));
+  addEventListener('click', hit, {{ capture: true, once: true }});
   return width && height ? [left + width / 2, top + height / 2] : null;
 }})()
 """
@@ -39,6 +43,30 @@ FOCUS = """
 """
 
 
+# Reads what the page keeps.
+DATABASE = """
+(async () => {{
+  const answer = (request) => new Promise((done, failed) => {{
+    request.onsuccess = () => done(request.result);
+    request.onerror = () => failed(request.error);
+  }});
+  const database = await answer(indexedDB.open('dgt_recorder'));
+  const read = (name, query) => answer(query(database.transaction(name).objectStore(name)));
+  try {{
+    {body}
+  }} finally {{
+    database.close();
+  }}
+}})()
+"""
+CAPTURE = """
+const {{ game }} = await read('boards', (store) => store.get({number}));
+const chunks = await read('chunks', (store) => store.getAll(IDBKeyRange.bound([game, 0], [game, Infinity])));
+return chunks.flatMap(({{ bytes }}) => [...bytes]);
+"""
+SETTING = "return Boolean(await read('settings', (store) => store.get('{name}')));"
+
+
 @dataclass(frozen=True)
 class Device:
     """A port as a page finds it when it is opened."""
@@ -49,9 +77,11 @@ class Device:
 
 
 class Hears(Protocol):
-    """Who hears what a page does with its ports."""
+    """Who hears what a page does with its ports, and waits with it."""
 
     def told(self, page: Page, message: Json) -> None: ...
+
+    def until(self, holds: Callable[[], object], what: str) -> None: ...
 
 
 class Page:
@@ -114,6 +144,14 @@ class Page:
         """The moves of the large board."""
         return list(self.value(MOVES) or [])
 
+    def keeps(self, setting: str) -> bool:
+        """Whether a setting is on the disk."""
+        return bool(self.value(DATABASE.format(body=SETTING.format(name=setting))))
+
+    def kept(self, number: int) -> bytes:
+        """What a board has sent of its game, as far as it is on the disk."""
+        return bytes(self.value(DATABASE.format(body=CAPTURE.format(number=number))) or ())
+
     @property
     def messages(self) -> List[str]:
         """The newest first."""
@@ -128,17 +166,22 @@ class Page:
     # What is done on it.
 
     def click(self, where: str) -> None:
-        """With the mouse, in the middle of an element."""
-        point = self.value(CENTRE.format(where=json.dumps(where)))
-        assert point, f"{where} can't be clicked: {self.describe()}"
-        at = {"x": point[0], "y": point[1], "button": "left", "clickCount": 1}
-        for kind in ("mousePressed", "mouseReleased"):
-            self.tab.call("Input.dispatchMouseEvent", type=kind, **at)
+        """With the mouse, in the middle of an element as soon as it is there; again if it moved away under the mouse."""
+
+        def hits() -> bool:
+            point = self.value(CENTRE.format(where=json.dumps(where)))
+            if not point:
+                return False
+            at = {"x": point[0], "y": point[1], "button": "left", "clickCount": 1}
+            for kind in ("mousePressed", "mouseReleased"):
+                self.tab.call("Input.dispatchMouseEvent", type=kind, **at)
+            return bool(self.value("window.wasHit"))
+
+        self._hears.until(hits, f"a click on {where}")
 
     def type(self, text: str, where: str = "#typed") -> None:
         """Types a line into a field, and Enter; what stood there is typed over. A part that is folded up is opened first."""
-        focused = self.value(FOCUS.format(where=json.dumps(where)))
-        assert focused, f"{where} takes no text: {self.describe()}"
+        self._hears.until(lambda: self.value(FOCUS.format(where=json.dumps(where))), f"{where} to take a text")
         self.tab.call("Input.insertText", text=text)
         self.tab.press("Enter")
 

@@ -42,6 +42,10 @@ SMALL = """
 """
 
 
+# Ends when the page has been drawn, and so was told of its size.
+DRAWN = "new Promise((done) => requestAnimationFrame(() => requestAnimationFrame(() => done(true))))"
+
+
 def unnamed(page: Page) -> List[str]:
     """Controls that a screen reader finds without a name."""
     nodes = page.tab.call("Accessibility.getFullAXTree")["nodes"]
@@ -69,7 +73,7 @@ def looked_at(stage: Hall, page: Page, name: str) -> None:
     for width, height in SIZES:
         for dark in (False, True):
             page.tab.look(width, height, dark)
-            stage.rest(0.1)
+            page.value(DRAWN)
             if PICTURES:
                 page.tab.picture(pathlib.Path(PICTURES) / f"{name}-{width}-{'dark' if dark else 'light'}.png")
             if page.value("document.documentElement.scrollWidth > innerWidth"):

@@ -2,7 +2,7 @@
 
 import pathlib
 
-from browsed.folders import Chosen, begin_in, names_of, until_text
+from browsed.folders import Chosen, begin_in, names_of, until_recorded_so, until_text
 from browsed.games import QUEENS, QUEENS_SANS, RUY, RUY_SANS, begin, of_record, play, until_agrees
 from browsed.hall import Hall
 from browsed.stage import with_chromium
@@ -13,6 +13,14 @@ from played.stage import same
 from rounds.hall import moves, plain, text, told
 
 BOARDS = 4
+# Each text takes a second to be made.
+LATE_TEXTS = """
+const post = Worker.prototype.postMessage;
+Worker.prototype.postMessage = function (message) {
+  if (message?.name === 'record') setTimeout(() => post.call(this, message), 1000);
+  else post.call(this, message);
+};
+"""
 
 
 def movetext_of(game: bytes) -> str:
@@ -40,6 +48,23 @@ def games_in_a_row(folder: pathlib.Path) -> None:
         until_text(stage, chosen, first, "1. e4 e5 2. Nf3 Nc6 1-0")
         both = chosen.files[first] + chosen.files[second]
         stage.until(lambda: chosen.files.get("round.pgn") == both, "both games in round.pgn")
+
+
+@with_chromium
+def saved_at_once(folder: pathlib.Path) -> None:
+    """A game that is saved as soon as a move is shown has that move, though its text is still being made."""
+    with Hall(folder) as stage:
+        port = stage.board()
+        page = stage.tab([LATE_TEXTS])
+        stage.add(page, port)
+        stage.enlarge(page, 1)
+        until_agrees(stage, page)
+        play(stage, page, port, RUY[:1], RUY_SANS[:1])
+        same(movetext_of(stage.saved(page, "#save-game")), "1. e4 *")
+        page.click("#back")
+        port.board.play(RUY[1])
+        stage.until_text(page, "a.tile[href='#1'] .last", "1... e5")
+        same(movetext_of(stage.saved(page, "#save-round")), "1. e4 e5 *")
 
 
 @with_chromium
@@ -71,7 +96,8 @@ def hidden_moves(folder: pathlib.Path) -> None:
         until_agrees(stage, page)
         play(stage, page, port, RUY[:2], RUY_SANS[:2])
         hurried(port.board)
-        stage.rest(1.5)
+        stage.until_dumped(page, port)
+        stage.until(lambda: "agrees" not in page.text("#state"), "a board that has gone on")
         same(page.moves, RUY_SANS[:2])
         page.click("#recover")
         port.board.play(RUY[4])
@@ -114,12 +140,12 @@ def kings_by_mistake(folder: pathlib.Path) -> None:
         page, port = begin(stage)
         until_agrees(stage, page)
         play(stage, page, port, RUY[:2], RUY_SANS[:2])
-        stage.rest(1.5)
+        stage.until_dumped(page, port)
         port.board.kings_in_centre("d4", "d5")
         stage.until(lambda: page.text("#state").startswith("over"), "the end of the game")
         for move in ("d4e1", "d5e8", *RUY[2:4]):
             port.board.play(move)
-            stage.rest(1.5)
+            stage.until_dumped(page, port)
         stage.until_part(page, "#state", "LOOK after 1... e5")
         same(page.moves, RUY_SANS[:2])
         page.type("*")
@@ -154,6 +180,5 @@ def many_boards(folder: pathlib.Path) -> None:
         texts = names_of(chosen, ".pgn")
         stage.until(lambda: sorted(plain(movetext_of(chosen.files[name])) for name in texts) == played, "all moves")
         for name in texts:
-            game, capture = chosen.files[name], chosen.files[name.replace(".pgn", ".dgt")]
-            same(game, of_record(game, capture))
+            until_recorded_so(stage, chosen, name)
         same(page.tab.printed(), [])

@@ -237,9 +237,6 @@ def connected_again() -> None:
     page.tab.close()
 
 
-SAYS_SILENT = 12.0  # seconds, of which the page may take five; beside other work on a small machine
-
-
 def standing_still() -> None:
     """The recorder stands still, and its connections are there: the page says that nothing comes. A tab in the background never
     says that it is live."""
@@ -252,7 +249,7 @@ def standing_still() -> None:
         page.reads("at first", "#line", "Live")
         site.process.send_signal(signal.SIGSTOP)
         try:
-            page.reads("it stands still", "#line", "Nothing comes from the recorder", SAYS_SILENT)
+            page.reads("it stands still", "#line", "Nothing comes from the recorder")
             page.says("that is seen", "document.body.className", "stale")
         finally:
             site.process.send_signal(signal.SIGCONT)
@@ -260,7 +257,7 @@ def standing_still() -> None:
         other = Page(Shared.tab())
         other.tab.open(site.url)
         other.reads("another tab", "#line", "Live")
-        page.reads("the first one, which is hidden now", "#line", "In the background", SAYS_SILENT)
+        page.reads("the first one, which is hidden now", "#line", "In the background")
         page.says("is neither live nor stale", "document.body.className", "")
         page.tab.call("Page.bringToFront")
         page.reads("it is seen again", "#line", "Live")

@@ -71,7 +71,7 @@ def drain(readers: Sequence[Events]) -> None:
 
 def slow() -> None:
     long_game = a_board(1, 0, moves=MOVES * 300, positions=POSITIONS[:1] + POSITIONS[1:] * 300, pgn="x" * 1_000_000)
-    with Site(PAUSE=0.01, TAKEN=1.0, SLOWEST=10**9, SWEEP=0.05) as site:
+    with Site(PAUSE=0.01, TAKEN=5.0, SLOWEST=10**9, SWEEP=0.05) as site:
         site.show(long_game)
         site.until("/01.pgn", lambda content: len(content) == 1_000_000)
         lines = [Events(site, small=True).line for _ in range(20)]

@@ -18,8 +18,10 @@ import urllib.request
 from typing import Any, Dict, List, Optional
 
 import outside
+from played.recorder import processes
 
-PATIENCE = 90  # seconds, on a machine that has too much to do
+PATIENCE = 300  # seconds, on a machine that has too much to do, or was stopped for a while
+ENDS = 20  # seconds in which a browser ends by itself
 Json = Dict[str, Any]  # what the browser tells: each method and each event has fields of its own
 KEYS = {"ArrowLeft": 37, "ArrowUp": 38, "ArrowRight": 39, "ArrowDown": 40, "Home": 36, "End": 35, "Escape": 27, "Enter": 13, "Tab": 9}
 
@@ -54,17 +56,23 @@ class Browser:
 
     def __exit__(self, *_: object) -> None:
         self.process.terminate()
-        try:
-            self.process.wait(PATIENCE)
-        except subprocess.TimeoutExpired:
-            self.process.kill()
-            self.process.wait()
+        with contextlib.suppress(subprocess.TimeoutExpired):
+            self.process.wait(ENDS)
+        self._kill_all()
         shutil.rmtree(self.folder, ignore_errors=True)
+
+    def _kill_all(self) -> None:
+        """All its processes at once, and until they have ended: one of them may still have its profile open."""
+        with contextlib.suppress(ProcessLookupError):
+            os.killpg(self.process.pid, signal.SIGKILL)
+        self.process.wait()
+        ends = time.monotonic() + PATIENCE
+        while processes(self.process.pid) and time.monotonic() < ends:
+            time.sleep(0.01)
 
     def kill(self) -> None:
         """All its processes at once, as when the power fails. Its profile stays."""
-        os.killpg(self.process.pid, signal.SIGKILL)
-        self.process.wait()
+        self._kill_all()
         for name in ("DevToolsActivePort", "SingletonLock", "SingletonSocket", "SingletonCookie"):
             with contextlib.suppress(FileNotFoundError):
                 os.unlink(os.path.join(self.folder, name))

@@ -13,8 +13,8 @@ import urllib.parse
 from typing import Callable, Dict, Iterator, List, Mapping, NamedTuple, Optional, Sequence, Tuple, TypedDict
 
 HOST = pathlib.Path(__file__).resolve().parent / "host.py"
-PATIENCE = 60  # seconds
-STANDSTILL = 60  # seconds
+PATIENCE = 300  # seconds, on a machine that has too much to do, or was stopped for a while
+STANDSTILL = PATIENCE
 
 Answer = Tuple[int, Dict[str, str], bytes]  # the status, the fields and the content
 

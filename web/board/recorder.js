@@ -47,6 +47,7 @@ export class Recorder {
     this.hears = hears;
     this.board = kept.board;
     this.pgn = '';
+    this.made = null; // ends when the text is made that is wanted
     this.trouble = ''; // why it isn't recorded
     this.isStopped = false;
     this.wasAway = false; // unplugged or silent, since it was heard last
@@ -343,11 +344,20 @@ export class Recorder {
 
   wantText() {
     this.wantsText = true;
-    this.guard.call(() => this.makeText());
+    if (this.isMaking) return;
+    this.guard.call(() => {
+      this.made = this.makeText();
+      return this.made;
+    });
+  }
+
+  /** The text of the game as it is shown, which may still be being made. */
+  async text() {
+    await this.made;
+    return this.pgn;
   }
 
   async makeText() {
-    if (this.isMaking) return;
     this.isMaking = true;
     try {
       while (this.wantsText && !this.guard.ended) {

@@ -263,7 +263,8 @@ export class Hall {
     return roundText(seats.flatMap((seat) => [...seat.finished.map(({ pgn }) => pgn), seat.hasMoves ? seat.pgn : '']));
   }
 
-  saveRound() {
+  async saveRound() {
+    await Promise.allSettled(this.recorded().map((seat) => seat.text()));
     save('round.pgn', this.round(), 'application/vnd.chess-pgn');
   }
 

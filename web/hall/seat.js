@@ -107,6 +107,10 @@ export class Seat {
     return this.recorder.pgn;
   }
 
+  text() {
+    return this.recorder.text();
+  }
+
   get hasMoves() {
     return this.recorder !== null && this.recorder.course.plies.length > 0;
   }

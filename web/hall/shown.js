@@ -38,6 +38,10 @@ export class Shown {
     return this.content;
   }
 
+  async text() {
+    return this.pgn;
+  }
+
   show() {
     return viewOf(this.id, this, this.course, resting(`a capture: ${this.fileName}`));
   }

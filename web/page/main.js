@@ -27,7 +27,7 @@ async function begin() {
 
   at('add').addEventListener('click', () => hall.addBoard().catch(failed(messages, "the board can't be added")));
   at('folder').addEventListener('click', () => hall.folders.choose().catch(failed(messages, "the folder can't be used")));
-  at('save-round').addEventListener('click', () => hall.saveRound());
+  at('save-round').addEventListener('click', () => hall.saveRound().catch(failed(messages, "the games can't be saved")));
   at('sample').addEventListener('click', () => dropping.show('short-game.dgt', bytesIn(at('short-game').textContent)));
 
   if (!navigator.serial) {

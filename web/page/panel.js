@@ -31,7 +31,7 @@ export class Panel {
     for (const [id, option, on, off] of CHECKS) {
       at(id).addEventListener('change', () => this.change({ [option]: at(id).checked ? on : off }, at(id)));
     }
-    at('save-game').addEventListener('click', () => save(`${this.seat.name}.pgn`, this.seat.pgn, 'application/vnd.chess-pgn'));
+    at('save-game').addEventListener('click', () => this.does(this.saveGame(), "the game can't be saved"));
     at('save-capture').addEventListener('click', () => save(`${this.seat.name}.dgt`, this.seat.bytes(), 'application/octet-stream'));
     at('save-before').addEventListener('click', () => this.saveBefore());
     at('next-game').addEventListener('click', () => this.nextGame());
@@ -151,6 +151,11 @@ export class Panel {
     }
     this.ends = false;
     this.does(seat.nextGame(), "the next game can't be begun");
+  }
+
+  async saveGame() {
+    const { seat } = this;
+    save(`${seat.name}.pgn`, await seat.text(), 'application/vnd.chess-pgn');
   }
 
   /** What the board had sent before moves were taken off. */
