@@ -143,11 +143,18 @@ class Tables:
         for one, other in [*pairs, *((other, one) for one, other in pairs)]:
             until_line(self.live, f"{one:>3}  LOOK at the cable: it has the board of board {other}, serial number {other:05}")
 
+    def until_acknowledged(self, number: int) -> None:
+        """The look at its cable is; there may be another one before it in the line, as the board wasn't heard meanwhile."""
+        until(
+            lambda: any(f"{number}: acknowledged: " in line and "LOOK at the cable" in line for line in self.live.lines().splitlines()),
+            f"that the look at cable {number} is acknowledged",
+        )
+
     def acknowledge(self, pairs: Sequence[Pair]) -> None:
         """The arbiter says that he has looked."""
         for number in {number for pair in pairs for number in pair}:
             self.live.type(f"{number} ok")
-            until_line(self.live, f"{number}: acknowledged: LOOK at the cable")
+            self.until_acknowledged(number)
 
 
 def swapped(folder: pathlib.Path, pairs: Sequence[Pair], plies: int, where: str, puts_back: bool) -> None:
@@ -271,7 +278,7 @@ def spare_board_taken_away(folder: pathlib.Path) -> None:
     until_line(hall.live, "  1  LOOK at the cable: it had the board with serial number 00099")
     rest(SETTLED)
     hall.live.type("1 ok")
-    until_line(hall.live, "1: acknowledged: LOOK at the cable: it had the board")
+    hall.until_acknowledged(1)
     hall.until_whole()
     hall.play(3)
     same(stop(hall.live), 0)
