@@ -59,13 +59,13 @@ class Rules:
 
 
 class HearsRecording(Protocol):
-    """Who is told of a recording."""
+    """What a recording reports to."""
 
     def over(self, reason: Reason) -> None:
-        """The game has ended. It is told once."""
+        """The game has ended. This is reported once."""
 
     def anew(self) -> None:
-        """The game begins only now: what was told was a set-up."""
+        """The game begins only now: what was reported before was a set-up."""
 
     def broken(self, what: str) -> None:
         """A part of it fails again and again."""
@@ -97,7 +97,7 @@ class Lingering:
 
         def comes() -> None:
             if self._guard.now() - due > LATE:
-                self._wait(LATE)  # this process was stopped: what came meanwhile is told first
+                self._wait(LATE)  # this process was stopped: first report what came meanwhile
             else:
                 self._ends()
 
@@ -111,7 +111,7 @@ class Lingering:
 
 
 class Recording:
-    """A game on a board, from its first byte to its text. What came before this call was told then."""
+    """A game on a board, from its first byte to its text. What came before this call was reported then."""
 
     def __init__(
         self, guard: Guard, worker: Worker, screen: Screen, opened: Opened, rules: Rules, hears: HearsRecording
@@ -128,7 +128,7 @@ class Recording:
         self._lingering = Lingering(guard, rules.linger, lambda: self._end(Reason.RESULT))
         self.standing = Standing(guard, screen, self.course.start, self.game.options.rotated)
         self.standing.was_away = bool(opened.old.lines)  # what it showed before this call is long ago
-        self._shows_itself = not opened.old.lines  # whether the board has, of which nothing else was told before
+        self._shows_itself = not opened.old.lines  # whether the board has shown its state; a new game has no older one
         self._maker = Maker(guard, worker, self.game, self)
         self._alarms = Alarms(self.game.paths, self.course)
         self._heard_at = guard.now()  # when the board was heard last
@@ -172,7 +172,7 @@ class Recording:
         self._append(sent)
 
     def timed(self, data: bytes) -> None:
-        """What came last ends a time message, of which these are the seven bytes."""
+        """The last bytes end a time message. These are its seven bytes."""
         self._alarms.time(self._guard.now(), data)
 
     def _append(self, sent: bytes) -> None:
@@ -192,7 +192,7 @@ class Recording:
             self._guard.after(SURELY_SETTLES, self._stands)
 
     def _stands(self) -> None:
-        """All is told of the first dump after the board was away."""
+        """All that the first dump shows after the board was away is reported."""
         self._tell_look(self._alarms.stands(self._guard.now()))
 
     def _has_shown_itself(self) -> None:
