@@ -3,7 +3,6 @@
 from __future__ import annotations
 
 import functools
-import traceback
 from typing import Callable, Dict, List, Optional, Set
 
 from live.loop import Callback, Timer, Turns
@@ -16,13 +15,10 @@ class Guard:
 
     def __init__(self, loop: Turns, broke: Callable[[Exception], None], notes: Callable[[Exception], None]) -> None:
         self._loop, self._broke, self._notes = loop, broke, notes
+        self.now = loop.now  # the time of all timers; it never goes back
         self._watched: Set[int] = set()
         self._open: Dict[object, Callback] = {}  # closes each open thing, in the order of opening
         self.ended = False
-
-    def now(self) -> float:
-        """The time of all timers; it never goes back."""
-        return self._loop.now()
 
     def watch(self, number: int, readable: Optional[Callback] = None, writable: Optional[Callback] = None) -> None:
         """Calls these from now on for the file descriptor; none if both are None."""
@@ -109,4 +105,6 @@ class Guard:
 
 def traced(error: BaseException) -> str:
     """Where an error was raised, line by line."""
+    import traceback  # hardly ever needed, and not small
+
     return "".join(traceback.format_exception(type(error), error, error.__traceback__)).rstrip("\n")

@@ -11,7 +11,7 @@ import selectors
 import signal
 import socket
 import time
-from dataclasses import dataclass, field
+from dataclasses import dataclass
 from typing import Callable, Deque, List, Optional, Protocol, Tuple
 
 Callback = Callable[[], None]
@@ -24,19 +24,19 @@ class Watch:
 
     readable: Optional[Callback]
     writable: Optional[Callback]
+    is_over: bool = False  # whether the descriptor is watched for something else now, or for nothing
 
     def events(self) -> int:
         return (selectors.EVENT_READ if self.readable else 0) | (selectors.EVENT_WRITE if self.writable else 0)
 
 
-@dataclass(order=True)
+@dataclass
 class Timer:
     """A call at a time; it can be cancelled."""
 
     when: float
-    number: int
-    callback: Callback = field(compare=False)
-    cancelled: bool = field(default=False, compare=False)
+    callback: Callback
+    cancelled: bool = False
 
     def cancel(self) -> None:
         self.cancelled = True
@@ -69,7 +69,7 @@ class Loop:
 
     def __init__(self) -> None:
         self._selector = selectors.DefaultSelector()
-        self._timers: List[Timer] = []
+        self._timers: List[Tuple[float, int, Timer]] = []  # a heap: those for the same time are called in their order
         self._numbers = itertools.count()
         self._stopped = False
         self._soon: Deque[Callback] = collections.deque()
@@ -86,13 +86,16 @@ class Loop:
     def watch(self, number: int, readable: Optional[Callback] = None, writable: Optional[Callback] = None) -> None:
         """Calls these from now on for the file descriptor; none if both are None."""
         watch = Watch(readable, writable)
-        if number not in self._selector.get_map():
+        before = self._selector.get_map().get(number)
+        if before is None:
             if watch.events():
                 self._selector.register(number, watch.events(), watch)
-        elif watch.events():
+            return
+        if watch.events():
             self._selector.modify(number, watch.events(), watch)
         else:
             self._selector.unregister(number)
+        before.data.is_over = True
 
     def forget(self, number: int) -> None:
         """Call this before you close the file descriptor."""
@@ -100,8 +103,8 @@ class Loop:
 
     def after(self, seconds: float, callback: Callback) -> Timer:
         """Calls it once, after this many seconds."""
-        timer = Timer(self.now() + seconds, next(self._numbers), callback)
-        heapq.heappush(self._timers, timer)
+        timer = Timer(self.now() + seconds, callback)
+        heapq.heappush(self._timers, (timer.when, next(self._numbers), timer))
         return timer
 
     def soon(self, callback: Callback) -> None:
@@ -120,8 +123,7 @@ class Loop:
 
     def _call_soon(self) -> None:
         with contextlib.suppress(BlockingIOError):
-            while self._woken.recv(4096):
-                pass
+            self._woken.recv(4096)
         while self._soon and not self._stopped:
             self._soon.popleft()()
 
@@ -133,26 +135,30 @@ class Loop:
         """Runs until it is stopped."""
         self._stopped = False
         while not self._stopped:
-            for watch, number, events in self._ready():
-                for event, callback in ((selectors.EVENT_READ, watch.readable), (selectors.EVENT_WRITE, watch.writable)):
-                    # An earlier call may have closed it, or watched it for something else.
-                    key = self._selector.get_map().get(number)
-                    if events & event and callback and key is not None and key.data is watch and not self._stopped:
-                        callback()
+            for watch, events in self._ready():
+                if events & selectors.EVENT_READ:
+                    self._call(watch, watch.readable)
+                if events & selectors.EVENT_WRITE:
+                    self._call(watch, watch.writable)
             self._call_timers()
             if self._soon:  # and the loop couldn't be woken for it
                 self._call_soon()
 
-    def _ready(self) -> List[Tuple[Watch, int, int]]:
-        while self._timers and self._timers[0].cancelled:
+    def _call(self, watch: Watch, callback: Optional[Callback]) -> None:
+        """Calls it, unless an earlier call has closed the descriptor or watched it for something else."""
+        if callback and not watch.is_over and not self._stopped:
+            callback()
+
+    def _ready(self) -> List[Tuple[Watch, int]]:
+        while self._timers and self._timers[0][2].cancelled:
             heapq.heappop(self._timers)
-        wait = max(0.0, self._timers[0].when - self.now()) if self._timers else None
-        return [(key.data, key.fd, events) for key, events in self._selector.select(wait)]
+        wait = max(0.0, self._timers[0][0] - self.now()) if self._timers else None
+        return [(key.data, events) for key, events in self._selector.select(wait)]
 
     def _call_timers(self) -> None:
         now = self.now()
-        while self._timers and self._timers[0].when <= now and not self._stopped:
-            timer = heapq.heappop(self._timers)
+        while self._timers and self._timers[0][0] <= now and not self._stopped:
+            _, _, timer = heapq.heappop(self._timers)
             if not timer.cancelled:
                 timer.callback()
 

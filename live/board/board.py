@@ -351,7 +351,9 @@ class Board:
         return state.differing if state else ()
 
     def _read_pgn(self) -> None:
+        """Takes the text of its game: the one that this recording has put in place last, if it has; else what the file has."""
+        written = self._recorder.game.written.text if self._recorder else None
         if self._recorder is None:
             self._looks = kept_looks(self.paths)
         with contextlib.suppress(OSError):
-            self.pgn = files.existing(self.paths.pgn)
+            self.pgn = files.existing(self.paths.pgn) if written is None else written

@@ -7,7 +7,7 @@ from typing import Protocol
 
 from live.board.standing import Standing
 from live.board.state import DISK_FULL
-from live.game.files import Capture, text_of
+from live.game.files import Capture, folder_of, text_of
 from live.terminal.screen import Screen
 
 
@@ -62,7 +62,7 @@ class Disk:
     def restore(self) -> bool:
         """If the capture was removed, writes it again as a whole: the open file still has its bytes. Returns whether it was."""
         path = self._capture.path
-        if os.path.lexists(path) or not path.parent.is_dir():
+        if os.path.lexists(path) or not os.path.isdir(folder_of(path)):
             return False
         try:
             self._capture.renew(self._capture.bytes())

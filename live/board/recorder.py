@@ -197,7 +197,7 @@ class Recorder(TakesOff):
         """Begins the next game."""
         paths = self._next()
         try:
-            if paths.pgn.exists():
+            if os.path.exists(paths.pgn):
                 self._fail(f"{paths.pgn} is there without {paths.capture}: choose another name, or move it away")
                 return None
             options = self.game.options.begun(today())

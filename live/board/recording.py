@@ -3,7 +3,6 @@
 from __future__ import annotations
 
 import enum
-import pathlib
 from dataclasses import dataclass
 from typing import Callable, List, Optional, Protocol
 
@@ -135,6 +134,7 @@ class Recording:
         self._gap = opened.old.gap  # for how long it had not been heard before this call
         self._was_away = False  # and no dump has come since
         self._by_hand = range(0)  # the bytes that were added last
+        self._is_news = False  # whether the state may be another than the one that is shown
         self.standing.board.look = self.looks.short
         self._disk = Disk(screen, self.standing, self.game.capture, self)
         if self.game.options.recover:
@@ -234,23 +234,28 @@ class Recording:
             return
         now = self._guard.now()
         self.course.take(line, now)
+        if isinstance(event, (Move, Result, Recovered)):
+            self._screen.told(event.shown, is_old)  # first of all: somebody waits for this line
         look = None if is_old else self._alarms.take(now, line, line.offset in self._by_hand)
         is_shown = True
         if isinstance(event, Picture):
             is_shown = self._see(event, is_old)
-        elif isinstance(event, Recovered):
-            self._screen.told(event.shown, is_old)
         elif isinstance(event, (Move, Result, Differs, Agrees)):
             if not is_old:
                 self.standing.board.shows_itself()
             self.standing.board.told(now, event)
             if isinstance(event, (Move, Result)):
                 self._hear_change(event, line.offset)
-        else:
+        elif not isinstance(event, Recovered):
             return
         self.course.news.clear()
         self._tell_look(look)
-        if is_shown:
+        self._is_news = self._is_news or is_shown
+
+    def heard_all(self) -> None:
+        """All that has come is heard. The state is shown once for all of it: a state that has lasted no time tells nobody anything."""
+        is_news, self._is_news = self._is_news, False
+        if is_news:
             self.standing.show()
 
     def _tell_look(self, look: Optional[Look]) -> None:
@@ -287,7 +292,6 @@ class Recording:
         return seen
 
     def _hear_change(self, change: Change, offset: int) -> None:
-        self._screen.told(change.shown, offset < self._old)
         if offset >= self._maker.made_of:
             self._maker.want()
         if isinstance(change, Result):
@@ -332,7 +336,7 @@ class Recording:
         self._disk.look()
         self._hears.placed()
 
-    def edited(self, kept: pathlib.Path) -> None:
+    def edited(self, kept: str) -> None:
         """Somebody had edited NAME.pgn by hand."""
         self._screen.say(told_of_edit(self.game.paths.pgn, kept))
 

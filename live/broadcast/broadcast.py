@@ -4,7 +4,6 @@ spectators' page shows. All of it is as late as is wanted; nothing else that spe
 
 from __future__ import annotations
 
-import pathlib
 from typing import Callable, Dict, Iterable, List, Optional, Protocol, Set, Tuple
 
 from live.broadcast.games import Game, Shots, written_name
@@ -12,7 +11,7 @@ from live.broadcast.going_out import GoingOut
 from live.broadcast.late import Late
 from live.broadcast.publishing import Publisher
 from live.broadcast.view import Player, SpectatorBoard
-from live.game.files import Paths
+from live.game.files import AnyPath, Paths
 from live.game.tags import published
 from live.guard import Guard, traced
 from live.loop import Loop, Timer
@@ -84,7 +83,7 @@ class Broadcast:
         self,
         loop: Loop,
         out: GoingOut,
-        place: Optional[pathlib.Path],
+        place: Optional[AnyPath],
         games: Callable[[], Iterable[Game]],
         folder: Callable[[Game], Paths],
         hears: HearsBroadcast,

@@ -4,7 +4,6 @@ from __future__ import annotations
 
 import contextlib
 import os
-import shlex
 from dataclasses import dataclass
 from typing import Optional, Tuple
 
@@ -36,6 +35,8 @@ def read_delay(text: str) -> float:
 
 def read_command(text: str) -> Tuple[str, ...]:
     """The words of a command. Refused if it has none."""
+    import shlex  # for those few calls alone
+
     try:
         words = tuple(shlex.split(text))
     except ValueError:

@@ -100,7 +100,7 @@ class Late:
         left = memoryview(kept.content_of(self.history, this_start()))
         while left:
             left = left[os.write(self._number, left) :]
-        new.replace(self._path)
+        os.replace(new, self._path)
         self._last = self.history.entries[-1].shot if self.history.entries else NOTHING
 
     def _close(self) -> None:

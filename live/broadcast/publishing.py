@@ -7,7 +7,6 @@ error is reported. The command's own words are never reported: they may contain 
 from __future__ import annotations
 
 import os
-import pathlib
 import select
 import signal
 import subprocess
@@ -16,6 +15,7 @@ from dataclasses import dataclass
 from typing import Callable, Optional, Protocol, Sequence, Tuple
 
 from live.beside import Worker
+from live.game.files import AnyPath
 from live.loop import ENDING, Timer, Turns
 
 EACH = 5.0  # seconds between the beginnings of two runs, at least
@@ -62,7 +62,7 @@ class Plan:
         self.wanted = True
 
 
-def run(words: Sequence[str], path: pathlib.Path, seconds: float) -> str:
+def run(words: Sequence[str], path: AnyPath, seconds: float) -> str:
     """Runs the command and waits for its end; when its time is over, ends it with all processes that it started. Returns what went
     wrong, in one line; empty if it ended well."""
     errors, into = os.pipe()
@@ -138,7 +138,7 @@ class HearsPublisher(Protocol):
 class Publisher:
     """Runs the command."""
 
-    def __init__(self, loop: Turns, words: Sequence[str], path: pathlib.Path, hears: HearsPublisher) -> None:
+    def __init__(self, loop: Turns, words: Sequence[str], path: AnyPath, hears: HearsPublisher) -> None:
         self._loop, self._words, self._path, self._hears = loop, tuple(words), path, hears
         self._worker = Worker(loop)
         self._plan = Plan()

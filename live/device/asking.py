@@ -85,11 +85,15 @@ class Asking:
         self._byte_at, dumped, time, serial = now, False, b"", ""
         at = 0
         while at < len(sent):
-            at += self._frames.take_squares(sent[at : at + LONGEST])
-            if at == len(sent):
-                break
-            kind = self._frames.take(sent[at])
-            at += 1
+            kind = self._frames.take_whole(sent, at)
+            if kind:
+                at += len(self._frames.whole)
+            else:
+                at += self._frames.take_squares(sent[at : at + LONGEST])
+                if at == len(sent):
+                    break
+                kind = self._frames.take(sent[at])
+                at += 1
             if kind is FrameKind.FAULT:
                 self._wanted = True
             elif kind is FrameKind.UPDATE:

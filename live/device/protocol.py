@@ -9,6 +9,8 @@ from __future__ import annotations
 import enum
 import functools
 import itertools
+import operator
+import re
 from typing import Dict, List, Optional, Tuple
 
 DUMP_REQUEST = b"B"  # 42: a board dump
@@ -42,6 +44,9 @@ KINDS: Dict[int, FrameKind] = {
     UPDATE_ID: FrameKind.UPDATE,
     TIME_ID: FrameKind.TIME,
 }
+
+# A whole frame of these kinds: identifier, size, and data.
+WHOLE = re.compile(rb"\x86\x00\x43[\x00-\x0F]{64}|\x8E\x00\x05[\x00-\x3F][\x00-\x0F]|\x8D\x00\x0A[\x00-\x7F]{7}")
 
 
 class Frames:
@@ -83,6 +88,14 @@ class Frames:
         self.whole = bytes(frame)
         frame.clear()
         return KINDS.get(self.whole[0], FrameKind.OTHER)
+
+    def take_whole(self, sent: bytes, at: int) -> Optional[FrameKind]:
+        """Takes the dump, update or time message that begins there at once, if it is whole and no other frame is under way."""
+        found = None if self._frame else WHOLE.match(sent, at)
+        if found is None:
+            return None
+        self.whole, self._dropping = found.group(), False
+        return KINDS[self.whole[0]]
 
     def take_squares(self, sent: bytes) -> int:
         """Takes those of these bytes at once that are squares of the dump under way, but for its last one, with which it ends.
@@ -156,4 +169,9 @@ def serial_of(frame: bytes) -> str:
 
 def differing(one: Picture, other: Picture) -> List[str]:
     """The squares on which two pictures differ, in the order a8, b8, .. h1."""
-    return [square for square, here, there in zip(SQUARES, one, other) if here != there]
+    return list(itertools.compress(SQUARES, map(operator.ne, one, other)))
+
+
+def places_differing(one: Picture, other: Picture) -> List[int]:
+    """The numbers of these squares."""
+    return list(itertools.compress(range(len(SQUARES)), map(operator.ne, one, other)))

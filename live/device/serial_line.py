@@ -5,7 +5,6 @@ from __future__ import annotations
 import contextlib
 import fcntl
 import os
-import pathlib
 import pwd
 import stat
 import termios
@@ -15,36 +14,35 @@ from live.lock import locked
 from live.refused import ANOTHER_CALL, FAILED, Refused
 
 SEE_DEVICES = "see which devices there are with dgt_live --devices"
-PLUGGED = ("ttyUSB*", "ttyACM*")
+PLUGGED = ("ttyUSB", "ttyACM")  # how the names of their devices begin
 CONTROLLING_TERMINAL = os.makedev(5, 0)  # the number of /dev/tty, under any name
 BUSY_PATIENCE = 3.0  # seconds: a call that was just killed may still hold the lock
 
 
-def serial_folders() -> List[pathlib.Path]:
+def serial_folders() -> List[str]:
     """Where the system keeps the names of cables: first by the cable itself, then by its socket."""
-    top = pathlib.Path(os.environ.get("DGT_LIVE_SERIAL", "/dev/serial"))
-    return [top / "by-id", top / "by-path"]
+    top = os.environ.get("DGT_LIVE_SERIAL", "/dev/serial").rstrip("/")
+    return [f"{top}/by-id", f"{top}/by-path"]
+
+
+def serial_names() -> List[str]:
+    """These names: where each folder is, its own in their order."""
+    return [f"{folder}/{name}" for folder in filter(os.path.isdir, serial_folders()) for name in sorted(os.listdir(folder))]
 
 
 def cable_name(device: str) -> str:
     """The name of a device's cable, which stays when the device's number changes; the device itself if there is no such name."""
-    if any(pathlib.Path(device).parent == folder for folder in serial_folders()):
+    if os.path.dirname(device) in serial_folders():
         return device
     wanted = os.path.realpath(device)
-    for folder in serial_folders():
-        if folder.is_dir():
-            for name in sorted(folder.iterdir()):
-                if os.path.realpath(name) == wanted and os.path.exists(name):
-                    return str(name)
-    return device
+    found = (name for name in serial_names() if os.path.realpath(name) == wanted and os.path.exists(name))
+    return next(found, device)
 
 
 def devices() -> List[Tuple[str, str]]:
     """Each device that may be a board, with the name of its cable, or an empty one."""
-    found = [str(path) for pattern in PLUGGED for path in pathlib.Path("/dev").glob(pattern)]
-    for folder in serial_folders():
-        if folder.is_dir():
-            found.extend(os.path.realpath(path) for path in folder.iterdir() if os.path.exists(path))
+    found = [f"/dev/{name}" for name in os.listdir("/dev") if name.startswith(PLUGGED)]
+    found += [os.path.realpath(name) for name in serial_names() if os.path.exists(name)]
     named = {device: cable_name(device) for device in found}
     return sorted((device, "" if name == device else name) for device, name in named.items())
 

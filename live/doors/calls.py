@@ -3,13 +3,15 @@
 from __future__ import annotations
 
 from dataclasses import dataclass
-from typing import Dict, List, Optional, Sequence, Tuple
+from typing import TYPE_CHECKING, Dict, List, Optional, Sequence, Tuple
 
 from live.broadcast.going_out import read_command, read_delay
 from live.game.added import BACK
 from live.game.options import PLAIN, RECOVER, SEE_HELP, STRICT, TAG, VALUED, Options, typed_tag, value_of
 from live.refused import ARGUMENTS, Refused
-from live.web.address import Pages, read_pages
+
+if TYPE_CHECKING:
+    from live.web.address import Pages
 
 RECORDING = ("--linger", "--page", "--arbiter-page", "--delay", "--publish")  # options of a recording that have a value
 QUOTES = "is one argument too many. Put a text with blanks in quotes, as 'Anna Kern'"
@@ -30,7 +32,7 @@ class Call:
     help: bool = False
     devices: bool = False
     typed: Tuple[str, ...] = ()  # lines for a game that there is
-    pages: Pages = Pages()
+    pages: Optional[Pages] = None
     delay: Optional[float] = None  # seconds; None as it was
     publish: Tuple[str, ...] = ()  # a command
 
@@ -72,7 +74,7 @@ def parse(arguments: Sequence[str]) -> Call:
     page, arbiter_page, delay, publish = (values.get(option) for option in RECORDING[1:])
     refuse_hosts(page or arbiter_page, hosts)
     seconds = linger_of(values.get("--linger", str(LINGER)))
-    pages = read_pages(page, arbiter_page, hosts)
+    pages = pages_of(page, arbiter_page, hosts)
     late, command = None if delay is None else read_delay(delay), () if publish is None else read_command(publish)
     if flags["--devices"]:
         if len(arguments) > 1:
@@ -105,6 +107,15 @@ def refuse_hosts(page: Optional[str], hosts: Sequence[str], see_help: str = SEE_
     """A page that isn't shown has no names."""
     if hosts and page is None:
         raise Refused(ARGUMENTS, f"--page-host names a page, and there is none without --page PORT: {see_help}")
+
+
+def pages_of(page: Optional[str], arbiter_page: Optional[str], hosts: Sequence[str]) -> Optional[Pages]:
+    """Where pages are served; None if nowhere. What reads an address is loaded only then."""
+    if page is None and arbiter_page is None:
+        return None
+    from live.web.address import read_pages
+
+    return read_pages(page, arbiter_page, hosts)
 
 
 def linger_of(text: str) -> int:

@@ -3,16 +3,11 @@
 from __future__ import annotations
 
 import os
-import pathlib
-from typing import Sequence
+from typing import TYPE_CHECKING, List, Optional, Sequence
 
 from live.board.plan import Plan, last_number, numbered
 from live.board.recording import Rules
-from live.board.single import QUITS, Choice, Single
-from live.broadcast.broadcast import Broadcast
-from live.broadcast.going_out import GoingOut, delay_of, minutes
-from live.broadcast.late import is_hidden, is_unseen
-from live.broadcast.leaving import Leaving, clock_in, hold
+from live.board.single import Choice, Single
 from live.device import serial_line
 from live.device.numbers import numbers_of
 from live.doors import calls
@@ -21,19 +16,18 @@ from live.doors.door import Outcome, through
 from live.game import control, files, refusal
 from live.game.adding import add_by_name
 from live.game.files import LOCK_PATIENCE, Paths
-from live.game.game import end_mark, kept_options
+from live.game.game import kept_tags
 from live.game.names import today
 from live.game.opening import Opening, checked, read_otherwise
 from live.game.options import Options
 from live.game.program import Program
-from live.game.tags import published
 from live.loop import Loop, Signals
 from live.refused import DONE, FAILED, REFUSED, Refused
 from live.terminal.screen import Screen
 from live.terminal.terminal import Terminal, Typed
-from live.web.doors import Title, TwoPages
-from live.web.round_page import ArbiterView
-from live.web.view import round_pgn
+
+if TYPE_CHECKING:
+    from live.doors.audience import Audience
 
 HELP = """\
 usage: dgt_live [--series] [--once] [--linger SECONDS] DEVICE NAME [OPTION..]
@@ -66,55 +60,28 @@ PRINTED = 2.0  # seconds that a slow terminal has for the last lines
 def record(call: Call, program: Program, signals: Signals) -> Outcome:
     """Records a game, or a series of them."""
     given = checked(program, call.options)
-    paths = Paths(call.name)
-    if not call.series and (call.delay is not None or os.path.lexists(paths.delay) or os.path.lexists(paths.delayed)):
-        hold(paths)
-    shows = not call.series and is_unseen(paths, lambda text: published_of(paths, text)) and end_mark(paths) is not None
-    delay = delay_of(paths, call.delay)
-    late = minutes(delay) if delay else ""
     loop = Loop()
-    event = os.path.basename(call.name)
-    pages = TwoPages(loop, call.pages, Title(given.event or event, given.round or "", late))
+    audience = audience_of(loop, call, given)
     terminal = Terminal(loop)
     plan = Plan(call.device, call.name, Rules(call.linger, call.series), call.once)
-    choice = Choice(given, tuple(given.told_of_turned(call.options)), shows)
+    choice = Choice(given, tuple(given.told_of_turned(call.options)), audience is not None and audience.is_unseen)
     single = Single(loop, program, Screen(terminal), plan, choice)
-    goes_out = delay or call.publish or has_tags(paths, given) or os.path.lexists(paths.broadcast)
-    place = paths.broadcast if goes_out else None
-    out = GoingOut(delay, call.publish)
-    broadcast = Broadcast(loop, out, place, lambda: [single] if single.is_open else [], lambda game: paths, single)
-    pages.trouble = single.trouble
-    pages.show(ArbiterView(event, lambda: [single], single.trouble), broadcast)
+    if audience:
+        audience.join(single)
 
-    def changed() -> None:
-        pages.changed()
-        if not single.board.is_new:
-            broadcast.changed()
-
-    single.on_change = changed
     def typed(text: str) -> None:
-        if not leaving.ends or text in QUITS:
+        if audience is None or audience.hears(text):
             single.typed(text)
 
-    leaving = Leaving(loop, broadcast, single.say)
-    single.over, single.asked, single.goes_on = leaving.over, leaving.asked, leaving.goes_on
-    single.greeting = tuple(pages.told("the game"))
-    if shows:
-        single.greeting += (f"{paths.name} is over: spectators get what they haven't seen of it",)
-    if late:
-        stays = " as before; --delay 0 ends that" if call.delay is None else ""
-        single.greeting += (f"spectators see the game {late} late{stays}",)
     single.begin()
     signals.tell(loop, single.end)
     reader = Typed(loop, typed, single.refuses)
     loop.run()
     reader.close()
-    pages.close()
-    left = broadcast.hidden_for
-    complaints = broadcast.close()
+    complaints, unseen = audience.close() if audience else ((), "")
     terminal.clear()
-    if left is not None:
-        single.say(f"spectators haven't seen all moves. Start it again to show them, the last ones at {clock_in(left)}")
+    if unseen:
+        single.say(unseen)
     if single.refused is None:
         terminal.line(f"dgt_live: what was played is in {single.board.paths.pgn}")
     terminal.end(PRINTED)
@@ -123,33 +90,24 @@ def record(call: Call, program: Program, signals: Signals) -> Outcome:
     return (FAILED if complaints else DONE), complaints
 
 
-def has_tags(paths: Paths, given: Options) -> bool:
-    """Whether a game is published with other tags than it is recorded with."""
-    try:
-        kept = kept_options(paths)
-    except Refused:
-        kept = None  # why, is said as it is opened
-    return bool(given.tags or (kept and kept.tags))
+def audience_of(loop: Loop, call: Call, given: Options) -> Optional[Audience]:
+    """Who else sees the game; None if nobody does."""
+    paths = Paths(call.name)
+    is_asked = call.pages or call.delay is not None or call.publish or given.tags or kept_tags(paths)
+    if not is_asked and not any(map(os.path.lexists, (paths.broadcast, paths.delay, paths.delayed))):
+        return None
+    from live.doors.audience import Audience
+
+    return Audience(loop, call, given)
 
 
-def published_of(paths: Paths, text: bytes) -> bytes:
-    """What goes out of a game that has this text."""
-    try:
-        kept = kept_options(paths)
-    except Refused:
-        kept = None
-    return round_pgn([published(text, dict(kept.tags) if kept else {})])
+def publish_anew(paths: Paths, given: Options = Options()) -> List[str]:
+    """The published text of a game that nobody records, if it has one or gets tags. Returns what is said of it."""
+    if not (given.tags or os.path.lexists(paths.broadcast)):
+        return []
+    from live.doors import audience
 
-
-def publish_anew(paths: Paths, given: Options = Options()) -> None:
-    """The published text of a game that nobody records, where it has one or gets tags; not while a part of it is hidden."""
-    if not (given.tags or os.path.lexists(paths.broadcast)) or is_hidden(paths):
-        return
-    kept = kept_options(paths)
-    try:
-        files.put_in_place(paths.broadcast, published(files.existing(paths.pgn), dict(kept.tags) if kept else {}))
-    except OSError as error:
-        raise Refused(FAILED, f"{paths.broadcast} can't be written ({files.text_of(error)}): is the disk full?") from None
+    return [audience.publish_anew(paths, given)]
 
 
 def existing_game(name: str) -> Paths:
@@ -175,8 +133,7 @@ def remake(call: Call, program: Program) -> Outcome:
     options = opened.game.options
     said = [f"{options.side.capitalize()}'s time comes first"] if call.options.first else []
     if given.tags:
-        publish_anew(paths, given)
-        said.append(f"{paths.broadcast} {'gets its tags as the rest of it is shown' if is_hidden(paths) else 'has its tags'}")
+        said += publish_anew(paths, given)
     pairs = opened.old.course.recovered
     what = "; ".join([*(said + pairs or ["nothing recovered"]), *opened.results, *opened.told])
     files.log_once(paths, f"made anew: {what}")
@@ -198,7 +155,7 @@ def add(call: Call, program: Program) -> Outcome:
     return DONE, ()
 
 
-def main(arguments: Sequence[str], here: pathlib.Path) -> int:
+def main(arguments: Sequence[str], here: str) -> int:
     """What the arguments ask for; the status."""
 
     def answered(signals: Signals) -> Outcome:

@@ -228,7 +228,7 @@ def files_of(tournament: Tournament, loop: Loop, games: Round) -> TournamentFile
     return TournamentFiles(loop, texts, games.say, games.trouble)
 
 
-def main(arguments: Sequence[str], here: pathlib.Path) -> int:
+def main(arguments: Sequence[str], here: str) -> int:
     """What the arguments ask for; the status."""
 
     def answered(signals: Signals) -> Outcome:

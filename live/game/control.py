@@ -9,7 +9,6 @@ from __future__ import annotations
 
 import contextlib
 import os
-import pathlib
 import socket
 import struct
 from typing import Callable, Dict, Optional, Tuple
@@ -111,7 +110,7 @@ class Control:
             self._socket = None
 
 
-def ask(capture: pathlib.Path, words: str) -> Optional[Answer]:
+def ask(capture: str, words: str) -> Optional[Answer]:
     """The answer of the call that records this game; None if there is none, or if it is another user's process."""
     with contextlib.suppress(OSError), open(open_regular(capture, os.O_RDONLY), "rb") as file:
         believed = (ADMINISTRATOR, os.getuid(), os.fstat(file.fileno()).st_uid)
@@ -127,7 +126,7 @@ def ask(capture: pathlib.Path, words: str) -> Optional[Answer]:
     return None
 
 
-def board_of(capture: pathlib.Path) -> Optional[str]:
+def board_of(capture: str) -> Optional[str]:
     """The board of a round that records this game; empty if a dgt_live records it, None if nobody answers."""
     answer = ask(capture, WHO)
     return answer[1] if answer and answer[0] == DONE else None

@@ -21,7 +21,7 @@ from dataclasses import dataclass, field
 from typing import Deque, Dict, FrozenSet, Optional, Sequence, Set
 
 from live.game.looks import Look
-from live.device.protocol import Picture
+from live.device.protocol import Picture, places_differing
 from live.game import report
 from live.game.report import codes_of
 
@@ -64,9 +64,12 @@ class Gap:
 
 def elsewhere(position: Picture, picture: Picture, side: range) -> FrozenSet[int]:
     """The squares on which the picture shows a piece of this side that the position doesn't have there."""
-    if picture == position:
-        return NOWHERE
-    return frozenset(at for at, (has, shown) in enumerate(zip(position, picture)) if shown != has and shown in side)
+    return of_side(picture, places_differing(position, picture), side)
+
+
+def of_side(picture: Picture, places: Sequence[int], side: range) -> FrozenSet[int]:
+    """Those of these squares on which the picture shows a piece of this side."""
+    return frozenset([at for at in places if picture[at] in side])
 
 
 @dataclass
@@ -208,13 +211,14 @@ class Doubts:
         if self._taken_back_at is not None:
             self._moved_at += now - self._taken_back_at
         self._taken_back_at = now if picture == self._before else None
-        own, others = (elsewhere(self._position, picture, SIDES[side]) for side in (self._side, 1 - self._side))
+        mine, theirs = SIDES[self._side], SIDES[1 - self._side]
+        places = places_differing(self._position, picture)
+        own, others = of_side(picture, places, mine), of_side(picture, places, theirs)
         if self._before is not None and own:
-            own &= elsewhere(self._before, picture, SIDES[self._side])  # a piece that was taken may be put back
-        is_off = any(picture[square] != self._position[square] for square in self._moved)
+            own &= elsewhere(self._before, picture, mine)  # a piece that was taken may be put back
+        is_off = not self._moved.isdisjoint(places)
         if self._gap is not None:
-            theirs = SIDES[1 - self._side]
-            self._touched |= any(has in theirs and shown == 0 for has, shown in zip(self._position, picture))
+            self._touched |= any(self._position[at] in theirs and picture[at] == 0 for at in places)
         since = self._since
         since.own.shows(now, own, self._comes_first)
         since.others.shows(now, others, self._comes_first)

@@ -5,7 +5,6 @@ from __future__ import annotations
 import contextlib
 import itertools
 import os
-import pathlib
 from typing import Iterator
 
 from live.game.files import Paths, existing, put_in_place
@@ -17,12 +16,12 @@ CHANGES = 16  # changes of a game, after which its text may have been made last
 LARGEST = 4 * 1024 * 1024  # bytes of a capture that is compared so closely
 
 
-def told_of_edit(pgn: pathlib.Path, kept: pathlib.Path) -> str:
+def told_of_edit(pgn: str, kept: str) -> str:
     """The message about an edited text."""
     return f"{pgn} was edited by hand: that text is kept in {kept}, and a new one takes its place"
 
 
-def keep(paths: Paths, text: bytes) -> pathlib.Path:
+def keep(paths: Paths, text: bytes) -> str:
     """Keeps a text under the first free name, unless it is kept already. Returns its name. Raises OSError if it can't be written."""
     for number in itertools.count(1):
         place = paths.edited(number)

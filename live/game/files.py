@@ -6,11 +6,11 @@ import contextlib
 import datetime
 import errno
 import fcntl
+import functools
 import os
-import pathlib
 import stat
 from dataclasses import dataclass
-from typing import Dict, Optional
+from typing import Dict, Optional, Union
 
 from live.lock import locked
 from live.refused import ANOTHER_CALL, ARGUMENTS, FAILED, REFUSED, Refused
@@ -28,97 +28,110 @@ ENDINGS = (
 )  # fmt: skip
 
 
+AnyPath = Union[str, "os.PathLike[str]"]
+
+
 @dataclass(frozen=True)
 class Paths:
-    """Where the files of a game are."""
+    """Where the files of a game are. Plain texts: `pathlib` would take a fifteenth of a recorder's memory."""
 
     name: str
 
-    def _with(self, ending: str) -> pathlib.Path:
-        return pathlib.Path(f"{self.name}.{ending}")
+    def _with(self, ending: str) -> str:
+        return plain(f"{self.name}.{ending}")
 
-    @property
-    def capture(self) -> pathlib.Path:
+    @functools.cached_property
+    def capture(self) -> str:
         return self._with("dgt")
 
-    @property
-    def pgn(self) -> pathlib.Path:
+    @functools.cached_property
+    def pgn(self) -> str:
         return self._with("pgn")
 
-    def edited(self, number: int) -> pathlib.Path:
+    def edited(self, number: int) -> str:
         """A text that was edited by hand: the first one, the second .."""
         return self._with("edited.pgn" if number == 1 else f"edited-{number}.pgn")
 
-    @property
-    def options(self) -> pathlib.Path:
+    @functools.cached_property
+    def options(self) -> str:
         return self._with("options")
 
-    @property
-    def log(self) -> pathlib.Path:
+    @functools.cached_property
+    def log(self) -> str:
         return self._with("log")
 
-    @property
-    def look(self) -> pathlib.Path:
+    @functools.cached_property
+    def look(self) -> str:
         """The open alarms."""
         return self._with("look")
 
-    @property
-    def delayed(self) -> pathlib.Path:
+    @functools.cached_property
+    def delayed(self) -> str:
         """What spectators haven't seen yet."""
         return self._with("delayed")
 
-    @property
-    def delay(self) -> pathlib.Path:
+    @functools.cached_property
+    def delay(self) -> str:
         """The delay for spectators."""
         return self._with("delay")
 
-    @property
-    def broadcast(self) -> pathlib.Path:
+    @functools.cached_property
+    def broadcast(self) -> str:
         """The published text."""
         return self._with("broadcast.pgn")
 
-    @property
-    def serial(self) -> pathlib.Path:
+    @functools.cached_property
+    def serial(self) -> str:
         """The serial number of its board."""
         return self._with("serial")
 
-    @property
-    def end(self) -> pathlib.Path:
+    @functools.cached_property
+    def end(self) -> str:
         return self._with("end")
 
-    @property
-    def before(self) -> pathlib.Path:
+    @functools.cached_property
+    def before(self) -> str:
         """What the board sent before the game, if some of it looked like a move."""
         return self._with("before.dgt")
 
-    def before_back(self, number: int) -> pathlib.Path:
+    def before_back(self, number: int) -> str:
         """The capture from before an arbiter took plies off."""
         return self._with(f"before-{number}.dgt")
 
     @property
-    def last_before_back(self) -> Optional[pathlib.Path]:
+    def last_before_back(self) -> Optional[str]:
         """The last existing one."""
         number = 1
         while os.path.lexists(self.before_back(number)):
             number += 1
         return self.before_back(number - 1) if number > 1 else None
 
-    @property
-    def question(self) -> pathlib.Path:
+    @functools.cached_property
+    def question(self) -> str:
         """The question that was asked before many plies would go."""
         return self._with("back")
 
-    @property
-    def folder(self) -> pathlib.Path:
-        return self.capture.parent
+    @functools.cached_property
+    def folder(self) -> str:
+        return folder_of(self.capture)
 
 
-def new_of(path: pathlib.Path) -> pathlib.Path:
+def plain(path: str) -> str:
+    """Without the parts of a path that mean nothing: `./a//b` is `a/b`."""
+    return path[: path.startswith("/")] + "/".join(part for part in path.split("/") if part not in ("", "."))
+
+
+def folder_of(path: AnyPath) -> str:
+    """The folder of a file."""
+    return os.path.dirname(os.fspath(path)) or "."
+
+
+def new_of(path: AnyPath) -> str:
     """Where a file is made before it is moved into place."""
-    return path.with_name(path.name + ".new")
+    return f"{os.fspath(path)}.new"
 
 
-def sync_folder(folder: pathlib.Path) -> None:
+def sync_folder(folder: AnyPath) -> None:
     """Forces to the disk what was moved into this folder."""
     number = os.open(folder, os.O_RDONLY | os.O_DIRECTORY)
     try:
@@ -127,23 +140,26 @@ def sync_folder(folder: pathlib.Path) -> None:
         os.close(number)
 
 
-def open_regular(path: pathlib.Path, flags: int) -> int:
+def open_regular(path: AnyPath, flags: int) -> int:
     """Opens a file without waiting. Raises OSError if it isn't a regular file: a pipe might hold up all boards."""
     number = os.open(path, flags | os.O_NONBLOCK | os.O_NOCTTY, 0o666)
     try:
         if not stat.S_ISREG(os.fstat(number).st_mode):
-            raise OSError(errno.EINVAL, f"{path.name} is no regular file", str(path))
+            raise OSError(errno.EINVAL, f"{os.path.basename(path)} is no regular file", os.fspath(path))
     except BaseException:
         os.close(number)
         raise
     return number
 
 
-def open_new(path: pathlib.Path, flags: int = os.O_WRONLY) -> int:
+def open_new(path: AnyPath, flags: int = os.O_WRONLY) -> int:
     """Makes a new file. What a killed call left under its name is removed; nothing is written through a link."""
-    with contextlib.suppress(FileNotFoundError):
+    flags |= os.O_CREAT | os.O_EXCL | os.O_NOFOLLOW
+    try:
+        return os.open(path, flags, 0o666)
+    except FileExistsError:
         os.unlink(path)
-    return os.open(path, flags | os.O_CREAT | os.O_EXCL | os.O_NOFOLLOW, 0o666)
+        return os.open(path, flags, 0o666)
 
 
 def write_all(number: int, content: bytes) -> None:
@@ -154,7 +170,7 @@ def write_all(number: int, content: bytes) -> None:
     os.fsync(number)
 
 
-def put_in_place(path: pathlib.Path, content: bytes) -> None:
+def put_in_place(path: AnyPath, content: bytes) -> None:
     """Replaces the file's content at once and on the disk; on an OSError the file stays as it was."""
     new = new_of(path)
     try:
@@ -163,11 +179,17 @@ def put_in_place(path: pathlib.Path, content: bytes) -> None:
             write_all(number, content)
         finally:
             os.close(number)
-        new.replace(path)
-        sync_folder(path.parent)
+        os.replace(new, path)
+        sync_folder(folder_of(path))
     except BaseException:
-        new.unlink(missing_ok=True)
+        remove(new)
         raise
+
+
+def remove(path: AnyPath) -> None:
+    """Removes a file, if it is there."""
+    with contextlib.suppress(FileNotFoundError):
+        os.unlink(path)
 
 
 def text_of(error: OSError) -> str:
@@ -182,7 +204,7 @@ class Recorded(Refused):
 class Capture:
     """NAME.dgt, open and locked. What can't be written is kept in memory, and tried again."""
 
-    def __init__(self, path: pathlib.Path, number: int) -> None:
+    def __init__(self, path: str, number: int) -> None:
         self.path = path
         self.number = number
         self.size = os.fstat(number).st_size
@@ -192,7 +214,7 @@ class Capture:
         self.trouble = ""
 
     @staticmethod
-    def open(path: pathlib.Path, patience: float = LOCK_PATIENCE) -> Capture:
+    def open(path: str, patience: float = LOCK_PATIENCE) -> Capture:
         """Refused if it can't be written, or if another process records it."""
         try:
             while True:
@@ -210,7 +232,7 @@ class Capture:
             raise Refused(FAILED, f"{path} can't be written ({text_of(error)}): choose another name") from None
 
     @staticmethod
-    def begin(path: pathlib.Path, content: bytes) -> Capture:
+    def begin(path: str, content: bytes) -> Capture:
         """A new capture with this content, put in place at once: so it never exists without it."""
         new = new_of(path)
         number = open_new(new, os.O_RDWR | os.O_APPEND)
@@ -218,13 +240,13 @@ class Capture:
             fcntl.flock(number, fcntl.LOCK_EX | fcntl.LOCK_NB)
             write_all(number, content)
             capture = Capture(path, number)
-            new.replace(path)
+            os.replace(new, path)
             with contextlib.suppress(OSError):  # it is in place, even if a later step fails
-                sync_folder(path.parent)
+                sync_folder(folder_of(path))
             return capture
         except BaseException:
             os.close(number)
-            new.unlink(missing_ok=True)
+            remove(new)
             raise
 
     def renew(self, content: bytes) -> None:
@@ -268,15 +290,7 @@ class Capture:
 
     def bytes(self, start: int = 0, end: Optional[int] = None) -> bytes:
         """The file's bytes from one offset to another."""
-        parts = []
-        end = self.size if end is None else end
-        while start < end:
-            part = self.read(start, end - start)
-            if not part:
-                break
-            parts.append(part)
-            start += len(part)
-        return b"".join(parts)
+        return part_of(self.number, start, self.size if end is None else end)
 
     def sync(self) -> None:
         os.fsync(self.number)
@@ -288,7 +302,7 @@ class Capture:
             os.close(self.number)
 
 
-def _has_name(number: int, path: pathlib.Path) -> bool:
+def _has_name(number: int, path: str) -> bool:
     """Whether this open file still has that name."""
     try:
         return os.path.samestat(os.fstat(number), os.stat(path))
@@ -312,13 +326,33 @@ def check_name(name: str) -> None:
             raise Refused(REFUSED, f"{name} would be a file of the game: type its NAME alone, {game}")
 
 
-def beginning(path: pathlib.Path, most: int) -> bytes:
+def beginning(path: AnyPath, most: int) -> bytes:
     """The beginning of a file, up to this many bytes. Raises OSError if it can't be read, or isn't a regular file."""
-    with open(open_regular(path, os.O_RDONLY), "rb") as file:
-        return file.read(min(most, os.fstat(file.fileno()).st_size))
+    number = open_regular(path, os.O_RDONLY)
+    try:
+        return content_of(number, most)
+    finally:
+        os.close(number)
 
 
-def existing(path: pathlib.Path) -> bytes:
+def content_of(number: int, most: int) -> bytes:
+    """The beginning of an open file, up to this many bytes. Raises OSError if it can't be read."""
+    return part_of(number, 0, min(most, os.fstat(number).st_size))
+
+
+def part_of(number: int, start: int, end: int) -> bytes:
+    """The bytes of an open file from one offset to another, as far as it has them."""
+    parts = []
+    while start < end:
+        part = os.pread(number, end - start, start)
+        if not part:
+            break
+        parts.append(part)
+        start += len(part)
+    return b"".join(parts)
+
+
+def existing(path: AnyPath) -> bytes:
     """The content of a file; empty if there is none."""
     try:
         return beginning(path, LARGEST)
@@ -326,20 +360,20 @@ def existing(path: pathlib.Path) -> bytes:
         return b""
 
 
-def size_of(path: pathlib.Path) -> int:
+def size_of(path: AnyPath) -> int:
     """The size of a file; 0 if there is none, or there can be none."""
     try:
-        return path.stat().st_size if path.is_file() else 0
+        return os.stat(path).st_size if os.path.isfile(path) else 0
     except OSError:
         return 0
 
 
 def open_game(paths: Paths, patience: float = LOCK_PATIENCE) -> Capture:
     """The capture of a game, new or old."""
-    if not paths.folder.is_dir():
+    if not os.path.isdir(paths.folder):
         raise Refused(FAILED, f"there is no folder {paths.folder}: make it, or choose another name")
     try:
-        if paths.pgn.exists() and not paths.capture.exists():
+        if os.path.exists(paths.pgn) and not os.path.exists(paths.capture):
             raise Refused(REFUSED, f"{paths.pgn} is there without {paths.capture}: choose another name, or move it away")
     except OSError as error:
         raise Refused(FAILED, f"{paths.capture} can't be written ({text_of(error)}): choose another name") from None
@@ -350,7 +384,7 @@ class Log:
     """NAME.log: a line for each message, with date and time of day. If it can't be written the game goes on, and the reason is
     written before the next line."""
 
-    def __init__(self, path: pathlib.Path) -> None:
+    def __init__(self, path: AnyPath) -> None:
         self._path = path
         self._number: Optional[int] = None
         self._missing = 0

@@ -9,6 +9,7 @@ from typing import Optional
 from live.game.files import NO_SUCH_FILE, LARGEST, Capture, Paths, beginning, existing, put_in_place, text_of
 from live.game.options import Options
 from live.game.program import Program
+from live.game.tags import Tags
 from live.refused import FAILED, REFUSED, Refused
 
 RESULT = re.compile(rb'^\[Result "([^"]*)"\]$', re.MULTILINE)
@@ -92,6 +93,15 @@ def kept_options(paths: Paths) -> Optional[Options]:
         return Options.of_text(text)
     except Refused as refused:
         raise Refused(REFUSED, f"{paths.options} can't be read ({refused.lines[0]}): put it right, or move it away") from None
+
+
+def kept_tags(paths: Paths) -> Tags:
+    """The tags of the published text that were kept beside a game, as far as they can be read."""
+    try:
+        kept = kept_options(paths)
+    except Refused:
+        return {}  # why, is said as the game is opened
+    return dict(kept.tags) if kept else {}
 
 
 def keep_options(paths: Paths, options: Options) -> None:

@@ -9,7 +9,6 @@ from __future__ import annotations
 import contextlib
 import errno
 import os
-import pathlib
 from dataclasses import dataclass
 from typing import Callable, List, Sequence
 
@@ -106,7 +105,7 @@ def _recorded(game: Game, sent: bytes) -> bytes:
     return "\n".join(game.program.lines("record", *game.options.of_record(), given=whole)).encode()
 
 
-def keep_before(capture: Capture, paths: Paths) -> pathlib.Path:
+def keep_before(capture: Capture, paths: Paths) -> str:
     """Gives the present capture a second name, on the disk. Raises OSError if that fails."""
     capture.sync()
     number = 1

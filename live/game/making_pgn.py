@@ -5,7 +5,6 @@ from __future__ import annotations
 import contextlib
 import errno
 import os
-import pathlib
 import signal
 import subprocess
 from dataclasses import dataclass
@@ -13,7 +12,7 @@ from typing import Callable, List, Optional, Protocol, Sequence, Tuple
 
 from live.beside import Worker
 from live.game.edited import is_recorded, keep
-from live.game.files import existing, new_of, open_new, open_regular, sync_folder, text_of
+from live.game.files import LARGEST, content_of, existing, new_of, open_new, open_regular, sync_folder, text_of
 from live.game.game import Game
 from live.game.options import Options
 from live.game.program import ending_of, wake
@@ -49,7 +48,7 @@ class Made:
 
     trouble: str = ""
     full: bool = False
-    edited: Optional[pathlib.Path] = None  # where a text is kept that somebody had edited by hand
+    edited: Optional[str] = None  # where a text is kept that somebody had edited by hand
 
     @staticmethod
     def of_error(error: OSError) -> Made:
@@ -64,6 +63,7 @@ class Text:
     def __init__(self, game: Game) -> None:
         self._game = game
         self._new = new_of(game.paths.pgn)
+        self._words = ("record", *game.options.of_record())
         self._children: Tuple[subprocess.Popen[bytes], ...] = ()  # `record`, and `recover` that it reads
         self._closed = False
 
@@ -86,7 +86,9 @@ class Text:
         """Finds out whether the text that another call left is what `record` gives of all that the capture has, or of so many
         bytes, or of the capture from before plies were taken off; else somebody has edited it. To be called before the capture
         or the options change."""
-        game, text = self._game, self._standing()
+        game, text = self._game, b""
+        with contextlib.suppress(OSError):
+            text = existing(game.paths.pgn)
         if text and game.written.text is None:
             with contextlib.suppress(OSError):
                 before = game.paths.last_before_back
@@ -100,28 +102,30 @@ class Text:
         if self._closed:
             return Made()
         try:
-            made = self._record(limit)
-            if not made.trouble and not self._closed:
-                return Made(edited=self._put_in_place())
+            target = open_new(self._new, os.O_RDWR)
+            try:
+                made = self._record(limit, target)
+                if not made.trouble and not self._closed:
+                    return Made(edited=self._put_in_place(target))
+            finally:
+                os.close(target)
         except OSError as error:
             made = Made.of_error(error)
         with contextlib.suppress(OSError):
-            self._new.unlink()
+            os.unlink(self._new)
         return made
 
-    def _record(self, limit: Optional[int]) -> Made:
-        """A call of `record`, whose text stands beside NAME.pgn then. What it asks a board, and its report, are dropped; where
-        this process dies it can't tell them, and ends."""
+    def _record(self, limit: Optional[int], target: int) -> Made:
+        """A call of `record`, which writes its text there. What it asks a board, and its report, are dropped; where this process
+        dies it can't tell them, and ends."""
         with contextlib.ExitStack() as ends:
-            target = open_new(self._new)
-            ends.callback(os.close, target)
             ends.callback(self._forget_children)
             report = self._start_children(limit, target)
-            with open(report, "rb", buffering=0) as reports:
-                if self._closed:
-                    self.kill()
-                while reports.read(65536):
-                    pass
+            ends.callback(os.close, report)
+            if self._closed:
+                self.kill()
+            while os.read(report, 65536):
+                pass
             child, *before = self._children
             status = child.wait()
             if status in (WRITE_FAULT, -signal.SIGXFSZ):
@@ -149,7 +153,7 @@ class Text:
             report, told = os.pipe()
             opened.callback(os.close, told)
             try:
-                self._children = (program.start(("record", *options.of_record()), source, target, told), *self._children)
+                self._children = (program.start(self._words, source, target, told), *self._children)
             except OSError:
                 os.close(report)
                 raise
@@ -162,27 +166,29 @@ class Text:
             child.kill()
             child.wait()
 
-    def _put_in_place(self) -> Optional[pathlib.Path]:
-        """Where the text is kept that was there, if somebody had edited it."""
-        text, edited = existing(self._new), None
-        before = self._standing()
-        if before and before not in (text, self._game.written.text):
-            edited = keep(self._game.paths, before)
-        for path in (self._game.paths.capture, self._new):
-            number = os.open(path, os.O_RDONLY)
-            try:
-                os.fsync(number)
-            finally:
-                os.close(number)
-        self._new.replace(self._game.paths.pgn)
-        self._game.written.text = text
-        sync_folder(self._game.paths.folder)
+    def _put_in_place(self, target: int) -> Optional[str]:
+        """Puts the new text, which is open there, in its place. Returns where the old text is kept, if somebody had edited it."""
+        paths, edited = self._game.paths, None
+        with contextlib.ExitStack() as opened:
+            text, before = content_of(target, LARGEST), self._before(opened)
+            if before and before not in (text, self._game.written.text):
+                edited = keep(paths, before)
+            capture = os.open(paths.capture, os.O_RDONLY)
+            opened.callback(os.close, capture)
+            os.fsync(capture)
+            os.fsync(target)
+            os.replace(self._new, paths.pgn)
+            self._game.written.text = text
+            sync_folder(paths.folder)
         return edited
 
-    def _standing(self) -> bytes:
-        """What is there; nothing where that can't be read."""
+    def _before(self, opened: contextlib.ExitStack) -> bytes:
+        """The text that is there; empty if it can't be read. Its file stays open until it is replaced: the system takes a
+        millisecond to remove a file that nobody has open, and readers would wait for the new one."""
         with contextlib.suppress(OSError):
-            return existing(self._game.paths.pgn)
+            number = open_regular(self._game.paths.pgn, os.O_RDONLY)
+            opened.callback(os.close, number)
+            return content_of(number, LARGEST)
         return b""
 
 
@@ -192,7 +198,7 @@ class HearsMaker(Protocol):
     def placed(self) -> None:
         """It was made anew."""
 
-    def edited(self, kept: pathlib.Path) -> None:
+    def edited(self, kept: str) -> None:
         """Somebody had edited it by hand: what it was is kept there."""
 
     def unmade(self, made: Made) -> None:

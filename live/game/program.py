@@ -6,7 +6,6 @@ from __future__ import annotations
 import contextlib
 import functools
 import os
-import pathlib
 import signal
 import subprocess
 from dataclasses import dataclass
@@ -39,16 +38,16 @@ class Program:
     path: str
 
     @staticmethod
-    def find(beside: pathlib.Path) -> Program:
+    def find(beside: str) -> Program:
         """The program in the folder of dgt_live. In the repository a script finds the one that belongs to the sources; if it must
         build it, that is done here and not in the middle of a game."""
-        finder, path = beside / "program", beside / "dgt_replay"
-        if finder.exists():
+        finder, path = os.path.join(beside, "program"), os.path.join(beside, "dgt_replay")
+        if os.path.exists(finder):
             with _deaf_children():
                 found = subprocess.run([finder], stdin=subprocess.DEVNULL, stdout=subprocess.PIPE)
             if found.returncode != 0:
                 raise Refused(NO_PROGRAM, f"there is no program to record with. Type {finder}: it says what to do")
-            path = pathlib.Path(os.fsdecode(found.stdout.rstrip(b"\n")))
+            path = os.fsdecode(found.stdout.rstrip(b"\n"))
         if not os.access(path, os.X_OK):
             raise Refused(NO_PROGRAM, f"there is no dgt_replay in {beside}: it belongs beside dgt_live")
         try:
@@ -59,7 +58,7 @@ class Program:
         if status != 0:
             needed = f"Linux with glibc 2.34 or later, and the archive for this processor, which is {os.uname().machine}"
             raise Refused(NO_PROGRAM, f"{path} doesn't run: it needs {needed}")
-        return Program(str(path))
+        return Program(path)
 
     def run(self, *words: str, given: bytes = b"") -> subprocess.CompletedProcess[bytes]:
         """Calls it and waits: for calls of a few milliseconds."""
@@ -267,10 +266,14 @@ class Reader:
 
 
 class Listing(Reader):
-    """A child that reports what a source shows, line by line. The first `skipped` lines are known already."""
+    """A child that reports what a source shows, line by line. The first `skipped` lines are known already. `heard_all` is called
+    after the lines that came at once."""
 
-    def __init__(self, guard: Guard, task: Task, heard: Callable[[str], None], hears: HearsChild, skipped: int = 0) -> None:
-        self._heard = heard
+    def __init__(
+        self, guard: Guard, task: Task, heard: Callable[[str], None], hears: HearsChild, skipped: int = 0,
+        heard_all: Callable[[], None] = lambda: None,
+    ) -> None:  # fmt: skip
+        self._heard, self._heard_all = heard, heard_all
         self._known = skipped  # lines that were reported
         self._came = 0  # lines of this child
         super().__init__(guard, task, hears)
@@ -295,6 +298,7 @@ class Listing(Reader):
             self._heard(line.decode("ascii", "replace"))
             if self._child is not child:
                 return  # the report has ended this listing
+        self._heard_all()
 
 
 def _end(child: subprocess.Popen[bytes]) -> None:

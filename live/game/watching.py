@@ -19,6 +19,9 @@ class HearsReport(HearsChild, Protocol):
     def heard(self, line: Line) -> None:
         """The next line. Its offset is an offset in the capture."""
 
+    def heard_all(self) -> None:
+        """All lines that have come are heard."""
+
 
 class Watching:
     """Reports a game from its first byte; the first `known` lines were reported before."""
@@ -34,7 +37,7 @@ class Watching:
             self._places = self._whole.places()
         watch = Task(game.program, ("watch", *options.of_board()), self._whole or capture)
         self._watch: Optional[Listing] = None
-        self._watch = Listing(guard, watch, self._heard, hears, known)
+        self._watch = Listing(guard, watch, self._heard, hears, known, hears.heard_all)
 
     def _feed_watch(self) -> None:
         if self._watch:

@@ -2,11 +2,10 @@
 
 from __future__ import annotations
 
-import pathlib
 from typing import Callable, Optional
 
 from live.beside import Worker
-from live.game.files import put_in_place
+from live.game.files import AnyPath, put_in_place
 from live.game.making_pgn import Made
 from live.loop import Timer, Turns
 
@@ -21,7 +20,7 @@ class Published:
     it has another one."""
 
     def __init__(
-        self, loop: Turns, path: pathlib.Path, text: Callable[[], bytes], says: Callable[[str], None]
+        self, loop: Turns, path: AnyPath, text: Callable[[], bytes], says: Callable[[str], None]
     ) -> None:
         self._loop, self.path, self._text, self._says = loop, path, text, says
         self.on_written: Callable[[], None] = lambda: None
@@ -90,7 +89,7 @@ class Published:
         return self._trouble
 
 
-def written(path: pathlib.Path, text: bytes) -> Made:
+def written(path: AnyPath, text: bytes) -> Made:
     """Writes it, and tells what came of it."""
     try:
         put_in_place(path, text)

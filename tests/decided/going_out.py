@@ -1,6 +1,7 @@
 """What goes out of a round: what of a game is shown when, what a restart still hides, clocks that run, when a command is run."""
 
 import contextlib
+import os
 import pathlib
 import sys
 import tempfile
@@ -138,13 +139,13 @@ def on_the_disk() -> None:
         same("what was shown is shown", late.shot, E5)
         late = Late(paths, 3600.0, 1430.0)
         same("with a longer delay too", late.shot, E5)
-        paths.delayed.unlink()
+        os.unlink(paths.delayed)
         late = Late(paths, 900.0, 1500.0)
         late.take(1500.0, WON)
         same("without its file all is hidden but the players", (late.shot, late.history.next_at), (QUIET, 2400.0))
         late = Late(paths, 0.0, 1600.0)
         late.take(1600.0, WON)
-        same("without a delay all is shown", (late.shot, paths.delayed.exists()), (WON, False))
+        same("without a delay all is shown", (late.shot, os.path.exists(paths.delayed)), (WON, False))
 
 
 def kept_delays() -> None:
@@ -152,7 +153,7 @@ def kept_delays() -> None:
         paths = Paths(f"{folder}/round")
         seen = [delay_of(paths, given) for given in (None, 900.0, None, 30.0, None, 0.0, None)]
         same("a delay stays until another is given", seen, [0.0, 900.0, 900.0, 30.0, 30.0, 0.0, 0.0])
-        paths.delay.write_bytes(b"soon\n")
+        pathlib.Path(paths.delay).write_bytes(b"soon\n")
         said = refused("a file without a number", Refused, delay_of, paths, None)
         same("says what to do", said.endswith("give --delay, or remove it"), True)
         same("a delay that is given takes its place", delay_of(paths, 60.0), 60.0)

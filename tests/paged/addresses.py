@@ -93,8 +93,10 @@ def options() -> None:
     ]:
         said = refused(f"{what} --page-host without --page", Refused, call, words)
         same(f"{what} says what lacks", "--page PORT" in said, True)
-    asked = calls.parse([*live, "--page=8000", "--page-host=b.example,c.example"])
-    same("dgt_live: more than one", [asked.pages.names.allow(f"{name}.example") for name in "abcd"], [True, True, True, False])
+    served = calls.parse([*live, "--page=8000", "--page-host=b.example,c.example"]).pages
+    same("dgt_live: no page", calls.parse(["/dev/null", "game"]).pages, None)
+    assert served
+    same("dgt_live: more than one", [served.names.allow(f"{name}.example") for name in "abcd"], [True, True, True, False])
     pages = dgt_round.parse(["round.csv", "--page", "8000", "--page-host", "a.example", "--page-host=b.example,c.example"]).pages
     same("dgt_round: more than one", [pages.names.allow(f"{name}.example") for name in "abcd"], [True, True, True, False])
 

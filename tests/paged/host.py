@@ -36,7 +36,7 @@ class CountingLoop(Loop):
         self.most = Work()
         super().__init__()
 
-    def _ready(self) -> List[Tuple[Watch, int, int]]:
+    def _ready(self) -> List[Tuple[Watch, int]]:
         most = self.most
         answers, sent = max(self.answers.values(), default=0), max(self.sent.values(), default=0)
         self.most = Work(max(most.answers, answers), max(most.sent, sent), most.texts + self.texts)

@@ -3,6 +3,7 @@ processes that are killed."""
 
 import pathlib
 import signal
+import sys
 import time
 
 from emulated import board as emulated
@@ -389,7 +390,7 @@ def begun_again(folder: pathlib.Path) -> None:
     """An error that nobody reckons with: it is said, the log has where it was, and the game goes on after some seconds."""
     flag = folder / "flag"
     (folder / "sitecustomize.py").write_text(RAISING.format(flag=str(flag)))
-    board, live = begin_game(folder, environment={"PYTHONPATH": str(folder)})
+    board, live = begin_game(folder, start=[sys.executable], environment={"PYTHONPATH": str(folder)})
     for number in (1, 2):
         flag.touch()
         until_line(live, "isn't recorded: ValueError: nobody reckons with this", number)

@@ -413,7 +413,7 @@ def sources(kind: str) -> "list[pathlib.Path]":
     for path in files:
         with open(path, "rb") as file:
             first = file.readline(100)
-        if path.suffix == suffix or first.startswith(b"#!") and first.decode().split("/")[-1].split()[-1] == kind:
+        if path.suffix == suffix or first.startswith(b"#!") and kind in first.decode().split("/")[-1].split():
             found.append(path)
     return found
 

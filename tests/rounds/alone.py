@@ -5,6 +5,7 @@ import contextlib
 import os
 import pathlib
 import signal
+import sys
 from typing import List
 
 from play_board import DUMP, INITIAL, UPDATE, frame
@@ -16,19 +17,19 @@ from rounds.hall import Hall, moves, told
 
 # A program can't be started for one board as long as a file is there, nor a cable's folder be listed where another one is.
 NOT_STARTED = """
-import errno, os, pathlib, subprocess
+import errno, os, subprocess
 start = subprocess.Popen.__init__
 def fails(self, words, *more, **named):
     if os.path.exists({no_fork!r}) and any("{mark}" in str(word) for word in words):
         raise BlockingIOError(errno.EAGAIN, "Resource temporarily unavailable")
     start(self, words, *more, **named)
 subprocess.Popen.__init__ = fails
-listed = pathlib.Path.iterdir
+listed = os.listdir
 def gone(path):
-    if os.path.exists({no_folder!r}) and path.name == "by-id":
-        raise FileNotFoundError(errno.ENOENT, "No such file or directory", str(path))
+    if os.path.exists({no_folder!r}) and os.path.basename(path) == "by-id":
+        raise FileNotFoundError(errno.ENOENT, "No such file or directory", path)
     return listed(path)
-pathlib.Path.iterdir = gone
+os.listdir = gone
 """
 # Looks at a path as long as a file is there, and makes another one meanwhile.
 SLOW_LOOK = """
@@ -79,7 +80,7 @@ def ended_while_tried(folder: pathlib.Path) -> None:
     wrong.write_text("no device")
     hall.write(f"2,{wrong},A,B")
     (folder / "sitecustomize.py").write_text(SLOW_LOOK.format(path=str(wrong), stuck=str(stuck), looks=str(looks)))
-    live = hall.record(environment={"PYTHONPATH": str(folder)})
+    live = hall.record(start=[sys.executable], environment={"PYTHONPATH": str(folder)})
     until_line(live, f"  2  isn't recorded: {wrong} is no device")
     hall.begun(live)
     stuck.touch()
@@ -103,7 +104,7 @@ def program_of_one(folder: pathlib.Path) -> None:
     (folder / "sitecustomize.py").write_text(text)
     no_fork.touch()
     hall.boards[2].pull()
-    live = hall.record("--page", str(free_port()), environment={"PYTHONPATH": str(folder)})
+    live = hall.record("--page", str(free_port()), start=[sys.executable], environment={"PYTHONPATH": str(folder)})
     until_line(live, "  2  isn't recorded: Resource temporarily unavailable")
     until_line(live, "  1  agrees")
     until_line(live, f"  3  {words.UNPLUGGED}")

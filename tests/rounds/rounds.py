@@ -5,6 +5,7 @@ import pathlib
 import re
 import shutil
 import subprocess
+import sys
 import urllib.request
 from typing import List
 
@@ -243,7 +244,7 @@ def slow_disk(folder: pathlib.Path) -> None:
     hall = Hall(folder, 3)
     stuck = folder / "stuck"
     (folder / "sitecustomize.py").write_text(SLOW_DISK.format(stuck=str(stuck), part="/01."))
-    live = hall.record(environment={"PYTHONPATH": str(folder)})
+    live = hall.record(start=[sys.executable], environment={"PYTHONPATH": str(folder)})
     hall.begun(live)
     hall.play(0, 1)
     stuck.touch()

@@ -1,0 +1,103 @@
+"""Who else sees the game of a call of dgt_live: its pages, and the text that goes out. It is loaded only where somebody does, since
+it takes a tenth of a recorder's memory."""
+
+from __future__ import annotations
+
+import os
+from typing import Sequence, Tuple
+
+from live.board.single import QUITS, Single
+from live.broadcast.broadcast import Broadcast
+from live.broadcast.going_out import GoingOut, delay_of, minutes
+from live.broadcast.late import is_hidden, is_unseen
+from live.broadcast.leaving import Leaving, clock_in, hold
+from live.doors.calls import Call
+from live.game import files
+from live.game.files import Paths
+from live.game.game import end_mark, kept_options, kept_tags
+from live.game.options import Options
+from live.game.tags import published
+from live.loop import Loop
+from live.refused import FAILED, Refused
+from live.web.address import Pages
+from live.web.doors import Title, TwoPages
+from live.web.round_page import ArbiterView
+from live.web.view import round_pgn
+
+
+class Audience:
+    """Spectators and the arbiter's browser. Refused where a page can't be served, or another call shows the game late."""
+
+    def __init__(self, loop: Loop, call: Call, given: Options) -> None:
+        self._loop, self._call, self._given = loop, call, given
+        self._paths = paths = Paths(call.name)
+        if not call.series and (call.delay is not None or os.path.lexists(paths.delay) or os.path.lexists(paths.delayed)):
+            hold(paths)
+        # whether spectators haven't seen all of a game that is over
+        self.is_unseen = not call.series and is_unseen(paths, lambda text: published_of(paths, text)) and end_mark(paths) is not None
+        self._delay = delay_of(paths, call.delay)
+        self._late = minutes(self._delay) if self._delay else ""
+        self._event = os.path.basename(call.name)
+        title = Title(given.event or self._event, given.round or "", self._late)
+        self._pages = TwoPages(loop, call.pages or Pages(), title)
+
+    def join(self, single: Single) -> None:
+        """From here on the game of this board is shown. The call ends when they have seen it."""
+        call, paths, delay = self._call, self._paths, self._delay
+        goes_out = delay or call.publish or self._given.tags or kept_tags(paths) or os.path.lexists(paths.broadcast)
+        place, out = paths.broadcast if goes_out else None, GoingOut(delay, call.publish)
+        self._broadcast = broadcast = Broadcast(
+            self._loop, out, place, lambda: [single] if single.is_open else [], lambda game: paths, single
+        )
+        self._pages.trouble = single.trouble
+        self._pages.show(ArbiterView(self._event, lambda: [single], single.trouble), broadcast)
+
+        def changed() -> None:
+            self._pages.changed()
+            if not single.board.is_new:
+                broadcast.changed()
+
+        single.on_change = changed
+        self._leaving = leaving = Leaving(self._loop, broadcast, single.say)
+        single.over, single.asked, single.goes_on = leaving.over, leaving.asked, leaving.goes_on
+        single.greeting = self._greeting()
+
+    def _greeting(self) -> Tuple[str, ...]:
+        """What is printed once the game is recorded."""
+        greeting = self._pages.told("the game")
+        if self.is_unseen:
+            greeting.append(f"{self._paths.name} is over: spectators get what they haven't seen of it")
+        if self._late:
+            stays = " as before; --delay 0 ends that" if self._call.delay is None else ""
+            greeting.append(f"spectators see the game {self._late} late{stays}")
+        return tuple(greeting)
+
+    def hears(self, text: str) -> bool:
+        """Whether a typed line still counts: while the last text is carried away, only those that end the call."""
+        return not self._leaving.ends or text in QUITS
+
+    def close(self) -> Tuple[Sequence[str], str]:
+        """Nothing is shown from here on. What was wrong at the end, and what to do if spectators haven't seen all moves."""
+        self._pages.close()
+        left = self._broadcast.hidden_for
+        unseen = ""
+        if left is not None:
+            unseen = f"spectators haven't seen all moves. Start it again to show them, the last ones at {clock_in(left)}"
+        return self._broadcast.close(), unseen
+
+
+def published_of(paths: Paths, text: bytes) -> bytes:
+    """What goes out of a game that has this text."""
+    return round_pgn([published(text, kept_tags(paths))])
+
+
+def publish_anew(paths: Paths, given: Options) -> str:
+    """Writes the published text of a game that nobody records, unless a part of it is hidden. Returns what is said of it."""
+    if is_hidden(paths):
+        return f"{paths.broadcast} gets its tags as the rest of it is shown"
+    kept = kept_options(paths)
+    try:
+        files.put_in_place(paths.broadcast, published(files.existing(paths.pgn), dict(kept.tags) if kept else {}))
+    except OSError as error:
+        raise Refused(FAILED, f"{paths.broadcast} can't be written ({files.text_of(error)}): is the disk full?") from None
+    return f"{paths.broadcast} has its tags"
