@@ -119,10 +119,11 @@ class Connection:
             return
         now = self._guard.now()
         request = self._asking.request(now)
-        self._line.ask(request)
-        if START_REQUEST in request:
-            self._hears.asked_whose()
-        self._tell_silence()
+        if request:
+            self._line.ask(request)
+            if START_REQUEST in request:
+                self._hears.asked_whose()
+            self._tell_silence()
         due = self._asking.due()
         if self._timer and (self._timer.when > due or self._timer.when <= now):
             self._timer.cancel()

@@ -251,7 +251,6 @@ def clock_stands(folder: pathlib.Path) -> None:
     board.clock(600, 590, runs=True)
     board.play("f1b5")
     until_line(live, "3. Bb5")
-    until(lambda: last_state(live).endswith(words.AGREES), "that it agrees")
     board.clock(600, 580, runs=False)
     board.play("a7a6")  # at once
     until_line(live, "3... a6")

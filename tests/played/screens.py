@@ -171,6 +171,7 @@ def long_lines_dropped(folder: pathlib.Path) -> None:
     until_game(live.name, "1. e4 *")
     board.play("e7e5")
     until_game(live.name, "1. e4 e5 *")
+    until(lambda: "1... e5" in (folder / "game.log").read_text(), "that all corrections are told")
     live.told.hold(False)
     until_line(live, words.DROPPED)
     board.play("g1f3")
