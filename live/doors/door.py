@@ -15,7 +15,7 @@ Outcome = Tuple[int, Sequence[str]]  # a status, and complaints
 
 
 def through(command: str, call: Callable[[Signals], Outcome]) -> int:
-    """Does what was called for; the status. All that was said is printed then."""
+    """Makes the call, prints its complaints, and returns its status."""
     open_standard_streams()
     descriptors.raise_limit()
     signals = Signals()
@@ -32,5 +32,5 @@ def through(command: str, call: Callable[[Signals], Outcome]) -> int:
             sys.stdout.flush()
         os.write(2, complaint.encode("utf-8", "backslashreplace"))
     except OSError:
-        pass  # nobody reads it any more
+        pass  # nobody reads it any longer
     return status

@@ -15,7 +15,7 @@ NO_PICTURE: protocol.Picture = ()
 
 
 class Course:
-    """The moves of a game with their positions, its result, what the board shows, and what is needed to find the end of the game."""
+    """The moves of a game with their positions, its result, what the board shows, and what is needed to find the game's end."""
 
     def __init__(self, start: protocol.Picture) -> None:
         self.start = start

@@ -97,7 +97,7 @@ class Since:
 
     own: Stood = field(default_factory=Stood)  # of the side to move
     others: Stood = field(default_factory=Stood)  # of the side that moved last
-    again: Stood = field(default_factory=lambda: Stood(STANDS_AGAIN))  # of that side, while the piece that moved last was off its square
+    again: Stood = field(default_factory=lambda: Stood(STANDS_AGAIN))  # of that side, while the piece that moved last was off
     drawn: Stood = field(default_factory=Stood)  # the same, for a shorter time
     last: FrozenSet[int] = frozenset()  # where the piece that moved last belongs
 
