@@ -1,4 +1,4 @@
-"""Shows a board's state when it changes, also when only time has passed."""
+"""Shows a board's state whenever it changes, also by time alone."""
 
 from __future__ import annotations
 
@@ -15,7 +15,7 @@ LATER = 0.001  # seconds after the time at which the state changes
 
 
 class Standing:
-    """The state of a board, and shows it on a screen. If no game is `played`, a piece in a hand is being set up."""
+    """Keeps a board's state, and shows it on a screen. If no game is `played`, a piece in a hand is being set up."""
 
     def __init__(self, loop: Turns, screen: Screen, start: Picture, rotated: bool, played: bool = True) -> None:
         self._loop, self._screen, self._played = loop, screen, played

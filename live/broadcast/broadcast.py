@@ -36,7 +36,7 @@ class HearsBroadcast(Protocol):
         """Whether it goes out, or why not, has changed."""
 
     def trouble(self, text: str) -> None:
-        """Something that should never happen has happened, and where."""
+        """An error that should never happen, and where."""
 
 
 class OneGame:
@@ -46,7 +46,7 @@ class OneGame:
         self.name, self.late = name, late
         self._shots = Shots()
         self.board: Optional[SpectatorBoard] = None  # as it is shown
-        self._text: Tuple[object, bytes] = ((), b"")  # what was published last, after what it was made of
+        self._text: Tuple[object, bytes] = ((), b"")  # what the published text was made of, and that text
         self._shown: Tuple[object, ...] = ()  # what the shown board was made of
         self._shot = late.shot
 

@@ -116,7 +116,7 @@ def _size(frame: bytearray) -> int:
 
 
 def _begins(frame: bytearray) -> bool:
-    """Whether the bytes are a frame or begin one. All but the last are known to."""
+    """Whether the bytes are a frame or begin one. Without the last byte they are known to."""
     identifier, last, length = frame[0], frame[-1], len(frame)
     if length < HEADER:
         return last == 0 or identifier not in SIZES

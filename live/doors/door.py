@@ -32,5 +32,5 @@ def through(command: str, call: Callable[[Signals], Outcome]) -> int:
             sys.stdout.flush()
         os.write(2, complaint.encode("utf-8", "backslashreplace"))
     except OSError:
-        pass  # nobody reads it any longer
+        pass  # nobody reads it any more
     return status

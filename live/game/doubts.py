@@ -175,7 +175,7 @@ class Doubts:
         self._gap, self._comes_first = Gap(before + seconds, is_restart), True
 
     def stands(self, now: float) -> Optional[Look]:
-        """The first dump after the board was away is fully reported. If there was nothing to report, it stands as before."""
+        """The first dump after the board was away is fully reported. If nothing was, the board stands as before."""
         if not self._comes_first or self._shown != self._position:
             return None
         self._comes_first = False
@@ -197,7 +197,7 @@ class Doubts:
         return None
 
     def _passes(self, now: float, picture: Picture) -> Optional[Look]:
-        """The doubt about a move that was reported only because a piece of the other side was drawn over its own square."""
+        """The doubt about a move, if a piece of the other side was only drawn over the square where it belongs."""
         passing, self._passing = self._passing, None
         if passing and self._position and now - passing.at < PASSES:
             if any(picture[square] != self._position[square] for square in passing.squares):

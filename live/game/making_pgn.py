@@ -202,7 +202,7 @@ class HearsMaker(Protocol):
         """Somebody had edited it by hand. The edited text is kept there."""
 
     def unmade(self, made: Made) -> None:
-        """It can't be made. The same outcome is reported once."""
+        """It can't be made. This is reported whenever the reason changes."""
 
 
 class Maker:

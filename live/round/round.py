@@ -334,7 +334,7 @@ class Round:
         return f"{row.number} {answer}" if answer.startswith("refused") else f"{row.number}: {answer}"
 
     def trouble(self, text: str) -> None:
-        """Writes to the round's log what should never happen, and where."""
+        """Writes an error that should never happen, and where, to the round's log."""
         self._log.write(f"{datetime.datetime.now():{LOGGED}}", text)
 
     # How it ends.
