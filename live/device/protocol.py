@@ -1,7 +1,7 @@
 """The board's protocol, as far as a live recorder needs it: where frames end, three requests, the dump of a picture, and the
 board's serial number.
 
-What the frames mean is left to the program. This module only knows that a frame is whole, and its kind.
+What the frames mean is left to the program. This module only knows whether a frame is whole, and its kind.
 """
 
 from __future__ import annotations
@@ -53,7 +53,7 @@ class Frames:
     """The frames of a stream, byte by byte.
 
     A frame is an identifier with its top bit set, two bytes with its size, and data; each byte after the first has its top
-    bit clear. A fault is at the first byte after which the bytes since the frame's first can't be a frame. A byte with its top
+    bit clear. A fault is at the first byte with which the bytes since the frame's first can't be a frame. A byte with its top
     bit set begins the next frame. Any other byte is dropped with those of its kind that follow: together they are one fault.
     """
 
@@ -116,7 +116,7 @@ def _size(frame: bytearray) -> int:
 
 
 def _begins(frame: bytearray) -> bool:
-    """Whether the bytes are a frame or begin one. Without the last byte they are known to."""
+    """Whether the bytes are a frame or begin one. All but the last are known to begin one."""
     identifier, last, length = frame[0], frame[-1], len(frame)
     if length < HEADER:
         return last == 0 or identifier not in SIZES

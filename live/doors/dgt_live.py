@@ -121,7 +121,7 @@ def existing_game(name: str) -> Paths:
 
 
 def remake(call: Call, program: Program) -> Outcome:
-    """Makes the text of a game that nobody records anew: with or without its recovered pairs, or with the other side's time
+    """Makes anew the text of a game that nobody records: with or without its recovered pairs, or with the other side's time
     first."""
     given = checked(program, call.options)
     paths = existing_game(call.name)

@@ -93,7 +93,7 @@ class Alarms:
         return look
 
     def _open(self, look: Optional[Look]) -> Optional[Look]:
-        """Adds this, if it is something. Returns it if it is new."""
+        """Adds this alarm, if there is one. Returns it if it is new."""
         if look is None or look in self.looks.open:
             return None
         self.looks = self.looks.with_one_more(look)

@@ -58,7 +58,7 @@ class Gap:
         return self.seconds >= plies * max(QUICKEST, PACE if pace is None else pace)
 
     def may_hide(self, is_move: bool, pace: Optional[float], has_repeated: bool) -> bool:
-        """Whether hurried players may have made enough plies in it to look like one move, or to lead back to the position."""
+        """Whether hurried players may have made enough plies in it to look like one move, or to lead back to where they were."""
         return self.is_long(1 if is_move or has_repeated else 2, pace) and (has_repeated or not self.is_restart)
 
 

@@ -1,4 +1,4 @@
-"""The two pages of a call: the spectators', at `--page`, and the arbiter's. That one is on this computer alone, unless
+"""The two pages of a call: the spectators', at `--page`, and the arbiter's. The arbiter's is on this computer alone, unless
 `--arbiter-page` says where else; then it has a password."""
 
 from __future__ import annotations
