@@ -167,7 +167,7 @@ class Text:
             child.wait()
 
     def _put_in_place(self, target: int) -> Optional[str]:
-        """Puts the new text, which is open there, in its place. Returns where the old text is kept, if somebody had edited it."""
+        """Puts the new text, open as `target`, in its place. Returns where the old text is kept, if somebody had edited it."""
         paths, edited = self._game.paths, None
         with contextlib.ExitStack() as opened:
             text, before = content_of(target, LARGEST), self._before(opened)
