@@ -37,7 +37,7 @@ class Disk:
             self._screen.say("the disk has been full for too long: what comes now is lost, up to a dump after there is room")
 
     def try_again(self) -> None:
-        """To be called each second."""
+        """Tries again what has failed. Call this each second."""
         self.restore()
         if self._capture.full:
             self._capture.write()

@@ -1,5 +1,5 @@
 """A board whose game has a result. It is watched until its pieces are set up: the result may have been meant for another board, or
-the kings may have been in the centre by mistake. What it sends is kept behind the game."""
+the kings may have been in the centre by mistake. What it sends is kept after the game's bytes."""
 
 from __future__ import annotations
 

@@ -1,4 +1,4 @@
-"""The recording of one game: what came is kept first, then told, and NAME.pgn is made anew where the game has changed."""
+"""The recording of one game: what came is kept first, then reported, and NAME.pgn is made anew if the game has changed."""
 
 from __future__ import annotations
 
@@ -28,10 +28,10 @@ from live.terminal.screen import Screen
 
 TICK = 1.0  # seconds between two looks at what waits
 PATIENCE = 5.0  # seconds that the last lines may take
-LATE = 1.0  # seconds behind its time: this process was stopped meanwhile
+LATE = 1.0  # seconds by which a timer is late if this process was stopped meanwhile
 SETTLES = 0.2  # seconds after which all lines of a byte have been heard
-SURELY_SETTLES = 1.0  # and those where one that comes late would be taken for another
-ROOM = 1024 * 1024  # bytes for what `recover` puts in, some 5,000 pairs: none reads more than LARGEST
+SURELY_SETTLES = 1.0  # the same, if a late line would be taken for another one
+ROOM = 1024 * 1024  # bytes for what `recover` puts in, some 5,000 pairs: no call of the program reads more than LARGEST
 
 
 class Reason(enum.Enum):
@@ -53,7 +53,7 @@ class Rules:
     listens: bool = False
 
     def marks(self, reason: Reason) -> bool:
-        """Whether it is marked how many bytes are the game's, since others may come behind them."""
+        """Whether to mark how many bytes are the game's, since others may come after them."""
         return self.series or reason in (Reason.TYPED, Reason.SET_UP) or (self.listens and reason is Reason.RESULT)
 
 
@@ -70,7 +70,7 @@ class HearsRecording(Protocol):
         """A part of it fails again and again."""
 
     def asks(self, put: bytes) -> None:
-        """This was added by hand, and the board is to be asked how it stands."""
+        """This was added by hand, and the board must be asked for a dump."""
 
     def placed(self) -> None:
         """NAME.pgn was made anew."""
@@ -80,14 +80,14 @@ class HearsRecording(Protocol):
 
 
 class Lingering:
-    """Whether a result has stood so long that it ends the game."""
+    """Ends the game when a result has stood long enough."""
 
     def __init__(self, guard: Guard, seconds: float, ends: Callable[[], None]) -> None:
         self._guard, self._seconds, self._ends = guard, seconds, ends
         self._timer: Optional[Timer] = None
 
     def begin(self) -> None:
-        """There is a result now, or another one."""
+        """There is a result now, or it has changed."""
         self.cancel()
         self._wait(self._seconds)
 
@@ -118,10 +118,10 @@ class Recording:
         self._guard, self._screen, self._hears, self._rules = guard, screen, hears, rules
         self.game, self.course = opened.game, opened.old.course
         self._old = opened.old.size  # bytes from before this call
-        self.end: Optional[int] = None  # how many bytes are the game's, where not all are
+        self.end: Optional[int] = None  # how many bytes are the game's, if not all are
         self._typed = ""  # the result that an arbiter has typed
         self._faults: List[str] = []
-        self._is_over = self._marks = False  # and whether NAME.end is to say how many bytes are the game's
+        self._is_over = self._marks = False  # and whether NAME.end must say how many bytes are the game's
         self._done: Callable[[bool], None] = lambda written: None
         self._watchdog: Optional[Timer] = None
         self._lingering = Lingering(guard, rules.linger, lambda: self._end(Reason.RESULT))
@@ -131,10 +131,10 @@ class Recording:
         self._maker = Maker(guard, worker, self.game, self)
         self._alarms = Alarms(self.game.paths, self.course)
         self._heard_at = guard.now()  # when the board was heard last
-        self._gap = opened.old.gap  # for how long it had not been heard before this call
+        self._gap = opened.old.gap  # for how long it wasn't heard before this call
         self._was_away = False  # and no dump has come since
         self._by_hand = range(0)  # the bytes that were added last
-        self._is_news = False  # whether the state may be another than the one that is shown
+        self._is_news = False  # whether the state may have changed since it was shown
         self.standing.board.look = self.looks.short
         self._disk = Disk(screen, self.standing, self.game.capture, self)
         if self.game.options.recover:
@@ -145,7 +145,7 @@ class Recording:
         self._watching = Watching(guard, self.game, self, opened.old.lines)
 
     def _tell_old(self) -> None:
-        """What was played before this call, and how the board stood then, until it shows itself."""
+        """Shows what was played before this call, and the board's state then, until the board shows itself."""
         self.standing.board.goes_on()
         for news in self.course.news:
             self._screen.told(news.shown, True)
@@ -176,14 +176,14 @@ class Recording:
         self._alarms.time(self._guard.now(), data)
 
     def _append(self, sent: bytes) -> None:
-        """The board has sent this, or somebody has added it."""
+        """Appends what the board has sent or somebody has added."""
         self._disk.append(sent)
         self._watching.feed()
         if self.game.capture.at_limit:
             self._end(Reason.LIMIT)
 
     def dumped(self) -> None:
-        """What came ends a whole dump: the board has shown how it stands. What the program makes of it is heard soon."""
+        """What came ends a whole dump: the board has shown itself. The program will soon report what that means."""
         if not self._shows_itself:
             self._shows_itself = True
             self._guard.after(SETTLES, self._has_shown_itself)
@@ -192,7 +192,7 @@ class Recording:
             self._guard.after(SURELY_SETTLES, self._stands)
 
     def _stands(self) -> None:
-        """All that the first dump shows after the board was away is reported."""
+        """The first dump after the board was away is fully reported."""
         self._tell_look(self._alarms.stands(self._guard.now()))
 
     def _has_shown_itself(self) -> None:
@@ -203,7 +203,7 @@ class Recording:
             self._guard.after(SETTLES, self._has_shown_itself)
 
     def remake(self) -> None:
-        """The text is made anew, whatever is there."""
+        """Makes the text anew, whatever is there."""
         self._maker.want()
 
     def _each_second(self) -> None:
@@ -220,10 +220,10 @@ class Recording:
             self._faults.clear()
         self.standing.show()
 
-    # What the program tells.
+    # What the program reports.
 
     def heard(self, line: Line) -> None:
-        """The next line of its report."""
+        """Takes the next line of its report."""
         if self.end is not None and line.offset >= self.end and not line.is_picture:
             return  # the game is over
         is_old = line.offset < self._old
@@ -253,24 +253,24 @@ class Recording:
         self._is_news = self._is_news or is_shown
 
     def heard_all(self) -> None:
-        """All that has come is heard. The state is shown once for all of it: a state that has lasted no time tells nobody anything."""
+        """All that has come is heard. The state is shown once for all of it: states that lasted no time would help nobody."""
         is_news, self._is_news = self._is_news, False
         if is_news:
             self.standing.show()
 
     def _tell_look(self, look: Optional[Look]) -> None:
-        """This is to be looked at, if anything is."""
+        """Reports what somebody must look at, if anything."""
         if look:
             self._screen.say(f"{look.text}. Look at it, and type {self._screen.ok()}")
             self._tell_looks()
 
     def look_at(self, look: Look) -> None:
-        """Somebody is to look at this."""
+        """Somebody must look at this."""
         self._tell_look(self._alarms.add(look))
 
     @property
     def looks(self) -> Looks:
-        """What somebody is to look at."""
+        """What somebody must look at."""
         return self._alarms.looks
 
     def _tell_looks(self) -> None:
@@ -279,13 +279,13 @@ class Recording:
             self._screen.say(f"{self.game.paths.look} can't be written ({text_of(self._alarms.trouble)}): it is tried again")
 
     def _keep_looks(self) -> None:
-        """What somebody is to look at couldn't be kept beside the game: it is tried again."""
+        """Tries again to keep the open alarms beside the game."""
         self._alarms.keep()
         if not self._alarms.trouble:
             self._screen.say(f"{self.game.paths.look} is written")
 
     def acknowledge(self) -> str:
-        """Somebody has looked at what he was to look at: the answer."""
+        """Acknowledges the alarms. Returns the answer."""
         seen = acknowledged(self._alarms.acknowledge())
         self._screen.say(seen)
         self._tell_looks()
@@ -298,9 +298,9 @@ class Recording:
             self._hear_result(change.outcome)
 
     def _see(self, picture: Picture, is_old: bool) -> bool:
-        """What the board shows now. Whether its state is another by that alone: what differs is told by the next line."""
+        """Takes what the board shows. Returns whether that alone changes its state: the next line reports what differs."""
         is_another = self.standing.board.shows(picture.codes)
-        # A single game that somebody goes on with has not ended where it seemed to.
+        # A single game that somebody goes on with hasn't ended where it seemed to.
         if self.course.stands_again and (self._rules.series or not is_old):
             self._guard.after(SETTLES, self._look_at_start)
         return is_another
@@ -312,8 +312,8 @@ class Recording:
             self._lingering.begin()
 
     def _look_at_start(self) -> None:
-        """The start stands after a set-up, and the program has told what it makes of that. It ends a game that doesn't stand
-        there; but where the board has never stood as the game says, a move that was told was a part of the set-up."""
+        """The board shows the start after a set-up, and the program has reported it. That ends a game that isn't at its start.
+        But if the board has never shown the game's position, the reported move was part of the set-up."""
         if self._is_over or self.course.stands_at_start:
             return
         if self.course.has_agreed or len(self.course.plies) > 1:
@@ -343,7 +343,7 @@ class Recording:
     def unmade(self, made: Made) -> None:
         """NAME.pgn can't be made."""
         if self._disk.restore():
-            return  # since the capture was gone
+            return  # the capture was gone, and is there again
         what = "Make room:" if made.full else "Put that right:"
         self._screen.say(
             f"{self.game.paths.pgn} can't be written ({made.trouble}); {self.game.paths.capture} is. {what}",
@@ -352,7 +352,7 @@ class Recording:
         self._disk.look()
 
     def text_trouble(self) -> str:
-        """What keeps the text from being written, as its state is told."""
+        """What keeps the text from being written, in the words of a state; empty if nothing does."""
         made = self._maker.last
         return "" if not made.trouble else DISK_FULL if made.full else NOT_WRITTEN
 
@@ -363,7 +363,7 @@ class Recording:
     # What an arbiter adds.
 
     def add(self, typed: added.Typed) -> Answer:
-        """Adds a result, which ends the game, or moves. Refused where that can't be."""
+        """Adds a result, which ends the game, or moves. Refused if that can't be done."""
         if self._is_over:
             raise added.Refused("the game is just being ended. Type it again")
         if self.game.capture.full:
@@ -404,7 +404,7 @@ class Recording:
             self._screen.say(f"LOOK at the last moves of {self.game.paths.pgn}: where the game ended isn't sure")
 
     def finish(self, done: Callable[[bool], None]) -> None:
-        """Hears the last lines, makes the game a last time, and tells whether it could be written."""
+        """Hears the last lines, makes the text a last time, and reports whether it could be written."""
         self._is_over, self._done = True, done
         self._lingering.cancel()
         self.game.capture.write()
@@ -437,7 +437,7 @@ class Recording:
         self._maker.finish(lambda written: self._done(written and not self.game.capture.full))
 
     def close(self) -> None:
-        """Ends all that is under way. The capture stays open."""
+        """Ends everything under way. The capture stays open."""
         self._tick.cancel()
         self._lingering.cancel()
         if self._watchdog:

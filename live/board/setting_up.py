@@ -1,4 +1,4 @@
-"""Between two games of a series: what comes is kept behind the game that is over, until the pieces are at the start again."""
+"""Between two games of a series: what comes is kept after the game that is over, until the pieces are at the start again."""
 
 from __future__ import annotations
 
@@ -24,7 +24,7 @@ class HearsSettingUp(Protocol):
     """Is called when the pieces are at the start."""
 
     def ready(self, content: bytes) -> bool:
-        """They are: the next game's capture may begin with this. Returns whether it could begin; if not, this is called again."""
+        """The next game's capture may begin with this. Returns whether it could begin; if not, this is called again."""
 
     def broken(self, what: str) -> None:
         """A child process fails again and again."""
@@ -34,7 +34,7 @@ class HearsSettingUp(Protocol):
 
 
 class SettingUp:
-    """Looks for the first picture of the start behind an offset of a capture.
+    """Looks for the first picture of the start after an offset of a capture.
 
     The next game's capture begins with a dump of the start, followed by all that came after the byte that completed the start.
     So a first move that is made at once is in it.
@@ -51,7 +51,7 @@ class SettingUp:
         self._begin(end)
 
     def _begin(self, end: int) -> None:
-        """Looks behind this offset. Reading begins at the last dump before it: without one no update would count."""
+        """Looks from this offset on. Reading begins at the last dump before it: without one no update would count."""
         self._end = self._from = end
         looks_at = max(0, end - LOOKED_BACK)
         before = self._game.capture.bytes(looks_at, end)

@@ -163,7 +163,7 @@ class Single:
         return dataclasses.replace(state, since=now).text(now), since, state.is_alarm
 
     def player_name(self, option: str) -> str:
-        """The name behind `--white` or `--black`."""
+        """The name for `--white` or `--black`."""
         return self.board.options.value(option) or ""
 
     @property

@@ -1,4 +1,4 @@
-"""How a board stands, shown when it changes, and when the time makes another state of it."""
+"""Shows a board's state whenever it changes, also by time alone."""
 
 from __future__ import annotations
 
@@ -11,23 +11,23 @@ from live.device.protocol import Picture
 from live.loop import Timer, Turns
 from live.terminal.screen import Screen
 
-LATER = 0.001  # seconds after the time makes another state of it
+LATER = 0.001  # seconds after the time at which the state changes
 
 
 class Standing:
-    """The state of a board, which is told to a screen; where no game is `played`, a piece in a hand is being set up."""
+    """Keeps a board's state, and shows it on a screen. If no game is `played`, a piece in a hand is being set up."""
 
     def __init__(self, loop: Turns, screen: Screen, start: Picture, rotated: bool, played: bool = True) -> None:
         self._loop, self._screen, self._played = loop, screen, played
         self.board = BoardState(start, f"{TURNED_ROUND} {screen.turn(rotated)}")
         self.trouble = ""
-        self.was_away = False  # unplugged or silent, since it was heard last
+        self.was_away = False  # unplugged or silent since it was last heard
         self._hint = ""
         self._timer: Optional[Timer] = None
         self._closed = False
 
     def show(self) -> None:
-        """To be called after each change, and now and then: the time is a part of what is shown."""
+        """Shows the state. Call this after each change, and now and then, since the time is part of what is shown."""
         if self._closed:
             return
         now = self._loop.now()
@@ -42,7 +42,7 @@ class Standing:
         if self._timer and self._timer.when > due:
             self._timer.cancel()
             self._timer = None
-        if self._timer is None and due < math.inf:  # one that comes too soon shows nothing new, and is followed by another
+        if self._timer is None and due < math.inf:  # a timer that comes too soon shows nothing new, and sets another
             self._timer = self._loop.after(max(0.0, due - now), self._due)
 
     def _due(self) -> None:
@@ -64,12 +64,12 @@ class Standing:
         self.show()
 
     def look(self, text: str) -> None:
-        """What somebody is to look at, in few words; nothing where there is nothing."""
+        """Shows what somebody must look at, in a few words; empty if there is nothing."""
         self.board.look = text
         self.show()
 
     def disk(self, trouble: str) -> None:
-        """What keeps something from being written, if anything does."""
+        """Shows what keeps something from being written, if anything does."""
         self.trouble = trouble
         self.board.disk(trouble)
         self.show()

@@ -1,14 +1,14 @@
-"""The state of a board, as an arbiter reads it: from what the program reports, what the line and the disk do, and the time.
+"""The state of a board, as an arbiter reads it. It follows from the program's report, the line, the disk and the time.
 
-- `agrees`: the board shows the game's position. `result 1-0`: it has shown the result; wherever the pieces are put then.
-- `in hand g1 f3`: a few squares differ, none of them for 10 s. `WRONG since 40 s: e2 d5`: those that have differed so long.
-- `setting up`: more squares differ than hands change in a move, and pieces are still moved, or no move has been played. When a
-  few are left they are `WRONG` once nothing has moved for 10 s. A game that hasn't agreed for 15 s is `WRONG`, whatever moves.
-- `NO START`: pieces are moved, the board has never stood at the start, and hasn't come nearer to it for 15 s.
-- `LOOK at 4... Qg4+`, before or behind any other: somebody is to look at that, and to acknowledge it.
-- `waits for the board`: it has shown nothing yet. Where a game goes on, what it showed before this call is not how it stands.
-- `SILENT`, `UNPLUGGED`: the board answers no more, or its line is gone; whatever was shown before. `DISK FULL`, `NOT WRITTEN`
-  beside any.
+- `agrees`: the board shows the game's position. `result 1-0`: it has shown the result, wherever the pieces are put afterwards.
+- `in hand g1 f3`: a few squares differ, each for less than 10 s. `WRONG since 40 s: e2 d5`: these have differed for 10 s or more.
+- `setting up`: more squares differ than hands change in a move, and pieces are still moved or no move has been played. When few
+  are left, they are `WRONG` once nothing has moved for 10 s. A game that hasn't agreed for 15 s is `WRONG`, whatever moves.
+- `NO START`: pieces are moved, but the board has never shown the start, and hasn't come nearer to it for 15 s.
+- `LOOK at 4... Qg4+`, before or after any other: somebody must look at that and acknowledge it.
+- `waits for the board`: it has shown nothing yet. If a game goes on, what the board showed before this call doesn't count.
+- `SILENT`, `UNPLUGGED`: the board no longer answers, or its line is gone, whatever it showed before.
+- `DISK FULL`, `NOT WRITTEN`: shown with any other.
 """
 
 from __future__ import annotations
@@ -32,7 +32,7 @@ DISK_FULL, NOT_WRITTEN = "DISK FULL", "NOT WRITTEN"  # the disk has no room, or 
 
 
 class Kind(enum.Enum):
-    """What an arbiter is told first."""
+    """What an arbiter reads first."""
 
     WAITS = "waits for the board"
     AGREES = "agrees"
@@ -58,7 +58,7 @@ class State:
     result: str = ""
     hint: str = ""
     disk: str = ""  # what keeps something from being written
-    look: str = ""  # what somebody is to look at
+    look: str = ""  # what somebody must look at
 
     @property
     def is_alarm(self) -> bool:
@@ -72,11 +72,11 @@ class State:
 
     @property
     def news(self) -> Tuple[object, ...]:
-        """What makes a state another one: a line is told when this changes, and not when it only lasts."""
+        """The part of a state whose change is reported by a line. A state that only lasts isn't reported again."""
         return (self.kind, self.result, self.hint, self.disk, self.look, self.squares if self.kind is Kind.WRONG else ())
 
     def parts(self, most_listed: int = MOST_LISTED) -> Tuple[str, str]:
-        """The state in words: those before how long it has lasted, and those after. More squares than so many are counted."""
+        """The words of the state before and after its duration. More than `most_listed` squares are only counted."""
         words = " ".join(self.squares) if len(self.squares) <= most_listed else f"{len(self.squares)} squares"
         front, rest = self.kind.value, ""
         if self.kind is Kind.RESULT:
@@ -84,7 +84,7 @@ class State:
         elif words:
             rest = f" {words}" if self.kind is Kind.IN_HAND else f": {words}"
         if self.hint.startswith(TURNED_ROUND):
-            front, rest = self.hint, ""  # that says why it is being set up, and has no room beside it
+            front, rest = self.hint, ""  # it says why the board is being set up, and leaves no room for more
         elif self.hint:
             rest += f"; {self.hint}"
         if self.look and (self.kind in ALARMS or self.hint):
@@ -101,7 +101,7 @@ class State:
 
 
 def lasting(seconds: float) -> str:
-    """So long, in words: `40 s`, `3 min`, `2 h 05 min`."""
+    """A duration in words: `40 s`, `3 min`, `2 h 05 min`."""
     whole = max(0, math.floor(seconds))
     if whole < 120:
         return f"{whole} s"
@@ -112,14 +112,14 @@ def lasting(seconds: float) -> str:
 
 @dataclass
 class BoardState:
-    """Takes what happens at a board, and says its state at any time."""
+    """Takes what happens at a board, and gives its state at any time."""
 
-    start: Optional[Picture] = None  # of the game, for the hint on a board that lies the other way round
+    start: Optional[Picture] = None  # of the game, for the hint that a board is turned round
     turned_hint: str = TURNED_ROUND
-    look: str = ""  # what somebody is to look at
-    _since: float = 0.0  # of what was seen first, agreeing, or the first square that differs
+    look: str = ""  # what somebody must look at
+    _since: float = 0.0  # when something was first seen, the board began to agree, or the first square began to differ
     _seen: bool = False
-    _squares: Dict[str, float] = field(default_factory=dict)  # those that differ, and since when each has
+    _squares: Dict[str, float] = field(default_factory=dict)  # those that differ, and since when
     _changed_at: float = 0.0
     _setting_up: bool = False
     _played: bool = False
@@ -130,11 +130,11 @@ class BoardState:
     _picture: Optional[Picture] = None
     _replugged: bool = False
     _hint: str = ""
-    _goes_on: bool = False  # and the board has shown nothing since
+    _goes_on: bool = False  # the game goes on, and the board has shown nothing since this call began
     _agreement: Agreement = field(default_factory=Agreement)
 
     def told(self, now: float, event: Optional[Event]) -> None:
-        """What the program makes of a picture."""
+        """The program has reported this about a picture."""
         if isinstance(event, Move):
             self._played = True
             self.differs(now, ())
@@ -148,7 +148,7 @@ class BoardState:
             self.differs(now, event.squares)
 
     def differs(self, now: float, squares: Iterable[str]) -> None:
-        """The picture differs from the game's position on these squares; on none, it agrees."""
+        """The picture differs from the game's position on these squares. If there are none, it agrees."""
         before = self._squares
         self._squares = {square: before.get(square, now) for square in squares}
         if len(self._squares) <= MOST_IN_HAND < len(before):  # what is left of a set-up
@@ -167,7 +167,7 @@ class BoardState:
         self._seen = True
 
     def shows(self, picture: Picture) -> bool:
-        """A dump has shown this picture. Whether the hint is another than before."""
+        """A dump has shown this picture. Returns whether the hint has changed."""
         before = self._hint
         if self._replugged and self._picture and len(differing(self._picture, picture)) > ONE_MOVE:
             self._hint = OTHER_BOARD
@@ -178,11 +178,11 @@ class BoardState:
         return self._hint != before
 
     def goes_on(self) -> None:
-        """What is told next is from before this call, until the board shows itself."""
+        """The next reports are from before this call, until `shows_itself`."""
         self._goes_on = True
 
     def shows_itself(self) -> None:
-        """From here on what was told is how it stands."""
+        """From now on the state is what was reported."""
         self._goes_on = False
 
     def unplugged(self, now: float) -> None:
@@ -192,11 +192,11 @@ class BoardState:
         self._silent_since = None
 
     def plugged(self) -> None:
-        """The line is open, or open again. Its next picture is compared with the last one."""
+        """The line is open, or open again. The next picture is compared with the last one."""
         self._replugged, self._unplugged_since = True, None
 
     def silent(self, now: float, silent: bool) -> None:
-        """Whether the board answers."""
+        """The board is `silent`, or answers again."""
         if not silent:
             self._silent_since = None
         elif self._silent_since is None:
@@ -221,7 +221,7 @@ class BoardState:
         return State(kind, since, squares, self._result, self._hint, self._disk, self.look)
 
     def _shown(self, now: float) -> Tuple[Kind, Tuple[str, ...]]:
-        """What the pictures say, and the squares that are told with it."""
+        """What the pictures say, and the squares that are shown with it."""
         if not self._seen:
             return Kind.WAITS, ()
         if self._result:
@@ -239,12 +239,12 @@ class BoardState:
         return (Kind.WRONG, old) if old else (Kind.IN_HAND, tuple(self._squares))
 
     def due(self, now: float) -> float:
-        """When the state becomes another one though nothing happens."""
+        """When the state changes if nothing happens."""
         times = [since + HAND for since in self._squares.values()] + [self._changed_at + HAND, self._agreement.due()]
         return min((time for time in times if time > now), default=math.inf) if self._squares else math.inf
 
 
 def turned_round(picture: Picture, start: Picture) -> bool:
-    """Whether a board that lies the other way round shows the start, but for a piece or two that are still to come."""
+    """Whether this is the start on a board that is turned round, except for a piece or two that are still missing."""
     turned = len(differing(picture[::-1], start))
     return turned <= ONE_MOVE < 16 <= len(differing(picture, start))

@@ -111,7 +111,7 @@ class TakesOff:
             raise added.Refused("nothing can be taken off just now. Type it again")
         try:
             changed = change()
-        except OSError:  # its capture may have lost what was behind its end
+        except OSError:  # its capture may have lost what came after its end
             now.close()
             self.restored()
             if isinstance(now, Listening):

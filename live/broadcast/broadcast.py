@@ -1,5 +1,5 @@
-"""What goes out of a round or of a single board: the text that is published, the command that carries it away, and what the
-spectators' page shows. All of it is as late as is wanted; nothing else that spectators are served knows the games as they are.
+"""What goes out of a round or of a single board: the published text, the command that carries it away, and what the spectators'
+page shows. All of it is delayed as wanted. Nothing else that spectators are served knows the games as they are now.
 """
 
 from __future__ import annotations
@@ -18,25 +18,25 @@ from live.loop import Loop, Timer
 from live.round.published import Published
 from live.web.view import round_pgn
 
-GATHERED = 0.05  # seconds in which changes are taken at once, where a page shows them
-FOR_A_FILE = 0.5  # and where a file alone has them
+GATHERED = 0.05  # seconds in which changes are gathered if a page shows them
+FOR_A_FILE = 0.5  # the same if they only go to a file
 TICK = 1.0  # seconds between two looks at the clocks
-AGAIN = 1.0  # seconds after which it is begun again where an error has ended it
+AGAIN = 1.0  # seconds after which it begins again if an error has ended it
 NOT_PUBLISHED = "NOT PUBLISHED"
 SIDES = ("White", "Black")
 
 
 class HearsBroadcast(Protocol):
-    """Who is told of what goes out."""
+    """Gets the events of what goes out."""
 
     def say(self, text: str) -> None:
-        """A line for whoever looks at the screen."""
+        """A line for the screen."""
 
     def changed(self) -> None:
-        """Whether it goes out is another thing than before."""
+        """Whether it goes out, or why not, has changed."""
 
     def trouble(self, text: str) -> None:
-        """What should never happen, and where."""
+        """An error that should never happen, and where."""
 
 
 class OneGame:
@@ -46,12 +46,12 @@ class OneGame:
         self.name, self.late = name, late
         self._shots = Shots()
         self.board: Optional[SpectatorBoard] = None  # as it is shown
-        self._text: Tuple[object, bytes] = ((), b"")  # what was published last, and of what it was made
-        self._shown: Tuple[object, ...] = ()  # of what the board was made that is shown
+        self._text: Tuple[object, bytes] = ((), b"")  # what the published text was made of, and that text
+        self._shown: Tuple[object, ...] = ()  # what the shown board was made of
         self._shot = late.shot
 
     def take(self, game: Game, now: float) -> None:
-        """Looks at the game as it is, where that is known."""
+        """Looks at the game as it is now, if that is known."""
         board = game.board
         if not (board.is_new or board.trouble):
             self.late.take(now, self._shots.take(board, now))
@@ -59,12 +59,12 @@ class OneGame:
             self.late.look(now)
 
     def show(self, game: Game) -> bool:
-        """What is shown is made of what is due. Whether it is another than before."""
+        """Shows what is due. Returns whether that has changed."""
         tags, shot = game.tags, self.late.shot
         shown_of = (id(shot), game.number, tuple(tags.items()), *(written_name(game, side) for side in SIDES))
         if shown_of == self._shown:
             return False
-        self._shown, self._shot = shown_of, shot  # kept, so that no other has its place in memory
+        self._shown, self._shot = shown_of, shot  # the shot is kept, so that its id stays its own
         of = (tuple(tags.items()), shot.text)
         if of != self._text[0]:
             self._text = of, published(shot.text, tags)
@@ -77,7 +77,7 @@ class OneGame:
 
 
 class Broadcast:
-    """What goes out of some games, in their order. Where there is no `place` for a file, no text is published."""
+    """What goes out of some games, in their order. Without a `place` for a file no text is published."""
 
     def __init__(
         self,
@@ -89,11 +89,11 @@ class Broadcast:
         hears: HearsBroadcast,
     ) -> None:
         self._loop, self._out, self._place, self._games, self._paths, self._hears = loop, out, place, games, folder, hears
-        self.on_news: Optional[Callable[[], None]] = None  # what spectators are shown is another, where they are shown anything
+        self.on_news: Optional[Callable[[], None]] = None  # called when what the page shows has changed; None if there is no page
         self._of: Dict[int, OneGame] = {}
         self.boards: Tuple[SpectatorBoard, ...] = ()
         self._is_known = False  # whether the games have been looked at
-        self._changed: Optional[Set[int]] = set()  # the games that are to be looked at soon; None where all are
+        self._changed: Optional[Set[int]] = set()  # the games to look at soon; None for all
         self.alarm = ""  # why the text can't be carried away
         self.alarm_since = 0.0
         self._closed = False
@@ -135,7 +135,7 @@ class Broadcast:
     # What goes out.
 
     def changed(self, number: Optional[int] = None) -> None:
-        """The game of this number is another; without a number any may be, or another is among them."""
+        """The game with this number has changed. Without a number any game may have changed, or there are others."""
         self._is_known = self._place is not None or self.on_news is not None
         if number is None:
             self._changed = None
@@ -154,7 +154,7 @@ class Broadcast:
             self._look()
 
     def look(self) -> None:
-        """The games are taken as they are now."""
+        """Takes the games as they are now."""
         if self._is_known:
             self._guard.call(self._look)
 
@@ -188,7 +188,7 @@ class Broadcast:
         self._wait()
 
     def _one(self, game: Game, now: float) -> OneGame:
-        """The game as it goes out; from its beginning where it has got another name."""
+        """The game as it goes out; from its beginning if its name has changed."""
         one = self._of.get(game.number)
         paths = self._paths(game)
         if one is None or one.name != paths.name:
@@ -198,7 +198,7 @@ class Broadcast:
         return one
 
     def _wait(self) -> None:
-        """It is looked at again when the next thing is due."""
+        """Sets a timer for the next thing that is due."""
         if not self._out.delay:
             return
         times = [at for at in (one.late.history.next_at for one in self._of.values()) if at is not None]
@@ -214,7 +214,7 @@ class Broadcast:
 
     @property
     def hidden_for(self) -> Optional[float]:
-        """For how many seconds something of the games is still hidden; None where nothing is."""
+        """For how many seconds something of the games is still hidden; None if nothing is."""
         if not self._out.delay:
             return None
         times = [one.late.history.ends_at for one in self._of.values()]
@@ -223,14 +223,14 @@ class Broadcast:
 
     @property
     def is_out(self) -> bool:
-        """Whether all that is shown is written, and was carried away."""
+        """Whether all that is shown is written and carried away."""
         is_written = self._file is None or not self.boards or self._file.is_written
         return is_written and (self._publisher is None or self._publisher.is_idle)
 
     # How it is carried away.
 
     def published(self, trouble: str) -> None:
-        """A run of the command has ended: what went wrong, or nothing."""
+        """A run of the command has ended, with what went wrong, or nothing."""
         before, self.alarm = self.alarm, trouble
         if trouble and not before:
             self.alarm_since = self._loop.now()
@@ -244,13 +244,13 @@ class Broadcast:
     # How it ends.
 
     def finish(self, done: Callable[[], None]) -> None:
-        """Writes and publishes what is shown a last time, and calls this then."""
+        """Writes and publishes a last time what is shown, then calls this."""
         ends: List[Publisher] = []
 
         def finishes() -> None:
             if self._is_known:
                 self._look()
-            if self._file and self.boards:  # a text without a game is none
+            if self._file and self.boards:  # without a game there is no text
                 self._file.close()
             if self._publisher:
                 ends.append(self._publisher)
@@ -261,7 +261,7 @@ class Broadcast:
             self._loop.after(0, done)
 
     def close(self) -> List[str]:
-        """Nothing goes out from here on. What was wrong at the end."""
+        """Lets nothing further go out. Returns what was wrong at the end."""
         self._closed = True
         self._guard.end()
         for one in self._of.values():

@@ -32,7 +32,7 @@ class Game(Protocol):
         """The tags that are published but not recorded, or published in other letters."""
 
     def player_name(self, option: str) -> str:
-        """The name behind `--white` or `--black`."""
+        """The name for `--white` or `--black`."""
 
 
 def written_name(game: Game, side: str) -> str:

@@ -35,7 +35,7 @@ def read_delay(text: str) -> float:
 
 def read_command(text: str) -> Tuple[str, ...]:
     """The words of a command. Refused if it has none."""
-    import shlex  # for those few calls alone
+    import shlex  # only a few calls need it
 
     try:
         words = tuple(shlex.split(text))
@@ -56,7 +56,7 @@ def minutes(seconds: float) -> str:
 
 
 def kept_delay(paths: Paths) -> float:
-    """The delay that was given last. Refused if it can't be read: nobody may see too soon what was to be late."""
+    """The delay that was given last. Refused if it can't be read: nobody may see delayed moves too soon."""
     try:
         text = beginning(paths.delay, LONGEST_FILE).decode("ascii", "replace").strip()
     except OSError as error:
@@ -82,7 +82,7 @@ def keep_delay(paths: Paths, seconds: float) -> None:
 
 
 def delay_of(paths: Paths, given: Optional[float]) -> float:
-    """The delay of a round or a game from now on; nothing may be given."""
+    """The delay of a round or a game from now on: the given one, which is kept, or else the kept one."""
     kept = kept_delay(paths) if given is None else given
     if given is not None:
         keep_delay(paths, given)

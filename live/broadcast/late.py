@@ -34,7 +34,7 @@ def is_hidden(paths: Paths) -> bool:
 
 
 def is_unseen(paths: Paths, published: Callable[[bytes], bytes]) -> bool:
-    """Whether that is so, or its last text was never put in place. `published` turns a text into the published one."""
+    """Whether it is hidden, or its last text was never put in place. `published` turns a text into the published one."""
     with contextlib.suppress(OSError):
         if existing(paths.delayed):
             return is_hidden(paths) or existing(paths.broadcast) != published(existing(paths.pgn))

@@ -18,7 +18,7 @@ from live.beside import Worker
 from live.game.files import AnyPath
 from live.loop import ENDING, Timer, Turns
 
-EACH = 5.0  # seconds between the beginnings of two runs, at least
+EACH = 5.0  # least seconds between the beginnings of two runs
 LONGEST = 30.0  # seconds that a run may take
 PAUSES = (5.0, 10.0, 20.0, 40.0, 60.0)  # seconds from the end of a failed run to the next run
 LOOK = 0.1  # seconds between two checks of a command that writes nothing to standard error
@@ -63,8 +63,8 @@ class Plan:
 
 
 def run(words: Sequence[str], path: AnyPath, seconds: float) -> str:
-    """Runs the command and waits for its end; when its time is over, ends it with all processes that it started. Returns what went
-    wrong, in one line; empty if it ended well."""
+    """Runs the command and waits for its end. When its time is over, ends it with all processes that it started. Returns in one
+    line what went wrong; empty if it ended well."""
     errors, into = os.pipe()
     try:
         try:
@@ -132,7 +132,7 @@ class HearsPublisher(Protocol):
     """Gets the results of the runs."""
 
     def published(self, trouble: str) -> None:
-        """A run has ended; with what went wrong, or nothing."""
+        """A run has ended, with what went wrong, or nothing."""
 
 
 class Publisher:

@@ -1,7 +1,7 @@
 """The board's protocol, as far as a live recorder needs it: where frames end, three requests, the dump of a picture, and the
 board's serial number.
 
-What the frames mean is the program's to say; here a frame is only known to be whole, and of which kind.
+What the frames mean is left to the program. This module only knows whether a frame is whole, and its kind.
 """
 
 from __future__ import annotations
@@ -14,7 +14,7 @@ import re
 from typing import Dict, List, Optional, Tuple
 
 DUMP_REQUEST = b"B"  # 42: a board dump
-START_REQUEST = b"BK"  # 42 4B: a board dump, then field updates, and times where they change
+START_REQUEST = b"BK"  # 42 4B: a board dump, then field updates, and times when they change
 
 SERIAL_REQUEST = b"E"  # 45: the board's serial number
 
@@ -30,7 +30,7 @@ SQUARES = tuple(file + rank for rank in "87654321" for file in "abcdefgh")
 
 
 class FrameKind(enum.Enum):
-    """What has ended at a byte: a whole frame, of a kind, or a fault."""
+    """What has ended at a byte: a whole frame of some kind, or a fault."""
 
     DUMP = "dump"
     UPDATE = "update"
@@ -53,8 +53,8 @@ class Frames:
     """The frames of a stream, byte by byte.
 
     A frame is an identifier with its top bit set, two bytes with its size, and data; each byte after the first has its top
-    bit clear. A fault stands at the first byte with which the bytes since the frame's first can be no frame. A byte with its
-    top bit set begins the next one; any other byte is dropped, with those of its kind that follow, and they are one fault.
+    bit clear. A fault is at the first byte with which the bytes since the frame's first can't be a frame. A byte with its top
+    bit set begins the next frame. Any other byte is dropped with those of its kind that follow: together they are one fault.
     """
 
     def __init__(self) -> None:
@@ -98,8 +98,8 @@ class Frames:
         return KINDS[self.whole[0]]
 
     def take_squares(self, sent: bytes) -> int:
-        """Takes those of these bytes at once that are squares of the dump under way, but for its last one, with which it ends.
-        How many they are: none where one of them is no piece."""
+        """Takes at once the bytes that are squares of the dump under way, except its last square, which ends it. Returns how
+        many they are: 0 if one of them is no piece code."""
         frame = self._frame
         if len(frame) < HEADER or frame[0] != DUMP_ID:
             return 0
@@ -111,12 +111,12 @@ class Frames:
 
 
 def _size(frame: bytearray) -> int:
-    """The size that a header says."""
+    """The size in a header."""
     return frame[1] * 128 + frame[2]
 
 
 def _begins(frame: bytearray) -> bool:
-    """Whether the bytes are a frame or begin one, where all but the last are known to."""
+    """Whether the bytes are a frame or begin one. All but the last are known to begin one."""
     identifier, last, length = frame[0], frame[-1], len(frame)
     if length < HEADER:
         return last == 0 or identifier not in SIZES
@@ -128,7 +128,7 @@ def _begins(frame: bytearray) -> bool:
 
 
 def dump(picture: Picture, rotated: bool) -> bytes:
-    """The frame that a board which shows this picture sends: by field, and field n of a rotated board is square 63 - n."""
+    """The dump of a board that shows this picture. It goes by field; field n of a rotated board is square 63 - n."""
     size = SIZES[DUMP_ID]
     return bytes((DUMP_ID, size // 128, size % 128)) + bytes(reversed(picture) if rotated else picture)
 
@@ -139,7 +139,7 @@ def picture_of_dump(frame: bytes, rotated: bool) -> Picture:
 
 
 def picture_of_placement(text: str) -> Picture:
-    """The picture of a FEN, of its first field, or of a line of `pictures`. ValueError where the text is none of them."""
+    """The picture of a FEN, of its first field, or of a line of `pictures`. Raises ValueError if the text is none of them."""
     ranks = text.split(" ")[0].split("/")
     if len(ranks) != 8:
         raise ValueError(f"not eight ranks: {text}")
@@ -161,7 +161,7 @@ def _codes_of_rank(rank: str) -> Picture:
 
 
 def serial_of(frame: bytes) -> str:
-    """The serial number that a whole frame gives: five characters of ASCII that can be seen. Nothing where it gives none."""
+    """The serial number in a whole frame: five visible characters of ASCII. Empty if it has none."""
     number = frame[HEADER:]
     is_one = frame[:1] == bytes((SERIAL_ID,)) and len(number) == SERIAL_LENGTH and all(0x21 <= byte <= 0x7E for byte in number)
     return number.decode("ascii") if is_one else ""

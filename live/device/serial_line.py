@@ -26,7 +26,7 @@ def serial_folders() -> List[str]:
 
 
 def serial_names() -> List[str]:
-    """These names: where each folder is, its own in their order."""
+    """The names in the folders that exist, in order within each folder."""
     return [f"{folder}/{name}" for folder in filter(os.path.isdir, serial_folders()) for name in sorted(os.listdir(folder))]
 
 
@@ -117,7 +117,7 @@ def check(device: str, may_wait: bool) -> None:
 
 
 def check_free(device: str) -> None:
-    """Refused if another process records it and goes on; one that can't be opened may be waited for."""
+    """Refused if another process keeps recording it; one that can't be opened may be waited for."""
     try:
         line = os.open(device, os.O_RDWR | os.O_NOCTTY | os.O_NONBLOCK)
     except OSError:

@@ -1,5 +1,5 @@
-"""Who else sees the game of a call of dgt_live: its pages, and the text that goes out. It is loaded only where somebody does, since
-it takes a tenth of a recorder's memory."""
+"""Who else sees the game of a call of dgt_live: its pages, and the text that goes out. This module takes a tenth of a recorder's
+memory, so it is loaded only if it is needed."""
 
 from __future__ import annotations
 
@@ -26,7 +26,7 @@ from live.web.view import round_pgn
 
 
 class Audience:
-    """Spectators and the arbiter's browser. Refused where a page can't be served, or another call shows the game late."""
+    """Spectators and the arbiter's browser. Refused if a page can't be served, or if another call shows the game late."""
 
     def __init__(self, loop: Loop, call: Call, given: Options) -> None:
         self._loop, self._call, self._given = loop, call, given
@@ -42,7 +42,7 @@ class Audience:
         self._pages = TwoPages(loop, call.pages or Pages(), title)
 
     def join(self, single: Single) -> None:
-        """From here on the game of this board is shown. The call ends when they have seen it."""
+        """From now on the game of this board is shown. The call ends when spectators have seen it."""
         call, paths, delay = self._call, self._paths, self._delay
         goes_out = delay or call.publish or self._given.tags or kept_tags(paths) or os.path.lexists(paths.broadcast)
         place, out = paths.broadcast if goes_out else None, GoingOut(delay, call.publish)
@@ -73,11 +73,11 @@ class Audience:
         return tuple(greeting)
 
     def hears(self, text: str) -> bool:
-        """Whether a typed line still counts: while the last text is carried away, only those that end the call."""
+        """Whether a typed line still counts: while the last text is being published, only lines that end the call do."""
         return not self._leaving.ends or text in QUITS
 
     def close(self) -> Tuple[Sequence[str], str]:
-        """Nothing is shown from here on. What was wrong at the end, and what to do if spectators haven't seen all moves."""
+        """Shows nothing further. Returns what was wrong at the end, and what to do if spectators haven't seen all moves."""
         self._pages.close()
         left = self._broadcast.hidden_for
         unseen = ""
@@ -87,12 +87,12 @@ class Audience:
 
 
 def published_of(paths: Paths, text: bytes) -> bytes:
-    """What goes out of a game that has this text."""
+    """The published text of a game that has this text."""
     return round_pgn([published(text, kept_tags(paths))])
 
 
 def publish_anew(paths: Paths, given: Options) -> str:
-    """Writes the published text of a game that nobody records, unless a part of it is hidden. Returns what is said of it."""
+    """Writes the published text of a game that nobody records, unless a part of it is hidden. Returns a message about it."""
     if is_hidden(paths):
         return f"{paths.broadcast} gets its tags as the rest of it is shown"
     kept = kept_options(paths)

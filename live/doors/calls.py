@@ -1,4 +1,4 @@
-"""The command line of dgt_live: what is asked."""
+"""The command line of dgt_live: what it asks for."""
 
 from __future__ import annotations
 
@@ -31,14 +31,14 @@ class Call:
     linger: int = LINGER
     help: bool = False
     devices: bool = False
-    typed: Tuple[str, ...] = ()  # lines for a game that there is
+    typed: Tuple[str, ...] = ()  # lines for an existing game
     pages: Optional[Pages] = None
-    delay: Optional[float] = None  # seconds; None as it was
+    delay: Optional[float] = None  # seconds; None leaves it as it was
     publish: Tuple[str, ...] = ()  # a command
 
 
 def parse(arguments: Sequence[str]) -> Call:
-    """What the arguments ask for. Refused with status 2 where they ask for nothing that there is."""
+    """What the arguments ask for. Refused with status 2 if they make no sense."""
     left = list(arguments)
     plain: List[str] = []
     words: List[str] = []
@@ -98,19 +98,19 @@ def parse(arguments: Sequence[str]) -> Call:
 
 
 def refuse_both(words: Sequence[str], see_help: str = SEE_HELP) -> None:
-    """Pairs are recovered, or they aren't."""
+    """Refuses both options: pairs are recovered, or they aren't."""
     if RECOVER in words and STRICT in words:
         raise Refused(ARGUMENTS, f"{RECOVER} and {STRICT}: only one of them can be: {see_help}")
 
 
 def refuse_hosts(page: Optional[str], hosts: Sequence[str], see_help: str = SEE_HELP) -> None:
-    """A page that isn't shown has no names."""
+    """Refuses names of a page that isn't shown."""
     if hosts and page is None:
         raise Refused(ARGUMENTS, f"--page-host names a page, and there is none without --page PORT: {see_help}")
 
 
 def pages_of(page: Optional[str], arbiter_page: Optional[str], hosts: Sequence[str]) -> Optional[Pages]:
-    """Where pages are served; None if nowhere. What reads an address is loaded only then."""
+    """Where pages are served; None if nowhere. The module that reads addresses is loaded only if it is needed."""
     if page is None and arbiter_page is None:
         return None
     from live.web.address import read_pages

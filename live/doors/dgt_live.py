@@ -102,7 +102,7 @@ def audience_of(loop: Loop, call: Call, given: Options) -> Optional[Audience]:
 
 
 def publish_anew(paths: Paths, given: Options = Options()) -> List[str]:
-    """The published text of a game that nobody records, if it has one or gets tags. Returns what is said of it."""
+    """Publishes the text of a game that nobody records, if it was published before or gets tags. Returns messages about it."""
     if not (given.tags or os.path.lexists(paths.broadcast)):
         return []
     from live.doors import audience
@@ -111,7 +111,7 @@ def publish_anew(paths: Paths, given: Options = Options()) -> List[str]:
 
 
 def existing_game(name: str) -> Paths:
-    """The files of a game that there is."""
+    """The files of an existing game."""
     paths = Paths(name)
     if not os.path.isfile(paths.capture):
         last = numbered(name, last_number(name))
@@ -121,8 +121,8 @@ def existing_game(name: str) -> Paths:
 
 
 def remake(call: Call, program: Program) -> Outcome:
-    """Makes the text of a game anew that nobody records: with its pairs recovered or without them, or with the other side's
-    time first."""
+    """Makes anew the text of a game that nobody records: with or without its recovered pairs, or with the other side's time
+    first."""
     given = checked(program, call.options)
     paths = existing_game(call.name)
     try:
@@ -142,7 +142,7 @@ def remake(call: Call, program: Program) -> Outcome:
 
 
 def add(call: Call, program: Program) -> Outcome:
-    """Changes a game that is recorded, or one that is over, line by line; the first one that is refused ends that."""
+    """Changes a game that is recorded, or one that is over, line by line. The first refused line ends this."""
     paths = existing_game(call.name)
     for line in call.typed:
         asked = control.ask(paths.capture, line)
@@ -156,7 +156,7 @@ def add(call: Call, program: Program) -> Outcome:
 
 
 def main(arguments: Sequence[str], here: str) -> int:
-    """What the arguments ask for; the status."""
+    """Does what the arguments ask for. Returns the status."""
 
     def answered(signals: Signals) -> Outcome:
         asked = calls.parse(arguments)

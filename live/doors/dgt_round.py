@@ -69,15 +69,15 @@ class Asked:
     options: Options = Options()  # of all games
     linger: int = LINGER
     pages: Pages = Pages()
-    delay: Optional[float] = None  # seconds; None as it was
+    delay: Optional[float] = None  # seconds; None leaves it as it was
     publish: Tuple[str, ...] = ()  # a command
-    tournament: Optional[Tournament] = None  # whose round is played
+    tournament: Optional[Tournament] = None  # the one whose round is played
     new: bool = False  # the files of a tournament are to be made
     help: bool = False
 
 
 def parse(arguments: Sequence[str]) -> Asked:
-    """Refused with status 2 where it asks for nothing that there is."""
+    """What the arguments ask for. Refused with status 2 if they make no sense."""
     left = list(arguments)
     plain: List[str] = []
     words: List[str] = []
@@ -131,7 +131,7 @@ def parse(arguments: Sequence[str]) -> Asked:
 
 
 def of_tournament(arguments: Sequence[str], tournament: Tournament) -> Asked:
-    """The round of a tournament: what its settings say, and what is typed beside that."""
+    """The round of a tournament: what its settings say, and what is typed in addition."""
     table = tournament.table()
     words = tournament.words(table, VALUED)
     if RECOVER in arguments or STRICT in arguments:
@@ -145,7 +145,7 @@ def of_tournament(arguments: Sequence[str], tournament: Tournament) -> Asked:
 
 
 def folder_of(asked: Asked) -> Tuple[pathlib.Path, int]:
-    """The folder, made where it isn't there, and locked."""
+    """The folder, made if necessary, and locked."""
     folder = pathlib.Path(asked.folder) if asked.folder else pathlib.Path(asked.file).parent
     try:
         folder.mkdir(exist_ok=True)
@@ -159,12 +159,12 @@ def folder_of(asked: Asked) -> Tuple[pathlib.Path, int]:
 
 
 def round_of(text: Optional[str]) -> Optional[int]:
-    """The number of the round, as far as it has one."""
+    """The number of the round, if it has one."""
     return int(text) if text and text.isascii() and text.isdigit() and len(text) < 4 else None
 
 
 def told_of_kept(given: Options, kept: Options) -> str:
-    """What is told where a round goes on with options that it was begun with; nothing where it doesn't."""
+    """The message that a round goes on with the options of its beginning; empty if it doesn't."""
     filled, tags = given.filled(kept, TAGS), dict(given.tags)
     left = filled.only([option for option in TAGS if given.value(option) is None])
     words = left.tagged({name: value for name, value in filled.tags if name not in tags}).words()
@@ -200,7 +200,7 @@ def play(asked: Asked, program: Program, signals: Signals) -> Outcome:
     try:
         if given.only(TAGS) != kept:
             keep_options(files, given.only(TAGS))
-    except Refused as refused:  # the boards are recorded all the same
+    except Refused as refused:  # the boards are recorded anyway
         games.say(refused.lines[0])
     arbiter = ArbiterView(shown, games.boards, games.trouble)
     arbiter.is_unpublished = lambda: bool(games.broadcast.alarm)
@@ -219,7 +219,7 @@ def play(asked: Asked, program: Program, signals: Signals) -> Outcome:
 
 
 def files_of(tournament: Tournament, loop: Loop, games: Round) -> TournamentFiles:
-    """The files that a tournament's folder gets of a round."""
+    """The files that a tournament's folder gets from a round."""
     others = tournament.other_rounds()
     texts = (
         (tournament.all_games, lambda: all_text(others, tournament.number, games.broadcast.text())),
@@ -229,7 +229,7 @@ def files_of(tournament: Tournament, loop: Loop, games: Round) -> TournamentFile
 
 
 def main(arguments: Sequence[str], here: str) -> int:
-    """What the arguments ask for; the status."""
+    """Does what the arguments ask for. Returns the status."""
 
     def answered(signals: Signals) -> Outcome:
         asked = parse(arguments)

@@ -15,7 +15,7 @@ Outcome = Tuple[int, Sequence[str]]  # a status, and complaints
 
 
 def through(command: str, call: Callable[[Signals], Outcome]) -> int:
-    """Does what was called for; the status. All that was said is printed then."""
+    """Makes the call, prints its complaints, and returns its status."""
     open_standard_streams()
     descriptors.raise_limit()
     signals = Signals()

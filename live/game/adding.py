@@ -61,7 +61,7 @@ class Addition:
         self._present = Reading.of_clock(course.clock)
 
     def of(self, typed: added.Typed) -> Tuple[bytes, str]:
-        """The bytes to add, and their meaning in words. Refused if the game would become another one than is meant."""
+        """The bytes to add, and their meaning in words. Refused if the game wouldn't become the one that is meant."""
         if isinstance(typed, added.Result):
             return self._of_result(typed.outcome), f"the result {typed.outcome}"
         if isinstance(typed, added.Moves):
@@ -127,7 +127,7 @@ def _whose_move(moves: Sequence[str], fens: Sequence[str]) -> str:
 
 
 def add_to_closed(game: Game, typed: added.Typed) -> str:
-    """Adds to a game that nobody records now, behind its last byte; what came after that byte stays behind it. Returns in words
+    """Adds to a game that nobody records now, after its last byte; what came after that byte stays after it. Returns in words
     what was added. Refused if it can't be added; OSError if a file can't be written."""
     mark = end_mark(game.paths)
     end = game.capture.size if mark is None else mark

@@ -31,7 +31,7 @@ class AfterTheEnd:
     is_set_up: bool = False  # the start has been shown again: later events are not this game's
 
     def take(self, event: report.Event) -> Optional[Look]:
-        """The next event. Returns an alarm, if any."""
+        """Takes the next event. Returns an alarm, if any."""
         if isinstance(event, report.Picture) and event.codes == self.start:
             self.is_set_up = True
         if not isinstance(event, report.Move) or self.is_set_up:

@@ -1,5 +1,5 @@
-"""What somebody is to look at in a game, until he acknowledges it. It is kept beside the game, in NAME.look, so that a restart
-loses none of it."""
+"""What somebody must look at in a game, until he acknowledges it. It is kept beside the game, in NAME.look, so a restart loses
+none of it."""
 
 from __future__ import annotations
 
@@ -16,7 +16,7 @@ from live.game.stopped_clock import StoppedClock, has_run
 
 
 def kept_looks(paths: Paths) -> Looks:
-    """What was kept beside a game. Where that can't be read, nobody knows what it was."""
+    """The alarms that were kept beside a game. If they can't be read, that is an alarm."""
     try:
         return Looks.of_content(existing(paths.look))
     except OSError:
@@ -24,7 +24,7 @@ def kept_looks(paths: Paths) -> Looks:
 
 
 def keep_looks(paths: Paths, looks: Looks) -> None:
-    """Keeps them. An OSError comes where they can't be written."""
+    """Keeps them. Raises OSError if they can't be written."""
     if looks.open:
         put_in_place(paths.look, looks.content())
     else:
@@ -33,42 +33,42 @@ def keep_looks(paths: Paths, looks: Looks) -> None:
 
 
 def acknowledged(seen: str) -> str:
-    """What is told of that."""
+    """The answer to an acknowledgement."""
     return f"acknowledged: {seen}" if seen else "there is no LOOK here"
 
 
 def acknowledge(paths: Paths) -> str:
-    """Somebody has looked at a game that nobody records now: what is told of that. An OSError comes where it can't be kept."""
+    """Acknowledges the alarms of a game that nobody records now. Returns the answer. Raises OSError if that can't be kept."""
     seen = kept_looks(paths).all
     keep_looks(paths, Looks())
     return acknowledged(seen)
 
 
 def carry_over(before: Paths, paths: Paths) -> None:
-    """What nobody has looked at is to be looked at in the next game of a series too. An OSError comes where it can't be kept."""
+    """Carries open alarms over to the next game of a series. Raises OSError if they can't be kept."""
     looks = kept_looks(before)
     if looks.open:
         keep_looks(paths, Looks((Look(f"at {os.path.basename(before.name)}", looks.all),)))
 
 
 class Alarms:
-    """Says of what is reported of a game whether somebody is to look at it."""
+    """Says what in a game's report somebody must look at."""
 
     def __init__(self, paths: Paths, course: Course) -> None:
         self._paths = paths
         self._doubts = Doubts.going_on(course.fens, course.plies[-1] if course.plies else None, list(course.moved_at))
         self._clock = StoppedClock(has_run(course.plies), course.plies[-1].short if course.plies else "")
         self.looks = kept_looks(paths)
-        self._since: Dict[str, int] = {}  # at which byte each of this call came
+        self._since: Dict[str, int] = {}  # at which byte each alarm of this call came
         self.trouble: Optional[OSError] = None  # why they can't be kept
 
     def away(self, seconds: float, is_restart: bool) -> None:
-        """The board wasn't heard for so long, and is heard again; or it was the recorder that was away."""
+        """The board is heard again after this many seconds, or the recorder was away for that long."""
         self._doubts.away(seconds, is_restart)
         self._clock.gone()
 
     def stands(self, now: float) -> Optional[Look]:
-        """All is told of the board's first dump since then: what is to be looked at, if anything."""
+        """The board's first dump since then is fully reported. Returns what somebody must look at, if anything."""
         return self._open(self._doubts.stands(now))
 
     def time(self, now: float, data: bytes) -> None:
@@ -76,7 +76,7 @@ class Alarms:
         self._clock.time(now, data)
 
     def take(self, now: float, line: Line, by_hand: bool) -> Optional[Look]:
-        """The next line of the game: what is to be looked at, if anything. What was added by hand is not."""
+        """Takes the next line of the game. Returns what somebody must look at, if anything; nothing that was added by hand."""
         event = line.event
         look = self._doubts.take(now, event)
         if isinstance(event, Move) and by_hand:
@@ -88,12 +88,12 @@ class Alarms:
         return None if by_hand else self._open(look)
 
     def add(self, look: Look) -> Look:
-        """This is to be looked at."""
+        """Adds this to what somebody must look at."""
         self._open(look)
         return look
 
     def _open(self, look: Optional[Look]) -> Optional[Look]:
-        """This is to be looked at, if anything is."""
+        """Adds this alarm, if there is one. Returns it if it is new."""
         if look is None or look in self.looks.open:
             return None
         self.looks = self.looks.with_one_more(look)
@@ -101,21 +101,21 @@ class Alarms:
         return look
 
     def end(self, size: int) -> None:
-        """The game has so many bytes. What came behind them was setting up, and nobody need look at it."""
+        """The game has this many bytes. What came after them was setting up, and nobody need look at it."""
         left = Looks(tuple(look for look in self.looks.open if self._since.get(look.what, 0) < size))
         if left != self.looks:
             self.looks = left
             self.keep()
 
     def acknowledge(self) -> str:
-        """Somebody has looked: at what."""
+        """Somebody has looked. Returns at what."""
         seen, self.looks = self.looks.all, Looks()
         self._clock.acknowledged()
         self.keep()
         return seen
 
     def keep(self) -> None:
-        """Keeps what is open beside the game. It is tried again where that fails."""
+        """Keeps the open alarms beside the game. If that fails, it is tried again later."""
         self.trouble = None
         try:
             keep_looks(self._paths, self.looks)

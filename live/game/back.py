@@ -87,7 +87,7 @@ def _distance(ply: Move, typed: Back) -> int:
 
 
 def question(gone: Sequence[Move]) -> str:
-    """The question before so many plies go; empty if they may go at once."""
+    """The question before this many plies go; empty if they may go at once."""
     return f"takes off {len(gone)} plies, from {gone[0].short}: type it again" if len(gone) > WITHOUT_A_QUESTION else ""
 
 
@@ -105,7 +105,7 @@ def reached(plies: Sequence[Move]) -> str:
 
 
 def settled(plies: Sequence[Move], stays: int) -> List[str]:
-    """The alarms that end if only so many plies stay: those about plies that are gone, and about moves since the last one that
+    """The alarms that end if only this many plies stay: those about plies that are gone, and about moves since the last one that
     stays."""
     gone = [ply.short for ply in plies[stays:]]
     if not gone:

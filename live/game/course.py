@@ -15,7 +15,7 @@ NO_PICTURE: protocol.Picture = ()
 
 
 class Course:
-    """The moves of a game with their positions, its result, what the board shows, and what is needed to find the end of the game."""
+    """The moves of a game with their positions, its result, what the board shows, and what is needed to find the game's end."""
 
     def __init__(self, start: protocol.Picture) -> None:
         self.start = start
@@ -24,7 +24,7 @@ class Course:
         self.result = "*"
         self.recovered: List[str] = []  # the pairs that were recovered
         self.placement = ""  # what the board shows
-        self.clock: Optional[Clock] = None  # what the clocks show, as far as it is reported
+        self.clock: Optional[Clock] = None  # what the clocks show, if it was reported
         self.changed_at = -1  # the offset of the last line that changed the game
         self.has_agreed = False  # whether the board has shown the game's position
         self.stands_again = False  # whether the last picture brought the start back
@@ -36,7 +36,7 @@ class Course:
         self._start_again = StartAgain(start)
 
     def take(self, line: Line, at: float) -> None:
-        """The next line, which came at this time."""
+        """Takes the next line, which came at this time."""
         event = line.event
         if isinstance(event, Picture):
             self.placement = event.placement
@@ -100,7 +100,7 @@ class Course:
 
 
 def clocks_of(plies: Sequence[Move]) -> Tuple[str, str]:
-    """White's and Black's, each after its last move."""
+    """The clock times of White and of Black, each after its last move."""
     white = next((ply.clock for ply in reversed(plies) if ply.clock and not ply.number.endswith("...")), "")
     black = next((ply.clock for ply in reversed(plies) if ply.clock and ply.number.endswith("...")), "")
     return white, black

@@ -1,14 +1,14 @@
-"""Whether what the program reports of a game may hide moves that nobody saw: then somebody is to look at it.
+"""Whether the program's report of a game may hide moves that nobody saw. If so, somebody must look at it.
 
-A picture that settles a move, corrects the last one or agrees with the game may also be that of a later position, where no
-picture showed the plies on the way to it whole. No picture can tell the two apart. The time can, and the other side's pieces:
+A picture that settles a move, corrects the last one or agrees with the game may also be that of a later position, if no
+picture showed the plies in between whole. No picture can tell the two apart. The time and the other side's pieces can:
 
-- A correction that comes late. An honest hand corrects its move within seconds.
-- Pieces that stood elsewhere in between. A player who makes or corrects a move lets the other side's pieces stand. Where these
+- A correction comes late. An honest hand corrects its move within seconds.
+- Pieces stood elsewhere in between. A player who makes or corrects a move leaves the other side's pieces standing. If these
   have stood on other squares, both sides may have moved.
-- The first news after a gap, in which nothing was heard of the board. A correction is doubtful after any gap, a move after one
-  that is as long as a ply, and the position as it was after one that is as long as two: four plies may lead back to it. After
-  a restart of the recorder a move and that position are doubtful only where the players have just repeated a position.
+- It is the first news after a gap in which the board wasn't heard. A correction is doubtful after any gap, a move after a gap
+  as long as a ply, and the unchanged position after a gap as long as two: four plies may lead back to it. After a restart of
+  the recorder a move and the unchanged position are doubtful only if the players have just repeated a position.
 
 `bench/doubts.py` says how often honest hands are doubted, and that no hidden ply stays without a doubt.
 """
@@ -25,13 +25,13 @@ from live.device.protocol import Picture, places_differing
 from live.game import report
 from live.game.report import codes_of
 
-LATE = 10.0  # seconds after its move, for a correction
+LATE = 10.0  # seconds after its move at which a correction is late
 STANDS = 0.1  # seconds after which a piece stands on a square: before that it may be drawn over it
 PASSES = 0.15  # seconds in which a piece that is drawn over a square leaves it
-STANDS_AGAIN = 1.0  # seconds for a piece that is moved on: one that is straightened may show beside its square
-PACE_OF = 8  # plies of which the pace is taken, and among which a position is looked for again
-PACE = 3.0  # seconds that a ply takes where nobody knows it
-QUICKEST = 1.0  # seconds that one takes at least
+STANDS_AGAIN = 1.0  # seconds for a piece that is moved on: one that is only straightened may show beside its square
+PACE_OF = 8  # the last plies, which give the pace and among which a position may be repeated
+PACE = 3.0  # seconds that a ply takes if the pace is unknown
+QUICKEST = 1.0  # seconds that a ply takes at least
 SIDES = (range(1, 7), range(7, 13))  # the piece codes of White and of Black
 NOWHERE: FrozenSet[int] = frozenset()
 
@@ -42,23 +42,23 @@ AFTER_GAP = "the board wasn't heard for a time: moves may be missing"
 
 
 def is_late(seconds: float) -> bool:
-    """Whether a correction comes so long after its move that a hand would hardly have corrected it."""
+    """Whether a correction comes too long after its move to be that of a hand."""
     return seconds > LATE
 
 
 @dataclass(frozen=True)
 class Gap:
-    """So many seconds in which the board wasn't heard, or in which the recorder was away."""
+    """A time in which the board wasn't heard, or in which the recorder was away."""
 
     seconds: float
     is_restart: bool = False
 
     def is_long(self, plies: int, pace: Optional[float]) -> bool:
-        """Whether the players take as long for so many plies; with no pace known, for as many at three seconds each."""
+        """Whether it has room for this many plies at the players' pace; at three seconds each if that is unknown."""
         return self.seconds >= plies * max(QUICKEST, PACE if pace is None else pace)
 
     def may_hide(self, is_move: bool, pace: Optional[float], has_repeated: bool) -> bool:
-        """Whether hurried players may have made as many plies in it as look like one move, or lead back to where they were."""
+        """Whether hurried players may have made enough plies in it to look like one move, or to lead back to where they were."""
         return self.is_long(1 if is_move or has_repeated else 2, pace) and (has_repeated or not self.is_restart)
 
 
@@ -68,7 +68,7 @@ def elsewhere(position: Picture, picture: Picture, side: range) -> FrozenSet[int
 
 
 def of_side(picture: Picture, places: Sequence[int], side: range) -> FrozenSet[int]:
-    """Those of these squares on which the picture shows a piece of this side."""
+    """The squares among these on which the picture shows a piece of this side."""
     return frozenset([at for at in places if picture[at] in side])
 
 
@@ -78,11 +78,11 @@ class Stood:
 
     seconds: float = STANDS
     squares: Set[int] = field(default_factory=set)
-    left: Set[int] = field(default_factory=set)  # those of them that were left again
+    left: Set[int] = field(default_factory=set)  # those that were left again
     _since: Dict[int, float] = field(default_factory=dict)
 
     def shows(self, now: float, squares: FrozenSet[int], stand: bool) -> None:
-        """From here on pieces are on these squares; they `stand` there already, or come there."""
+        """From now on pieces are on these squares. They `stand` there already, or have just come."""
         if not (squares or self._since):
             return
         stood = {square for square, since in self._since.items() if now - since >= self.seconds}
@@ -97,18 +97,18 @@ class Since:
 
     own: Stood = field(default_factory=Stood)  # of the side to move
     others: Stood = field(default_factory=Stood)  # of the side that moved last
-    again: Stood = field(default_factory=lambda: Stood(STANDS_AGAIN))  # of that side, where the piece that moved last was off
+    again: Stood = field(default_factory=lambda: Stood(STANDS_AGAIN))  # of that side, while the piece that moved last was off
     drawn: Stood = field(default_factory=Stood)  # the same, for a shorter time
     last: FrozenSet[int] = frozenset()  # where the piece that moved last belongs
 
     @property
     def by_both(self) -> bool:
-        """Whether both sides have moved: the side to move has stood elsewhere and left it, or its opponent moved on."""
+        """Whether both sides have moved: the side to move stood elsewhere and left that square, or its opponent moved on."""
         return bool(self.others.squares and self.own.left or self.again.squares and self.own.squares)
 
     @property
     def perhaps(self) -> bool:
-        """Whether they have, if the piece that moved last doesn't stay where it belongs."""
+        """Whether both have moved, if the piece that moved last doesn't stay where it belongs."""
         return bool(self.drawn.squares and self.own.squares)
 
     @property
@@ -127,31 +127,31 @@ class Passing:
 
 @dataclass
 class Doubts:
-    """Takes the events of a game in their order, and says which of them somebody is to look at. `away` is called where the
-    board is heard again: after an unplugged cable, a silence, or a restart of the recorder."""
+    """Takes the events of a game in order, and says which of them somebody must look at. Call `away` when the board is heard
+    again after an unplugged cable, a silence, or a restart of the recorder."""
 
     _position: Optional[Picture] = None
     _before: Optional[Picture] = None  # the position before the last move
-    _side: int = 0  # that is to move, of SIDES
+    _side: int = 0  # the side to move, of SIDES
     _moved: FrozenSet[int] = NOWHERE  # where the piece that moved last belongs
     _reached: Deque[str] = field(default_factory=lambda: deque(maxlen=PACE_OF + 1))  # the last positions
     _shown: Optional[Picture] = None  # the last picture
     _last: str = ""  # the last move, as `4... Qg4+`
     _is_new: bool = False  # the position after a move is still to come
     _is_over: bool = False  # the kings have shown a result, or the last move has given one
-    _has_begun: bool = False  # the board has stood as the game says; before that the pieces are set up
-    _moved_at: float = 0.0  # without the time in which the move was taken back
+    _has_begun: bool = False  # the board has shown the game's position; before that the pieces are set up
+    _moved_at: float = 0.0  # not counting the time in which the move was taken back
     _taken_back_at: Optional[float] = None
     _intervals: Deque[float] = field(default_factory=lambda: deque(maxlen=PACE_OF))
     _since: Since = field(default_factory=Since)
     _passing: Optional[Passing] = None
     _gap: Optional[Gap] = None  # since the last news
     _touched: bool = False  # a piece of the side that moved last was in a hand since the gap
-    _comes_first: bool = False  # the next picture is the first after it
+    _comes_first: bool = False  # the next picture is the first after the gap
 
     @staticmethod
     def going_on(fens: Sequence[str], last: Optional[report.Move], moved_at: Sequence[float]) -> Doubts:
-        """Of a game that goes on: by its positions, its last move, and when its last moves came."""
+        """The doubts of a game that goes on, from its positions, its last move, and the times of its last moves."""
         doubts = Doubts()
         for fen in fens[-PACE_OF - 1 :]:
             doubts._is_new = True
@@ -164,25 +164,25 @@ class Doubts:
 
     @property
     def pace(self) -> Optional[float]:
-        """The seconds that a ply takes: the median of the last ones, None where there is none."""
+        """The seconds that a ply takes: the median of the last ones, None if there is none."""
         last = sorted(self._intervals)
         middle = len(last) // 2
         return (last[middle] + last[-1 - middle]) / 2 if last else None
 
     def away(self, seconds: float, is_restart: bool = False) -> None:
-        """Nothing was heard of the board for so long, and now it is heard again."""
+        """The board is heard again after this many seconds."""
         before = self._gap.seconds if self._gap else 0.0
         self._gap, self._comes_first = Gap(before + seconds, is_restart), True
 
     def stands(self, now: float) -> Optional[Look]:
-        """All is told of the board's first dump after it was away. Where that told nothing, it stands as before."""
+        """The first dump after the board was away is fully reported. If nothing was, the board stands as before."""
         if not self._comes_first or self._shown != self._position:
             return None
         self._comes_first = False
         return self._hear(now, None)
 
     def take(self, now: float, event: report.Event) -> Optional[Look]:
-        """The next event: what is to be looked at, if anything."""
+        """Takes the next event. Returns what somebody must look at, if anything."""
         if isinstance(event, report.Picture):
             look = self._passes(now, event.codes)
             self._shows(now, event.codes)
@@ -197,7 +197,7 @@ class Doubts:
         return None
 
     def _passes(self, now: float, picture: Picture) -> Optional[Look]:
-        """Whether a move was told only since a piece of the other side was drawn over the square where it belongs."""
+        """The doubt about a move, if a piece of the other side was only drawn over the square where it belongs."""
         passing, self._passing = self._passing, None
         if passing and self._position and now - passing.at < PASSES:
             if any(picture[square] != self._position[square] for square in passing.squares):
@@ -238,7 +238,7 @@ class Doubts:
         self._moved = NOWHERE if self._before is None else elsewhere(self._before, self._position, SIDES[1 - self._side])
 
     def _hear(self, now: float, move: Optional[report.Move]) -> Optional[Look]:
-        """A move or a correction; without one, the picture agrees with the game."""
+        """Takes a move or a correction; without one, the picture agrees with the game."""
         why = self._why(now, move) if self._has_begun and not self._is_over and (move or self._last) else ""
         self._has_begun = True
         if move is not None and not move.corrects and not why and self._has_begun and self._since.perhaps:
@@ -252,7 +252,7 @@ class Doubts:
         return Look(f"{'at' if move else 'after'} {self._last}", why) if why else None
 
     def _begin_anew(self) -> None:
-        """There is news: what was seen before it counts no more."""
+        """There is news: what was seen before it no longer counts."""
         self._gap, self._touched, self._since = None, False, Since()
 
     def _why(self, now: float, move: Optional[report.Move]) -> str:

@@ -12,7 +12,7 @@ from live.game.options import Options
 from live.game.program import Program
 from live.game.report import Move, Result, line_of
 
-CHANGES = 16  # changes of a game, after which its text may have been made last
+CHANGES = 16  # the last changes of a game: its text may have been made after any of them
 LARGEST = 4 * 1024 * 1024  # bytes of a capture that is compared so closely
 
 

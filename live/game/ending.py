@@ -54,20 +54,20 @@ class End:
 class Lines:
     """The lines of a game, as far as its end may depend on them: if a square chatters for hours, only a few are kept.
 
-    Behind each move these are needed: the first two lines, to see how soon hands went on; the last one that agrees and the one
+    After each move these are needed: the first two lines, to see how soon hands went on; the last one that agrees and the one
     after it, to see how long the move stayed; and the first result and the last.
     """
 
     def __init__(self) -> None:
         self._count = 0
         self._before: List[Line] = []
-        self._first: List[Numbered] = []  # a move, and the two lines behind it
+        self._first: List[Numbered] = []  # a move, and the two lines after it
         self._agreed: List[Numbered] = []  # the last one that agrees since then, and the one after it
         self._results: List[Numbered] = []  # the first one since then, and the last
         self._last: List[Numbered] = []
 
     def take(self, line: Line) -> None:
-        """The next line."""
+        """Takes the next line."""
         self._count += 1
         numbered = self._count, line
         if line.move:

@@ -100,7 +100,7 @@ def kept_tags(paths: Paths) -> Tags:
     try:
         kept = kept_options(paths)
     except Refused:
-        return {}  # why, is said as the game is opened
+        return {}  # the reason is reported when the game is opened
     return dict(kept.tags) if kept else {}
 
 

@@ -1,4 +1,4 @@
-"""NAME.pgn, made anew by `record` beside the loop: one call at a time, and the newest state again after it."""
+"""Makes NAME.pgn anew with `record`, beside the loop: one call at a time, then again if the game has changed meanwhile."""
 
 from __future__ import annotations
 
@@ -20,13 +20,13 @@ from live.guard import Guard
 from live.loop import Timer
 
 AGAIN = 1.0  # seconds after a try that failed
-WRITE_FAULT = 3  # of the program, whose streams failed
+WRITE_FAULT = 3  # the program's status if a stream failed
 SLOWEST = 60.0  # seconds that a call may take before it is ended and begun anew
 NO_ROOM = (errno.ENOSPC, errno.EDQUOT, errno.EFBIG)
 
 
 def told_of_reading(before: Options, now: Options, pairs: Sequence[str]) -> List[str]:
-    """What is told where a game is made anew since its capture is read otherwise; `pairs` are those that are recovered now."""
+    """What to report if a game is made anew because its capture is read differently; `pairs` are those recovered now."""
     told = [f"{now.side.capitalize()}'s time comes first"] if now.side != before.side else []
     if bool(now.recover) != bool(before.recover):
         told += list(pairs) or ["nothing recovered"]
@@ -34,7 +34,7 @@ def told_of_reading(before: Options, now: Options, pairs: Sequence[str]) -> List
 
 
 def told_of_result(before: str, now: str) -> List[str]:
-    """What is told where a game has another result, since it was made anew."""
+    """What to report if a game that was made anew has another result."""
     if before == now:
         return []
     if now == "*":
@@ -44,11 +44,11 @@ def told_of_result(before: str, now: str) -> List[str]:
 
 @dataclass(frozen=True)
 class Made:
-    """What came of a call: what went wrong, if anything did, and whether the disk has no room."""
+    """The outcome of a call: what went wrong, if anything, and whether the disk has no room."""
 
     trouble: str = ""
     full: bool = False
-    edited: Optional[str] = None  # where a text is kept that somebody had edited by hand
+    edited: Optional[str] = None  # where a text that was edited by hand is kept
 
     @staticmethod
     def of_error(error: OSError) -> Made:
@@ -57,8 +57,8 @@ class Made:
 
 
 class Text:
-    """NAME.pgn, as it is made once. The capture and the text are on the disk before it is put in place, so that a power cut
-    leaves no game that is longer than its capture. Where it waits for that is its caller's to choose."""
+    """Makes NAME.pgn once. The capture and the text are on the disk before the text is put in place, so a power cut leaves no
+    game that is longer than its capture. The caller chooses where to wait for that."""
 
     def __init__(self, game: Game) -> None:
         self._game = game
@@ -68,23 +68,23 @@ class Text:
         self._closed = False
 
     def kill(self) -> None:
-        """Ends the call that is under way: it fails."""
+        """Ends the call under way, which then fails."""
         for child in self._children:
             child.kill()
 
     def wake(self) -> None:
-        """To be called now and then: a call that was stopped from outside goes on."""
+        """Lets a call that was stopped from outside go on. Call this now and then."""
         for child in self._children:
             wake(child)
 
     def close(self) -> None:
-        """Nothing is put in place from here on."""
+        """From now on nothing is put in place."""
         self._closed = True
         self.kill()
 
     def look(self, limit: Optional[int]) -> None:
-        """Finds out whether the text that another call left is what `record` gives of all that the capture has, or of so many
-        bytes, or of the capture from before plies were taken off; else somebody has edited it. To be called before the capture
+        """Finds out whether the text that another call left is what `record` makes of the whole capture, of its first `limit`
+        bytes, or of the capture from before plies were taken off. If not, somebody has edited it. Call this before the capture
         or the options change."""
         game, text = self._game, b""
         with contextlib.suppress(OSError):
@@ -98,7 +98,7 @@ class Text:
                     game.written.text = text
 
     def make(self, limit: Optional[int]) -> Made:
-        """Makes it of all that the capture has, or of so many bytes, and waits for that. What came of it."""
+        """Makes it of the whole capture or of its first `limit` bytes, and waits for that. Returns the outcome."""
         if self._closed:
             return Made()
         try:
@@ -116,8 +116,8 @@ class Text:
         return made
 
     def _record(self, limit: Optional[int], target: int) -> Made:
-        """A call of `record`, which writes its text there. What it asks a board, and its report, are dropped; where this process
-        dies it can't tell them, and ends."""
+        """Calls `record`, which writes its text to `target`. Its requests to a board and its report are dropped. If this process
+        dies, it can't write them, and ends."""
         with contextlib.ExitStack() as ends:
             ends.callback(self._forget_children)
             report = self._start_children(limit, target)
@@ -129,7 +129,7 @@ class Text:
             child, *before = self._children
             status = child.wait()
             if status in (WRITE_FAULT, -signal.SIGXFSZ):
-                os.write(target, b"\n")  # what stops it stops this too, and says why
+                os.write(target, b"\n")  # what stopped `record` stops this too, and says why
                 return Made("no room" if status < 0 else f"record {ending_of(status)}", status < 0)
             if status != 0:
                 return Made(f"record {ending_of(status)}")
@@ -139,7 +139,7 @@ class Text:
         return Made()
 
     def _start_children(self, limit: Optional[int], target: int) -> int:
-        """Starts them. Where the report of `record` is read."""
+        """Starts them. Returns where the report of `record` is read."""
         program, options = self._game.program, self._game.options
         with contextlib.ExitStack() as opened:
             source = source_of(self._game, limit)
@@ -160,14 +160,14 @@ class Text:
         return report
 
     def _forget_children(self) -> None:
-        """Ends what is left of them."""
+        """Ends those that still run."""
         children, self._children = self._children, ()
         for child in children:
             child.kill()
             child.wait()
 
     def _put_in_place(self, target: int) -> Optional[str]:
-        """Puts the new text, which is open there, in its place. Returns where the old text is kept, if somebody had edited it."""
+        """Puts the new text, open as `target`, in its place. Returns where the old text is kept, if somebody had edited it."""
         paths, edited = self._game.paths, None
         with contextlib.ExitStack() as opened:
             text, before = content_of(target, LARGEST), self._before(opened)
@@ -193,21 +193,21 @@ class Text:
 
 
 class HearsMaker(Protocol):
-    """Who is told of NAME.pgn."""
+    """Gets the events of NAME.pgn."""
 
     def placed(self) -> None:
         """It was made anew."""
 
     def edited(self, kept: str) -> None:
-        """Somebody had edited it by hand: what it was is kept there."""
+        """Somebody had edited it by hand. The edited text is kept there."""
 
     def unmade(self, made: Made) -> None:
-        """It can't be, and that is news."""
+        """It can't be made. This is reported whenever the reason changes."""
 
 
 class Maker:
-    """Makes NAME.pgn of the capture, or of its first `limit` bytes, again and again. The loop waits for none of this: a worker
-    does it."""
+    """Makes NAME.pgn of the capture, or of its first `limit` bytes, again and again. A worker does it, so the loop never waits
+    for it."""
 
     def __init__(self, guard: Guard, worker: Worker, game: Game, hears: HearsMaker) -> None:
         self._guard, self._worker, self._capture, self._hears = guard, worker, game.capture, hears
@@ -219,18 +219,18 @@ class Maker:
         self._tries = 0
         self._timer: Optional[Timer] = None
         self.limit: Optional[int] = None
-        self.made_of = game.capture.size  # bytes of the capture that NAME.pgn surely has: it was made as this began
-        self.last = Made()  # what came of the last call
+        self.made_of = game.capture.size  # bytes of the capture that NAME.pgn surely has: it was made when this began
+        self.last = Made()  # the outcome of the last call
         self._stop = guard.opened(self._text.close)
 
     def want(self) -> None:
-        """The game has changed: it is to be made anew, now or after the call that is under way."""
+        """The game has changed. Makes it anew, now or after the call under way."""
         self._wanted = True
         if not self._running and self._timer is None:
             self._start()
 
     def finish(self, done: Callable[[bool], None], tries: int = 3) -> None:
-        """Makes it a last time, and tells whether that succeeded after so many tries."""
+        """Makes it a last time, and reports whether that succeeded within this many tries."""
         self._idle, self._tries = done, tries
         if self._timer and not self._running:
             self._timer.cancel()
@@ -277,7 +277,7 @@ class Maker:
         self._start()
 
     def wake(self) -> None:
-        """To be called now and then: a call that was stopped from outside goes on."""
+        """Lets a call that was stopped from outside go on. Call this now and then."""
         self._text.wake()
 
     def close(self) -> None:
@@ -289,8 +289,8 @@ class Maker:
 
 
 def source_of(game: Game, limit: Optional[int]) -> int:
-    """The bytes of a game's capture, to be read from the first one on: all that come, or so many. It is opened by its path, for
-    a worker: the number of an open file may be another file's where the loop has closed it meanwhile."""
+    """Opens a game's capture to be read from the first byte: all of it, or up to `limit` bytes. It is opened by its path, for a
+    worker: if the loop closes a file meanwhile, its number may become another file's."""
     number = open_regular(game.paths.capture, os.O_RDONLY)
     if limit is None:
         return number

@@ -142,9 +142,9 @@ def _lines(source: int) -> Iterator[List[str]]:
 
 
 def wanted(texts: Sequence[str], start: protocol.Picture) -> Sequence[str]:
-    """Those of some consecutive lines that a course needs. If nothing has changed the game and a square chatters, these are: the
-    first lines that give the board's state, the last one that agrees with the one after it, and the last; of the pictures the
-    first one of the start and the last, unless one of them was far from the start."""
+    """Those of some consecutive lines that a course needs. If nothing has changed the game and no picture is far from the start,
+    a square may have chattered, and these are: the first lines that give the board's state, the last one that agrees with the
+    one after it, and the last; the first picture of each kind, and the last. Otherwise it needs all."""
     words = [text.partition(" ")[2] for text in texts]
     kinds = {word: event_of(word) for word in set(words)}
     if not all(isinstance(event, (Picture, Differs, Agrees, Clock)) for event in kinds.values()):

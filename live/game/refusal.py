@@ -1,4 +1,4 @@
-"""The program's reasons for refusing options, in words for whoever typed them."""
+"""The program's reasons for refusing options, in words for those who typed them."""
 
 from __future__ import annotations
 

@@ -36,8 +36,8 @@ def has_run(plies: Sequence[Move]) -> bool:
 
 @dataclass
 class StoppedClock:
-    """Counts the moves of a game that are made one after the other while its clock is stopped, once it has run in this game. They
-    count from the one on that is seen after the stop; but they are an alarm only where the last one comes STANDS after it."""
+    """Counts the moves of a game that are made one after the other while its clock is stopped, once it has run in this game. The
+    first one counted is the first one seen after the stop, but they are an alarm only if the last one comes STANDS after it."""
 
     has_run: bool = False
     last: str = ""  # the last move

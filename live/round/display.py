@@ -12,7 +12,7 @@ from live.round.table import RowView, screen
 from live.terminal.painter import Painter
 from live.terminal.terminal import Terminal
 
-NARROWEST = 40  # columns of a terminal: in one with fewer the rows are broken
+NARROWEST = 40  # columns of a terminal: if it has fewer, the rows are broken
 KEPT = 20  # messages
 DRAWS_EACH = 0.1  # seconds
 TICK = 1.0
@@ -20,7 +20,7 @@ PRINTED = 2.0  # seconds that a slow reader has for the last lines
 
 
 def terminal_of_lines(loop: Loop) -> Optional[Terminal]:
-    """Where lines are printed; None where a table can be drawn."""
+    """Where lines are printed; None if a table can be drawn."""
     if os.isatty(1) and os.environ.get("TERM", "dumb") != "dumb":
         return None
     return Terminal(loop)
@@ -57,7 +57,7 @@ class Display:
             self._draws = self._loop.after(DRAWS_EACH, self._draw)
 
     def forget(self) -> None:
-        """Everything is drawn again: somebody has typed a line."""
+        """Draws everything again: somebody has typed a line."""
         if self._painter:
             self._painter.forget()
 
@@ -84,7 +84,7 @@ class Display:
             self._draw()
 
     def close(self, last: str) -> None:
-        """The last line."""
+        """Shows the last line, and closes."""
         if self._painter:
             self._painter.end([last])
             self._painter.close()

@@ -30,7 +30,7 @@ LONGEST_SHOWN = 40  # characters of a wrong value
 MOST_UNKNOWN = 5  # columns that are reported one by one
 SERIAL = re.compile(f"[!-~]{{{SERIAL_LENGTH}}}")
 NAME = re.compile(r"[\w][\w .+-]*")
-ROUND = "round"  # what the files of the round itself are called
+ROUND = "round"  # the name of the round's own files
 EXAMPLE = "1,/dev/ttyUSB0,Anna,Ben"
 
 
@@ -301,7 +301,7 @@ def unknown(columns: Sequence[str]) -> List[str]:
 
 
 def more_lines(number: int) -> List[str]:
-    """The message about so many lines that aren't reported one by one."""
+    """The message about this many lines that aren't reported one by one."""
     return [f"{number} more lines aren't used"] if number > 0 else []
 
 

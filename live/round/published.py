@@ -9,15 +9,15 @@ from live.game.files import AnyPath, put_in_place
 from live.game.making_pgn import Made
 from live.loop import Timer, Turns
 
-AGAIN = 1.0  # seconds, where it couldn't be written
+AGAIN = 1.0  # seconds after a failed try
 GATHERED = 0.02  # seconds in which changes go into one text
-SHARE = 10  # times as long as the last one took to be written: the disk is for the games first
+SHARE = 10  # this times as long as the last writing took: on the disk the games come first
 LONGEST = 1.0  # seconds
 
 
 class Published:
-    """Keeps a file with a text. Where it can't be written, that is said once, and it is tried again. `on_written` is called when
-    it has another one."""
+    """Keeps a text in a file. If it can't be written, that is reported once, and it is tried again. `on_written` is called when
+    the file has changed."""
 
     def __init__(
         self, loop: Turns, path: AnyPath, text: Callable[[], bytes], says: Callable[[str], None]
@@ -32,12 +32,12 @@ class Published:
         self._trouble = ""
 
     def changed(self) -> None:
-        """The text of a game is another."""
+        """The text of a game has changed."""
         if self._timer is None and not self._writing:
             self._timer = self._loop.after(self._gathered, self._write)
 
     def _write(self) -> None:
-        """Has it written beside the loop."""
+        """Writes it beside the loop."""
         self._timer = None
         text = self._text()
         if text == self._written:
@@ -57,7 +57,7 @@ class Published:
         self._worker.do(lambda: written(self.path, text), done)
 
     def _put(self, text: bytes, made: Made) -> None:
-        """What came of a writing."""
+        """Takes the outcome of a writing."""
         if not made.trouble:
             is_news, self._written = text != self._written, text
             if self._trouble:
@@ -71,17 +71,17 @@ class Published:
 
     @property
     def is_written(self) -> bool:
-        """Whether the file has the text as it is now."""
+        """Whether the file has the current text."""
         return self._written == self._text()
 
     def stop(self) -> None:
-        """It is written no more."""
+        """Begins no further writing."""
         if self._timer:
             self._timer.cancel()
         self._worker.close()
 
     def close(self) -> str:
-        """Writes it a last time. What keeps it from being written, if anything does."""
+        """Writes it a last time. Returns what keeps it from being written, if anything does."""
         self.stop()
         self._worker.wait()
         text = self._text()
@@ -90,7 +90,7 @@ class Published:
 
 
 def written(path: AnyPath, text: bytes) -> Made:
-    """Writes it, and tells what came of it."""
+    """Writes it. Returns the outcome."""
     try:
         put_in_place(path, text)
         return Made()

@@ -33,8 +33,8 @@ HIGHEST = 6  # digits of a number that may be a board's
 
 
 def first_pairings(source: Source) -> Pairings:
-    """The table with which a round begins; boards that it names by their own numbers are looked for. Refused where it
-    names none."""
+    """Reads the table with which a round begins, and looks for boards that it names by serial number. Refused if it names no
+    board."""
     file = source.file
     try:
         read = source.read()
@@ -54,7 +54,7 @@ def first_pairings(source: Source) -> Pairings:
 
 
 def same_device(device: str) -> str:
-    """What a device is, by whatever name."""
+    """The same path for each name of a device."""
     return os.path.realpath(device)
 
 
@@ -68,7 +68,7 @@ def another_folder(folder: str) -> str:
 
 
 def example(numbers: Sequence[int]) -> int:
-    """The number of a board, as --help has it where there is such a board."""
+    """A board's number for an example: that in --help, if there is such a board."""
     return 3 if 3 in numbers or not numbers else numbers[-1]
 
 
@@ -80,7 +80,7 @@ def all_ways(numbers: Sequence[int]) -> str:
 
 
 def ways(text: str, numbers: Sequence[int]) -> str:
-    """What is to be typed, in the place of a text that begins with no board's number."""
+    """What to type instead of a text that doesn't begin with a board's number."""
     number = example(numbers)
     try:
         typed = added.read_words(text)
@@ -96,7 +96,7 @@ def ways(text: str, numbers: Sequence[int]) -> str:
 
 
 class Round:
-    """All boards of a round in one loop, which is stopped when all have ended."""
+    """All boards of a round in one loop, which stops when all have ended."""
 
     def __init__(self, loop: Loop, source: Source, read: Pairings, title: str, hall: Hall) -> None:
         self._loop, self._source, self._file, self._hall = loop, source, source.file, hall
@@ -110,7 +110,7 @@ class Round:
         self._display = Display(loop, title, self.views, hall.terminal, self.trouble)
         self._opens_until = loop.now() + OPENS
         loop.after(OPENS, self.remade)
-        self._looker: Optional[Worker] = None  # it looks which boards are plugged in
+        self._looker: Optional[Worker] = None  # finds out which boards are plugged in
         self._ending = self._was_asked = False
         self._left = 0
         self.on_change: Callable[[], None] = lambda: None
@@ -120,13 +120,13 @@ class Round:
         self._typed = Typed(loop, self.typed, self.refuses)
 
     def boards(self) -> List[Row]:
-        """In the order of their numbers."""
+        """All boards, in order of their numbers."""
         return [self.rows[number] for number in sorted(self.rows)]
 
     # The file.
 
     def _refuse_another_round(self, read: Pairings) -> None:
-        """A table that has other players for what was played is another round's: nothing is changed then."""
+        """Refuses a table that has other players for what was played: it is another round's, and nothing is changed."""
         for pairing in self._without_twice(read)[0]:
             kept = game_of_others(self._hall, pairing)
             if kept:
@@ -138,7 +138,7 @@ class Round:
                 )
 
     def _other_round(self) -> str:
-        """What is to be done for another round than this one."""
+        """What to do for another round."""
         if self._source.in_tournament:
             return f"save its table under its own number, in {self._file.parent}"
         folder = another_folder(self._hall.folder)
@@ -147,7 +147,7 @@ class Round:
         return f"take another folder, as {shlex.join(['dgt_round', str(self._file), folder])}"
 
     def read_again(self) -> str:
-        """Reads the file again. Where it can't be read nothing changes."""
+        """Reads the file again. If it can't be read, nothing changes. Returns a message."""
         try:
             read = self._source.read()
         except OSError as error:
@@ -161,8 +161,8 @@ class Round:
         return f"{self._file} is read again: {counted(len(self._right), 'board')}{lines_are_wrong(len(self._wrong))}"
 
     def _look_for_boards(self) -> None:
-        """Looks which boards are plugged in, where some that are named by their own numbers alone weren't found. It takes a
-        while, and so is done beside the loop."""
+        """Finds out which boards are plugged in, if some that are named only by serial number weren't found. This takes a while,
+        so it is done beside the loop."""
         if not self._source.wants or self._looker:
             return
         self._looker = Worker(self._loop)
@@ -194,7 +194,7 @@ class Round:
             self.say(f"line {wrong.line} of {wrong.file or self._file.name} is wrong: {self._why(wrong)}")
         named = {pairing.board for pairing in boards} | {wrong.board for wrong in self._wrong}
         for number in sorted(set(self.rows) - {number for number in named if number}):
-            # A line whose number can't be read may be this one's.
+            # A line whose number can't be read may be this board's.
             if None in named:
                 self.say(f"{number}: no line names it, but one line has no board number: it goes on")
             else:
@@ -211,7 +211,7 @@ class Round:
         self.changed()
 
     def _without_twice(self, read: Pairings) -> Tuple[List[Pairing], List[Wrong]]:
-        """Without lines whose device is another line's under another name."""
+        """The boards and the wrong lines. A line is wrong if another line has its device under another name."""
         found: Dict[str, Pairing] = {}
         boards, wrong = [], list(read.wrong)
         for pairing in read.boards:
@@ -225,12 +225,12 @@ class Round:
     # What is shown.
 
     def say(self, text: str) -> None:
-        """A line for whoever looks at the screen."""
+        """A line for the screen."""
         self._display.say(text)
         self.changed()
 
     def views(self) -> List[RowView]:
-        """The rows, and behind them the lines that belong to none."""
+        """The rows, then the lines that belong to none."""
         rows = [self._view(row) for row in self.boards()]
         for wrong in self._wrong:
             state = f"line {wrong.line}{wrong.file and ' of '}{wrong.file} is wrong: {self._why(wrong)}"
@@ -241,7 +241,7 @@ class Round:
         return rows
 
     def _view(self, row: Row) -> RowView:
-        """What a row shows; where that can't be told, what went wrong."""
+        """What a row shows; if that raises an error, the error."""
         try:
             return row.view()
         except Exception as error:
@@ -249,12 +249,12 @@ class Round:
             return RowView(row.number, state=NOT_RECORDED, rest=f": {type(error).__name__}: {error}", alarm=True)
 
     def _why(self, wrong: Wrong) -> str:
-        """What is wrong with a line, and what becomes of its board."""
+        """What is wrong with a line, and what happens to its board."""
         goes_on = wrong.board in self.rows and wrong.board not in self._right
         return f"{wrong.why}; board {wrong.board} goes on as it was begun" if goes_on else wrong.why
 
     def changed(self, number: Optional[int] = None) -> None:
-        """What the row of this board shows is another, or what is shown of the round."""
+        """The row of this board has changed; without a number, what is shown of the round."""
         self.on_change()
         if self._is_opened:
             self.broadcast.changed(number)
@@ -263,11 +263,11 @@ class Round:
 
     @property
     def _is_opened(self) -> bool:
-        """Whether all games are opened, unless the opening of one takes too long: a first text has all of them."""
+        """Whether all games are open, or opening one takes too long. The first text waits for this, so that it has all games."""
         return self._loop.now() >= self._opens_until or not any(row.board.is_new for row in self.rows.values())
 
     def remade(self, number: Optional[int] = None) -> None:
-        """The text of this board's game is another, or that of any."""
+        """The text of this board's game has changed; without a number, that of any."""
         if self._is_opened:
             self._published.changed()
             self.broadcast.changed(number)
@@ -277,7 +277,7 @@ class Round:
         return round_pgn(row.board.pgn for row in self.boards())
 
     def results(self) -> List[Tuple[int, str, str, str]]:
-        """Each board with its players, as they are published, and its result: that of its game, or that of its line."""
+        """Each board with its players, as they are published, and its result: that of its game, else that of its line."""
         found = []
         for row in self.boards():
             result = row.board.result if row.board.result != "*" else row.pairing.result
@@ -334,13 +334,13 @@ class Round:
         return f"{row.number} {answer}" if answer.startswith("refused") else f"{row.number}: {answer}"
 
     def trouble(self, text: str) -> None:
-        """What should never happen, and where: for the log of the round."""
+        """Writes an error that should never happen, and where, to the round's log."""
         self._log.write(f"{datetime.datetime.now():{LOGGED}}", text)
 
     # How it ends.
 
     def hung_up(self) -> None:
-        """HUP: the file is read again; but where the terminal is gone, all ends."""
+        """Reads the file again on HUP. If the terminal is gone, everything ends."""
         if self._was_terminal and not os.isatty(0):
             self.end()
             return
@@ -350,7 +350,7 @@ class Round:
             self.refuses("HUP", error)
 
     def _may_end(self) -> bool:
-        """Whether nobody waits for what is still hidden, or whoever ends it has been told of that."""
+        """Whether it may end now. If something is still hidden from spectators, says so, and refuses once."""
         self.broadcast.look()
         left = None if self._was_asked else self.broadcast.hidden_for
         if left is None:
@@ -360,7 +360,7 @@ class Round:
         return False
 
     def end(self) -> None:
-        """Ends all boards in order. A second call waits no longer for what is being published."""
+        """Ends all boards in order. A second call no longer waits for what is being published."""
         if self._ending:
             if self._left == 0:
                 self._loop.stop()
@@ -378,11 +378,11 @@ class Round:
             self._loop.after(0, self._all_ended)
 
     def _all_ended(self) -> None:
-        """The last text goes out."""
+        """Lets the last text go out."""
         self.broadcast.finish(self._loop.stop)
 
     def close(self) -> Tuple[int, List[str]]:
-        """When the loop has stopped: the last round.pgn, and the last lines. A status and complaints."""
+        """Writes the last round.pgn and the last lines, after the loop has stopped. Returns a status and complaints."""
         self._typed.close()
         complaints = [f"board {row.number}: {row.board.trouble}" for row in self.boards() if row.board.trouble]
         trouble = self._published.close()

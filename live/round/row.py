@@ -31,16 +31,16 @@ from live.round.table import RowView
 from live.terminal.screen import Screen
 from live.terminal.terminal import Terminal
 
-UNSAID = ("records ", "added by hand", "acknowledged: ", " has the cable ")  # below a table: its rows and the answers show that
+UNSAID = ("records ", "added by hand", "acknowledged: ", " has the cable ")  # not below a table: its rows and the answers show it
 NOT_RECORDED = "NOT RECORDED"
-BEGUN_ANEW = "is begun anew"  # where its line has changed
+BEGUN_ANEW = "is begun anew"  # if its line has changed
 TURNED, OTHER = "turned round?", "other board?"  # in a row, for a hint that has no room there
 
 
 @dataclass(frozen=True)
 class Hall:
-    """What all boards of a round have: the program, the folder of their games, the options of all games, how long a result
-    stands, where lines are printed, if they are, and how the games go out."""
+    """What all boards of a round share: the program, the folder of their games, the options of all games, how long a result
+    stands, where lines are printed, if anywhere, and how the games go out."""
 
     program: Program
     folder: str
@@ -51,23 +51,23 @@ class Hall:
 
 
 class HearsRow(Protocol):
-    """Who is told of a board of a round."""
+    """Gets the events of a board of a round."""
 
     def changed(self, number: int) -> None:
-        """What the row of this board shows is another."""
+        """The row of this board has changed."""
 
     def remade(self, number: int) -> None:
-        """The PGN of this board is another."""
+        """The PGN of this board has changed."""
 
     def owner(self, number: str) -> Optional[Board]:
         """The board that has this serial number."""
 
     def say(self, text: str) -> None:
-        """A line for whoever looks at the screen."""
+        """A line for the screen."""
 
 
 class RowScreen(Screen):
-    """What is told of one board: with its number to a pipe, and to whoever looks at its row."""
+    """Reports about one board, with its number: as lines of a pipe, or below the table."""
 
     def __init__(self, number: int, terminal: Optional[Terminal], hears: HearsRow) -> None:
         super().__init__(terminal)
@@ -84,7 +84,7 @@ class RowScreen(Screen):
         super()._print(f"{line[:10]}{self._number:>3}  {line[10:]}")
 
     def old(self, text: str) -> None:
-        """What was played before isn't told again: the table has the last move, and the log all."""
+        """Doesn't repeat what was played before: the table has the last move, and the log has all moves."""
 
     def move(self, text: str) -> None:
         super().say(text)
@@ -110,8 +110,8 @@ class RowScreen(Screen):
 
 
 def typed_options(hall: Hall, pairing: Pairing) -> Options:
-    """Those of a line, with those of all games, and with the tags of what is published. A name that can't be written in
-    ASCII is recorded as that of the board's White or Black."""
+    """The options of a line with those of all games, and with the published tags. A name that can't be written in ASCII is
+    recorded as `White 3` or `Black 3`, with the board's number."""
     options = Options.of_words(pairing.words(hall.options.words()))
     tags = {"Board": str(pairing.board)}
     if options.round not in (None, UNKNOWN) and "." not in (options.round or ""):
@@ -121,13 +121,13 @@ def typed_options(hall: Hall, pairing: Pairing) -> Options:
 
 
 def same_but_for_result(one: Pairing, other: Pairing) -> bool:
-    """Whether two lines have the same game, wherever they stand in their tables."""
+    """Whether two lines have the same game, wherever they are in their tables."""
     first, second = (dataclasses.replace(pairing, line=0, result="", remarks=()) for pairing in (one, other))
     return first == second
 
 
 def game_of_others(hall: Hall, pairing: Pairing) -> Optional[Options]:
-    """The options of the game of a line, where it has moves and the line would give it to two other players."""
+    """The options of a line's game if it has moves and the line would give it to two other players; else None."""
     paths = Paths(f"{hall.folder}/{pairing.file_name}")
     try:
         given = turned(typed_options(hall, pairing))
@@ -136,7 +136,7 @@ def game_of_others(hall: Hall, pairing: Pairing) -> Optional[Options]:
             return None
         return kept if game_of(hall.program, kept, files.existing(paths.capture)).plies else None
     except (Refused, OSError):
-        return None  # that its row will say
+        return None  # its row will say it
 
 
 class Row:
@@ -148,23 +148,23 @@ class Row:
         paths = Paths(f"{hall.folder}/{pairing.file_name}")
         self.board = Board(loop, hall.program, RowScreen(pairing.board, hall.terminal, hears), paths, self)
         self.board.called = f"board {pairing.board}"
-        self._device = ""  # as the line had it when the recording was begun
-        self._tags: Tuple[Optional[Pairing], Tags] = (None, {})  # of which line, and they
+        self._device = ""  # the line's device when the recording began
+        self._tags: Tuple[Optional[Pairing], Tags] = (None, {})  # a line, and its tags
         self._wants_result = True
 
     @property
     def number(self) -> int:
-        """That of its board."""
+        """The number of its board."""
         return self.pairing.board
 
     @property
     def name(self) -> str:
-        """What its files are called."""
+        """The name of its files."""
         return self.pairing.file_name
 
     @property
     def serial(self) -> str:
-        """The serial number of its board; nothing where none is known."""
+        """The serial number of its board, empty if unknown."""
         return self.board.number or self.pairing.serial
 
     # It is recorded, if it can be.
@@ -174,11 +174,11 @@ class Row:
         self.board.begin()
 
     def end(self, done: Callable[[], None]) -> None:
-        """Ends its recording in order, and calls this then."""
+        """Ends its recording in order, then calls this."""
         self.board.end(done)
 
     def wanted(self) -> Wanted:
-        """What its line says."""
+        """What to record, as its line says."""
         pairing, hall = self.pairing, self._hall
         has_cable = self.board.cable and pairing.device == self._device
         device = self.board.cable if has_cable else pairing.device
@@ -194,17 +194,17 @@ class Row:
         return Wanted(plan, lambda: Opening(hall.program, plan.paths, prepares, 0))
 
     def changed(self) -> None:
-        """What it shows is another."""
+        """What it shows has changed."""
         if self._wants_result and self.board.is_recorded:
             self._loop.after(0, self._apply_result)
         self._hears.changed(self.number)
 
     def remade(self) -> None:
-        """The text of its game is another."""
+        """The text of its game has changed."""
         self._hears.remade(self.number)
 
     def ended(self, why: Optional[Exception]) -> bool:
-        """Its recording has ended, or couldn't be begun: it is tried again, where the game isn't over."""
+        """Its recording has ended, or couldn't begin. It is tried again unless the game is over."""
         if why is None:
             self._loop.after(0, self._apply_result)
         return True
@@ -217,7 +217,7 @@ class Row:
     # Its line is read again.
 
     def take(self, pairing: Pairing) -> None:
-        """The line as it is now. Where it is another one the recording is begun anew, and the game goes on."""
+        """Takes the line as it is now. If it has changed, the recording begins anew, and the game goes on."""
         before, self.pairing = self.pairing, pairing
         self._wants_result = True
         if same_but_for_result(before, pairing):
@@ -230,7 +230,7 @@ class Row:
             self.board.try_at_once()
 
     def _apply_result(self) -> None:
-        """The result that the line has, where the game has none."""
+        """Adds the line's result if the game has none."""
         if not self._wants_result:
             return
         self._wants_result = False
@@ -242,41 +242,41 @@ class Row:
                 self._hears.say(f"{self.number}: {self.add(wanted)[1]}")
 
     def add(self, text: str) -> Answer:
-        """Adds a result or moves that were typed. An answer."""
+        """Adds a result or moves that were typed. Returns an answer."""
         return self.board.add(text)
 
     # What others see.
 
     def player_name(self, option: str) -> str:
-        """The name behind `--white` or `--black`."""
+        """The name for `--white` or `--black`."""
         return self.board.options.value(option) or (self.pairing.white if option == "--white" else self.pairing.black)
 
     @property
     def tags(self) -> Tags:
-        """Those that are published and not recorded, or that are published in other letters, as its line has them."""
+        """The tags of its line that are published but not recorded, or published in other letters."""
         if self._tags[0] is not self.pairing:
             self._tags = self.pairing, dict(typed_options(self._hall, self.pairing).tags)
         return self._tags[1]
 
     @property
     def in_front(self) -> str:
-        """What stands in front of a line that is typed for it."""
+        """The text before a line that is typed for it."""
         return f"{self.number} "
 
     def standing(self) -> Tuple[str, Optional[float], bool]:
-        """How it stands in words, since when, and whether somebody must look at it."""
+        """Its state in words, since when, and whether somebody must look at it."""
         front, rest, since, alarm = self._standing(self.board.state)
         return front + rest, since, alarm
 
     def whole_standing(self) -> str:
-        """How it stands in words, with all squares, and how long it has stood so where somebody must look at it."""
+        """Its state in words, with all squares; if somebody must look at it, also how long it has lasted."""
         state = self.board.state
         if state is None or self.board.trouble:
             return self.standing()[0]
         return state.text(self._loop.now(), len(SQUARES))
 
     def _standing(self, state: Optional[State]) -> Tuple[str, str, Optional[float], bool]:
-        """The words before how long it has stood so, and those after."""
+        """The same, with the words in two parts: before and after how long it has lasted."""
         board = self.board
         if board.trouble:
             return NOT_RECORDED, f": {board.trouble}", None, True
@@ -289,7 +289,7 @@ class Row:
         return (*state.parts(), None if state.kind is Kind.WAITS else state.since, state.is_alarm)
 
     def view(self) -> RowView:
-        """What its row shows. A hint was told in full as it came, and is two words here."""
+        """What its row shows. A hint was shown in full when it came, and is two words here."""
         state = self.board.state
         front, rest, since, alarm = self._standing(state)
         if state and state.hint and not (state.disk or self.board.trouble):

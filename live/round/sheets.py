@@ -29,7 +29,7 @@ class Sheet:
 
 
 def text_of(content: bytes) -> str:
-    """As spreadsheets save it: UTF-8 or UTF-16, with or without a byte order mark, else Latin-1 in the Windows form."""
+    """The text as spreadsheets save it: UTF-8 or UTF-16, with or without a byte order mark, else Latin-1 in the Windows form."""
     if content[:2] in (b"\xff\xfe", b"\xfe\xff"):
         return content.decode("utf-16", "replace")
     if b"\0" in content[:2]:  # half of a UTF-16 letter
@@ -83,7 +83,7 @@ def which(at: int) -> str:
 
 
 def fields_of(line: str, separator: str) -> Optional[List[str]]:
-    """None if its quotes are wrong."""
+    """The fields of a line; None if its quotes are wrong."""
     try:
         return [field.strip() for field in next(csv.reader([line], delimiter=separator, strict=True), [])]
     except csv.Error:

@@ -10,7 +10,7 @@ WIDTH = 80  # columns for which a row is made; names and state get those beyond
 NARROW = 72  # columns below which there are no clocks
 INDENT = " " * 4  # the space for a cable's name
 MESSAGES = 3  # lines that messages always have
-MOST_MESSAGES = 8  # and where there is room
+MOST_MESSAGES = 8  # lines that they have if there is room
 MOST_LISTED = 8  # boards, or ranges of boards, whose numbers are listed
 LONGEST_ROW = 3  # lines of a row that explains a trouble
 
@@ -112,7 +112,7 @@ def lines_are_wrong(number: int) -> str:
 
 
 def boards_are(numbers: Sequence[int]) -> str:
-    """Which boards there are, of their numbers in order: `the boards are 1 to 8`."""
+    """Which boards there are, from their numbers in order: `the boards are 1 to 8`."""
     if len(numbers) < 2:
         return f"the only board is {numbers[0]}" if numbers else "no line of the table is right"
     runs: List[List[int]] = []

@@ -1,10 +1,10 @@
-"""The report file of a tournament, TRF16, as FIDE has it: a line for each player, with a column for each letter. One
-round of it is taken. Pure.
+"""The report file of a tournament, FIDE's TRF16: a line for each player, with a column for each letter. One round of it
+is read. Pure.
 
 The boards are numbered in the order in which FIDE's rules for Swiss tournaments (C.04.2, D) have pairings published:
 by the score of the higher ranked player of a pair, then by the sum of both scores, then by the higher ranked player's
-number. Higher ranked is who has more points, and of equal ones the smaller number. The scores are those before the
-round.
+number. The player with more points is ranked higher; if the points are equal, the one with the smaller number. The
+scores are those before the round.
 """
 
 from __future__ import annotations

@@ -62,7 +62,7 @@ class Painter:
         self._write()
 
     def end(self, lines: Sequence[str]) -> None:
-        """The last lines, below the table."""
+        """Shows the last lines below the table."""
         self._waiting += b"\r\n" + b"".join(line.encode("utf-8", "replace") + b"\r\n" for line in lines)
         self._write()
 

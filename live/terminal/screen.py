@@ -1,4 +1,4 @@
-"""What is told of a game, with the time of day: to the screen and to NAME.log."""
+"""Reports about a game, with the time of day: on the screen and in NAME.log."""
 
 from __future__ import annotations
 
@@ -13,7 +13,7 @@ from live.terminal.terminal import Terminal
 INDENT = " " * 10
 NO_TIME = "--:--:--"
 PROMPT = "  > "
-LASTS = 10.0  # seconds between two writings of a state that only lasts
+LASTS = 10.0  # seconds between two writings of an unchanged state
 Clock = Callable[[], datetime.datetime]
 
 
@@ -22,20 +22,20 @@ class Screen:
 
     def __init__(self, terminal: Optional[Terminal], clock: Clock = datetime.datetime.now) -> None:
         self._terminal, self._clock = terminal, clock
-        self.on_change: Callable[[], None] = lambda: None  # at each move and each state
+        self.on_change: Callable[[], None] = lambda: None  # called at each move and each state
         self._log: Optional[Log] = None
         self._news: object = None
         self._last: Deque[str] = collections.deque(maxlen=3)  # the texts of the last lines
         self._state_at = datetime.datetime.min
 
     def keep(self, log: Optional[Log]) -> None:
-        """From here on the lines are kept in this log."""
+        """From now on the lines are written to this log."""
         if self._log:
             self._log.close()
         self._log = log
 
     def say(self, text: str, *more: str) -> None:
-        """A line, and those that belong to it."""
+        """Shows a line, and those that belong to it."""
         now = self._clock()
         self._last.append(text)
         self._print(f"{now:%H:%M:%S}  {text}")
@@ -45,11 +45,11 @@ class Screen:
             self._write(now, line)
 
     def old(self, text: str) -> None:
-        """A line of what was played before this call: nobody knows when."""
+        """Shows a line about what was played before this call, at an unknown time."""
         self._print(f"{NO_TIME}  {text}")
 
     def told(self, text: str, is_old: bool) -> None:
-        """A move, a correction or a result, of this call or from before it."""
+        """Shows a move, a correction or a result, of this call or from before it."""
         if is_old:
             self.old(text)
         else:
@@ -57,52 +57,51 @@ class Screen:
         self.on_change()
 
     def move(self, text: str) -> None:
-        """A move, a correction or a result of this call."""
+        """Shows a move, a correction or a result of this call."""
         self.say(text)
 
     def anew(self, pgn: str, text: str) -> str:
-        """What is told where the text of a game was made anew, and is another one."""
+        """The message that the text of a game was made anew and has changed."""
         return f"{pgn} is made anew: {text}"
 
     def turn(self, rotated: bool) -> str:
-        """What to do where the board lies the other way round than is said. The last line has room for no more."""
+        """What to do if the board lies the other way round than the option says. The last line has no room for more."""
         return f"Ctrl-C, start again {'without' if rotated else 'with'} --rotated"
 
     def ok(self) -> str:
-        """What is typed by who has looked at what he was to look at."""
+        """What to type to acknowledge an alarm."""
         return OK
 
     def reopens(self) -> str:
-        """What is typed where a result was typed for the wrong board."""
+        """What to type if a result was typed for the wrong board."""
         return REOPENS
 
     def other_device(self) -> str:
-        """What to do where the device that isn't there is another one than is meant."""
+        """What to do if the device that isn't there is the wrong one."""
         return "Ctrl-C, and see dgt_live --devices"
 
     def hint(self, text: str) -> None:
-        """What somebody is to look at: told where it is new, beside the state that says it too."""
+        """Shows a new hint, in addition to the state, which has it too."""
 
     def note(self, text: str) -> None:
-        """A line for the log alone."""
+        """Writes a line to the log alone."""
         self._write(self._clock(), text)
 
     def state(self, text: str, news: object) -> None:
-        """How the board stands, and what makes that another state than before: on a terminal the last line, elsewhere a line
-        for each other state."""
+        """Shows the board's state: as the last line of a terminal, elsewhere as a line each time that `news` changes."""
         is_news, self._news = news != self._news, news
         if is_news or (self._terminal and self._terminal.in_place):
             self._tell_state(self._clock(), text, is_news)
         self.on_change()
 
     def _tell_state(self, now: datetime.datetime, text: str, is_news: bool) -> None:
-        """Tells it where it is another, or has lasted for a while on a terminal."""
-        # A result that was just told as a line needs no second one.
+        """Shows it if it has changed; on a terminal, also after it has lasted for a while."""
+        # A result that was just shown as a line needs no second one.
         is_line = is_news and text not in self._last
         if is_line:
             self._write(now, text)
         if self._terminal and self._terminal.in_place:
-            # It lasts: what is typed below isn't disturbed each second.
+            # An unchanged state isn't written each second: that would disturb what is typed below.
             if is_news or abs((now - self._state_at).total_seconds()) >= LASTS:
                 self._state_at = now
                 self._terminal.state(f"{now:%H:%M:%S}  {text}{PROMPT}")

@@ -18,7 +18,7 @@ ERASE = b"\r\x1b[K"
 
 
 def open_standard_streams() -> None:
-    """If one of them is closed, the next opened file would take its number, and get the printed lines."""
+    """Opens those that are closed: otherwise the next opened file would take such a number, and get the printed lines."""
     for number in (0, 1, 2):
         try:
             os.fstat(number)
@@ -57,7 +57,7 @@ class Terminal:
         self._write()
 
     def state(self, text: str) -> None:
-        """The line below all others, if there is one."""
+        """Shows the state in the line below all others, if there is such a line."""
         if self.in_place and text != self._state:
             self._state = text
             if not self._stuck:

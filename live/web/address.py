@@ -26,20 +26,20 @@ class Address(NamedTuple):
 
     @property
     def text(self) -> str:
-        """As it stands in a URL."""
+        """The address as in a URL."""
         return f"[{self.host}]:{self.port}" if ":" in self.host else f"{self.host}:{self.port}"
 
 
 @dataclass(frozen=True)
 class Names:
-    """The names of this computer, in small letters. A page of somebody else may have its own name lead here, and would then be
-    let read what is served: so no other name is answered."""
+    """The names of this computer, in lower case. No other name is answered: somebody else's page may have its own name lead
+    here, and could then read what is served."""
 
     names: FrozenSet[str]
 
     def allow(self, host: Optional[str]) -> bool:
-        """Whether a request may name this host, perhaps with a port: an address in numbers, or one of the names. No browser
-        leaves it out, so that is allowed too."""
+        """Whether a request may name this host, perhaps with a port: an address in numbers, or one of the names. None is allowed
+        too, since browsers always name one."""
         if host is None:
             return True
         match = HOST.fullmatch(host)
@@ -54,7 +54,7 @@ class Names:
 
 @dataclass(frozen=True)
 class Door:
-    """Where a page is served, by which names it may be asked for, and the password that each reader must give, if any must."""
+    """Where a page is served, the names by which it may be asked for, and the password that readers must give, if any."""
 
     address: Address
     names: Names
@@ -70,7 +70,7 @@ def names_of(own: str, given: Iterable[str]) -> Names:
 
 
 def read_names(texts: Iterable[str]) -> Names:
-    """The names of this computer, and those of each `--page-host NAME[,NAME..]`. Refused where one is no name."""
+    """The names of this computer, and those of each `--page-host NAME[,NAME..]`. Refused if one isn't a name."""
     given = [name.strip().lower().rstrip(".") for text in texts for name in text.split(",")]
     for name in given:
         if len(name) > LONGEST_NAME or not NAME.fullmatch(name):
@@ -89,7 +89,7 @@ def _is_address(kind: Callable[[str], object], text: str) -> bool:
 
 def read_address(text: str, option: str = "--page") -> Address:
     """`8000` is port 8000 of this computer alone; `0.0.0.0:8000` is for all that can reach it; `[::1]:8000` has an IPv6
-    address. Refused with what to type where it is none of them."""
+    address. Refused, with what to type, if it is none of them."""
     match = SHAPE.fullmatch(text)
     if not match:
         raise _refused(option, text, "it is [ADDRESS:]PORT, as 8000 or 192.168.1.5:8000")
@@ -118,7 +118,7 @@ def _refused(option: str, text: str, reason: str) -> Refused:
 
 @dataclass(frozen=True)
 class Pages:
-    """Where the pages are served. Without a page for spectators the arbiter has his own where he asks for it."""
+    """Where the pages are served. Without a page for spectators the arbiter has one only if he asks for it."""
 
     spectators: Optional[Address] = None
     arbiter: Optional[Address] = None
@@ -130,7 +130,7 @@ class Pages:
 
 
 def read_pages(page: Optional[str], arbiter_page: Optional[str], hosts: Sequence[str]) -> Pages:
-    """What the options say. Refused where they say nothing that there is."""
+    """The pages that the options ask for. Refused if an option makes no sense."""
     return Pages(
         None if page is None else read_address(page),
         None if arbiter_page is None else read_address(arbiter_page, "--arbiter-page"),

@@ -1,5 +1,5 @@
-"""The two pages of a call: the spectators', at `--page`, and the arbiter's, on this computer alone unless `--arbiter-page` says
-where else, and then with a password."""
+"""The two pages of a call: the spectators', at `--page`, and the arbiter's. The arbiter's is on this computer alone, unless
+`--arbiter-page` says where else; then it has a password."""
 
 from __future__ import annotations
 
@@ -17,18 +17,18 @@ from live.web.round_page import ArbiterView, RoundPage
 from live.web.view import RoundView
 
 ANY_PORT = 0
-LETTERS = "abcdefghjkmnpqrstuvwxyz23456789"  # none that looks like another one
+LETTERS = "abcdefghjkmnpqrstuvwxyz23456789"  # none looks like another one
 PARTS, PART = 4, 4  # of a password: 79 bits
 
 
 def new_password() -> str:
-    """One that is easy to type and can't be guessed."""
+    """A password that is easy to type and can't be guessed."""
     return "-".join("".join(secrets.choice(LETTERS) for _ in range(PART)) for _ in range(PARTS))
 
 
 @dataclass(frozen=True)
 class Title:
-    """What stands above the boards."""
+    """What is shown above the boards."""
 
     event: str
     round: str = ""
@@ -36,12 +36,12 @@ class Title:
 
     @property
     def said(self) -> Tuple[Tuple[str, str], ...]:
-        """What is said beside the event."""
+        """What is shown in addition to the event."""
         return tuple((name, value) for name, value in (("round", self.round), ("late", self.late)) if value)
 
 
 class TwoPages:
-    """The pages, once they are served. Refused where one that was asked for can't be."""
+    """The pages of a call. Refused if one that was asked for can't be served."""
 
     def __init__(self, loop: Loop, pages: Pages, title: Title) -> None:
         self._title = title
@@ -51,7 +51,7 @@ class TwoPages:
         self.trouble: Callable[[str], None] = lambda text: None
 
     def _arbiters(self, loop: Loop, pages: Pages) -> RoundPage:
-        """Where nobody says where, it is at the next port of this computer alone, or at any that is free."""
+        """The arbiter's page. If no address is given, it is on this computer alone, at the next port or at any free one."""
         if pages.arbiter:
             self._password = "" if pages.arbiter.host in (HERE, "::1") else new_password()
             return RoundPage(loop, Door(pages.arbiter, pages.names, self._password), ARBITER)
@@ -62,7 +62,7 @@ class TwoPages:
         return RoundPage(loop, Door(Address(HERE, ANY_PORT), pages.names), ARBITER)
 
     def show(self, arbiter: ArbiterView, broadcast: Broadcast) -> None:
-        """From here on these are shown. What spectators see comes from the broadcast alone."""
+        """Shows these from now on. What spectators see comes from the broadcast alone."""
         title = self._title
         for page in self._all:
             page.trouble = self.trouble
@@ -77,12 +77,12 @@ class TwoPages:
         return [page for page in (self._spectators, self._arbiter) if page]
 
     def changed(self) -> None:
-        """A board is another than before."""
+        """A board has changed."""
         if self._arbiter:
             self._arbiter.changed()
 
     def told(self, what: str) -> List[str]:
-        """Where they are served, in lines."""
+        """Lines that say where they are served."""
         lines = [f"{what} is shown at {self._spectators.url}"] if self._spectators else []
         if self._arbiter and self._password:
             lines.append(f"the arbiter's page is at {self._arbiter.url}, with any name and the password {self._password}")

@@ -1,16 +1,16 @@
-"""A round on a page: what any browser shows of the boards, and what a broadcast fetches. It is read alone.
+"""A round on a page: what any browser shows of the boards, and what a broadcast fetches. It can only be read.
 
     door = Door(read_address("8000"), read_names([]))
-    page = Page(loop, door, SPECTATORS, trouble)  # Refused where nothing can be served there
+    page = Page(loop, door, SPECTATORS, trouble)  # Refused if nothing can be served there
     page.url                             # http://127.0.0.1:8000/
     page.show(RoundView(event, boards))  # at each change, as often as you like; it takes no time
     page.close()
 
-What is shown is a value; boards that haven't changed may be the same objects as before. Changes reach the readers at most ten
-times a second, the newest of them. `trouble` is told of errors that end one reader's connection and should never happen.
+What is shown is a value; boards that haven't changed may be the same objects as before. Readers get the newest state, at most
+ten times a second. `trouble` gets errors that end one reader's connection and should never happen.
 
-Served are `/` and its files, `/state.json`, `/round.pgn`, `/01.pgn` and so on by the boards' numbers, and `/events`: for each
-change a `round` (its boards' numbers) or a `board`, as `board_text` has it, and a `beat` with the time of day in between.
+It serves `/` and its files, `/state.json`, `/round.pgn`, `/01.pgn` and so on by the boards' numbers, and `/events`: for each
+change a `round` (its boards' numbers) or a `board`, as `board_text` has it, and in between a `beat` with the time of day.
 """
 
 from __future__ import annotations
@@ -30,7 +30,7 @@ from live.web.view import BoardView, Ply, RoundView, Shows, json_text, pgn_path,
 __all__ = ["BoardView", "Page", "Ply", "RoundView"]
 
 PAUSE = 0.1  # seconds between two changes that readers see
-BEAT = 2.0  # seconds, and up to a sweep more; a page that hears nothing for two of them says so (SILENT in page/stream.js)
+BEAT = 2.0  # seconds, and up to a sweep more; a page that hears nothing for two beats says so (SILENT in page/stream.js)
 RETRY = 1000  # milliseconds after which a browser connects again
 FOLDER = pathlib.Path(__file__).resolve().parent / "page"
 KINDS = {
@@ -39,7 +39,7 @@ KINDS = {
     ".css": "text/css; charset=utf-8",
     ".svg": "image/svg+xml",
 }
-PIECES = b"<!-- pieces.svg -->"  # in the page, where they are put in
+PIECES = b"<!-- pieces.svg -->"  # the place in the page where they are put in
 SHARED = ("boards.js", "card.js", "chess.js", "clock.js", "diagram.js", "game.js", "grid.js", "icon.svg", "names.js", "page.css",
           "pieces.svg", "source.js", "stream.js")  # fmt: skip
 PGN = "application/vnd.chess-pgn"
@@ -48,7 +48,7 @@ JSON = "application/json"
 
 @dataclass(frozen=True)
 class Site:
-    """Which page is served: the file that stands at `/`, and all others. A reader gets no file but these."""
+    """The files of a page: the one at `/`, and all others. A reader gets no other file."""
 
     index: str
     files: Tuple[str, ...]
@@ -59,7 +59,7 @@ SPECTATORS = Site("spectators.html", (*SHARED, "spectators.css", "spectators.js"
 
 
 class Shown:
-    """A board as readers have it from one change on."""
+    """A board as readers have it since a change."""
 
     def __init__(self, board: Shows, change: int, page: Page, before: Optional[Shown]) -> None:
         self.board, self.change = board, change
@@ -70,13 +70,13 @@ class Shown:
 
     @property
     def whole(self) -> bytes:
-        """All of it in JSON."""
+        """The whole board in JSON."""
         if not self._whole:
             self._whole = self.board.text(self._offset, None)
         return self._whole
 
     def event(self, is_news: bool) -> bytes:
-        """The event with all of it, or with what is new to those who had it before this change."""
+        """The event with the whole board, or with what is new to readers who had it before this change."""
         if not is_news or self._before is None:
             return event("board", self.whole, self._identifier)
         return event("board", self.board.text(self._offset, self._before), self._identifier)
@@ -88,10 +88,10 @@ class Page:
     def __init__(self, loop: Turns, door: Door, site: Site, trouble: Callable[[str], None]) -> None:
         self._loop = loop
         self.offset = time.time() - loop.now()
-        self.epoch = secrets.token_hex(4)  # an event of another call of the recorder is none of ours
+        self.epoch = secrets.token_hex(4)  # other calls of the recorder have other events
         self.header = b""
         self._change = self._change_before = 0  # the last change of the last publication, and of the one before it
-        self._news: Optional[bytes] = None  # what is new to those who have seen the one before it
+        self._news: Optional[bytes] = None  # what is new to readers who have seen the one before it
         self._boards: Dict[int, Shown] = {}  # by number, in the order of their changes
         self._round = RoundView("")
         self._next: Optional[RoundView] = None
@@ -108,17 +108,17 @@ class Page:
 
     @property
     def readers(self) -> int:
-        """How many connections there are."""
+        """The number of connections."""
         return len(self._server.readers)
 
     def now(self) -> float:
-        """The time of day, as it went on since the page is there."""
+        """The time of day, counted on from the page's beginning."""
         return self._loop.now() + self.offset
 
     # What is shown.
 
     def show(self, state: RoundView) -> None:
-        """From here on this is shown."""
+        """Shows this from now on."""
         self._next = state
         if self._publishes is None:
             wait = self._published_at + PAUSE - self._loop.now()
@@ -148,7 +148,7 @@ class Page:
                 self._boards[board.number] = Shown(board, self._change, self, before)
 
     def since(self, seen: int) -> Tuple[bytes, int]:
-        """The next events for a reader who has seen all up to this change, and the change up to which they go."""
+        """The next events for a reader who has seen everything up to this change, and the last change in them."""
         if seen == self._change_before:
             if self._news is None:
                 self._news = b"".join(shown.event(True) for shown in self._newer(seen))
@@ -176,7 +176,7 @@ class Page:
     # What is served.
 
     def content(self, path: str) -> Optional[Content]:
-        """What stands at this path, if anything does."""
+        """The content of this path, if any."""
         found = self._files.get(path) or self._made.get(path)
         if found is None:
             found = self._make(path)
@@ -195,7 +195,7 @@ class Page:
         return _content(PGN, board.pgn) if board else None
 
     def stream(self, path: str, last: str) -> Optional[Events]:
-        """The events, from the one after `last` on."""
+        """The events of this path, from the one after `last` on, if it has events."""
         if path != "/events":
             return None
         epoch, _, seen = last.partition("-")
@@ -210,7 +210,7 @@ class Page:
 
 
 class Events:
-    """The events for one reader, who has seen all changes up to one. A slow reader misses what was soon over."""
+    """The events for one reader, who has seen all changes up to one. A slow reader misses states that were soon over."""
 
     def __init__(self, page: Page, seen: int) -> None:
         self._page, self._seen = page, seen
@@ -245,7 +245,7 @@ def _files(site: Site) -> Dict[str, pathlib.Path]:
 
 
 def _read(file: pathlib.Path) -> bytes:
-    """A file as it is served: the pieces come with the page, so that no board is shown empty where another answer fails."""
+    """A file as it is served. The pieces come with the page, so no board is shown empty if another answer fails."""
     return file.read_bytes().replace(PIECES, (FOLDER / "pieces.svg").read_bytes() if file.suffix == ".html" else PIECES)
 
 

@@ -105,7 +105,7 @@ class Game(Protocol):
         """The board's state in words, since when, and whether it is an alarm."""
 
     def player_name(self, option: str) -> str:
-        """The name behind `--white` or `--black`."""
+        """The name for `--white` or `--black`."""
 
 
 class ArbiterView:
