@@ -56,10 +56,7 @@ export class Whose {
   }
 }
 
-/**
- * Whether `ok` gives the board on the cable to this game and takes it from its owner: a game with moves keeps its
- * board.
- */
+/** Whether `ok` gives the board on the cable to this game, and not to its owner: a game with moves keeps its board. */
 export function mayTake(owner, hasMoves) {
   return owner === null || !(owner.hasMoves || hasMoves);
 }

@@ -39,9 +39,7 @@ class Gap {
     this.isRestart = isRestart;
   }
 
-  /**
-   * Whether it is long enough for this many plies at the players' pace, or at three seconds each if that isn't known.
-   */
+  /** Whether it is long enough for this many plies at the players' pace, by default three seconds each. */
   isLong(plies, pace) {
     return this.seconds >= plies * Math.max(QUICKEST, pace === null ? PACE : pace);
   }
@@ -101,9 +99,7 @@ class Since {
     this.last = new Set(); // where the piece that moved last belongs
   }
 
-  /**
-   * Whether both sides have moved: the side to move has stood elsewhere and left again, or its opponent has moved on.
-   */
+  /** Whether both sides have moved: the side to move has stood elsewhere and left again, or its opponent moved on. */
   get byBoth() {
     const { own, others, again } = this;
     return (others.squares.size > 0 && own.left.size > 0) || (again.squares.size > 0 && own.squares.size > 0);
@@ -198,10 +194,7 @@ export class Doubts {
     return null;
   }
 
-  /**
-   * Returns an alarm if a move was reported only because a piece of the other side was drawn over the square where it
-   * belongs.
-   */
+  /** An alarm if a move was reported only because the other side's piece was drawn over the square where it belongs. */
   passes(now, picture) {
     const { passing, position } = this;
     this.passing = null;

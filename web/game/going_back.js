@@ -1,5 +1,4 @@
-// Takes plies, or a result, off a game, and checks that with the program. The capture is made anew; the old one is kept
-// beside it.
+// Takes plies or a result off a game, checked by the program. The capture is made anew; the old one is kept beside it.
 
 import { Asked, Refused } from './added.js';
 import { isSame, sansOf } from './adding.js';
