@@ -38,8 +38,7 @@ export class Line {
           if (value && value.length > 0) this.hears.heard(value);
         }
       } catch (error) {
-        // After a frame that was garbled on the line the port stays open, with another stream; a port that is gone has
-        // none.
+        // A frame garbled on the line leaves the port open, with another stream; a port that is gone has none.
       } finally {
         this.reader.releaseLock();
         this.reader = null;

@@ -80,10 +80,7 @@ export class Frames {
   }
 }
 
-/**
- * The frame that a board sends if it shows this picture: field by field, and field n of a rotated board is square 63 -
- * n.
- */
+/** The frame of a board that shows this picture: field by field; field n of a rotated board is square 63 - n. */
 export function dump(picture, rotated) {
   const size = SIZES[DUMP_ID];
   return Uint8Array.from([DUMP_ID, Math.floor(size / 128), size % 128, ...(rotated ? [...picture].reverse() : picture)]);

@@ -34,9 +34,7 @@ class Times {
 }
 
 export class Capture {
-  /**
-   * `kept(bytes)` is called with what is kept, in order, and `changed()` when nothing can be kept any more, or again.
-   */
+  /** `kept(bytes)` gets what is kept, in order; `changed()` is called when nothing can be kept any more, or again. */
   constructor(database, game, chunks, hears) {
     this.database = database;
     this.game = game;

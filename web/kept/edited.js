@@ -7,10 +7,7 @@ function partsOf(pgn) {
   return { tags: head.join('\n'), words: pgn.slice(end + 2).split(/\s+/).filter((word) => word).slice(0, -1) };
 }
 
-/**
- * Whether a text found instead of this one is an earlier text of the same game, so that replacing it loses nobody's
- * work.
- */
+/** Whether a text found instead of this one is an earlier text of the same game: replacing it loses nobody's work. */
 export function isEarlier(found, now) {
   if (!found) return true;
   const [before, after] = [partsOf(found), partsOf(now)];

@@ -1,5 +1,4 @@
-// The folder that somebody has chosen. Each file is first written as another one, and moved to its place when it is
-// whole.
+// The folder that somebody has chosen. Each file is written as another one, and moved to its place when it is whole.
 
 import { editedName, isEarlier } from './edited.js';
 
