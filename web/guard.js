@@ -1,8 +1,8 @@
 // A guard between one board and the rest of the page: an error in one board ends only that one.
 
 /**
- * The calls of a loop for one part. What a call throws ends this part: nothing of it is called any more, and `broke` is
- * told.
+ * The calls of a loop for one part. If a call throws, the part ends: no more of its calls are made, and `broke` gets
+ * the error.
  */
 export class Guard {
   constructor(loop, broke) {

@@ -1,5 +1,5 @@
-// The time, and what is called later. A timer runs in a worker of its own, since a browser lets those of a tab that
-// nobody sees wait for up to a minute, and a board is to be asked each second.
+// The time, and what is called later. A timer runs in a worker of its own: in a tab that nobody sees a browser lets
+// timers wait for up to a minute, and a board must be asked each second.
 
 const WAITS = 'onmessage = ({ data }) => setTimeout(() => postMessage(data.number), data.milliseconds);';
 
@@ -18,7 +18,7 @@ export class Loop {
     return (performance.timeOrigin + performance.now()) / 1000;
   }
 
-  /** Calls it once, so many seconds from now; `cancel` on what is returned takes that back. */
+  /** Calls it once, after this many seconds; `cancel` on what this returns takes that back. */
   after(seconds, call) {
     this.count += 1;
     const number = this.count;

@@ -1,8 +1,8 @@
 // Whether a board has differed from its game for too long. Pure: the time is passed in.
 //
-// - A game with moves, or whose start was shown, and the board hasn't agreed with it for 15 s, whatever moves.
-// - A start that was never shown: pieces are moved, and for 15 s the board comes no nearer to it. Then nobody is
-//   setting it up, and a game may be in play. While pieces are set up, fewer and fewer squares differ.
+// - If the game has moves, or its start was shown: the board hasn't agreed with it for 15 s, whatever pieces move.
+// - If the start was never shown: pieces are moved, and for 15 s the board comes no nearer to the start. Then nobody is
+//   setting it up, and a game may be in play. During a set-up, fewer and fewer squares differ.
 
 const LEFT_FOR = 15.0; // seconds
 
@@ -10,8 +10,8 @@ const LEFT_FOR = 15.0; // seconds
 export class Agreement {
   constructor() {
     this.hasAgreed = false; // whether the board has ever shown the game's position
-    this.since = Infinity; // when it left the game's position; or the first change since it came nearest to the start
-    this.fewest = Infinity; // squares that differed then
+    this.since = Infinity; // when it left the game's position, or the first change since it was nearest to the start
+    this.fewest = Infinity; // squares that differed at that time
   }
 
   /** The board shows the game's position. */
@@ -20,7 +20,7 @@ export class Agreement {
     this.since = Infinity;
   }
 
-  /** The board shows another picture, which differs on so many squares. */
+  /** The board shows a picture that differs on this many squares. */
   differs(now, squares) {
     if (!this.hasAgreed && squares < this.fewest) {
       this.since = Infinity;

@@ -34,7 +34,7 @@ export class Cable {
     return this.whose.own;
   }
 
-  /** That of the board on the cable, where it is another one. */
+  /** The serial number of the board on the cable, if it is another board. */
   get other() {
     return this.whose.isOther ? this.whose.shown : '';
   }
@@ -43,7 +43,7 @@ export class Cable {
     return this.connection !== null;
   }
 
-  /** Records from this port from here on. */
+  /** Records from this port from now on. */
   async begin(port) {
     this.close();
     this.port = port;
@@ -67,7 +67,7 @@ export class Cable {
     }
   }
 
-  /** Goes on with a connection that is open, from which this has come: [{ bytes, ended }]. */
+  /** Goes on with an open connection, which has brought this: [{ bytes, ended }]. */
   take(connection, came) {
     this.close();
     this.port = connection.port;
@@ -80,7 +80,7 @@ export class Cable {
     for (const { bytes, ended } of came) this.came(bytes, ended);
   }
 
-  /** This was added by hand. */
+  /** Bytes were added by hand. */
   added(bytes) {
     if (this.connection) this.connection.added(bytes);
   }
@@ -123,7 +123,7 @@ export class Cable {
     }
   }
 
-  /** From here on the board of this number is the game's. */
+  /** From now on the board with this number is the game's. */
   isOwn(number) {
     this.whose.own = number;
     if (this.connection) this.connection.asking.hasNumber = true;

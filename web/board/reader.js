@@ -1,36 +1,36 @@
-// Reads a capture by the program, whenever bytes of it came: its report, line by line, and its PGN.
+// Reads a capture with the program each time bytes come: its report, line by line, and its PGN.
 
 import { News, Newsworthy } from '../game/newsworthy.js';
 import { lineOf } from '../game/report.js';
 import { published } from '../game/tags.js';
 
-const PAUSES = 2; // times as long as a reading takes are between two that can wait, for each board
+const PAUSES = 2; // between two readings that can wait, for each board: this many times as long as a reading takes
 
 export class Reader {
   /**
-   * `hears`: options (of the game), hear(line) for each line that is new, heardAll() when all were heard, reread()
-   * where lines have changed that were heard before.
+   * `hears` has options (of the game), and gets hear(line) for each new line, heardAll() after them, and reread() if
+   * lines have changed that were heard before.
    */
   constructor(hall, guard, hears) {
     this.hall = hall;
     this.program = hall.program;
     this.guard = guard;
     this.hears = hears;
-    this.epoch = 0; // how often it was begun anew
+    this.epoch = 0; // how often it began anew
     this.known = 0; // lines that were heard
     this.isReading = false;
     this.readsAgain = false;
     this.readsLater = null;
-    this.took = 0; // seconds that the last reading took, which ended then
+    this.took = 0; // seconds that the last reading took; it ended at `readAt`
     this.readAt = 0;
   }
 
-  /** This is the capture from here on. All that it has may be read. */
+  /** Reads this capture from now on. All that it has may be read. */
   take(key, capture) {
     this.key = key;
     this.capture = capture;
     this.size = capture.size; // bytes that may be read
-    this.taught = null; // when the program was begun that has the capture
+    this.taught = null; // the epoch of the program that has the capture
     this.newsworthy = new Newsworthy();
   }
 
@@ -50,7 +50,7 @@ export class Reader {
     else if (news === News.CLOCK || this.hears.options.recover) this.readLater();
   }
 
-  /** Reads what can wait a little: so all boards together leave time for what can't. */
+  /** Reads later what can wait, so that all boards together leave time for what can't. */
   readLater() {
     if (this.readsLater) return;
     const due = this.readAt + PAUSES * this.hall.seats.size * this.took;
@@ -60,7 +60,7 @@ export class Reader {
     });
   }
 
-  /** Reads what is new; the newest state again after it. */
+  /** Reads what is new, and again if more has come meanwhile. */
   async read() {
     this.readsAgain = true;
     if (this.isReading) return;
@@ -99,7 +99,7 @@ export class Reader {
     await this.hears.heardAll();
   }
 
-  /** A program that was begun anew has no capture. */
+  /** Gives the program the capture, if it was begun anew and has none. */
   async teach() {
     if (this.taught !== this.program.epoch) {
       this.taught = this.program.epoch;
@@ -107,7 +107,7 @@ export class Reader {
     }
   }
 
-  /** The PGN of so many bytes, as it is published; of all where the limit is null. */
+  /** The published PGN of this many bytes; of all if the limit is null. */
   async text(limit) {
     const { options } = this.hears;
     await this.teach();

@@ -19,11 +19,11 @@ import { BoardState, Kind, TURNED_ROUND } from './state.js';
 import { Typing } from './typing.js';
 import { another, back as backAgain, mayTake } from './whose.js';
 
-const LINGER = 10.0; // seconds that a result stands before it ends the game
+const LINGER = 10.0; // seconds after which a result ends the game
 const SETTLES = 0.2; // seconds after which all lines of a byte have been heard
-const SURELY_SETTLES = 1.0; // and those where one that comes late would be taken for another
+const SURELY_SETTLES = 1.0; // the same, if a late line would be taken for another one
 const TICK = 1.0; // seconds between two looks at what waits
-const ROOM = 1 << 20; // bytes for what `recover` puts in: the program reads no more than LARGEST
+const ROOM = 1 << 20; // bytes for what `recover` adds: the program reads no more than LARGEST
 const SAID = [Kind.WRONG, Kind.NO_START]; // states that are reported as lines too
 const TOLD = ['move', 'result', 'differs', 'agrees'];
 
@@ -36,9 +36,9 @@ const Reason = {
 
 export class Recorder {
   /**
-   * `kept` is what the database has: { board, game, chunks }. `hears` is told: says(text), changed(), placed() where
-   * the PGN is another, owner(number), lends(number, heard), begun(game) where another game begins, keeps(before) where
-   * the capture was made anew, as it was before.
+   * `kept` is what the database has: { board, game, chunks }. `hears` gets says(text), changed(), placed() when the PGN
+   * has changed, begun(game) with the last game when another one begins, and keeps(before) with the old capture when a
+   * new one was made; it answers owner(number) and lends(number, heard).
    */
   constructor(hall, guard, kept, hears) {
     this.program = hall.program;
@@ -47,11 +47,11 @@ export class Recorder {
     this.hears = hears;
     this.board = kept.board;
     this.pgn = '';
-    this.made = null; // ends when the text is made that is wanted
+    this.made = null; // a promise that ends when the wanted text is made
     this.trouble = ''; // why it isn't recorded
     this.isStopped = false;
-    this.wasAway = false; // unplugged or silent, since it was heard last
-    this.gap = null; // for how long it wasn't heard, while the report is read anew
+    this.wasAway = false; // unplugged or silent since it was last heard
+    this.gap = null; // how long it wasn't heard, while the report is read anew
     this.isUnkept = false; // whether the game's record couldn't be kept
     this.isLate = false; // whether the next game couldn't be begun
     this.typing = new Typing(this);
@@ -62,7 +62,7 @@ export class Recorder {
     this.reread(true);
   }
 
-  /** This is the game from here on. */
+  /** Records this game from now on. */
   takeGame(game, chunks) {
     this.game = game;
     this.capture = new Capture(this.database, game.id, chunks, {
@@ -105,13 +105,13 @@ export class Recorder {
     this.cancelLingering();
     this.after = null;
     this.startAt = null; // where the start was last shown
-    this.starts = []; // where it was shown behind the game's end
+    this.starts = []; // where it was shown after the game's end
     this.isFirstReading = isFirst;
     this.wantText();
     this.reader.begin();
   }
 
-  /** All lines were heard. */
+  /** All lines have been heard. */
   async heardAll() {
     if (this.isOld) this.tellOld();
     if (this.isOver && this.starts.length > 0) await this.tryNext();
@@ -154,7 +154,7 @@ export class Recorder {
     if (change.kind === 'result') this.hearResult(change.outcome);
   }
 
-  /** A line of what came behind the end of the game. */
+  /** A line about what came after the end of the game. */
   hearAfter({ offset, event }, isOld) {
     if (event.kind === 'picture' && this.startAt === offset) this.starts.push(offset);
     if (!this.after) this.after = new AfterTheEnd(this.course.start, reached(this.course.plies), this.course.result);
@@ -162,7 +162,7 @@ export class Recorder {
     if (!isOld) this.tellLook(look ? this.alarms.add(look) : null);
   }
 
-  /** What was played earlier, and the board's last state, until the board shows itself. */
+  /** Takes over what was played earlier, and the board's last state until the board shows itself. */
   tellOld() {
     this.isOld = false;
     const now = this.guard.now();
@@ -296,7 +296,7 @@ export class Recorder {
 
   // Keeping.
 
-  /** Keeps the game's record. It is tried again where that fails. */
+  /** Keeps the game's record. If that fails, it is tried again. */
   keepGame() {
     this.database.putGame(this.game).then(
       () => {
@@ -309,7 +309,7 @@ export class Recorder {
     );
   }
 
-  /** Keeps something else beside the capture. A failure is reported. */
+  /** Keeps something besides the capture. A failure is reported. */
   keep(change) {
     change().catch((error) => this.hears.says(`the browser can't keep a change (${error.message}): make room on the disk`));
   }
@@ -331,7 +331,7 @@ export class Recorder {
     this.hears.changed();
   }
 
-  /** An alarm of the state is reported once. */
+  /** Reports an alarm of the state, once. */
   sayState() {
     const state = this.state.state(this.guard.now());
     const news = JSON.stringify([this.game.id, ...state.news]);
@@ -351,7 +351,7 @@ export class Recorder {
     });
   }
 
-  /** The text of the game as it is shown, which may still be being made. */
+  /** The text of the game as it is shown; waits while it is being made. */
   async text() {
     await this.made;
     return this.pgn;
@@ -426,7 +426,7 @@ export class Recorder {
     return endingWithSign(lines, found.size);
   }
 
-  /** The game's capture begins with the start, and what came after it: what was reported before was the set-up. */
+  /** Makes the game's capture begin with the start and what came after it: what was reported before was the set-up. */
   async beginAnew() {
     await this.typing.exclusively(async () => {
       if (this.startAt === null) return;
@@ -450,7 +450,7 @@ export class Recorder {
     });
   }
 
-  /** Begins the next game. If that fails, what comes is kept behind the game that is over. */
+  /** Begins the next game. If that fails, what comes is kept with the game that is over, after its end. */
   async tryNext() {
     try {
       await this.beginNext(this.starts[0]);
@@ -462,7 +462,7 @@ export class Recorder {
     }
   }
 
-  /** Somebody wants the next game, whatever is on the board. */
+  /** Somebody wants the next game, whatever the board shows. */
   async nextGame() {
     await this.typing.exclusively(async () => {
       if (!this.isOver) {
@@ -475,7 +475,7 @@ export class Recorder {
     });
   }
 
-  /** The last whole dump, since without one no update would count. */
+  /** The last complete dump: without one no update would count. */
   lastDump() {
     const content = this.capture.bytes();
     for (let at = content.length - SIZES[DUMP_ID]; at >= 0; at -= 1) {
@@ -506,7 +506,7 @@ export class Recorder {
 
   // What is put into the capture.
 
-  /** This is added by hand. */
+  /** Adds this by hand. */
   async add(put) {
     this.byHand = [this.capture.size, this.capture.size + put.length];
     this.capture.append(put, this.guard.now());
@@ -514,7 +514,7 @@ export class Recorder {
     await this.capture.write();
   }
 
-  /** The game ends with a result that was typed: with what was added last. */
+  /** Ends the game with a typed result: at the end of what was added last. */
   endTyped() {
     this.closeGame(this.byHand[1], Reason.TYPED);
   }
@@ -531,14 +531,14 @@ export class Recorder {
     this.capture.trouble = trouble;
     this.isRestart = false;
     this.showsItself = true;
-    this.wasAway = true; // the board may have been moved on meanwhile
+    this.wasAway = true; // pieces may have been moved meanwhile
     this.reread();
     this.cable.added(STRAY);
   }
 
   // What is edited.
 
-  /** Other options: names are tags alone; how the capture is read changes the game. */
+  /** Takes other options. Names change only tags; how the capture is read changes the game. */
   async edit(changes) {
     const options = { ...this.options, ...changes.options };
     if (options.rotated !== this.options.rotated && this.course.plies.length > 0) {

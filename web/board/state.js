@@ -26,7 +26,7 @@ export const Kind = {
 };
 const ALARMS = [Kind.WRONG, Kind.NO_START, Kind.SILENT, Kind.UNPLUGGED];
 
-/** So long, in words: `40 s`, `3 min`, `2 h 05 min`. */
+/** A duration in words: `40 s`, `3 min`, `2 h 05 min`. */
 export function lasting(seconds) {
   const whole = Math.max(0, Math.floor(seconds));
   if (whole < 120) return `${whole} s`;
@@ -50,16 +50,13 @@ export class State {
     return [Kind.WRONG, Kind.NO_START, Kind.IN_HAND].includes(this.kind) ? this.squares : [];
   }
 
-  /** What makes a state another one: it is told when this changes, and not when it only lasts. */
+  /** What makes a state news: it is reported when this changes, not when only time passes. */
   get news() {
     const { kind, result, hint, disk, look, squares } = this;
     return [kind, result, hint, disk, look, kind === Kind.WRONG ? squares : []];
   }
 
-  /**
-   * The state in words: those before how long it has lasted, and those after. Beyond a limit, squares are only
-   * counted.
-   */
+  /** The state in words: those before its duration, and those after. Beyond a limit, squares are only counted. */
   parts(mostListed = MOST_LISTED) {
     const words = this.squares.length <= mostListed ? this.squares.join(' ') : `${this.squares.length} squares`;
     let front = this.kind;
@@ -67,7 +64,7 @@ export class State {
     if (this.kind === Kind.RESULT) front += ` ${this.result}`;
     else if (words) rest = this.kind === Kind.IN_HAND ? ` ${words}` : `: ${words}`;
     if (this.hint.startsWith(TURNED_ROUND)) {
-      front = this.hint; // that says why it is being set up, and has no room beside it
+      front = this.hint; // this says why it is being set up, and leaves no room for the state
       rest = '';
     } else if (this.hint) {
       rest += `; ${this.hint}`;
@@ -95,9 +92,9 @@ export class BoardState {
     this.start = start; // of the game, for the hint on a board that lies the other way round
     this.turnedHint = turnedHint;
     this.look = ''; // the open alarms, in few words
-    this.since = 0; // of what was seen first, agreeing, or the first square that differs
+    this.since = 0; // when it was first seen, when it agreed, or when the first square differed
     this.seen = false;
-    this.squares = new Map(); // those that differ, and since when each has
+    this.squares = new Map(); // those that differ, and since when each one has
     this.changedAt = 0;
     this.settingUp = false;
     this.played = false;
@@ -108,11 +105,11 @@ export class BoardState {
     this.picture = null;
     this.replugged = false;
     this.hint = '';
-    this.isOld = false; // what was told is from before this call, and the board has shown nothing since
+    this.isOld = false; // what was reported is from before this recorder began, and the board has shown nothing since
     this.agreement = new Agreement();
   }
 
-  /** What the program makes of a picture. */
+  /** What the program reports about a picture. */
   told(now, event) {
     if (!event) return;
     if (event.kind === 'move') {
@@ -160,7 +157,7 @@ export class BoardState {
     this.replugged = false;
   }
 
-  /** The next reports are from before this call, until the board shows itself. */
+  /** The next reports are from before this recorder began, until the board shows itself. */
   goesOn() {
     this.isOld = true;
   }

@@ -10,19 +10,19 @@ import { gameOf } from '../game/reading.js';
 export class Typing {
   constructor(recorder) {
     this.recorder = recorder;
-    this.held = []; // what came while something is being put in
+    this.held = []; // what comes while something is being put in
     this.isHolding = false;
     this.last = Promise.resolve();
-    this.asked = ''; // what was asked before many plies would go
+    this.asked = ''; // the last question before many plies would go
   }
 
-  /** Whether this, which the board has sent, waits for something that is being put in. */
+  /** Holds back what the board has sent while something is being put in. Returns whether it does. */
   holds(heard) {
     if (this.isHolding) this.held.push(heard);
     return this.isHolding;
   }
 
-  /** Does it while nothing of what comes is taken: that waits, and nothing of it is shown meanwhile. */
+  /** Does this work while all that comes waits: none of it is taken or shown meanwhile. */
   exclusively(work) {
     const { recorder } = this;
     const done = this.last.then(async () => {
@@ -41,7 +41,7 @@ export class Typing {
     return done;
   }
 
-  /** What was typed in one line: { done, said }. An error in it ends nothing. */
+  /** Does what was typed in one line. Returns { done, said }; an error in it ends nothing. */
   async take(text) {
     const { recorder } = this;
     try {
@@ -58,7 +58,7 @@ export class Typing {
     }
   }
 
-  /** Puts it in. What was done. */
+  /** Puts it in. Returns what was done. */
   async put(typed) {
     const { recorder } = this;
     const { asked } = this;
@@ -90,7 +90,7 @@ export class Typing {
     return `${what}. What the board had sent is kept`;
   }
 
-  /** The result is taken off: the game goes on. */
+  /** Takes the result off: the game goes on. */
   async reopen(sent, shown) {
     const { recorder } = this;
     const shorter = (bytes) => withoutTypedResult(bytes, recorder.course.position, recorder.options.rotated);
@@ -103,7 +103,7 @@ export class Typing {
     return this.goBack(await withoutResult(recorder.program, recorder.options, { sent, shown, isOver: recorder.isOver }));
   }
 
-  /** Whether the board has taken the result of a game back after its end, as kings do that leave the centre. */
+  /** Whether the board has taken a result back after the game's end, as kings do when they leave the centre. */
   async wentOn(sent, shown) {
     const { program, options } = this.recorder;
     const [course, whole] = [await gameOf(program, options, sent), await gameOf(program, options, shown)];

@@ -1,11 +1,11 @@
-// What a card shows of a board, as values; in the shape that the page of a round has. Pure.
+// What a card shows of a board, as values, in the same form as on the page of a round. Pure.
 
 import { clocksOf } from '../game/course.js';
 import { NO_TIME } from '../game/clocks.js';
 import { written } from '../game/options.js';
 import { Kind, State, TURNED_ROUND } from './state.js';
 
-/** The clocks as they run; where no clock is there, each after its player's last move. */
+/** The clocks as they run; if there is no clock, each player's time after his last move. */
 function clocks(course) {
   const { clock } = course;
   return clock && clock.white !== NO_TIME ? [clock.white, clock.black] : clocksOf(course.plies);
@@ -33,7 +33,7 @@ export function mendOf({ kind, disk }) {
   return MENDS[kind] || '';
 }
 
-/** A game that isn't recorded now: in so many words, since nobody knows when. */
+/** A game that isn't recorded now: words alone, since nobody knows when that began. */
 export function resting(words, looks = '') {
   return { state: looks ? `${looks}; ${words}` : words, since: null, alarm: Boolean(looks), differing: [], mend: '' };
 }
@@ -49,7 +49,7 @@ export function viewOf(number, { options, name }, course, stands) {
     result: course.result,
     ratings: [written(options, 'WhiteElo'), written(options, 'BlackElo')],
     clocks: clocks(course),
-    runs: '', // the board itself reports each second of them
+    runs: '', // the board itself reports every second
     at: null,
     moves: plies.map(({ san, clock, corrects }) => ({ san, clock, kind: corrects ? 'correction' : 'move' })),
     positions: [...course.fens],

@@ -13,10 +13,10 @@ const WHERE = 'at the cable';
 /** Takes what a board says about itself. */
 export class Whose {
   constructor(own = '') {
-    this.own = own; // the number of the game's board, where it is known
+    this.own = own; // the number of the game's board, if known
     this.shown = ''; // the number of the board on the cable, if it has sent one since it was connected
-    this.askedAt = null; // when it was asked for first since it came
-    this.dumps = 0; // that have come since then
+    this.askedAt = null; // when it was first asked for since the connection
+    this.dumps = 0; // dumps since then
   }
 
   /** The line is open, and the number is asked for: any board may be on it. */
@@ -34,7 +34,7 @@ export class Whose {
     }
   }
 
-  /** A whole dump has come. */
+  /** A complete dump has come. */
   dumped() {
     this.dumps += 1;
   }

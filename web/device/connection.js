@@ -1,10 +1,10 @@
-// The connection to one board: its line, and when it is asked, as `asking` says.
+// The connection to one board: its line, and the requests that `asking` decides.
 
 import { Asking } from './asking.js';
 import { Line } from './line.js';
 
 export class Connection {
-  /** `hears` is told: came(bytes, ended), asked() where the board's number is asked for, silence(isSilent), lost(). */
+  /** `hears` gets came(bytes, ended), asked() when the board is asked for its number, silence(isSilent), lost(). */
   constructor(guard, port, hears) {
     this.guard = guard;
     this.port = port;
@@ -19,7 +19,7 @@ export class Connection {
     });
   }
 
-  /** Opens it, and asks. A Taken comes where it can't be opened. */
+  /** Opens it, and asks. Throws Taken if it can't be opened. */
   async open() {
     await this.line.open();
     if (this.closed) {
@@ -43,7 +43,7 @@ export class Connection {
     this.hears.lost();
   }
 
-  /** Sends what is due, and looks again when the next request is. */
+  /** Sends the request that is due, and calls itself again when the next one is. */
   ask() {
     if (this.closed) return;
     const now = this.guard.now();
@@ -73,7 +73,7 @@ export class Connection {
     }
   }
 
-  /** This was put into the capture by hand: it may have cut a frame, so the board is asked for a dump. */
+  /** Bytes were added to the capture by hand and may have cut a frame, so the board is asked for a dump. */
   added(bytes) {
     this.asking.added(bytes);
     this.ask();

@@ -7,7 +7,7 @@ const ROOM = 4096; // bytes that the browser keeps until they are read
 export class Taken extends Error {}
 
 export class Line {
-  /** `heard(bytes)` is called for what comes, and `lost()` once where the line goes away. */
+  /** `heard(bytes)` is called with what comes, and `lost()` once when the line goes away. */
   constructor(port, hears) {
     this.port = port;
     this.hears = hears;
@@ -38,7 +38,7 @@ export class Line {
           if (value && value.length > 0) this.hears.heard(value);
         }
       } catch (error) {
-        // A frame that was garbled on the line leaves the port open, with another stream; a port that is gone has none.
+        // A frame garbled on the line leaves the port open, with another stream; a port that is gone has none.
       } finally {
         this.reader.releaseLock();
         this.reader = null;
@@ -50,7 +50,7 @@ export class Line {
     }
   }
 
-  /** Sends this, where the line is there. */
+  /** Sends this, if the line is there. */
   write(bytes) {
     if (this.writer && !this.closed) this.writer.write(bytes).catch(() => {});
   }

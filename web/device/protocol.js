@@ -2,7 +2,7 @@
 // board's serial number. What the frames mean is the program's to say.
 
 export const DUMP_REQUEST = Uint8Array.of(0x42); // a board dump
-export const START_REQUEST = Uint8Array.of(0x42, 0x4b); // a board dump, then field updates, and times where they change
+export const START_REQUEST = Uint8Array.of(0x42, 0x4b); // a board dump, then field updates, and times when they change
 export const SERIAL_REQUEST = Uint8Array.of(0x45); // the board's serial number
 
 export const DUMP_ID = 0x86;
@@ -23,7 +23,7 @@ const KINDS = { [DUMP_ID]: 'dump', [UPDATE_ID]: 'update', [TIME_ID]: 'time' };
 
 const sizeOf = (frame) => frame[1] * 128 + frame[2];
 
-/** Whether the bytes are a frame or begin one, where all but the last are known to. */
+/** Whether the bytes are a frame or begin one, if all but the last are known to. */
 function begins(frame) {
   const [identifier] = frame;
   const last = frame[frame.length - 1];
@@ -38,9 +38,8 @@ function begins(frame) {
  * The frames of a stream, byte by byte.
  *
  * A frame is an identifier with its top bit set, two bytes with its size, and data; each byte after the first has its
- * top bit clear. A fault stands at the first byte with which the bytes since the frame's first can be no frame. A byte
- * with its top bit set begins the next one; any other byte is dropped, with those of its kind that follow, and they are
- * one fault.
+ * top bit clear. A fault is at the first byte that no frame can have at its place. If this byte has its top bit set, it
+ * begins the next frame. If not, it is dropped with those like it that follow: they are one fault.
  */
 export class Frames {
   constructor() {
@@ -54,7 +53,7 @@ export class Frames {
     return this.frame.length > 0;
   }
 
-  /** What ends with this byte: 'dump', 'update', 'time', 'other' or 'fault'; null where nothing does. */
+  /** What ends with this byte: 'dump', 'update', 'time', 'other' or 'fault'; null if nothing does. */
   take(byte) {
     const { frame } = this;
     if (byte >= 0x80) {
@@ -81,21 +80,20 @@ export class Frames {
   }
 }
 
-/** The frame that a board which shows this picture sends: by field, and field n of a rotated board is square 63 - n. */
+/** The frame of a board that shows this picture: field by field; field n of a rotated board is square 63 - n. */
 export function dump(picture, rotated) {
   const size = SIZES[DUMP_ID];
   return Uint8Array.from([DUMP_ID, Math.floor(size / 128), size % 128, ...(rotated ? [...picture].reverse() : picture)]);
 }
 
-/** The picture that a whole dump shows. */
+/** The picture that a complete dump shows. */
 export function pictureOfDump(frame, rotated) {
   const fields = [...frame].slice(HEADER);
   return rotated ? fields.reverse() : fields;
 }
 
 /**
- * The picture of a FEN, of its first field, or of a line of `pictures`. A RangeError comes where the text is none of
- * them.
+ * The picture of a FEN, of its first field, or of a line of `pictures`. Throws RangeError if the text is none of these.
  */
 export function pictureOfPlacement(text) {
   const codes = [];
@@ -117,9 +115,7 @@ export function pictureOfPlacement(text) {
   return codes;
 }
 
-/**
- * The serial number that a whole frame gives: five characters of ASCII that can be seen. Nothing where it gives none.
- */
+/** The serial number that a whole frame gives: five visible ASCII characters. Empty if it gives none. */
 export function serialOf(frame) {
   const number = [...frame].slice(HEADER);
   const isOne = frame[0] === SERIAL_ID && number.length === SERIAL_LENGTH && number.every((byte) => byte >= 0x21 && byte <= 0x7e);
@@ -136,7 +132,7 @@ export function same(one, other) {
   return one.length === other.length && one.every((code, at) => code === other[at]);
 }
 
-/** The parts one behind the other. */
+/** The parts, one after the other. */
 export function joined(...parts) {
   const whole = new Uint8Array(parts.reduce((length, part) => length + part.length, 0));
   let at = 0;

@@ -1,9 +1,9 @@
 // What an arbiter adds to a game: a result, or moves that no picture showed. Pure.
 //
 // Both become bytes in the capture, as if the board had shown them: dumps, and then one stray byte. So the game is
-// still what the program makes of the capture. The stray byte is a fault, after which no update counts up to the next
-// dump: what was added may have cut a frame of the board's, and need not be what stands on the board. A dump is to be
-// asked for at once.
+// still what the program makes of the capture. The stray byte is a fault, after which no update counts until the next
+// dump: the added bytes may have cut one of the board's frames, and the board may show something else. So a dump must
+// be requested at once.
 
 import { DUMP_ID, LETTERS, SIZES, SQUARES, dump, joined, pictureOfDump, pictureOfPlacement } from '../device/protocol.js';
 
@@ -14,9 +14,9 @@ const WAYS = 'Type 1-0, 0-1, 1/2-1/2, moves as Nf3 Nc6, back, *, ok or help';
 const ALL_WAYS = 'Type 1-0, 0-1, 1/2-1/2, moves (Nf3 Nc6), back (a ply off), back 14. Bxf6, * (no result) or ok';
 const HELPS = ['help', '?', 'undo'];
 const BACK = 'back';
-const OK = 'ok'; // acknowledges what somebody was to look at
-const REOPENS = '*'; // takes a typed result back
-const NOUGHTS = '0-0'; // a result, or castling that is typed with noughts
+const OK = 'ok'; // acknowledges the alarms
+const REOPENS = '*'; // takes a typed result off
+const NOUGHTS = '0-0'; // a result, or castling typed with noughts
 const BOTH_LOSE =
   `${NOUGHTS}: do both lose? PGN has no such result: leave the game without one, and note it. Castling is O-O`;
 
@@ -37,10 +37,10 @@ const LONGEST = 7; // characters of a move in SAN, as exd8=Q+
 /** What was typed isn't done. Its message says why, and what to type. */
 export class Refused extends Error {}
 
-/** What was typed takes much away: it is done where it is typed again. */
+/** What was typed would remove a lot: it is done if it is typed again. */
 export class Asked extends Refused {}
 
-/** Somebody wants to know what can be typed. */
+/** Somebody asks what can be typed. */
 export class Helped extends Refused {}
 
 const alone = (outcome) => `type ${outcome} alone, in a line of its own`;
@@ -48,8 +48,8 @@ const wordsIn = (text) => text.split(/\s+/u).filter((word) => word);
 
 /**
  * What was typed in one line: { kind: 'result', outcome }, { kind: 'moves', words }, { kind: 'back', number, san, all
- * }, or of the kind 'quit', 'acknowledged', 'reopened' or 'nothing'. Refused where it is none of these, and where it is
- * two of them, or where the game's own name stands behind a result: that may be spelt as a move is.
+ * }, or of the kind 'quit', 'acknowledged', 'reopened' or 'nothing'. Refused if it is none of these or two of them, or
+ * if the game's own name follows a result: the name may look like a move.
  */
 export function readWords(text, name = '') {
   const words = wordsIn(text.replace(/[–—]/g, '-'));
@@ -76,7 +76,7 @@ export function readWords(text, name = '') {
   return { kind: 'moves', words: moves.filter((move) => move) };
 }
 
-/** What stands behind `back`: nothing, 0, or a ply with its number, as the page shows it. */
+/** What follows `back`: nothing, 0, or a ply with its number, as the page shows it. */
 function readBack(words) {
   const text = words.join('').replaceAll('…', '...');
   if (!text) return { kind: 'back', number: '', san: '', all: false };
@@ -93,7 +93,7 @@ export function isResult(text) {
   return outcomeOf(wordsIn(text.replace(/[–—]/g, '-')).join('')) !== null;
 }
 
-/** What is told of a line with results in it, and with other words. */
+/** The message for a line that has results and other words. */
 function twoInOne(results, others) {
   const outcome = outcomeOf(results[0]);
   let areMoves;
@@ -109,14 +109,14 @@ function twoInOne(results, others) {
   return new Set(results.map(outcomeOf)).size === 1 ? alone(outcome) : 'two results in one line. Type one of them';
 }
 
-/** The result that is spelt so: 1-0, 1:0, 1/2, ½ ..; null where it is none. */
+/** The result with this spelling: 1-0, 1:0, 1/2, ½ ..; null if it is none. */
 function outcomeOf(word) {
   const dashed = word.replaceAll(':', '-');
   const outcome = Object.hasOwn(SPELT, dashed) ? SPELT[dashed] : dashed;
   return Object.hasOwn(SHOWN_ON, outcome) ? outcome : null;
 }
 
-/** The move of a word; nothing where the word is only its number. */
+/** The move of a word; empty if the word is only its number. */
 function readMove(word) {
   const numbered = NUMBER.exec(word);
   let move = (numbered ? word.slice(numbered[0].length) : word).replace(/[!?]+$/, '');
@@ -128,7 +128,7 @@ function readMove(word) {
   return move;
 }
 
-/** The beginning of a text, where it can be printed. */
+/** The beginning of a text, with only what can be printed. */
 function beginningOf(text) {
   const shown = printable(text.trim());
   return shown.length <= 20 ? shown : `${shown.slice(0, 20)}..`;
@@ -139,35 +139,32 @@ export function printable(text) {
   return [...text].map((letter) => (/^(?:[\p{L}\p{M}\p{N}\p{P}\p{S}]| )$/u.test(letter) ? letter : '?')).join('');
 }
 
-/** The move as it was typed, and with another mark at its end: a check may be left out, or be seen where none is. */
+/** The move as it was typed, and with other marks at its end: the mark of a check may be missing, or wrong. */
 export function spellings(move) {
   const bare = move.replace(/[+#]+$/, '');
   return [move, ...[bare, `${bare}+`, `${bare}#`].filter((spelt) => spelt !== move)];
 }
 
-/** Refused where the game's position has no legal move: mate or stalemate is its result, whatever is shown. */
+/** Refused if the game's position has no legal move: mate or stalemate is its result, whatever is shown. */
 export function checkResult(legalMoves) {
   if (legalMoves.length === 0) {
     throw new Refused('the game has ended on the board, by mate or stalemate: that is its result. Nothing was added');
   }
 }
 
-/** Shows the positions after the moves, one after the other; the stray byte comes behind what is put behind them. */
+/** Shows the positions after the moves, one after the other; the stray byte comes after what follows them. */
 export function dumpsOfMoves(fens, rotated) {
   return joined(...fens.map((fen) => dump(pictureOfPlacement(fen), rotated)));
 }
 
-/** Shows the kings in the centre over the game's position, and then the board as it stood last, where that is known. */
+/** Shows the kings in the centre over the game's position, and then the board's last picture, if known. */
 export function dumpsOfResult(outcome, gameFen, board, rotated) {
   const pictures = [signOfResult(outcome, pictureOfPlacement(gameFen))];
   if (board) pictures.push(board);
   return joined(...pictures.map((picture) => dump(picture, rotated)), STRAY);
 }
 
-/**
- * The position with its kings taken off and set into the centre: both on light squares for 1-0, both on dark ones for
- * 0-1.
- */
+/** The position with its kings moved into the centre: both on light squares for 1-0, both on dark ones for 0-1. */
 export function signOfResult(outcome, position) {
   const shown = [...position].map((code) => (KINGS.includes(code) ? EMPTY : code));
   KINGS.forEach((code, at) => {
@@ -177,9 +174,9 @@ export function signOfResult(outcome, position) {
 }
 
 /**
- * The result that a picture shows over a position; null where it is no sign over it: each king stands once in the
- * centre and nowhere else, and each square outside the centre shows what the position has, or nothing where the
- * position has a king.
+ * The result that a picture shows over a position; null if it is no sign over it. It is one if each king is in the
+ * centre once and nowhere else, and each square outside the centre shows what the position has, or nothing if the
+ * position has a king there.
  */
 export function outcomeOfSign(picture, position) {
   const kings = CENTRE.filter((square) => KINGS.includes(picture[square]));
@@ -192,9 +189,7 @@ export function outcomeOfSign(picture, position) {
   return [BLACK_WINS, DRAW, WHITE_WINS][kings.filter((square) => LIGHT.includes(square)).length];
 }
 
-/**
- * What a board has sent, without the bytes of a result that was added last, if one was: over this position of the game.
- */
+/** What a board has sent, without the bytes of a result that was added last, if any, over this position of the game. */
 export function withoutTypedResult(sent, position, rotated) {
   const size = SIZES[DUMP_ID];
   for (const dumps of [1, 2]) {

@@ -1,4 +1,4 @@
-// What an arbiter adds, with the program's help: the bytes for a capture, and what is refused.
+// What an arbiter adds, checked by the program: the bytes for a capture, and the refusals.
 
 import { dump, joined } from '../device/protocol.js';
 import { Asked, Refused, STRAY, checkResult, dumpsOfMoves, dumpsOfResult, printable, spellings } from './added.js';
@@ -11,7 +11,7 @@ const MOST = 100; // moves that may be added in one line
 export const sansOf = (plies) => plies.map((ply) => ply.san);
 export const isSame = (one, other) => one.length === other.length && one.every((word, at) => word === other[at]);
 
-/** The answer to what was typed, where that isn't done, or not yet. */
+/** The answer to what was typed, if that isn't done, or not yet. */
 export function refusal(text, error) {
   if (error instanceof Asked) return error.message;
   if (error.message.includes(text)) return `refused: ${error.message}`;
@@ -19,8 +19,8 @@ export function refusal(text, error) {
 }
 
 /**
- * The bytes to add to the game of these bytes, and what they are in words: { put, what }. Refused where the game would
- * be another one than is meant.
+ * The bytes to add to the game of these bytes, and their meaning in words: { put, what }. Refused if the game would
+ * become another one than is meant.
  */
 export async function addition(program, options, sent, typed) {
   const game = { program, options, sent, course: await gameOf(program, options, sent) };
@@ -45,7 +45,7 @@ async function ofResult({ program, options, sent, course }, outcome) {
   return put;
 }
 
-/** The bytes that play these moves, and the moves as they are spelt. */
+/** The bytes that play these moves, and the moves as spelt in SAN. */
 async function ofMoves({ program, options, sent, course }, words) {
   if (words.length > MOST) throw new Refused(`more than ${MOST} moves in one line`);
   const moves = sansOf(course.plies);
@@ -81,7 +81,7 @@ async function positions(program, options, moves) {
   return [fens, !wrong && fens.length !== moves.length + 1 ? "dgt_replay positions doesn't answer as it should" : wrong];
 }
 
-/** Who is to move after these moves, by the FENs of the start and of all positions up to there. */
+/** Who is to move after these moves, given the FENs of the start and of all positions so far. */
 function whoseMove(moves, fens) {
   if (fens.length === 0) return "the position isn't known";
   const [, side, , , , number] = fens[fens.length - 1].split(' ');

@@ -10,7 +10,7 @@ export function acknowledged(seen) {
   return seen ? `acknowledged: ${seen}` : 'there is no LOOK here';
 }
 
-/** Says of what is reported of a game whether somebody is to look at it. */
+/** Says for each report about a game whether somebody must look at it. */
 export class Alarms {
   constructor(course, open = []) {
     const { fens, plies, movedAt } = course;
@@ -18,10 +18,10 @@ export class Alarms {
     this.doubts = Doubts.goingOn(fens, last, movedAt);
     this.clock = new StoppedClock(hasRun(plies), last ? shortOf(last) : '');
     this.looks = new Looks(open);
-    this.since = new Map(); // at which byte each of this call came
+    this.since = new Map(); // the byte at which each newly reported alarm came
   }
 
-  /** The board wasn't heard for so long, and is heard again; or it was the recorder that was away. */
+  /** The board wasn't heard for this long, and is heard again; or it was the recorder that was away. */
   away(seconds, isRestart) {
     this.doubts.away(seconds, isRestart);
     this.clock.gone();
@@ -46,14 +46,14 @@ export class Alarms {
     return byHand ? null : this.add(look);
   }
 
-  /** This is to be looked at, if anything is: what is new of it. */
+  /** Adds an alarm, if any. Returns it if it is new. */
   add(look) {
     if (!look || this.looks.open.some((one) => JSON.stringify(one) === JSON.stringify(look))) return null;
     this.looks = this.looks.withOneMore(look);
     return look;
   }
 
-  /** The game has so many bytes. What came behind them was setting up, and nobody need look at it. */
+  /** The game has this many bytes. What came after them was a set-up, and alarms about it are dropped. */
   end(size) {
     this.looks = new Looks(this.looks.open.filter((look) => (this.since.get(look.what) || 0) < size));
   }

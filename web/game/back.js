@@ -1,17 +1,17 @@
-// The way back: with which ply a game ends, and the capture that is made anew of the plies that stay. Pure.
+// Going back: the ply with which a game is to end, and the new capture of the plies that stay. Pure.
 //
-// No rule of settling is changed for that, and nothing is cut out of a capture. The new one shows the positions of the
-// game one after the other, each one legal move from the one before it, as a board would; then the board as it stands.
+// The rules of settling are the same, and nothing is cut out of a capture. The new one shows the positions of the game
+// one after the other, each one legal move from the one before, as a board would; then the board as it is now.
 
 import { dump, joined, pictureOfPlacement } from '../device/protocol.js';
 import { Refused, STRAY } from './added.js';
 import { timeMessage } from './clocks.js';
 import { shortOf } from './report.js';
 
-const WITHOUT_A_QUESTION = 2; // plies that may go at once
+const WITHOUT_A_QUESTION = 2; // plies that may go without a question
 const SAME_MOVE = 4; // plies by which the same move counts as nearer
 
-/** A reading for each ply in which its player has the ply's clock; null where it has none. */
+/** A reading for each ply that gives its player the ply's clock; null if there is none. */
 export function readings(plies) {
   const last = ['', ''];
   return plies.map((ply) => {
@@ -25,8 +25,8 @@ export function readings(plies) {
 
 /**
  * The bytes of a board that shows what a game keeps: its plies, the positions at its start and after each, what the
- * clocks show now, and what the board shows, where that is known. The stray byte is a fault: a frame of the board's may
- * be under way. Without a ply it is a game that begins: the start is shown where the board shows it.
+ * clocks show now, and what the board shows, if known. The stray byte is a fault: one of the board's frames may be cut.
+ * Without a ply the game begins anew: the start is shown if the board shows it.
  */
 export function captureOf({ plies, fens, present, board }, rotated, blackFirst) {
   const pictures = fens.map((fen) => dump(pictureOfPlacement(fen), rotated));
@@ -37,9 +37,7 @@ export function captureOf({ plies, fens, present, board }, rotated, blackFirst) 
   return joined(...start, ...game, timeMessage(present, blackFirst), ...stands, STRAY);
 }
 
-/**
- * How many stay. Refused where there is nothing to take off, or where the game has no such ply: with the nearest one.
- */
+/** How many stay. Refused if there is nothing to take off, or if the game has no such ply: then with the nearest one. */
 export function pliesThatStay(plies, typed) {
   if (typed.all) return 0;
   if (plies.length === 0) throw new Refused('the game has no ply that could be taken off');
@@ -59,18 +57,18 @@ function bare(san) {
   return san.replace(/[+#]+$/, '');
 }
 
-/** The place of a ply, by its number: 14. or 14... */
+/** The index of a ply, by its number: 14. or 14... */
 function halfMoves(number) {
   return 2 * parseInt(number, 10) + (number.endsWith('...') ? 1 : 0);
 }
 
-/** How far a ply is from the one that was typed, in plies. A number is mistyped sooner than a move. */
+/** The distance of a ply from the typed one, in plies. A number is mistyped more often than a move. */
 function distance(ply, typed) {
   const far = Math.abs(halfMoves(ply.number) - halfMoves(typed.number));
   return bare(ply.san) === bare(typed.san) ? far - SAME_MOVE : far;
 }
 
-/** What is asked before so many go; nothing where they may go at once. */
+/** The question before so many plies go; empty if they may go at once. */
 export function question(gone) {
   const many = gone.length > WITHOUT_A_QUESTION;
   return many ? `takes off ${gone.length} plies, from ${shortOf(gone[0])}: type it again` : '';
@@ -86,7 +84,7 @@ export function reached(plies) {
   return plies.length > 0 ? shortOf(plies[plies.length - 1]) : 'the start';
 }
 
-/** What was done: `back to 14. Bxf6; taken off: 14... Qd7 15. Rd1`. The result was the one of before. */
+/** What was done: `back to 14. Bxf6; taken off: 14... Qd7 15. Rd1`. The result is the earlier one. */
 export function wordsOfBack(plies, stays, result) {
   const gone = plies.slice(stays);
   const parts = [`back to ${reached(plies.slice(0, stays))}`];
@@ -96,8 +94,8 @@ export function wordsOfBack(plies, stays, result) {
 }
 
 /**
- * What nobody need look at any more where only so many plies stay: those that are gone, and the moves since the last
- * one.
+ * The alarms that end if only so many plies stay: those about plies that are gone, and about moves since the last one
+ * that stays.
  */
 export function settled(plies, stays) {
   const gone = plies.slice(stays).map(shortOf);
@@ -105,7 +103,7 @@ export function settled(plies, stays) {
   return [...gone.map((ply) => `at ${ply}`), ...[reached(plies.slice(0, stays)), ...gone].map((ply) => `since ${ply}`)];
 }
 
-/** Whether a game that ended so went on to be this one, without its result. */
+/** Whether a game with this earlier end went on to become this one, without its result. */
 export function wentOn(plies, result, after, resultAfter) {
   const isFront = after.length >= plies.length && plies.every((ply, at) => ply.san === after[at].san);
   return result !== '*' && isFront && (resultAfter === '*' || after.length > plies.length);

@@ -1,4 +1,4 @@
-// The course of a game: what the program's report of it comes to. Pure: lines and times are passed in.
+// The course of a game, as the program reports it. Pure: lines and times are passed in.
 
 import { same } from '../device/protocol.js';
 import { PACE_OF } from './doubts.js';
@@ -8,24 +8,25 @@ import { codesOf } from './report.js';
 const STANDING = ['move', 'result', 'differs', 'agrees'];
 
 /**
- * The moves of a game with their positions, its result, what the board shows, and what the end of the game may ask for.
+ * The moves of a game with their positions, its result, what the board shows, and what is needed to find the end of the
+ * game.
  */
 export class Course {
   constructor(start) {
     this.start = start;
     this.plies = [];
-    this.fens = []; // of the start and after each ply, as far as they were reported
+    this.fens = []; // of the start and after each ply, as far as they are reported
     this.result = '*';
-    this.recovered = []; // the pairs that were put in
+    this.recovered = []; // the pairs that were recovered
     this.placement = ''; // what the board shows
-    this.clock = null; // what the clocks show, as far as it was reported
+    this.clock = null; // what the clocks show, as far as it is reported
     this.changedAt = -1; // the offset of the last line that changed the game
-    this.hasAgreed = false; // whether the board has stood as the game says
-    this.standsAgain = false; // whether the start has come to stand again with the last picture
-    this.stoodAgain = false; // whether it has before, since there are moves
+    this.hasAgreed = false; // whether the board has shown the game's position
+    this.standsAgain = false; // whether the last picture brought the start back
+    this.stoodAgain = false; // whether any picture has, since there are moves
     this.movedAt = []; // when the last moves came
-    this.news = []; // what was told of the game: its changes, and the pairs before them
-    this.stands = null; // how the board stood last
+    this.news = []; // the reported lines of the game: its changes, and the pairs before them
+    this.stands = null; // the board's last state
     this.kept = new Lines();
     this.startAgain = new StartAgain(start);
   }
@@ -69,12 +70,12 @@ export class Course {
     this.plies.push(change);
   }
 
-  /** What the board shows, where that is known. */
+  /** What the board shows, if known. */
   get board() {
     return this.placement ? codesOf(this.placement) : null;
   }
 
-  /** That of the game. */
+  /** The game's position. */
   get position() {
     return this.fens.length > 0 ? codesOf(this.fens[this.fens.length - 1].split(' ')[0]) : this.start;
   }
@@ -84,7 +85,7 @@ export class Course {
     return this.plies.length === 0 || (this.fens.length > this.plies.length && same(this.position, this.start));
   }
 
-  /** As few lines as say how the board stands. */
+  /** The fewest lines that give the board's state. */
   standing() {
     const last = this.plies.slice(-1);
     if (this.result !== '*') last.push({ kind: 'result', outcome: this.result });
@@ -92,7 +93,7 @@ export class Course {
     return last;
   }
 
-  /** The lines of the game, as far as its end may ask for them. */
+  /** The lines of the game, as far as its end may depend on them. */
   lines() {
     return this.kept.all();
   }

@@ -1,17 +1,17 @@
-// Whether what the program reports of a game may hide moves that nobody saw: then somebody is to look at it. Pure:
-// events and times are passed in. The reasons stand in live/game/doubts.py, whose rules these are.
+// Whether what the program reports of a game may hide moves that nobody saw: then somebody must look at it. Pure:
+// events and times are passed in. live/game/doubts.py has the same rules, and the reasons for them.
 
 import { same } from '../device/protocol.js';
 import { lookAt } from './looks.js';
 import { codesOf, shortOf } from './report.js';
 
-const LATE = 10.0; // seconds after its move, for a correction
-const STANDS_FOR = 0.1; // seconds after which a piece stands on a square: before that it may be drawn over it
-const PASSES = 0.15; // seconds in which a piece that is drawn over a square leaves it
-const STANDS_AGAIN = 1.0; // seconds for a piece that is moved on: one that is straightened may show beside its square
-export const PACE_OF = 8; // plies of which the pace is taken, and among which a position is looked for again
-const PACE = 3.0; // seconds that a ply takes where nobody knows it
-const QUICKEST = 1.0; // seconds that one takes at least
+const LATE = 10.0; // seconds after its move, beyond which a correction is late
+const STANDS_FOR = 0.1; // seconds after which a piece counts as standing on a square: until then it may be drawn over it
+const PASSES = 0.15; // seconds within which a piece that is drawn over a square leaves it
+const STANDS_AGAIN = 1.0; // seconds for a piece that is moved on: a piece that is straightened may show beside its square
+export const PACE_OF = 8; // plies that give the pace, and among which a repeated position is looked for
+const PACE = 3.0; // seconds for a ply if the pace isn't known
+const QUICKEST = 1.0; // the fewest seconds for a ply
 const SIDES = [(code) => code >= 1 && code <= 6, (code) => code >= 7 && code <= 12]; // pieces of White, and of Black
 
 const IS_LATE = 'it corrects a move late: moves may be missing';
@@ -24,7 +24,7 @@ export function isLate(seconds) {
   return seconds > LATE;
 }
 
-/** The one in the middle, or half way between two; null where there is none. */
+/** The one in the middle, or half way between two; null if there is none. */
 function median(numbers) {
   if (numbers.length === 0) return null;
   const sorted = [...numbers].sort((one, other) => one - other);
@@ -32,20 +32,21 @@ function median(numbers) {
   return sorted.length % 2 === 1 ? sorted[half] : (sorted[half - 1] + sorted[half]) / 2;
 }
 
-/** So many seconds in which the board wasn't heard, or in which the recorder was away. */
+/** The seconds in which the board wasn't heard, or in which the recorder was away. */
 class Gap {
   constructor(seconds, isRestart) {
     this.seconds = seconds;
     this.isRestart = isRestart;
   }
 
-  /** Whether the players take as long for so many plies; with no pace known, for as many at three seconds each. */
+  /** Whether it is long enough for this many plies at the players' pace, by default three seconds each. */
   isLong(plies, pace) {
     return this.seconds >= plies * Math.max(QUICKEST, pace === null ? PACE : pace);
   }
 
   /**
-   * Whether hurried players may have made as many plies in it as look like one move, or lead back to where they were.
+   * Whether hurried players may have made enough plies in it to look like one move, or to come back to the same
+   * position.
    */
   mayHide(isMove, pace, hasRepeated) {
     return this.isLong(isMove || hasRepeated ? 1 : 2, pace) && (hasRepeated || !this.isRestart);
@@ -68,11 +69,11 @@ class Stood {
   constructor(seconds = STANDS_FOR) {
     this.seconds = seconds;
     this.squares = new Set();
-    this.left = new Set(); // those of them that were left again
+    this.left = new Set(); // those that were left again
     this.since = new Map();
   }
 
-  /** From here on pieces are on these squares; they `stand` there already, or come there. */
+  /** From now on pieces are on these squares: with `stand` they have stood there already, otherwise they come there. */
   shows(now, squares, stand) {
     for (const [square, since] of this.since) {
       if (now - since >= this.seconds) {
@@ -88,23 +89,23 @@ class Stood {
   }
 }
 
-/** What has stood elsewhere since the last news, before the last picture. */
+/** Which pieces have stood elsewhere since the last news, before the last picture. */
 class Since {
   constructor() {
     this.own = new Stood(); // of the side to move
     this.others = new Stood(); // of the side that moved last
-    this.again = new Stood(STANDS_AGAIN); // of that side, where the piece that moved last was off
+    this.again = new Stood(STANDS_AGAIN); // of that side, while the piece that moved last wasn't where it belongs
     this.drawn = new Stood(); // the same, for a shorter time
     this.last = new Set(); // where the piece that moved last belongs
   }
 
-  /** Whether both sides have moved: the side to move has stood elsewhere and left it, or its opponent moved on. */
+  /** Whether both sides have moved: the side to move has stood elsewhere and left again, or its opponent moved on. */
   get byBoth() {
     const { own, others, again } = this;
     return (others.squares.size > 0 && own.left.size > 0) || (again.squares.size > 0 && own.squares.size > 0);
   }
 
-  /** Whether they have, if the piece that moved last doesn't stay where it belongs. */
+  /** Whether both have, if the piece that moved last doesn't stay where it belongs. */
   get perhaps() {
     return this.drawn.squares.size > 0 && this.own.squares.size > 0;
   }
@@ -115,31 +116,31 @@ class Since {
 }
 
 /**
- * Takes the events of a game in their order, and says which of them somebody is to look at. `away` is called where the
- * board is heard again: after an unplugged cable, a silence, or a restart of the recorder.
+ * Takes the events of a game in order, and says which of them somebody must look at. Call `away` when the board is
+ * heard again: after an unplugged cable, a silence, or a restart of the recorder.
  */
 export class Doubts {
   constructor() {
     this.position = null;
     this.before = null; // the position before the last move
-    this.side = 0; // that is to move, of SIDES
+    this.side = 0; // the side to move, in SIDES
     this.reached = []; // the last positions
     this.shown = null; // the last picture
     this.last = ''; // the last move, as `4... Qg4+`
     this.isNew = false; // the position after a move is still to come
     this.isOver = false; // the kings have shown a result, or the last move has given one
-    this.hasBegun = false; // the board has stood as the game says; before that the pieces are set up
-    this.movedAt = 0; // without the time in which the move was taken back
+    this.hasBegun = false; // the board has shown the game's position; until then the pieces are set up
+    this.movedAt = 0; // when the last move came; time in which it was taken back doesn't count
     this.takenBackAt = null;
     this.intervals = [];
     this.since = new Since();
     this.passing = null; // a move that is doubtful if the piece that moved before it leaves its squares at once
     this.gap = null; // since the last news
-    this.touched = false; // a piece of the side that moved last was in a hand since the gap
+    this.touched = false; // a piece of the side that moved last has been in a hand since the gap
     this.comesFirst = false; // the next picture is the first after it
   }
 
-  /** Of a game that goes on: by its positions, its last move, and when its last moves came. */
+  /** The doubts of a game that goes on: from its positions, its last move, and when its last moves came. */
   static goingOn(fens, last, movedAt) {
     const doubts = new Doubts();
     for (const fen of fens.slice(-PACE_OF - 1)) {
@@ -156,18 +157,18 @@ export class Doubts {
     return doubts;
   }
 
-  /** The seconds that a ply takes: the median of the last ones, null where there is none. */
+  /** The seconds for a ply: the median of the last ones; null if there is none. */
   get pace() {
     return median(this.intervals);
   }
 
-  /** Nothing was heard of the board for so long, and now it is heard again. */
+  /** Nothing was heard of the board for this long, and now it is heard again. */
   away(seconds, isRestart = false) {
     this.gap = new Gap((this.gap ? this.gap.seconds : 0) + seconds, isRestart);
     this.comesFirst = true;
   }
 
-  /** All is told of the board's first dump after it was away. Where that told nothing, it stands as before. */
+  /** The board's first dump after it was away is reported in full. If it brought no line, the board stands as before. */
   stands(now) {
     const isSame = this.shown && this.position ? same(this.shown, this.position) : this.shown === this.position;
     if (!this.comesFirst || !isSame) return null;
@@ -175,7 +176,7 @@ export class Doubts {
     return this.hear(now, null);
   }
 
-  /** The next event: what is to be looked at, if anything. */
+  /** The next event. Returns an alarm, if any. */
   take(now, event) {
     if (event.kind === 'picture') {
       const look = this.passes(now, codesOf(event.placement));
@@ -193,7 +194,7 @@ export class Doubts {
     return null;
   }
 
-  /** Whether a move was told only since a piece of the other side was drawn over the square where it belongs. */
+  /** An alarm if a move was reported only because the other side's piece was drawn over the square where it belongs. */
   passes(now, picture) {
     const { passing, position } = this;
     this.passing = null;
@@ -260,14 +261,14 @@ export class Doubts {
     return why ? lookAt(`${move ? 'at' : 'after'} ${this.last}`, why) : null;
   }
 
-  /** There is news: what was seen before it counts no more. */
+  /** There is news: what was seen before it no longer counts. */
   beginAnew() {
     this.gap = null;
     this.touched = false;
     this.since = new Since();
   }
 
-  /** Why the news is doubtful, if it is. */
+  /** Why the news is doubtful; empty if it isn't. */
   why(now, move) {
     const { since, gap, reached } = this;
     if (move && move.corrects) {

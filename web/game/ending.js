@@ -1,34 +1,34 @@
-// Where a game ended that has no result: before its pieces were set up for the next one.
+// Where a game without a result ended: before its pieces were set up for the next one.
 //
-// Pieces that are carried home look like moves as long as the picture of each is that of a legal move: the first one or
-// two may. Such a move brings a piece to a square of its own at the start, and is followed soon by the next piece. What
-// is drawn over the board may look like a move on its way too: it stands for a moment. A line is { offset, at, event },
+// Pieces that are carried home look like moves as long as each picture is that of a legal move: the first one or two
+// may be. Such a move brings a piece to one of its squares at the start, and the next piece follows soon. A piece that
+// is drawn over the board may look like a move on its way too: it stays for a moment. A line is { offset, at, event },
 // `at` in seconds.
 
 import { LETTERS, SQUARES, differing, same } from '../device/protocol.js';
 import { wordsOf } from './report.js';
 
-const ONE_MOVE_CHANGES = 4; // squares, at most: e4 that is taken back is no set-up
-const STANDS = 1.0; // seconds that the last move of a game stands, at least, before somebody sets up
-const HOME_STANDS = 3.0; // seconds that it does where it brought a piece home
+const ONE_MOVE_CHANGES = 4; // squares, at most: taking e4 back is no set-up
+const STANDS = 1.0; // seconds that the last move of a game stays, at least, before somebody sets up
+const HOME_STANDS = 3.0; // the same if it brought a piece home
 const TARGET = /^([KQRBN]?)[a-h]?[1-8]?x?([a-h][1-8])/;
 
 const moveOf = (line) => (line && line.event && line.event.kind === 'move' ? line.event : null);
 const isResult = (line) => Boolean(line.event) && line.event.kind === 'result';
 
 /**
- * The lines of a game, as far as its end may ask for them: of a square that chatters for hours a few are kept.
+ * The lines of a game, as far as its end may depend on them: if a square chatters for hours, only a few are kept.
  *
- * Behind each move these are asked for: the first two lines, for how soon hands went on; the last one that agrees with
- * the one after it, for how long the move stood; and the first result and the last.
+ * After each move these are needed: the first two lines, to see how soon hands went on; the last one that agrees and
+ * the one after it, to see how long the move stayed; and the first result and the last.
  */
 export class Lines {
   constructor() {
     this.count = 0;
     this.before = [];
-    this.first = []; // a move, and the two lines behind it
-    this.agreed = []; // the last one that agrees since, and the one after it
-    this.results = []; // the first one since, and the last
+    this.first = []; // a move, and the two lines after it
+    this.agreed = []; // the last one that agrees since then, and the one after it
+    this.results = []; // the first one since then, and the last
     this.last = [];
   }
 
@@ -50,31 +50,31 @@ export class Lines {
     this.last = [numbered];
   }
 
-  /** Those since the last move, and it. */
+  /** The move and the lines since then. */
   since() {
     const kept = new Map([...this.first, ...this.agreed, ...this.results, ...this.last]);
     return [...kept.keys()].sort((one, other) => one - other).map((number) => kept.get(number));
   }
 
-  /** Those that are kept, in their order. */
+  /** The kept lines, in order. */
   all() {
     return [...this.before, ...this.since()];
   }
 }
 
 /**
- * Where the game ended, after which the start stood again: { size, sure, dropped }, where `dropped` are lines that were
- * taken for setting up.
+ * Where the game ended after which the start was shown again: { size, sure, dropped }. `dropped` are the lines after it
+ * that were taken for a set-up.
  *
- * `lines` are those of the whole game and of the set-up after it, `start` is the picture at the game's start. From the
- * last move on backwards a line was setting up
+ * `lines` are those of the whole game and of the set-up after it, `start` is the picture at the game's start. Backwards
+ * from the last move, a line was part of the set-up
  *
- * - where it brought a piece home, and stood for less than 3 s;
- * - where it stood for less than 1 s, and hands went on at once; and it was the last move, or its ply is that of a line
- *   that was setting up: a piece was drawn.
+ * - if it brought a piece home and stayed for less than 3 s;
+ * - if it stayed for less than 1 s and hands went on at once; and it was the last move, or its ply is that of a line
+ *   that was part of the set-up: a piece was drawn.
  *
- * The game ends before these. But where its last move would have stood for less than 1 s it ends with the one of them
- * that stood longest, since nobody sets up so soon. Where no move would be left, all are kept.
+ * The game ends before these. But if its last move would have stayed for less than 1 s, it ends with the one of them
+ * that stayed longest, since nobody sets up so soon. If no move would be left, all are kept.
  */
 export function gameEnd(lines, start) {
   const moves = lines.flatMap((line, at) => (moveOf(line) ? [at] : []));
@@ -97,7 +97,7 @@ export function gameEnd(lines, start) {
   return { size: end.offset + 1, sure: dropped.length === 0 && !doubtful, dropped };
 }
 
-/** The end of a game, with the kings' result that was shown after its last move and before the next one was seen. */
+/** The end of a game, including a result that the kings showed after its last move and before the next one was seen. */
 export function endingWithSign(lines, size) {
   for (const line of lines) {
     if (line.offset >= size) {
@@ -108,9 +108,7 @@ export function endingWithSign(lines, size) {
   return size;
 }
 
-/**
- * For how long the board showed the position after a move, from the move on; a piece may have been lifted and set back.
- */
+/** How long the board showed the position after a move, from the move on; a piece may have been lifted and put back. */
 function stood(lines, at) {
   let last = at;
   for (let number = at + 1; number < lines.length && !moveOf(lines[number]); number += 1) {
@@ -119,7 +117,7 @@ function stood(lines, at) {
   return last + 1 < lines.length ? lines[last + 1].at - lines[at].at : Infinity;
 }
 
-/** Whether the last of these moves was setting up, as those after it were. */
+/** Whether the last of these moves was part of the set-up, as the moves after it were. */
 function setsUp(lines, moves, after, start) {
   const here = moves[moves.length - 1];
   const line = lines[here];
@@ -130,12 +128,12 @@ function setsUp(lines, moves, after, start) {
   return drawn && (after.length === 0 || plyOf(lines[after[0]]) === plyOf(line));
 }
 
-/** Whether hands went on at once after a change, and nobody thought with a piece in hand. */
+/** Whether hands went on at once after a change, and nobody was thinking with a piece in hand. */
 function goesOn(changes) {
   return changes.length < 2 || changes[1].at - changes[0].at < HOME_STANDS;
 }
 
-/** Whether a king that had castled was carried home, which shows as the rook's move alone. */
+/** Whether a castled king was carried home, which shows only as the rook's move. */
 function uncastles(line, before) {
   const move = moveOf(line);
   const castling = moveOf(before);
@@ -149,7 +147,7 @@ function plyOf(line) {
   return move ? move.number : '';
 }
 
-/** Whether a move brought a piece to a square on which one like it stands at the start. */
+/** Whether a move brought a piece to a square that has the same piece at the start. */
 export function goesHome(move, start) {
   const target = move && move.kind === 'move' ? TARGET.exec(move.san) : null;
   if (!target) return false;
@@ -158,7 +156,7 @@ export function goesHome(move, start) {
   return start[SQUARES.indexOf(target[2])] === LETTERS.indexOf(isBlack ? letter.toLowerCase() : letter);
 }
 
-/** Whether the start stands again after a game, by the pictures of the board. */
+/** Whether the start is shown again after a game, by the pictures of the board. */
 export class StartAgain {
   constructor(start) {
     this.start = start;
@@ -166,8 +164,8 @@ export class StartAgain {
   }
 
   /**
-   * Whether this picture ends the game, whose position has the picture `game`: where it is the start, the game doesn't
-   * stand there, and more than four squares were off the start since it stood there last.
+   * Whether this picture ends the game, whose position has the picture `game`. It does if it is the start, the game
+   * isn't at its start, and more than four squares were off the start since the start was last shown.
    */
   takes(picture, game) {
     if (!same(picture, this.start)) {

@@ -1,4 +1,4 @@
-// Takes plies, or a result, off a game, with the program's help. Its capture is made anew; the old one is kept beside.
+// Takes plies or a result off a game, checked by the program. The capture is made anew; the old one is kept beside it.
 
 import { Asked, Refused } from './added.js';
 import { isSame, sansOf } from './adding.js';
@@ -8,9 +8,9 @@ import { sideOf } from './options.js';
 import { gameOf, movetextOf } from './reading.js';
 
 /**
- * Back to the ply that was typed, of the game of the bytes `sent`, which may be over; it goes on with a board that has
- * sent `shown`, or with none. What comes of it is { course, stays, content, what }. Refused with what is to be typed; with a question,
- * where many plies would go and `asked` is another one than that.
+ * Back to the typed ply, in the game of the bytes `sent`, which may be over; the game goes on with a board that has
+ * sent `shown`, or with none. Returns { course, stays, content, what }. Refused with what to type; or with a question,
+ * if many plies would go and `asked` isn't that question.
  */
 export async function wayBack(program, options, { sent, shown, isOver }, typed, asked) {
   const course = await gameOf(program, options, sent);
@@ -24,14 +24,14 @@ export async function wayBack(program, options, { sent, shown, isOver }, typed, 
   return way;
 }
 
-/** All plies, without the result. Refused where there is none, and the game isn't over. */
+/** All plies, without the result. Refused if there is none and the game isn't over. */
 export async function withoutResult(program, options, { sent, shown, isOver }) {
   const course = await gameOf(program, options, sent);
   if (course.result === '*' && !isOver) throw new Refused('the game has no result');
   return checked(program, options, { sent, shown }, course, course.plies.length);
 }
 
-/** Refused where the new capture doesn't give the front of the game. */
+/** Refused if the new capture doesn't give the front of the game. */
 async function checked(program, options, { sent, shown }, course, stays) {
   const now = shown ? await gameOf(program, options, shown) : course;
   const kept = {

@@ -1,5 +1,5 @@
-// Names and dates as they are typed, turned into what a PGN text takes: a tag's value has at most 100 characters, each
-// a printable one of ASCII. A date is `2024.05.31`, with `?` for each digit that isn't known.
+// Typed names and dates, changed to what a PGN text allows: a tag's value has at most 100 characters, all printable
+// ASCII. A date is `2024.05.31`, with `?` for each unknown digit.
 
 import { printable } from './added.js';
 
@@ -24,11 +24,15 @@ const PARTS = [
   /^(?<year>[0-9?]{4})$/,
 ];
 
-/** What was typed can't be turned. Its message says why, behind what it is, and what to write. */
+/**
+ * What was typed can't be changed to PGN. The message says why, and what to write; the name of the value goes before
+ * it.
+ */
 export class Unreadable extends Error {}
 
 /**
- * A name in printable ASCII: `Jörg Müller` is `Joerg Mueller`, `José` is `Jose`; one that is in ASCII stays as it is.
+ * A name in printable ASCII: `Jörg Müller` becomes `Joerg Mueller`, `José` becomes `Jose`; an ASCII name stays as it
+ * is.
  */
 export function asciiName(text) {
   const letters = [...text.normalize('NFC')];
@@ -41,11 +45,11 @@ export function asciiName(text) {
 
 const isUpper = (letter) => /^[\p{Lu}\p{Lt}]$/u.test(letter);
 
-/** What is written for one character, or null where nothing is known for it. */
+/** What is written for one character, or null if nothing is known for it. */
 function written(letter, before, after) {
   if (letter >= ' ' && letter <= '~' && letter.length === 1) return letter;
   if (letter === '\t' || /^\p{Zs}$/u.test(letter)) return ' ';
-  if (/^\p{Cf}$/u.test(letter)) return ''; // it isn't seen: a soft hyphen, a mark of the direction
+  if (/^\p{Cf}$/u.test(letter)) return ''; // it can't be seen: a soft hyphen, a mark of the direction
   if (Object.hasOwn(SIGNS, letter)) return SIGNS[letter];
   const lower = letter.toLowerCase();
   if (Object.hasOwn(WRITTEN, lower)) {
@@ -73,10 +77,10 @@ export function dayOf(date) {
   return [date.getFullYear(), date.getMonth() + 1, date.getDate()].map((part) => String(part).padStart(2, '0')).join('.');
 }
 
-/** The date of its parts, where there is such a day. */
+/** The date with these parts, if there is such a day. */
 function dateOf(text, { year, month = '?', day = '?' }) {
   const parts = [year, padded(month), padded(day)];
-  // A leap year and a long month stand for those that aren't known.
+  // A leap year and a long month replace unknown ones.
   const [ofYear, ofMonth, ofDay] = parts.map((part, at) => (/^[0-9]+$/.test(part) ? Number(part) : [2000, 1, 1][at]));
   const isLeap = ofYear % 4 === 0 && (ofYear % 100 !== 0 || ofYear % 400 === 0);
   const days = [31, isLeap ? 29 : 28, 31, 30, 31, 30, 31, 31, 30, 31, 30, 31];
@@ -87,7 +91,7 @@ function dateOf(text, { year, month = '?', day = '?' }) {
   return parts.join('.');
 }
 
-/** A month or a day in two characters. */
+/** A month or a day, as two characters. */
 function padded(part) {
   return part === '?' ? '??' : part.padStart(2, '0');
 }

@@ -1,8 +1,8 @@
-// What bytes of a board may bring, before the program has read them: so a capture isn't read anew each second where
+// What a board's bytes may bring, before the program has read them: so a capture isn't read anew each second while
 // nobody moves a piece. Pure.
 //
-// A whole dump that is the same as the one before it, with no update and no fault between the two, brings no line of
-// `watch`. A time message brings a line for the clocks alone, which can wait a little.
+// A complete dump that equals the one before it, with no update and no fault in between, brings no line of `watch`. A
+// time message brings only a line for the clocks, which can wait a little.
 
 import { Frames, same } from '../device/protocol.js';
 
@@ -11,10 +11,10 @@ export const News = { NONE: 0, CLOCK: 1, BOARD: 2 };
 export class Newsworthy {
   constructor() {
     this.frames = new Frames();
-    this.dump = null; // the last whole dump, where nothing has come since that changes what it shows
+    this.dump = null; // the last complete dump, if nothing has come since that changes what it shows
   }
 
-  /** The most that these bytes, which come next, may bring. */
+  /** The most that the next bytes may bring. */
   take(bytes) {
     let news = News.NONE;
     for (const byte of bytes) {

@@ -1,18 +1,18 @@
-// The options of a game: how its board lies, how it begins, what its tags say; and which calls of the program are given
-// which.
+// The options of a game: how its board lies, how it begins, what its tags say; and which calls of the program get which
+// options.
 //
 // An option that isn't given is null: { rotated, first, fen, event, site, date, round, white, black, recover, began,
-// tags }. The day on which a game began is its date, where no other is given. `tags` are those of what is published
-// alone, or are published in other letters than they are recorded.
+// tags }. The day on which a game began is its date, unless another one is given. `tags` are those that are only
+// published, or published in other letters than recorded.
 
 import { Unreadable, asciiName } from './names.js';
 import { cleaned, isSeen, valueOf } from './tags.js';
 
 export const INITIAL = 'rnbqkbnr/pppppppp/8/8/8/8/PPPPPPPP/RNBQKBNR';
-export const UNKNOWN = '?'; // what PGN has for a tag that isn't known
+export const UNKNOWN = '?'; // PGN's value for an unknown tag
 const TAGS = ['event', 'site', 'date', 'round', 'white', 'black'];
 
-/** Those of a game of which nothing is said, with these. */
+/** The options of a game for which only these are given. */
 export function optionsOf(given = {}) {
   const none = { rotated: false, first: null, fen: null, recover: null, began: null, tags: {} };
   for (const tag of TAGS) none[tag] = null;
@@ -21,18 +21,18 @@ export function optionsOf(given = {}) {
 
 const valued = (options, names) => names.flatMap((name) => (options[name] === null ? [] : [`--${name}`, options[name]]));
 
-/** Those that `watch` and `recover` know. */
+/** The options that `watch` and `recover` have. */
 export function ofBoard(options) {
   return [...(options.rotated ? ['--rotated'] : []), ...valued(options, ['first', 'fen'])];
 }
 
-/** Those that `record` knows. */
+/** The options that `record` has. */
 export function ofRecord(options) {
   const dated = { ...options, date: options.date || options.began };
   return [...ofBoard(options), ...valued(dated, TAGS)];
 }
 
-/** The placement at the start. */
+/** The start position's placement. */
 export function startOf(options) {
   return (options.fen || INITIAL).split(' ')[0];
 }
@@ -40,14 +40,14 @@ export function startOf(options) {
 /** The option of a tag that is recorded: `White` is `white`. */
 const OPTION_OF = { Event: 'event', Site: 'site', Round: 'round', White: 'white', Black: 'black' };
 
-/** What is published for a tag, in the letters in which it was typed; nothing where it isn't given. */
+/** What is published for a tag, in the letters in which it was typed; empty if it isn't given. */
 export function written(options, name) {
   return options.tags[name] || (OPTION_OF[name] ? options[OPTION_OF[name]] : '') || '';
 }
 
 /**
- * The options with what was typed for a tag; nothing takes it out. A text that can't be written in ASCII is recorded as
- * `instead`, and published as it was typed. Malformed where the tag can't have it.
+ * The options with what was typed for a tag; an empty text takes the tag out. A text that can't be written in ASCII is
+ * recorded as `instead`, and published as it was typed. Throws Malformed if the tag can't have it.
  */
 export function withTag(options, name, typed, instead) {
   const value = valueOf(name, typed);

@@ -1,5 +1,5 @@
-// Where the lines of a capture with recovered pairs put in belong in the capture itself. Pure. A pair is { offset, text
-// }: its text, and the offset of the byte of the capture that confirmed it.
+// Where the lines of a capture with recovered pairs belong in the capture itself. Pure. A pair is { offset, text }: its
+// text, and the offset of the byte in the capture that confirmed it.
 
 import { DUMP_ID, SIZES, TIME_ID } from '../device/protocol.js';
 import { lineOf } from './report.js';
@@ -11,24 +11,23 @@ export function pairsIn(text) {
 }
 
 /**
- * The lines of what was read of a capture with pairs put in, with the offsets that they have in the capture. They come
- * in the order of their offsets. Before the first line that comes from a pair, and is none of a picture, stands the
- * pair.
+ * The lines of a capture with pairs added, with the offsets that they have in the capture, in order. Before the first
+ * line that comes from a pair, and isn't a picture, comes the pair.
  */
 export class Places {
   constructor(content, pairs) {
     this.content = content;
     this.pairs = pairs;
-    this.told = 0; // pairs
+    this.told = 0; // pairs that were reported
   }
 
-  /** The lines that this one makes. */
+  /** The lines that this line becomes. */
   of(line) {
     if (this.pairs.length === 0) return [line];
     const { offset, pair } = placeIn(this.content, this.pairs, line.offset);
     const here = { offset, event: line.event };
     if (!pair) return [here];
-    if (line.event.kind === 'picture') return []; // it was put in, and the last of them is what stood there before
+    if (line.event.kind === 'picture') return []; // it was added, and the last of these pictures is the one from before
     const number = this.pairs.indexOf(pair) + 1;
     const told = number > this.told ? [{ offset, event: { kind: 'recovered', text: pair.text } }] : [];
     this.told = Math.max(this.told, number);
@@ -36,9 +35,9 @@ export class Places {
   }
 }
 
-/** Where a byte comes from, of what `recover` has written with these pairs: { offset, pair }. */
+/** Where a byte comes from in what `recover` has written with these pairs: { offset, pair }. */
 export function placeIn(content, pairs, offset) {
-  let more = 0; // bytes that were put in so far
+  let more = 0; // bytes that were added so far
   for (const pair of pairs) {
     const begins = pair.offset + 1 + more;
     if (offset < begins) break;
@@ -50,8 +49,8 @@ export function placeIn(content, pairs, offset) {
 }
 
 /**
- * How many bytes were put in where this is the first of them: three dumps; and a time before and behind two of them,
- * where the moves were made at another time than the last one.
+ * How many bytes were added, if this is the first of them: three dumps; and a time before and after two of them, if the
+ * moves were made at another time than the last one.
  */
 export function putIn(first) {
   return 3 * SIZES[DUMP_ID] + (first === TIME_ID ? 2 * SIZES[TIME_ID] : 0);

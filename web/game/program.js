@@ -19,14 +19,14 @@ function linesIn(output) {
 }
 
 export class Program {
-  /** `code` is the worker's, `module` the program under gzip in base64. */
+  /** `code` is the worker's code, `module` the program under gzip in base64. */
   constructor(code, module) {
     this.code = code;
     this.module = module;
     this.count = 0;
     this.calls = new Map();
     this.worker = null;
-    this.epoch = 0; // how often it was begun: each time no capture is known to it
+    this.epoch = 0; // how often it was begun; each time it knows no capture
   }
 
   /** Has it compiled. */
@@ -80,12 +80,12 @@ export class Program {
     return this.call('forget', { key });
   }
 
-  /** The report of a capture behind the lines that are known: { from, lines, size }. */
+  /** The report of a capture after the lines that are known: { from, lines, size }. */
   watch(key, known, options) {
     return this.call('watch', { key, known, words: ofBoard(options), recovers: Boolean(options.recover) });
   }
 
-  /** The PGN of a capture, or of so many bytes of it. */
+  /** The PGN of a capture, or of this many bytes of it. */
   record(key, limit, options) {
     const recovers = Boolean(options.recover);
     return this.call('record', { key, limit, board: ofBoard(options), words: ofRecord(options), recovers });
@@ -98,7 +98,7 @@ export class Program {
     return this.call('run', { words, input });
   }
 
-  /** What it writes. A ProgramError comes where it fails. */
+  /** What it writes. Throws ProgramError if it fails. */
   async output(words, input) {
     const { status, output } = await this.run(words, input);
     if (status !== 0) throw new ProgramError(`${words[0]} ended with status ${status}`);
@@ -117,7 +117,7 @@ export class Program {
     return [linesIn(output), status === 0 ? '' : new TextDecoder().decode(errors).trim()];
   }
 
-  /** What a game is read from: what the board sent, and the pairs that `recover` puts in, where that is asked for. */
+  /** What a game is read from: what the board sent, with the pairs that `recover` adds if that is asked for. */
   async whole(options, sent) {
     return options.recover ? this.output(['recover', ...ofBoard(options)], sent) : sent;
   }

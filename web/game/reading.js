@@ -1,4 +1,4 @@
-// The course of a game of given bytes, and its movetext: by calls of the program.
+// The course of a game of given bytes, and its movetext, by calls of the program.
 
 import { pictureOfPlacement } from '../device/protocol.js';
 import { Course } from './course.js';
@@ -6,7 +6,7 @@ import { ofBoard, ofRecord, startOf } from './options.js';
 import { lineOf } from './report.js';
 import { published } from './tags.js';
 
-/** That of a game of which nothing is reported yet. */
+/** The course of a game of which nothing is reported yet. */
 export function newCourse(options) {
   return new Course(pictureOfPlacement(startOf(options)));
 }
@@ -27,7 +27,7 @@ export async function textOf(program, options, sent) {
   return published(new TextDecoder().decode(await program.output(['record', ...ofRecord(options)], whole)), options.tags);
 }
 
-/** The words of the moves in the PGN of these bytes, with the result behind them. */
+/** The words of the moves in the PGN of these bytes, and the result after them. */
 export async function movetextOf(program, options, sent) {
   const pgn = (await program.lines(['record', ...ofRecord(options)], await program.whole(options, sent))).join('\n');
   return pgn.slice(pgn.indexOf('\n\n') + 2).split(/\s+/).filter((word) => word);

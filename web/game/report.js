@@ -1,16 +1,15 @@
-// What the program reports of a game: the lines of `watch`, and the pairs of `recover`, each read here and nowhere
-// else.
+// What the program reports of a game: the lines of `watch`, and the pairs of `recover`. They are read only here.
 //
 // An event is one of
 //   { kind: 'move', number: '12...', san, clock, corrects }  a picture settled a move, or corrected the last one
-//   { kind: 'result', outcome }                              the result has become this one; `*` where there is none any more
+//   { kind: 'result', outcome }                              the result is now this; `*` if there is none any more
 //   { kind: 'differs', squares }                             the picture differs from the position on these squares
-//   { kind: 'agrees' }                                       the picture is that of the position
+//   { kind: 'agrees' }                                       the picture shows the position
 //   { kind: 'fault', what }                                  bytes that are no frame
 //   { kind: 'picture', placement }                           a trusted picture that differs from the one before
 //   { kind: 'position', fen }                                the position that the game has reached
-//   { kind: 'clock', white, black }                          both clocks show another time than before
-//   { kind: 'recovered', text }                              two moves that no picture showed were put in
+//   { kind: 'clock', white, black }                          what the clocks show has changed to this
+//   { kind: 'recovered', text }                              two moves that no picture showed were added
 
 import { pictureOfPlacement } from '../device/protocol.js';
 
@@ -35,7 +34,7 @@ export function shortOf(move) {
   return `${move.number} ${move.san}`;
 }
 
-/** What is told of a move, a result or a pair: `12. Nf3  1:12:07`, `correction 12. Nf3  1:12:07`. */
+/** A move, a result or a pair, as it is shown: `12. Nf3  1:12:07`, `correction 12. Nf3  1:12:07`. */
 export function shownOf(event) {
   if (event.kind === 'move') {
     return (event.corrects ? 'correction ' : '') + [shortOf(event), event.clock].filter((part) => part).join('  ');
@@ -43,7 +42,7 @@ export function shownOf(event) {
   return event.kind === 'recovered' ? event.text : wordsOf(event);
 }
 
-/** The event of a line, of its words behind the offset; null where it is none. */
+/** The event of a line, from its words after the offset; null if it is none. */
 export function eventOf(words) {
   const at = words.indexOf(' ');
   const kind = at < 0 ? words : words.slice(0, at);
@@ -63,7 +62,7 @@ export function eventOf(words) {
 }
 
 /**
- * A line of `watch`, `follow` or `recover`: { offset, event }. Null for its last one, `rest N`, and for whatever else.
+ * A line of `watch`, `follow` or `recover`: { offset, event }. Null for the last line, `rest N`, and for anything else.
  */
 export function lineOf(text) {
   const match = /^([0-9]{1,15}) ([^]*)$/.exec(text);

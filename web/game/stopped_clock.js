@@ -11,7 +11,7 @@ import { shortOf } from './report.js';
 const RUNS = 0x01; // bits of the status
 export const NO_CLOCK = 0x20;
 const ACKNOWLEDGES = 10;
-const STOOD_FOR = 3.0; // seconds: a move that a player made before he stopped the clock may be seen after it, by the next dump
+const STOOD_FOR = 3.0; // seconds: a move from before the clock was stopped may be seen only after it, with the next dump
 const ABOUT_THE_CLOCK = 'clock';
 
 /** Whether the clock runs, by the seven bytes of a time message; null if they don't say. */
@@ -29,9 +29,9 @@ export function hasRun(plies) {
 }
 
 /**
- * Counts the moves of a game that are made one after the other while its clock is stopped, once it has run in this game.
- * They count from the one on that is seen after the stop; but they are an alarm only where the last one comes STOOD_FOR
- * after it.
+ * Counts the moves of a game that are made one after the other while its clock is stopped, once it has run in this
+ * game. They count from the first one that is seen after the stop; but they are an alarm only if the last one comes
+ * STOOD_FOR after the stop.
  */
 export class StoppedClock {
   constructor(hasRunBefore = false, last = '') {

@@ -1,12 +1,12 @@
-// The tags of a game as it is published, in UTF-8: which there are, what their values may be, and the text with them.
+// The tags of a published game, in UTF-8: which tags there are, what values they may have, and the text with them.
 // Pure.
 //
-// `record` writes seven tags in ASCII, and its movetext is taken over as it is, under tag pairs that are written anew.
+// `record` writes seven tags in ASCII. Its movetext stays as it is, after tag pairs that are written anew.
 
-const ROSTER = ['Event', 'Site', 'Date', 'Round', 'White', 'Black', 'Result']; // the first ones, in their order
-const OF_PLAYER = ['Title', 'Elo', 'FideId', 'Team', 'Fed', 'USCF', 'NA', 'Type']; // behind White and Black
-// The others of the PGN standard and those that broadcasts have added; those that the game itself says are not among
-// them.
+const ROSTER = ['Event', 'Site', 'Date', 'Round', 'White', 'Black', 'Result']; // the first tags, in order
+const OF_PLAYER = ['Title', 'Elo', 'FideId', 'Team', 'Fed', 'USCF', 'NA', 'Type']; // after White and Black
+// The other tags of the PGN standard and those that broadcasts have added; but not those that come from the game
+// itself.
 const OTHERS = [
   ...['White', 'Black'].flatMap((side) => OF_PLAYER.map((name) => side + name)),
   ...['Board', 'TimeControl', 'EventDate', 'EventSponsor', 'EventType', 'EventRounds', 'EventCountry', 'Section', 'Stage'],
@@ -17,19 +17,19 @@ const BY_NAME = new Map([...ROSTER.slice(0, -1), ...OTHERS].map((name) => [name.
 const GAME_SAYS = ['Result', 'FEN', 'SetUp', 'PlyCount', 'Termination', 'Variant'];
 const LONGEST_VALUE = 255; // characters of a value, as PGN has it
 const TITLES = ['GM', 'IM', 'FM', 'CM', 'WGM', 'WIM', 'WFM', 'WCM', 'AGM', 'AIM', 'AFM', 'ACM', 'NM', 'WNM', 'LM'];
-const NONE = ['', '-', '0']; // what pairing programs write for a player without a rating, a title or a FIDE id
+const NONE = ['', '-', '0']; // what pairing programs write if a player has no rating, title or FIDE id
 const HIGHEST_RATING = 3999;
-const JOINERS = '\u200c\u200d'; // they aren't seen, and Persian and Indian scripts need them
+const JOINERS = '\u200c\u200d'; // they can't be seen, and Persian and Indian scripts need them
 const PAIR = /\[(\w+) "((?:[^"\\]|\\.)*)"\]/g;
 const TIME_CONTROL = /^(?:(?:\d+\/)?\d+(?:\+\d+)?(?::(?:\d+\/)?\d+(?:\+\d+)?)*|\*\d+|[?-])$/;
 const MINUTES =
   /^(\d{1,3}) ?(?:'|′|m|min|minutes|Min\.?)? ?\+ ?(\d{1,2}) ?(?:"|″|s|sec|seconds|Sek\.?)?(?: ?\/ ?(?:move|Zug))?$/;
-const MOST_MINUTES = 150; // a base with an increment that is no more than this was written in minutes
+const MOST_MINUTES = 150; // a base time with an increment counts as minutes up to this
 
-/** A value that its tag can't have. The message says what to type, behind what it is. */
+/** A value that its tag can't have. The message says what to type; the name of the value goes before it. */
 export class Malformed extends Error {}
 
-/** As it is seen: a blank for each kind of blank, and without marks that aren't seen. */
+/** The visible text: each kind of blank as a blank, and no invisible marks. */
 export function cleaned(text) {
   const letters = [...text].map((letter) => {
     if (/^\p{Zs}$/u.test(letter)) return ' ';
@@ -38,17 +38,17 @@ export function cleaned(text) {
   return letters.join('').trim();
 }
 
-/** Whether each character can be printed, but for those that join letters. */
+/** Whether each character can be printed, except those that join letters. */
 export function isSeen(text) {
   return [...text].every((letter) => letter === ' ' || JOINERS.includes(letter) || !/^[\p{C}\p{Z}]$/u.test(letter));
 }
 
-/** The tag of this name, however its letters are written; null where there is none that may be given. */
+/** The tag with this name, in any case; null if no such tag may be given. */
 export function knownName(text) {
   return BY_NAME.get(text.trim().toLowerCase()) || null;
 }
 
-/** The value of a tag as it is published; nothing where there is none. Malformed where it can't have it. */
+/** The published value of a tag; empty if there is none. Throws Malformed if the tag can't have it. */
 export function valueOf(name, text) {
   const value = cleaned(text);
   if (!isSeen(value)) throw new Malformed("has a character that can't be seen: type it anew");
@@ -97,19 +97,19 @@ function timeControl(text) {
 
 const CHECKS = [['Elo', rating], ['USCF', rating], ['Title', title], ['FideId', fideId], ['TimeControl', timeControl]];
 
-/** As it stands between the quotes of a tag pair. */
+/** The text between the quotes of a tag pair. */
 function escaped(value) {
   return value.replaceAll('\\', '\\\\').replaceAll('"', '\\"');
 }
 
-/** The tags of a text that `record` has made. */
+/** The tags of a text that `record` made. */
 function pairsOf(head) {
   return new Map([...head.matchAll(PAIR)].map(([, name, value]) => [name, value.replace(/\\(.)/g, '$1')]));
 }
 
 /**
- * The text of a game with these tags, { name: value }, as it is published: the roster first, the others in the order of
- * their names. What the game itself says, its result among it, comes from the text that was recorded.
+ * The text of a game with these tags, { name: value }, as it is published: the roster first, the others in order of
+ * their names. What the game itself says, also its result, comes from the recorded text.
  */
 export function published(recorded, tags) {
   if (!recorded) return '';
@@ -124,7 +124,7 @@ export function published(recorded, tags) {
   return lines.join('\n') + recorded.slice(head.length);
 }
 
-/** The name and the value of `NAME=VALUE`, as somebody types a tag. Malformed where it is none. */
+/** The name and the value of `NAME=VALUE`, as somebody types a tag. Throws Malformed if it is none. */
 export function pairOf(text) {
   const at = text.indexOf('=');
   if (at < 0) throw new Malformed(`'${text}' has no =: type NAME=VALUE, as WhiteElo=2050`);

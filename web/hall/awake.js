@@ -13,7 +13,7 @@ export class Awake {
     this.hold();
   }
 
-  /** The browser takes the lock away where the page isn't seen. */
+  /** The browser takes the lock away when nobody sees the page. */
   async hold() {
     if (!navigator.wakeLock) return;
     try {

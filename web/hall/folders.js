@@ -1,22 +1,22 @@
-// The folder in which the games are kept too: chosen once, and asked for again when the page was opened anew.
+// The folder that also keeps the games: chosen once, and asked for again when the page is opened anew.
 
 import { Folder } from '../kept/folder.js';
 import { ROUND, freeName } from '../kept/file_names.js';
 
 const MODE = { mode: 'readwrite' };
-const GATHERED = 0.2; // seconds in which changes go into one text of all games
+const GATHERED = 0.2; // seconds in which changes are gathered into one text of all games
 
 export class Folders {
   constructor(hall) {
     this.hall = hall;
     this.folder = null;
-    this.kept = null; // a folder of before, for which the browser wants to ask
+    this.kept = null; // the earlier folder, if the browser wants to ask about it
     this.failed = '';
     this.isPersistent = false;
     this.timer = null;
   }
 
-  /** Goes on with the folder of before, where the browser allows it. */
+  /** Goes on with the earlier folder, if the browser allows it. */
   async begin() {
     const handle = await this.hall.database.setting('folder');
     if (!handle || !handle.queryPermission) return;
@@ -35,7 +35,7 @@ export class Folders {
     else this.hall.says(`the browser doesn't let this page write to ${this.kept.name}: choose a folder`);
   }
 
-  /** Somebody chooses one. */
+  /** Lets somebody choose one. */
   async choose() {
     if (!window.showDirectoryPicker) {
       this.hall.notice('folder', "This browser can't write to a folder. Save each game with the buttons on its board.");
@@ -82,7 +82,7 @@ export class Folders {
     return Boolean(this.failed);
   }
 
-  /** The text of a board's game is another one. */
+  /** The text of a board's game has changed. */
   placed(seat) {
     if (seat.isCapture || !seat.hasMoves || !this.folder || !seat.pgn) return;
     seat.wantsFiles = true;
@@ -90,7 +90,7 @@ export class Folders {
     this.round();
   }
 
-  /** Writes a game, and its newest text again after that. */
+  /** Writes a game, and again if its text has changed meanwhile. */
   async file(seat) {
     const { folder } = this;
     seat.isFiling = true;
@@ -106,7 +106,7 @@ export class Folders {
     }
   }
 
-  /** Files that aren't its own are left alone: the game gets another name. Those under its old name go. */
+  /** Files that aren't its own are left alone: the game gets another name. Its files under the old name are removed. */
   async nameFiles(seat, folder) {
     const { recorder } = seat;
     const { filed } = recorder.game;
@@ -123,7 +123,7 @@ export class Folders {
     this.finished(game).catch((error) => this.trouble(error.message || error.name));
   }
 
-  /** A game that is over, and isn't recorded any more. */
+  /** Writes a game that is over and no longer recorded. */
   async finished(game) {
     const { folder } = this;
     if (!folder || !game.pgn) return;
@@ -138,7 +138,7 @@ export class Folders {
     folder.put(`${game.name}.pgn`, game.pgn);
   }
 
-  /** The name, or another one where the folder has files of this name: they aren't this game's, and are left alone. */
+  /** The name, or another one if the folder has files of this name: they aren't this game's, and are left alone. */
   async free(wanted, folder) {
     let name = wanted;
     const taken = this.hall.names().filter((other) => other !== wanted);
@@ -150,7 +150,7 @@ export class Folders {
     return name;
   }
 
-  /** A capture as it was before plies were taken off. */
+  /** Keeps a capture as it was before plies were taken off. */
   async before(name, bytes) {
     const { folder } = this;
     if (!folder) return;
@@ -159,18 +159,18 @@ export class Folders {
     folder.put(`${name}.before-${number}.dgt`, bytes);
   }
 
-  /** The text of all games is another one. */
+  /** The text of all games has changed. */
   round() {
     if (!this.folder || this.timer) return;
     this.timer = this.hall.loop.after(GATHERED, () => {
       this.timer = null;
       const text = this.hall.round();
       this.folder.put(`${ROUND}.pgn`, text);
-      this.hall.database.set('round', text).catch(() => {}); // else the next call takes it for somebody's
+      this.hall.database.set('round', text).catch(() => {}); // else the page takes it for somebody's when it is opened anew
     });
   }
 
-  /** Asks the browser to keep what is stored; says what it means where it doesn't promise that. */
+  /** Asks the browser to keep what is stored. If it doesn't promise that, says what that means. */
   async persist() {
     if (this.isPersistent || !navigator.storage || !navigator.storage.persist) return;
     this.isPersistent = await navigator.storage.persist();

@@ -13,7 +13,7 @@ import { Seat } from './seat.js';
 import { Shown } from './shown.js';
 import { Awake } from './awake.js';
 
-const OF_ALL = ['Event', 'Site', 'Round']; // what is typed for one board is that of the boards that are added later
+const OF_ALL = ['Event', 'Site', 'Round']; // what is typed for one board is also set for boards that are added later
 
 /** The texts one after the other, with an empty line between them. */
 export function roundText(games) {
@@ -21,14 +21,14 @@ export function roundText(games) {
 }
 
 export class Hall {
-  /** `hears` is told: changed(), says(text, number), notice(name, text, buttons). */
+  /** `hears` gets changed(), says(text, number), notice(name, text, buttons). */
   constructor(code, module, hears) {
     this.hears = hears;
     this.loop = new Loop();
     this.program = new Program(code, module);
     this.database = null;
     this.seats = new Map(); // by their numbers
-    this.locks = new Map(); // what gives each board's lock back
+    this.locks = new Map(); // what releases each board's lock
     this.elsewhere = new Set(); // boards that another tab records
     this.given = {}; // the options of new games
     this.isReady = false;
@@ -112,7 +112,7 @@ export class Hall {
     return [...this.seats.values()].flatMap((seat) => [seat.name, ...seat.finished.map(({ name }) => name)]);
   }
 
-  /** A new board, on a device that the browser lets somebody choose. */
+  /** Adds a board, on a device that somebody chooses in the browser's list. */
   async addBoard() {
     const port = await navigator.serial.requestPort();
     const owner = this.recorded().find((seat) => seat.port === port);
@@ -134,7 +134,7 @@ export class Hall {
     this.changed();
   }
 
-  /** Records a board, unless another tab does: then as soon as that one lets it go. */
+  /** Records a board. If another tab does, it is recorded as soon as that tab lets it go. */
   async seatBoard(board) {
     const name = `dgt_recorder board ${board.id}`;
     const isOurs = await this.lock(name, { ifAvailable: true });
@@ -174,7 +174,7 @@ export class Hall {
     return seat;
   }
 
-  /** Whether this tab has the lock from here on. */
+  /** Asks for a lock. Returns whether this tab has it from now on. */
   lock(name, options) {
     return new Promise((done, failed) => {
       navigator.locks
@@ -186,7 +186,7 @@ export class Hall {
     });
   }
 
-  /** The device of a board is chosen anew. */
+  /** Lets somebody choose the device of a board again. */
   async choosePort(seat) {
     const port = await navigator.serial.requestPort();
     const owner = this.recorded().find((other) => other !== seat && other.port === port && !other.isWaiting);
@@ -222,7 +222,7 @@ export class Hall {
     this.changed();
   }
 
-  /** A capture is shown as a board. */
+  /** Shows a capture as a board. */
   async showCapture(fileName, content) {
     const shown = new Shown(this.program, this.freeNumber(), fileName, content);
     await shown.read();
@@ -233,7 +233,7 @@ export class Hall {
 
   // What is edited.
 
-  /** What was typed for a tag. Those that all boards have are taken for new games too. */
+  /** Takes what was typed for a tag. Tags that all boards share are taken for new games too. */
   async edit(seat, name, typed) {
     const players = () => nameOfPlayers(written(seat.options, 'White'), written(seat.options, 'Black'));
     const before = players();
@@ -248,7 +248,7 @@ export class Hall {
     this.changed();
   }
 
-  /** Its files are called so from here on. */
+  /** Its files have this name from now on. */
   async rename(seat, typed) {
     const name = freeName(typed, this.names().filter((other) => other !== seat.name));
     if (name !== seat.name) await seat.edit({ name });
@@ -273,7 +273,7 @@ export class Hall {
     return this.recorded().some((seat) => Boolean(seat.recorder.capture.trouble));
   }
 
-  // What a seat tells and asks.
+  // What a seat reports and asks.
 
   nextName(name) {
     const match = /^(.*)-([0-9]{1,4})$/.exec(name);

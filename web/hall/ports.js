@@ -7,15 +7,15 @@ import { Guard } from '../guard.js';
 const DECIDES = 1.5; // seconds in which a board that has a number gives it
 const AGAIN = 2.0; // seconds between two looks for boards that are awaited
 
-/** Whether a port has a device of this kind behind it. */
+/** Whether the device on a port is of this kind. */
 function isAlike(port, info) {
   const { usbVendorId, usbProductId } = port.getInfo();
   return !info || (info.usbVendorId === usbVendorId && info.usbProductId === usbProductId);
 }
 
 /**
- * Which of the boards that are awaited, each with its `serial`, is on a port: `number` is the one that its board has
- * given, if any, and `alike` says of each whether its device is of the port's kind. Null where that can't be told.
+ * Which of the awaited boards, each with its `serial`, is on a port. `number` is what the port's board has sent, if
+ * anything; `alike` says of each awaited board whether its device is of the port's kind. Null if that isn't clear.
  * Pure.
  */
 export function awaitedBy(awaited, number, alike) {
@@ -26,16 +26,16 @@ export function awaitedBy(awaited, number, alike) {
 }
 
 export class Ports {
-  /** `hears`: awaited() gives the seats whose boards are awaited, uses(port) says whether a seat has it, says(text). */
+  /** `hears` has awaited(), the seats whose boards are awaited; uses(port), whether a seat has it; and says(text). */
   constructor(serial, loop, hears) {
     this.serial = serial;
     this.loop = loop;
     this.hears = hears;
     this.trying = new Set(); // ports on which a board is being asked
-    this.unknown = new Set(); // and those whose board is none that is awaited
+    this.unknown = new Set(); // ports on which no awaited board was found
   }
 
-  /** Looks at all ports that this page may use, and at each that comes, and now and then where a board is awaited. */
+  /** Looks at all ports that this page may use, at each new one, and now and then while a board is awaited. */
   async begin() {
     if (!this.serial) return;
     this.serial.addEventListener('connect', (event) => {
@@ -58,7 +58,7 @@ export class Ports {
     for (const port of await this.serial.getPorts()) this.tryOne(port);
   }
 
-  /** An error on one port is none of another. */
+  /** Looks at a port. An error on it doesn't affect the others. */
   tryOne(port) {
     this.came(port).catch((error) => {
       console.error(error);
@@ -83,7 +83,7 @@ export class Ports {
     }
   }
 
-  /** Asks the board on this port whose it is, and gives it to its game with all that it has sent. */
+  /** Finds out whose board is on this port, and gives it to its game with all that it has sent. */
   ask(port) {
     return new Promise((done, failed) => {
       const guard = new Guard(this.loop, failed);

@@ -1,4 +1,4 @@
-// A place of the page with a board: its recorder under a guard. An error ends the recorder alone; it is begun again.
+// A board's place on the page: its recorder under a guard. An error ends only the recorder, and it is begun again.
 
 import { Recorder } from '../board/recorder.js';
 import { resting, standing, viewOf } from '../board/view.js';
@@ -11,7 +11,7 @@ import { Guard } from '../guard.js';
 const AGAIN = 5.0; // seconds until a recorder that an error has ended is begun again
 
 export class Seat {
-  /** `hears` is told: changed(seat), placed(seat), says(seat, text, isMove), and asked as a Recorder asks. */
+  /** `hears` gets changed(seat), placed(seat), says(seat, text, isMove), and what a Recorder asks. */
   constructor(hall, board, hears) {
     this.hall = hall;
     this.id = board.id;
@@ -21,12 +21,12 @@ export class Seat {
     this.port = null;
     this.view = null;
     this.isCapture = false;
-    this.isFiling = false; // its files are being written, and whether they are to be written again after that
+    this.isFiling = false; // whether its files are being written; `wantsFiles`: whether to write them again after that
     this.wantsFiles = false;
     this.finished = []; // games of this board that are over, with their texts
   }
 
-  /** Records it from what the database has. */
+  /** Begins to record, from what the database has. */
   async begin() {
     const { database, loop } = this.hall;
     const guard = new Guard(loop, (error) => this.broke(error));
@@ -43,7 +43,7 @@ export class Seat {
     });
   }
 
-  /** The games of this board that were over before, of today. */
+  /** Reads the games of this board that began today and are over. */
   async readFinished(guard) {
     const { database, program } = this.hall;
     const today = dayOf(new Date());
@@ -57,7 +57,7 @@ export class Seat {
     }
   }
 
-  /** Goes on with a connection that is open, from which this has come. */
+  /** Goes on with an open connection, which has brought this. */
   take(port, connection, came) {
     this.port = port;
     this.guard.call(() => this.recorder.cable.take(connection, came));
@@ -94,7 +94,7 @@ export class Seat {
     return this.recorder ? this.recorder.game.name : '';
   }
 
-  /** Whether there is a game to be seen to. */
+  /** Whether it has a game. */
   get isReady() {
     return this.recorder !== null;
   }
@@ -127,7 +127,7 @@ export class Seat {
     return this.recorder.isStopped;
   }
 
-  /** What somebody is to look at, in full, and the hint of the state. */
+  /** What somebody must look at, in full, and the hint of the state. */
   get asks() {
     const { alarms, state } = this.recorder;
     return { looks: alarms.looks.all, hint: state.state(this.hall.loop.now()).hint };
@@ -137,7 +137,7 @@ export class Seat {
     return this.recorder.capture.bytes();
   }
 
-  /** What its board had sent before plies were taken off, each time: [{ name, bytes }]. */
+  /** What its board had sent each time before plies were taken off: [{ name, bytes }]. */
   async before() {
     const all = await this.hall.database.before();
     return all.filter(({ game }) => game === this.recorder.game.id);
@@ -155,7 +155,7 @@ export class Seat {
     return this.recorder.nextGame();
   }
 
-  /** What its card shows; as it was, where that can't be told. */
+  /** What its card shows; the last view if a new one can't be made. */
   show(now) {
     const { recorder } = this;
     if (!recorder) {
@@ -180,7 +180,7 @@ export class Seat {
     return standing(recorder.state.state(now), now);
   }
 
-  // What the recorder tells and asks.
+  // What the recorder reports and asks.
 
   changed() {
     this.hears.changed(this);

@@ -22,7 +22,7 @@ export class Shown {
     this.finished = [];
   }
 
-  /** Reads it. An error comes where no board has sent it. */
+  /** Reads it. Throws an Error if no board has sent it. */
   async read() {
     const course = await gameOf(this.program, this.options, this.content);
     if (!course.placement) throw new Error('it has nothing that a board sends. Choose a .dgt file');

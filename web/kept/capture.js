@@ -1,12 +1,12 @@
-// What a board sent: in memory, and kept in the database before anything of it is told. Where it can't be kept it waits
-// in memory, is told all the same, and is tried again each second: the state says so.
+// What a board sent: in memory, and in the database before any of it is reported. If it can't be kept, it waits in
+// memory, is reported all the same, and is tried again each second; the state says so.
 
 import { DISK_FULL, NOT_WRITTEN } from '../board/state.js';
 import { joined } from '../device/protocol.js';
 
 export const LARGEST = 64 * 1024 * 1024; // bytes that the program reads at most
 
-/** What keeps something from being written, as a state tells it. */
+/** What keeps something from being written, as the state names it. */
 export function troubleOf(error) {
   return error && error.name === 'QuotaExceededError' ? DISK_FULL : NOT_WRITTEN;
 }
@@ -34,14 +34,14 @@ class Times {
 }
 
 export class Capture {
-  /** `kept(bytes)` is called for what is kept, in its order, and `changed()` where it can be kept no more, or again. */
+  /** `kept(bytes)` gets what is kept, in order; `changed()` is called when nothing can be kept any more, or again. */
   constructor(database, game, chunks, hears) {
     this.database = database;
     this.game = game;
     this.hears = hears;
     this.setContent(chunks);
     this.waiting = []; // chunks that aren't kept yet
-    this.told = 0; // of these, those that were told all the same
+    this.told = 0; // how many of them were reported all the same
     this.writing = null;
     this.trouble = ''; // why nothing can be kept
     this.why = '';
@@ -59,12 +59,12 @@ export class Capture {
     }
   }
 
-  /** All that came, or so many bytes. */
+  /** All that came, or this many bytes. */
   bytes(end = this.size) {
     return this.content.slice(0, Math.min(end, this.size));
   }
 
-  /** When its last byte came; null where there is none. */
+  /** When its last byte came; null if there is none. */
   get lastAt() {
     const { marks } = this.times;
     return marks.length > 0 ? marks[marks.length - 1][1] : null;
@@ -86,7 +86,7 @@ export class Capture {
     this.write();
   }
 
-  /** Keeps what waits. What this returns ends when nothing is being written. */
+  /** Keeps what waits. The promise ends when nothing is being written. */
   write() {
     if (!this.writing) {
       this.writing = this.writeAll().finally(() => {
@@ -116,7 +116,7 @@ export class Capture {
     }
   }
 
-  /** It can't be kept: it stays in memory, and is told. */
+  /** It can't be kept: it stays in memory, and is reported. */
   fails(error) {
     const news = this.waiting.slice(this.told);
     this.told = this.waiting.length;

@@ -1,13 +1,13 @@
 // What the page keeps, in IndexedDB: boards, games, what the boards sent, captures as they were before `back`,
 // settings.
 //
-// Each transaction is strict: it has ended only when its data was handed to the disk.
+// Each transaction is strict: it ends only after its data was handed to the disk.
 
 const NAME = 'dgt_recorder';
 const VERSION = 1;
 const LAST = Number.MAX_SAFE_INTEGER;
 
-/** What a request gives. */
+/** The answer to a request. */
 function answerOf(request) {
   return new Promise((done, failed) => {
     request.onsuccess = () => done(request.result);
@@ -35,7 +35,7 @@ export class Database {
     return new Database(await answerOf(request));
   }
 
-  /** Makes changes, which are all on the disk when this ends, or none of them. */
+  /** Makes changes. When this ends, all of them are on the disk; if it fails, none. */
   change(stores, make) {
     return new Promise((done, failed) => {
       const transaction = this.database.transaction(stores, 'readwrite', { durability: 'strict' });
@@ -71,7 +71,7 @@ export class Database {
     return this.change(['games'], (transaction) => transaction.objectStore('games').put(game));
   }
 
-  /** A new game of a board, with what its capture begins with. Its key. */
+  /** Begins a game of a board, with the first chunks of its capture. Returns its key. */
   async beginGame(board, game, chunks) {
     let key;
     await this.change(['boards', 'games', 'chunks'], (transaction) => {
@@ -85,7 +85,7 @@ export class Database {
     return key;
   }
 
-  /** A board is no more, and neither are its games. */
+  /** Removes a board and its games. */
   removeBoard(id, games) {
     return this.change(['boards', 'games', 'chunks'], (transaction) => {
       transaction.objectStore('boards').delete(id);
@@ -96,7 +96,7 @@ export class Database {
     });
   }
 
-  /** What was kept of a game, in its order: [{ number, at, bytes }]. */
+  /** What was kept of a game, in order: [{ number, at, bytes }]. */
   chunks(game) {
     return this.read('chunks', (store) => store.getAll(chunksOf(game)));
   }
@@ -108,7 +108,7 @@ export class Database {
     });
   }
 
-  /** The capture of a game is this from here on; `before` is kept beside, where there is one. */
+  /** The capture of a game is this from now on; `before` is kept too, if given. */
   renew(game, chunks, before) {
     return this.change(['games', 'chunks', 'before'], (transaction) => {
       if (before) transaction.objectStore('before').put(before);

@@ -1,11 +1,11 @@
-// The folder that somebody has chosen: each file is written beside, and moved to its place when it is whole.
+// The folder that somebody has chosen. Each file is written as another one, and moved to its place when it is whole.
 
 import { editedName, isEarlier } from './edited.js';
 
 const AGAIN = 5.0; // seconds until a file that couldn't be written is tried again
 
 export class Folder {
-  /** `hears`: trouble(text) is told what can't be written, and nothing where all is; says(text). */
+  /** `hears` gets trouble(text) with what can't be written, empty once all is; and says(text). */
   constructor(loop, handle, hears) {
     this.loop = loop;
     this.handle = handle;
@@ -30,13 +30,13 @@ export class Folder {
     }
   }
 
-  /** The file has this from here on, or soon. */
+  /** Writes this to the file, now or soon. */
   put(name, content) {
     this.waiting.set(name, content);
     this.write();
   }
 
-  /** The file goes, once those that were put before have been written. */
+  /** Removes the file, after those that were put before have been written. */
   remove(name) {
     this.put(name, null);
   }
@@ -72,7 +72,7 @@ export class Folder {
     }
     if (name.endsWith('.pgn')) await this.keepEdited(name, content);
     const file = await this.handle.getFileHandle(name, { create: true });
-    const stream = await file.createWritable(); // another file, which takes the place of this one when it is closed
+    const stream = await file.createWritable(); // another file, which replaces this one when it is closed
     try {
       await stream.write(content);
     } catch (error) {
@@ -83,7 +83,7 @@ export class Folder {
     if (name.endsWith('.pgn')) this.written.set(name, content);
   }
 
-  /** A text that somebody has edited by hand is kept beside, before another one takes its place. */
+  /** Keeps a text that somebody has edited by hand under another name, before a new one replaces it. */
   async keepEdited(name, content) {
     const found = await this.textOf(name);
     if (found === null || found === this.written.get(name)) return;
@@ -96,7 +96,7 @@ export class Folder {
     this.hears.says(`${name} had another text, which this page has not written: it is kept in ${kept}`);
   }
 
-  /** What a file has; null where it isn't there. */
+  /** The text of a file; null if it isn't there. */
   async textOf(name) {
     try {
       const handle = await this.handle.getFileHandle(name);

@@ -1,5 +1,5 @@
-// A capture that was made anew, in chunks with the seconds at which they came, as far as that can be told: a dump for
-// each second, and the last one now. Pure.
+// A capture that was made anew, in chunks with the times at which they may have come: one dump a second, the last one
+// now. Pure.
 
 import { DUMP_ID, SIZES } from '../device/protocol.js';
 

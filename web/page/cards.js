@@ -1,4 +1,4 @@
-// All boards in a grid of cards, and one of them large where it is opened.
+// All boards in a grid of cards, and one of them large if it is opened.
 
 import { numbered, printedResult, spoken } from '../../live/web/page/chess.js';
 import { element, say } from '../../live/web/page/diagram.js';
@@ -32,7 +32,7 @@ export class Cards {
     window.setInterval(() => this.showTimes(), 1000);
   }
 
-  /** What is shown may be another: it is drawn with the next frame, or soon where nobody sees the page. */
+  /** What is shown may have changed: it is drawn with the next frame, or soon if nobody sees the page. */
   show(hall) {
     this.hall = hall;
     if (this.isSoon) return;
@@ -157,7 +157,7 @@ export class Cards {
     if (this.tiles.size > 0 && !list.hidden) this.columns = fit(list, this.tiles.size);
   }
 
-  /** What only lasts. */
+  /** Shows how long states have lasted. */
   showTimes() {
     for (const [number, tile] of this.tiles) {
       const { view } = this.shown.get(number);

@@ -102,7 +102,7 @@ export class Panel {
     return this.removes ? 'Press again: its games are then gone from this browser' : 'Remove this board';
   }
 
-  /** What somebody is to do, with the button that does it. */
+  /** What somebody must do, with the button for it. */
   showAsked(seat) {
     const { looks, hint } = seat.asks;
     const isTurned = hint.startsWith(TURNED_ROUND);

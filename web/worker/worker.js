@@ -1,5 +1,5 @@
-// The worker: it calls the program, the proved one, as a WebAssembly module. It has the captures, and reads each anew
-// whenever bytes came, so no state lives in the module.
+// The worker: it calls the proved program, a WebAssembly module. It has the captures, and reads each anew when bytes
+// come, so no state lives in the module.
 
 import { run } from '../../hosts/wasm.mjs';
 import { lineOf, wordsOf } from '../game/report.js';
@@ -8,7 +8,7 @@ import { Places, pairsIn } from '../game/places.js';
 const decoder = new TextDecoder();
 const text = (bytes) => decoder.decode(bytes);
 let program = null;
-let ready = Promise.resolve(); // when it is compiled
+let ready = Promise.resolve(); // ends when it is compiled
 const captures = new Map(); // by their keys: { bytes, size, lines }
 
 /** Compiles the module, which came under gzip in base64. */
@@ -23,7 +23,7 @@ function call(words, input) {
   return { status, output, errors };
 }
 
-/** What the program writes, where it ends well. */
+/** What the program writes, if it ends well. */
 function written(words, input) {
   const answer = call(words, input);
   if (answer.status !== 0) throw new Error(`${words[0]} ended with status ${answer.status}: ${text(answer.errors).trim()}`);
@@ -61,7 +61,7 @@ function printed({ offset, event }) {
   return `${offset} ${event.kind === 'recovered' ? event.text : wordsOf(event)}`;
 }
 
-/** The lines of the report of a capture: with the pairs that `recover` puts in, where that is asked for. */
+/** The lines of the report of a capture: with the pairs that `recover` adds, if that is asked for. */
 function linesOf(capture, words, recovers) {
   const sent = capture.bytes.subarray(0, capture.size);
   if (!recovers) return text(written(['watch', ...words], sent).output).split('\n').slice(0, -2); // without `rest N`
@@ -71,7 +71,7 @@ function linesOf(capture, words, recovers) {
   return lines.filter((line) => line).flatMap((line) => places.of(line)).map(printed);
 }
 
-/** The lines behind those that are known; all of them, where the known ones have changed: { from, lines, size }. */
+/** The lines after those that are known; all of them if the known ones have changed: { from, lines, size }. */
 function watch({ key, known, words, recovers }) {
   const capture = captureOf(key);
   const before = capture.lines;
@@ -83,7 +83,7 @@ function watch({ key, known, words, recovers }) {
   return { from, lines: lines.slice(from), size: capture.size };
 }
 
-/** The PGN of a capture, or of so many bytes of it. */
+/** The PGN of a capture, or of this many bytes of it. */
 function record({ key, limit, board, words, recovers }) {
   const capture = captureOf(key);
   const sent = capture.bytes.subarray(0, limit === null ? capture.size : Math.min(limit, capture.size));

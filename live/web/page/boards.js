@@ -13,7 +13,7 @@ const SECOND = 1000;
 export class Boards {
   constructor() {
     this.cards = new Map();
-    this.focused = null; // the board whose card is to have the focus when the large one is closed
+    this.focused = null; // the board whose card gets the focus when the large one is closed
     this.scrolled = 0;
     this.open = null; // the number of the board that is large
     this.asked = false;
@@ -31,8 +31,8 @@ export class Boards {
     this.stream = new Stream((number, before) => this.changed(number, before), (how) => this.connected(how));
   }
 
-  // What each page says in its own way: beside these `cardOf(number, now)`, which makes a board's card, `largeOf(now, stepped)`,
-  // which makes what shows one large, and `line(how)`, which says how the page stands.
+  // What each page says in its own way. A page also has `cardOf(number, now)`, which makes a board's card, `largeOf(now,
+  // stepped)`, which makes the large view of a board, and `line(how)`, the page's state in words.
 
   /** The round has changed. */
   titled() {}
@@ -47,7 +47,7 @@ export class Boards {
     return '';
   }
 
-  /** Another view than the boards, which the address names; whether it is shown. */
+  /** Another view than the boards, if the address names one. Returns whether it is shown. */
   routeElsewhere() {
     return false;
   }
@@ -78,7 +78,7 @@ export class Boards {
     this.route();
   }
 
-  /** Each board has its card, in the order of the round. */
+  /** Gives each board its card, in the order of the round. */
   arrange() {
     const { numbers } = this.stream;
     for (const [number, card] of this.cards) {
@@ -101,7 +101,7 @@ export class Boards {
     this.size();
   }
 
-  /** What the round is called. */
+  /** The name of the round. */
   get name() {
     return this.stream.event || UNNAMED;
   }

@@ -27,7 +27,7 @@ export function toMove(fen) {
   return fen && fen.split(' ')[1] === 'b' ? 'b' : 'w';
 }
 
-/** Where the piece that was moved stood and stands. Of a castling it is the king's move. */
+/** Where the piece that was moved came from and went to. For castling, it is the king's move. */
 export function movedSquares(before, after) {
   const one = squaresOf(before);
   const other = squaresOf(after);
@@ -46,7 +46,7 @@ export function movedSquares(before, after) {
   return { from: from === undefined ? left[0] : from, to: to === undefined ? reached[0] : to };
 }
 
-/** The number of a ply as a score has it: { number: 12, side: 'w' }. `start` is the FEN before the first ply. */
+/** The number of a ply as on a score sheet: { number: 12, side: 'w' }. `start` is the FEN before the first ply. */
 export function numbered(start, ply) {
   const first = start ? Number(start.split(' ')[5]) || 1 : 1;
   const plies = ply + (toMove(start) === 'b' ? 1 : 0);
@@ -77,12 +77,12 @@ export function pieceName(piece) {
   return piece ? `${piece[0] === 'w' ? 'white' : 'black'} ${NAMES[piece[1]]}` : '';
 }
 
-/** A result as it is printed: '1–0', '½–½'. Nothing where the game goes on. */
+/** A result as it is printed: '1–0', '½–½'. Empty if the game goes on. */
 export function printedResult(result) {
   return result === '*' ? '' : result.replace(/1\/2/g, '½').replace('-', '–');
 }
 
-/** So long, in words. */
+/** A duration in words. */
 export function lasting(seconds) {
   const whole = Math.max(0, Math.floor(seconds));
   if (whole < 120) return `${whole} s`;

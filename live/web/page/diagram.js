@@ -1,4 +1,4 @@
-// Diagrams: a small one that is a picture alone, and a large one that is a table for those who can't see it.
+// Diagrams: a small one that is only a picture, and a large one that is a table for those who can't see it.
 
 import { FILES, movedSquares, pieceName, squareName, squaresOf } from './chess.js';
 
@@ -10,12 +10,12 @@ export function element(kind, name = '', text = '') {
   return made;
 }
 
-/** Sets a text where it is another one, so that nothing is read out twice. */
+/** Sets a text if it has changed, so that nothing is read out twice. */
 export function say(where, text) {
   if (where.textContent !== text) where.textContent = text;
 }
 
-/** From here on the pieces are drawn as the page's first answer has them: no other answer is needed for them. */
+/** From now on the pieces are drawn as in the page's first answer: no other answer is needed for them. */
 export function drawPieces() {
   const picture = new XMLSerializer().serializeToString(document.getElementById('pieces').content.querySelector('svg'));
   document.documentElement.style.setProperty('--pieces', `url("data:image/svg+xml,${encodeURIComponent(picture)}")`);
@@ -35,7 +35,7 @@ function classesOf(position, number) {
   return name;
 }
 
-/** What is drawn of a board after a ply. Squares that differ belong to the board as it stands now. */
+/** What is drawn of a board after a ply. Squares that differ belong to the board as it is now. */
 export function positionOf(board, ply, live) {
   const known = Math.min(ply, board.positions.length - 1);
   const fen = board.positions[known] || '';

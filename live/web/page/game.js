@@ -1,4 +1,4 @@
-// One game, large, with its moves, through which a reader steps while it goes on.
+// One game, large, with its moves. A reader can step through them while it goes on.
 
 import { numbered, printedResult, spoken, toMove, withNumber } from './chess.js';
 import { clockAt } from './clock.js';
@@ -8,7 +8,7 @@ import { showPlayer } from './names.js';
 const at = (name) => document.getElementById(name);
 
 export class GameView {
-  /** `stepped()` is called where a reader has gone back, or follows the game again. */
+  /** `stepped()` is called when a reader has gone back, or follows the game again. */
   constructor(now, stepped = () => {}) {
     this.now = now;
     this.stepped = stepped;
@@ -16,9 +16,9 @@ export class GameView {
     this.table = new Table(at('diagram'));
     this.moves = at('moves');
     this.board = null;
-    this.ply = null; // the ply that is shown, or null where the game is followed
+    this.ply = null; // the ply that is shown, or null if the game is followed
     this.turned = false;
-    this.made = []; // the moves that are listed, with their elements
+    this.made = []; // the listed moves, with their elements
     at('first').addEventListener('click', () => this.go(0));
     at('previous').addEventListener('click', () => this.step(-1));
     at('next').addEventListener('click', () => this.step(1));
@@ -29,7 +29,7 @@ export class GameView {
       const button = event.target.closest('button');
       if (button) this.go(Number(button.dataset.ply));
     });
-    new ResizeObserver(() => this.scroll()).observe(this.moves); // in another window other moves are in sight
+    new ResizeObserver(() => this.scroll()).observe(this.moves); // in a list of another size other moves are in sight
     this.keys = {
       ArrowLeft: () => this.step(-1),
       ArrowRight: () => this.step(1),
@@ -42,7 +42,7 @@ export class GameView {
     };
   }
 
-  /** Shows this board from here on, at its last move. */
+  /** Shows this board from now on, at its last move. */
   open(board) {
     this.ply = null;
     this.root.hidden = false;
@@ -54,7 +54,7 @@ export class GameView {
     this.root.hidden = true;
   }
 
-  /** Whether the key means something here. */
+  /** Does what the key means here. Returns whether it means something. */
   press(key) {
     const call = this.keys[key.length === 1 ? key.toLowerCase() : key];
     if (call) call();
@@ -143,7 +143,7 @@ export class GameView {
     say(at('at'), [last + where, result].filter((part) => part).join('   '));
   }
 
-  /** The list has the moves that it had, as far as they are the same. */
+  /** Lists the moves. Those that are the same as before stay. */
   listMoves() {
     const { moves, positions } = this.board;
     const start = positions[0] || '';
@@ -182,7 +182,7 @@ export class GameView {
     return { move, place };
   }
 
-  /** What else is said of a move in the list. */
+  /** What else is said about a move in the list. */
   mark() {}
 
   markMove(ply) {
@@ -197,7 +197,7 @@ export class GameView {
     this.scroll();
   }
 
-  /** Brings the move that is shown into sight. */
+  /** Scrolls to the move that is shown. */
   scroll() {
     const list = this.moves;
     const ply = this.ply === null ? this.made.length : this.ply;

@@ -1,15 +1,15 @@
-// How large the cards are: as large as can be with all of them in sight, or of a size that can be read.
+// How large the cards are: as large as possible with all of them in sight, or of a size that can be read.
 
-const LEAST = 13; // pixels of a letter: what is smaller can't be read on a laptop
+const LEAST = 13; // pixels of a letter: smaller ones can't be read on a laptop
 
-/** Sizes so many cards in their list, and returns in how many columns they stand. */
+/** Sizes this many cards in their list, and returns the number of columns. */
 export function fit(list, count) {
   const gap = window.innerWidth < 700 ? 8 : 12;
   const width = document.documentElement.clientWidth - 2 * gap;
   const height = window.innerHeight - list.offsetTop - gap;
   const least = window.innerWidth < 700 ? 150 : 116;
   const letters = (wide) => Math.min(24, Math.max(LEAST, wide / 18));
-  const high = (wide) => 6 * letters(wide) + 3; // four lines, beside the diagram
+  const high = (wide) => 6 * letters(wide) + 3; // four lines, besides the diagram
   let best = 0;
   let columns = 1;
   for (let number = 1; number <= count; number += 1) {
@@ -33,7 +33,7 @@ export function fit(list, count) {
   return columns;
 }
 
-/** The place to which an arrow, Home or End leads from a place among so many; undefined for any other key. */
+/** The place to which an arrow, Home or End leads from one of `count` places; undefined for any other key. */
 export function placeAfter(key, here, count, columns) {
   if (key === 'Home') return 0;
   if (key === 'End') return count - 1;

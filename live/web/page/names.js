@@ -1,4 +1,4 @@
-// Players: a title before the name, a rating behind it, where they are known.
+// Players: a title before the name and a rating after it, if known.
 
 import { element } from './diagram.js';
 

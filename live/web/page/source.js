@@ -1,12 +1,12 @@
 // Where the page's words come from: one connection to the recorder for all tabs of a browser, which allows six to a server.
 //
-// One tab leads: it has the connection, and passes each word on. The browser's lock says which one. A tab that is seen and gets
-// no answer from the leading one takes the lock from it: a browser may have stopped a tab that nobody sees. Browsers have locks
-// only for HTTPS and for their own computer. Without them each tab that is seen has a connection of its own, a hidden one none.
+// One tab leads: it has the connection, and passes each word on. The browser's lock says which one. A visible tab that gets no
+// answer from the leading one takes the lock from it: a browser may have stopped a tab that nobody sees. Browsers have locks
+// only for HTTPS and for their own computer. Without them, each visible tab has its own connection, and a hidden one none.
 
 const NAME = 'round';
 const DEAD = 12000; // milliseconds without a message, after which the connection is made anew
-const AGAIN = 2000; // milliseconds until the next try, where the browser has given up
+const AGAIN = 2000; // milliseconds until the next try, if the browser has given up
 const ANSWER = 1500; // milliseconds that the leading tab has to answer
 const KINDS = ['beat', 'round', 'board'];
 
@@ -22,9 +22,9 @@ export class Source {
     this.isOn = false;
     this.heard = -Infinity; // when the last word came
     this.wanted = 0; // since when this tab wants to hear something
-    this.asked = 0; // when it has asked the leading tab
+    this.asked = 0; // when it last asked the leading tab
     this.isLost = false;
-    this.events = null; // the connection, where this tab has one
+    this.events = null; // the connection, if this tab has one
     this.begun = 0; // when it was made
     this.channel = null;
     this.lock = null; // what ends the wait for the lock
@@ -107,7 +107,7 @@ export class Source {
 
   // The tabs among themselves.
 
-  /** Leads as soon as no other tab does, or at once where it `takes` the lock. */
+  /** Leads as soon as no other tab does, or at once if it `takes` the lock. */
   lead(takes) {
     if (this.lock) this.lock.abort();
     const lock = new AbortController();

@@ -67,7 +67,7 @@ class Spectators extends Boards {
     }
   }
 
-  /** The number of the board before the one that is large, or behind it. */
+  /** The number of the board before the large one, or after it. */
   beside(by) {
     const { numbers } = this.stream;
     const here = numbers.indexOf(this.open);

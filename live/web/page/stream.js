@@ -2,14 +2,14 @@
 
 import { SHARES, Source } from './source.js';
 
-const SILENT = 4000; // milliseconds without a word, after which the page says so: a beat comes each two or three seconds
+const SILENT = 4000; // milliseconds without a word, after which the page says so: a beat comes every two or three seconds
 const LOOK = 500;
 const HIDDEN = SHARES ? 30000 : 0; // a page that nobody sees lets its connection go
 
 export class Stream {
   /**
-   * `changed(number)` is called for each board that has changed, or without a number for the round; `connected(how)` with
-   * 'connecting', 'live', 'silent' where nothing comes, 'lost' where there is no connection, and 'hidden' where nobody sees the
+   * `changed(number)` is called for each board that has changed, or without a number for the round. `connected(how)` is called
+   * with 'connecting', 'live', 'silent' if nothing comes, 'lost' if there is no connection, and 'hidden' if nobody sees the
    * page: a browser slows its timers then, so it couldn't say in time that nothing comes.
    */
   constructor(changed, connected) {
@@ -58,7 +58,7 @@ export class Stream {
     this.changed();
   }
 
-  /** A board comes whole, or with what is new in it. */
+  /** A board comes whole, or only with what is new in it. */
   takeBoard(board) {
     const before = this.boards.get(board.number);
     if (board.kept) {
@@ -74,7 +74,7 @@ export class Stream {
     this.changed(board.number, before);
   }
 
-  /** The boards that are there, in their order. */
+  /** The known boards, in order. */
   list() {
     return this.numbers.map((number) => this.boards.get(number)).filter((board) => board);
   }
