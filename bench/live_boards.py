@@ -2,7 +2,7 @@
 """Plays so many simulated boards at once, and measures what bench/live.sh tells.
 
 `live_boards.py BOARDS MOVES PAUSE` plays MOVES moves in all, a board one each PAUSE seconds on average, at random moments, with a
-clock. Each board has a dgt_live of its own; with `round` behind these words one dgt_round has all, with `round READERS` so many
+clock. As a hand does, it lifts a piece, and puts it down STEP seconds later. Each board has a dgt_live of its own; with `round` behind these words one dgt_round has all, with `round READERS` so many
 spectators read its page meanwhile, from another process, and with `round READERS DELAY` they see it so many minutes late. For each
 move it takes the time from its last byte to its line, and to a NAME.pgn that has it. One line comes out: boards, moves, the median
 and the 99th of 100 of both in ms, processes, memory (PSS, MiB) and processor time (ms a second, and ms a move) of a board.
@@ -35,6 +35,7 @@ MOVES = PARIS[:-1]
 SANS = [word for word in PARIS_TEXT.split() if not word[0].isdigit()][:-1]
 BACK_AND_FORTH = [("c1b1", "Kb1"), ("e6b6", "Qb6"), ("b1c1", "Kc1"), ("b6e6", "Qe6")]
 LATE = 30.0  # seconds after which a move counts as lost
+STEP = 0.1  # seconds between two squares that change
 
 
 def ply(number: int) -> Tuple[str, str]:
@@ -61,16 +62,32 @@ class Said:
         return [line.decode() for line in lines]
 
 
+class Hand(Board):
+    """A board on which a move takes time: the squares that still have to change wait."""
+
+    def __init__(self, folder: pathlib.Path) -> None:
+        super().__init__(folder)
+        self.waiting: List[Tuple[int, int]] = []
+
+    def show(self, number: int, code: int) -> None:
+        self.waiting.append((number, code))
+
+    def step(self) -> None:
+        """The next square changes."""
+        super().show(*self.waiting.pop(0))
+
+
 @dataclasses.dataclass
 class Table:
     """A board, where its game is kept, and the ply that is under way."""
 
-    board: Board
+    board: Hand
     name: pathlib.Path
     random: random.Random
     plies: int = 0
     next_at: float = 0.0
-    sent: float = 0.0
+    step_at: float = 0.0
+    sent: float = 0.0  # its last byte
     told: bool = True
     kept: bool = True
     begun: bool = False
@@ -78,16 +95,29 @@ class Table:
 
     @property
     def waits(self) -> bool:
+        """Whether a ply was sent whole, and its line or its game is still to come."""
         return not (self.told and self.kept)
 
+    @property
+    def is_free(self) -> bool:
+        return not (self.waits or self.board.waiting)
+
     def play(self, now: float, pause: float) -> None:
+        """A hand begins a ply."""
         move, _ = ply(self.plies)
         self.board.clock(5400 - self.plies // 2 % 3600, 5400)
         self.board.play(move)
         self.plies += 1
-        self.sent = time.monotonic()
-        self.told = self.kept = False
-        self.next_at = now + pause * (0.5 + self.random.random())
+        self.next_at, self.step_at = now + pause * (0.5 + self.random.random()), now + STEP
+
+    def go_on(self, now: float) -> None:
+        """The hand goes on with it, if it is time."""
+        if self.board.waiting and now >= self.step_at:
+            self.board.step()
+            self.step_at = now + STEP
+            if not self.board.waiting:
+                self.sent = time.monotonic()
+                self.told = self.kept = False
 
     def hear(self, words: str) -> bool:
         """A line without its time. Whether it tells the ply that is under way."""
@@ -168,7 +198,7 @@ class Hall:
         for number in range(1, boards + 1):
             place = folder / f"{number:02}"
             place.mkdir()
-            board = Board(place)
+            board = Hand(place)
             name = folder / "round" / f"{number:02}.pgn" if in_a_round else place / "game.pgn"
             table = Table(board, name, random.Random(number))
             self.tables.append(table)
@@ -227,7 +257,7 @@ class Hall:
         for table in self.tables:
             table.next_at = now + pause * table.random.random()
         played = 0
-        while played < moves or any(table.waits for table in self.tables):
+        while played < moves or not all(table.is_free for table in self.tables):
             told = self.turn(0.001 if any(table.waits for table in self.tables) else 0.005)
             now = time.monotonic()
             lines.extend(now - table.sent for table in told)
@@ -236,7 +266,8 @@ class Hall:
                     games.append(time.monotonic() - table.sent)
                 if table.waits and now - table.sent > LATE:
                     raise SystemExit(f"ply {table.plies} of {table.name} is lost")
-                if not table.waits and now >= table.next_at and played < moves:
+                table.go_on(now)
+                if table.is_free and now >= table.next_at and played < moves:
                     table.play(now, pause)
                     played += 1
         return lines, games

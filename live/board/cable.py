@@ -104,8 +104,12 @@ class Cable:
             self._whose.dumped()
         if ended.serial:
             self._told(ended.serial)
+        is_unsure = self._whose.is_unsure(self._guard.now())
+        if not (is_unsure or self._unsure or self._whose.is_other):
+            self._hears.heard((sent, ended))
+            return
         keep(self._unsure, (sent, ended))
-        if not self._whose.is_unsure(self._guard.now()):
+        if not is_unsure:
             heard, self._unsure = self._unsure, []
             self._pass_on(heard)
 

@@ -3,13 +3,14 @@ the kings may have been in the centre by mistake. What it sends is kept after th
 
 from __future__ import annotations
 
-from typing import Protocol
+from typing import List, Protocol
 
 from live.game.after_the_end import AfterTheEnd
 from live.game.alarms import keep_looks, kept_looks
 from live.game.course import Course
 from live.game.files import text_of
 from live.game.game import Game
+from live.game.looks import Look
 from live.game.options import Options
 from live.game.program import Listing, Task
 from live.game.report import Picture, line_of
@@ -84,25 +85,28 @@ class Listening:
         self._watch.wake()
         self._watch.feed()
 
-    def _heard(self, text: str) -> None:
-        line = line_of(text)
-        if line is None:
-            return
-        look = self._after.take(line.event)
-        if look:
-            self.looks = self.looks.with_one_more(look)
-            self._screen.say(
-                f"{look.text}. Look at it, and type {self._screen.ok()};",
-                f"if the game isn't over, type {self._screen.reopens()}: it goes on with these moves",
-            )
-            try:
-                keep_looks(self._game.paths, self.looks)
-            except OSError as error:
-                self._screen.say(f"{self._game.paths.look} can't be written ({text_of(error)})")
-            self._hears.looked()
-        if isinstance(line.event, Picture) and self._after.is_set_up:
-            self._watch.close()
-            self._hears.set_up()
+    def _heard(self, texts: List[str]) -> None:
+        for line in filter(None, map(line_of, texts)):
+            look = self._after.take(line.event)
+            if look:
+                self._look(look)
+            if isinstance(line.event, Picture) and self._after.is_set_up:
+                self._watch.close()
+                self._hears.set_up()
+                return
+
+    def _look(self, look: Look) -> None:
+        """Raises an alarm."""
+        self.looks = self.looks.with_one_more(look)
+        self._screen.say(
+            f"{look.text}. Look at it, and type {self._screen.ok()};",
+            f"if the game isn't over, type {self._screen.reopens()}: it goes on with these moves",
+        )
+        try:
+            keep_looks(self._game.paths, self.looks)
+        except OSError as error:
+            self._screen.say(f"{self._game.paths.look} can't be written ({text_of(error)})")
+        self._hears.looked()
 
     def ends_with(self, result: str) -> None:
         """Another result was typed."""

@@ -4,7 +4,7 @@ from __future__ import annotations
 
 import enum
 from dataclasses import dataclass
-from typing import Callable, List, Optional, Protocol
+from typing import Callable, List, Optional, Protocol, Sequence
 
 from live.beside import Worker
 from live.board.disk import Disk
@@ -19,7 +19,7 @@ from live.game.game import mark_end
 from live.game.looks import Look, Looks
 from live.game.making_pgn import Made, Maker
 from live.game.opening import Opened
-from live.game.report import Agrees, Change, Differs, Fault, Line, Move, Picture, Recovered, Result
+from live.game.report import Clock, Fault, Line, Move, Picture, Position, Recovered, Result
 from live.game.watching import Watching
 from live.guard import Guard
 from live.loop import Timer
@@ -134,7 +134,6 @@ class Recording:
         self._gap = opened.old.gap  # for how long it wasn't heard before this call
         self._was_away = False  # and no dump has come since
         self._by_hand = range(0)  # the bytes that were added last
-        self._is_news = False  # whether the state may have changed since it was shown
         self.standing.board.look = self.looks.short
         self._disk = Disk(screen, self.standing, self.game.capture, self)
         if self.game.options.recover:
@@ -222,41 +221,46 @@ class Recording:
 
     # What the program reports.
 
-    def heard(self, line: Line) -> None:
-        """Takes the next line of its report."""
-        if self.end is not None and line.offset >= self.end and not line.is_picture:
-            return  # the game is over
+    def heard(self, lines: Sequence[Line]) -> None:
+        """Takes the next lines of its report, which came at once. What changes the game is printed first, since somebody waits for
+        it. The state is shown last and once: states that lasted no time would help nobody."""
+        lines = [line for line in lines if self.end is None or line.offset < self.end or line.is_picture]  # else the game is over
+        is_changed = False
+        for line in lines:
+            if isinstance(line.event, (Move, Result, Recovered)):
+                self._screen.told(line.event.shown, line.offset < self._old)
+                is_changed = is_changed or line.offset >= self._maker.made_of
+        news = [self._take(line) for line in lines]
+        if any(news):
+            self.standing.show()
+        if is_changed:
+            self._maker.want()
+
+    def _take(self, line: Line) -> bool:
+        """Takes a line. Returns whether the state may have changed."""
         is_old = line.offset < self._old
         event = line.event
         if isinstance(event, Fault):
             if not is_old:
                 self._faults.append(f"{event.words} at {line.offset}")
-            return
+            return False
         now = self._guard.now()
         self.course.take(line, now)
-        if isinstance(event, (Move, Result, Recovered)):
-            self._screen.told(event.shown, is_old)  # first of all: somebody waits for this line
         look = None if is_old else self._alarms.take(now, line, line.offset in self._by_hand)
-        is_shown = True
+        if isinstance(event, (Position, Clock)):
+            return False
+        is_news = True
         if isinstance(event, Picture):
-            is_shown = self._see(event, is_old)
-        elif isinstance(event, (Move, Result, Differs, Agrees)):
+            is_news = self._see(event, is_old)
+        elif not isinstance(event, Recovered):
             if not is_old:
                 self.standing.board.shows_itself()
             self.standing.board.told(now, event)
-            if isinstance(event, (Move, Result)):
-                self._hear_change(event, line.offset)
-        elif not isinstance(event, Recovered):
-            return
+            if isinstance(event, Result):
+                self._hear_result(event.outcome)
         self.course.news.clear()
         self._tell_look(look)
-        self._is_news = self._is_news or is_shown
-
-    def heard_all(self) -> None:
-        """All that has come is heard. The state is shown once for all of it: states that lasted no time would help nobody."""
-        is_news, self._is_news = self._is_news, False
-        if is_news:
-            self.standing.show()
+        return is_news
 
     def _tell_look(self, look: Optional[Look]) -> None:
         """Reports what somebody must look at, if anything."""
@@ -290,12 +294,6 @@ class Recording:
         self._screen.say(seen)
         self._tell_looks()
         return seen
-
-    def _hear_change(self, change: Change, offset: int) -> None:
-        if offset >= self._maker.made_of:
-            self._maker.want()
-        if isinstance(change, Result):
-            self._hear_result(change.outcome)
 
     def _see(self, picture: Picture, is_old: bool) -> bool:
         """Takes what the board shows. Returns whether that alone changes its state: the next line reports what differs."""

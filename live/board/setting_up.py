@@ -2,7 +2,7 @@
 
 from __future__ import annotations
 
-from typing import Optional, Protocol
+from typing import List, Optional, Protocol
 
 from live.board.disk import Disk
 from live.board.standing import Standing
@@ -86,18 +86,25 @@ class SettingUp:
         self._feed()
         self.standing.show()
 
-    def _heard(self, text: str) -> None:
-        line = line_of(text)
-        if line is None or not isinstance(line.event, Picture) or self._from + line.offset < self._end:
-            return
-        if line.event.placement == self._game.options.start:
-            self._watch.close()
-            after = self._game.capture.bytes(self._from + line.offset + 1)
-            if not self._hears.ready(protocol.dump(self._start, self._game.options.rotated) + after):
-                self._tries = self._guard.after(TICK, lambda: self._begin(self._end))
-        else:
+    def _heard(self, texts: List[str]) -> None:
+        is_news = False
+        for line in filter(None, map(line_of, texts)):
+            if not isinstance(line.event, Picture) or self._from + line.offset < self._end:
+                continue
+            if line.event.placement == self._game.options.start:
+                self._begins(line.offset)
+                return
             self.standing.board.differs(self._guard.now(), protocol.differing(line.event.codes, self._start))
+            is_news = True
+        if is_news:
             self.standing.show()
+
+    def _begins(self, offset: int) -> None:
+        """The start is shown at this byte: the game begins with it."""
+        self._watch.close()
+        after = self._game.capture.bytes(self._from + offset + 1)
+        if not self._hears.ready(protocol.dump(self._start, self._game.options.rotated) + after):
+            self._tries = self._guard.after(TICK, lambda: self._begin(self._end))
 
     def says(self, text: str) -> None:
         """A child process has ended, and is started again."""

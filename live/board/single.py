@@ -160,7 +160,7 @@ class Single:
         if state is None:
             return "over", None, False
         since = None if state.kind is Kind.WAITS else state.since
-        return dataclasses.replace(state, since=now).text(now), since, state.is_alarm
+        return state._replace(since=now).text(now), since, state.is_alarm
 
     def player_name(self, option: str) -> str:
         """The name for `--white` or `--black`."""

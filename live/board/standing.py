@@ -2,7 +2,6 @@
 
 from __future__ import annotations
 
-import dataclasses
 import math
 from typing import Optional
 
@@ -33,7 +32,7 @@ class Standing:
         now = self._loop.now()
         state = self.board.state(now)
         if not self._played and state.kind in (Kind.WAITS, Kind.IN_HAND):
-            state = dataclasses.replace(state, kind=Kind.SETTING_UP, squares=())
+            state = state._replace(kind=Kind.SETTING_UP, squares=())
         self._screen.state(state.text(now), state.news)
         if state.hint and state.hint != self._hint:
             self._screen.hint(state.hint)

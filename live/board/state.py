@@ -16,7 +16,7 @@ from __future__ import annotations
 import enum
 import math
 from dataclasses import dataclass, field
-from typing import Dict, Iterable, Optional, Tuple
+from typing import Dict, Iterable, NamedTuple, Optional, Tuple
 
 from live.board.agreement import Agreement
 from live.device.protocol import Picture, differing
@@ -48,8 +48,7 @@ class Kind(enum.Enum):
 ALARMS = (Kind.WRONG, Kind.NO_START, Kind.SILENT, Kind.UNPLUGGED)
 
 
-@dataclass(frozen=True)
-class State:
+class State(NamedTuple):
     """The state at a moment."""
 
     kind: Kind

@@ -4,6 +4,7 @@ from __future__ import annotations
 
 import math
 from dataclasses import dataclass, field
+from typing import NamedTuple
 
 from live.device.protocol import DUMP_ID, DUMP_REQUEST, HEADER, SERIAL_REQUEST, SIZES, START_REQUEST
 from live.device.protocol import FrameKind, Frames, serial_of
@@ -20,8 +21,7 @@ LONGEST = SIZES[DUMP_ID]  # bytes that are looked at together
 LOST = 3  # requests without a dump before silence is reported: a recorder that was held up has sent none
 
 
-@dataclass(frozen=True)
-class Came:
+class Came(NamedTuple):
     """What has ended in some bytes: a complete dump; a time message, with the seven bytes of the last one; the board's serial
     number."""
 

@@ -117,14 +117,14 @@ class Connection:
         """Sends the request that is due, and calls itself again when the next one is."""
         if self._line.number is None:
             return
-        now = self._guard.now()
-        request = self._asking.request(now)
-        if request:
+        now, due = self._guard.now(), self._asking.due()
+        if now >= due:
+            request = self._asking.request(now)
             self._line.ask(request)
             if START_REQUEST in request:
                 self._hears.asked_whose()
             self._tell_silence()
-        due = self._asking.due()
+            due = self._asking.due()
         if self._timer and (self._timer.when > due or self._timer.when <= now):
             self._timer.cancel()
             self._timer = None

@@ -17,7 +17,6 @@ from live.refused import ANOTHER_CALL, ARGUMENTS, FAILED, REFUSED, Refused
 
 LARGEST = 64 * 1024 * 1024  # bytes of a capture: the program reads no more
 MEMORY = 1024 * 1024  # bytes that are kept in memory while the disk is full
-LOGGED = "%Y-%m-%d %H:%M:%S"  # when a line of a log was written
 MOST_TROUBLES = 8  # messages about a log
 NO_SUCH_FILE = (errno.ENOENT, errno.ENOTDIR, errno.ENAMETOOLONG)  # no file can have this name, and nothing is kept under it
 LOCK_PATIENCE = 3.0  # seconds: a call that was just killed may still have the lock
@@ -269,9 +268,9 @@ class Capture:
         room = MEMORY - len(self.pending)
         if self.limit is not None:
             room = min(room, self.limit - self.size - len(self.pending))
-        room = max(0, room)
-        self.lost += max(0, len(sent) - room)
-        self.pending += sent[:room]
+        kept = sent[: max(0, room)]
+        self.lost += len(sent) - len(kept)
+        self.pending += kept
         self.write()
 
     def write(self) -> None:
@@ -380,6 +379,11 @@ def open_game(paths: Paths, patience: float = LOCK_PATIENCE) -> Capture:
     return Capture.open(paths.capture, patience)
 
 
+def logged_at(now: datetime.datetime) -> str:
+    """The date and the time of day in front of a line of a log, as `2024-05-31 14:02:59`."""
+    return now.isoformat(" ", "seconds")
+
+
 class Log:
     """NAME.log: a line for each message, with date and time of day. If it can't be written the game goes on, and the reason is
     written before the next line."""
@@ -457,5 +461,5 @@ def log_once(paths: Paths, *lines: str) -> None:
     """Writes lines to the log of a game that nobody records now."""
     log = Log(paths.log)
     for line in lines:
-        log.write(f"{datetime.datetime.now():{LOGGED}}", line)
+        log.write(logged_at(datetime.datetime.now()), line)
     log.close()

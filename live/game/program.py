@@ -266,14 +266,13 @@ class Reader:
 
 
 class Listing(Reader):
-    """A child that reports what a source shows, line by line. The first `skipped` lines are known already. `heard_all` is called
-    after the lines that came at once."""
+    """A child that reports what a source shows. `heard` gets the lines that came at once. The first `skipped` lines are known
+    already."""
 
     def __init__(
-        self, guard: Guard, task: Task, heard: Callable[[str], None], hears: HearsChild, skipped: int = 0,
-        heard_all: Callable[[], None] = lambda: None,
-    ) -> None:  # fmt: skip
-        self._heard, self._heard_all = heard, heard_all
+        self, guard: Guard, task: Task, heard: Callable[[List[str]], None], hears: HearsChild, skipped: int = 0
+    ) -> None:
+        self._heard = heard
         self._known = skipped  # lines that were reported
         self._came = 0  # lines of this child
         super().__init__(guard, task, hears)
@@ -289,16 +288,11 @@ class Listing(Reader):
 
     def _takes(self, part: bytes) -> None:
         *lines, self._part = (self._part + part).split(b"\n")
-        child = self._child
-        new = max(0, min(len(lines), self._known - self._came))
-        self._came += new
-        for line in lines[new:]:
-            self._came += 1
-            self._known += 1
-            self._heard(line.decode("ascii", "replace"))
-            if self._child is not child:
-                return  # the report has ended this listing
-        self._heard_all()
+        new = lines[max(0, self._known - self._came) :]
+        self._came += len(lines)
+        self._known += len(new)
+        if new:
+            self._heard([line.decode("ascii", "replace") for line in new])
 
 
 def _end(child: subprocess.Popen[bytes]) -> None:

@@ -4,7 +4,7 @@ from __future__ import annotations
 
 import functools
 import subprocess
-from typing import Callable, List, Optional, Protocol
+from typing import Callable, List, Optional, Protocol, Sequence
 
 from live.game.game import Game
 from live.game.program import HearsChild, Listing, Reader, Task
@@ -16,11 +16,8 @@ from live.guard import Guard
 class HearsReport(HearsChild, Protocol):
     """Gets the program's report."""
 
-    def heard(self, line: Line) -> None:
-        """The next line. Its offset is an offset in the capture."""
-
-    def heard_all(self) -> None:
-        """All lines that have come are heard."""
+    def heard(self, lines: Sequence[Line]) -> None:
+        """The next lines, which came at once. Their offsets are offsets in the capture."""
 
 
 class Watching:
@@ -37,16 +34,16 @@ class Watching:
             self._places = self._whole.places()
         watch = Task(game.program, ("watch", *options.of_board()), self._whole or capture)
         self._watch: Optional[Listing] = None
-        self._watch = Listing(guard, watch, self._heard, hears, known, hears.heard_all)
+        self._watch = Listing(guard, watch, self._heard, hears, known)
 
     def _feed_watch(self) -> None:
         if self._watch:
             self._watch.feed()
 
-    def _heard(self, text: str) -> None:
-        line = line_of(text)
-        for one in (self._places.of(line) if self._places else [line]) if line else ():
-            self._hears.heard(one)
+    def _heard(self, texts: List[str]) -> None:
+        lines = [line for line in map(line_of, texts) if line]
+        places = self._places
+        self._hears.heard([one for line in lines for one in places.of(line)] if places else lines)
 
     @property
     def _children(self) -> List[Reader]:

@@ -15,7 +15,7 @@ from live.broadcast.games import Game, written_name
 from live.broadcast.leaving import clock_in
 from live.game import added
 from live.game.adding import printable, refusal
-from live.game.files import LOGGED, Log, Paths, text_of
+from live.game.files import Log, Paths, logged_at, text_of
 from live.guard import traced
 from live.loop import Loop
 from live.refused import DONE, FAILED, REFUSED, Refused
@@ -335,7 +335,7 @@ class Round:
 
     def trouble(self, text: str) -> None:
         """Writes an error that should never happen, and where, to the round's log."""
-        self._log.write(f"{datetime.datetime.now():{LOGGED}}", text)
+        self._log.write(logged_at(datetime.datetime.now()), text)
 
     # How it ends.
 

@@ -7,7 +7,7 @@ import datetime
 from typing import Callable, Deque, Optional
 
 from live.game.added import OK, REOPENS
-from live.game.files import LOGGED, Log
+from live.game.files import Log, logged_at
 from live.terminal.terminal import Terminal
 
 INDENT = " " * 10
@@ -38,7 +38,7 @@ class Screen:
         """Shows a line, and those that belong to it."""
         now = self._clock()
         self._last.append(text)
-        self._print(f"{now:%H:%M:%S}  {text}")
+        self._print(f"{time_of(now)}  {text}")
         self._write(now, text)
         for line in more:
             self._print(INDENT + line)
@@ -104,9 +104,9 @@ class Screen:
             # An unchanged state isn't written each second: that would disturb what is typed below.
             if is_news or abs((now - self._state_at).total_seconds()) >= LASTS:
                 self._state_at = now
-                self._terminal.state(f"{now:%H:%M:%S}  {text}{PROMPT}")
+                self._terminal.state(f"{time_of(now)}  {text}{PROMPT}")
         elif is_line:
-            self._print(f"{now:%H:%M:%S}  {text}")
+            self._print(f"{time_of(now)}  {text}")
 
     def _print(self, line: str) -> None:
         if self._terminal:
@@ -114,4 +114,9 @@ class Screen:
 
     def _write(self, now: datetime.datetime, text: str) -> None:
         if self._log:
-            self._log.write(f"{now:{LOGGED}}", text)
+            self._log.write(logged_at(now), text)
+
+
+def time_of(now: datetime.datetime) -> str:
+    """The time of day, as `14:02:59`."""
+    return now.time().isoformat("seconds")

@@ -36,8 +36,8 @@ def on_the_board(**pieces: int) -> List[int]:
 
 
 def last_state(live: Live) -> str:
-    """What was said last."""
-    return live.lines().splitlines()[-1]
+    """The last line that is no move: a move after which the board stands as before has no line of its own for that."""
+    return [line for line in live.lines().splitlines() if not re.match(r"\S+  (correction )?\d+\.", line)][-1]
 
 
 def seen(live: Live) -> None:
