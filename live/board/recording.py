@@ -217,7 +217,7 @@ class Recording:
             more = len(self._faults) - 1
             self._screen.note(self._faults[0] + (f", and {more} more" if more else ""))
             self._faults.clear()
-        self.standing.show()
+        self.standing.lasts()
 
     # What the program reports.
 

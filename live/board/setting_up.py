@@ -84,7 +84,7 @@ class SettingUp:
         self._disk.try_again()
         self._watch.wake()
         self._feed()
-        self.standing.show()
+        self.standing.lasts()
 
     def _heard(self, texts: List[str]) -> None:
         is_news = False

@@ -26,7 +26,7 @@ class Standing:
         self._closed = False
 
     def show(self) -> None:
-        """Shows the state. Call this after each change, and now and then, since the time is part of what is shown."""
+        """Shows the state. Call this after each change."""
         if self._closed:
             return
         now = self._loop.now()
@@ -43,6 +43,11 @@ class Standing:
             self._timer = None
         if self._timer is None and due < math.inf:  # a timer that comes too soon shows nothing new, and sets another
             self._timer = self._loop.after(max(0.0, due - now), self._due)
+
+    def lasts(self) -> None:
+        """Call this each second: a terminal shows how long it has lasted."""
+        if self._screen.shows_time:
+            self.show()
 
     def _due(self) -> None:
         self._timer = None

@@ -28,6 +28,11 @@ class Screen:
         self._last: Deque[str] = collections.deque(maxlen=3)  # the texts of the last lines
         self._state_at = datetime.datetime.min
 
+    @property
+    def shows_time(self) -> bool:
+        """Whether its last line is rewritten in place, with the time that a state has lasted."""
+        return self._terminal is not None and self._terminal.in_place
+
     def keep(self, log: Optional[Log]) -> None:
         """From now on the lines are written to this log."""
         if self._log:
@@ -90,7 +95,7 @@ class Screen:
     def state(self, text: str, news: object) -> None:
         """Shows the board's state: as the last line of a terminal, elsewhere as a line each time that `news` changes."""
         is_news, self._news = news != self._news, news
-        if is_news or (self._terminal and self._terminal.in_place):
+        if is_news or self.shows_time:
             self._tell_state(self._clock(), text, is_news)
         self.on_change()
 
