@@ -15,7 +15,7 @@ from live.game.edited import is_recorded, keep
 from live.game.files import LARGEST, content_of, existing, new_of, open_new, open_regular, sync_folder, text_of
 from live.game.game import Game
 from live.game.options import Options
-from live.game.program import Child, ending_of, wake
+from live.game.program import ending_of, wake
 from live.guard import Guard
 from live.loop import Timer
 
@@ -64,7 +64,7 @@ class Text:
         self._game = game
         self._new = new_of(game.paths.pgn)
         self._words = ("record", *game.options.of_record())
-        self._children: Tuple[Child, ...] = ()  # `record`, and `recover` that it reads
+        self._children: Tuple[subprocess.Popen[bytes], ...] = ()  # `record`, and `recover` that it reads
         self._closed = False
 
     def kill(self) -> None:
@@ -134,9 +134,8 @@ class Text:
             if status != 0:
                 return Made(f"record {ending_of(status)}")
             for recover in before:
-                status = recover.wait()
-                if status != 0:
-                    return Made(f"recover {ending_of(status)}")
+                if recover.wait() != 0:
+                    return Made(f"recover {ending_of(recover.returncode)}")
         return Made()
 
     def _start_children(self, limit: Optional[int], target: int) -> int:
@@ -154,7 +153,7 @@ class Text:
             report, told = os.pipe()
             opened.callback(os.close, told)
             try:
-                self._children = (program.spawn(self._words, (source, target, told)), *self._children)
+                self._children = (program.start(self._words, source, target, told), *self._children)
             except OSError:
                 os.close(report)
                 raise

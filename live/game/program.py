@@ -8,7 +8,6 @@ import functools
 import os
 import signal
 import subprocess
-import threading
 from dataclasses import dataclass
 from typing import Callable, Iterator, List, Optional, Protocol, Sequence, Tuple
 
@@ -30,42 +29,6 @@ def _deaf_children() -> Iterator[None]:
         yield
     finally:
         signal.pthread_sigmask(signal.SIG_SETMASK, before)
-
-
-class Child(Protocol):
-    """A process that was started."""
-
-    pid: int
-    returncode: Optional[int]  # None until it was waited for
-
-    def kill(self) -> None:
-        """Ends it at once. Any thread may call this."""
-
-    def wait(self) -> int:
-        """Waits for its end. Returns its exit status; if a signal ended it, the signal's number below 0."""
-
-
-class Spawned:
-    """A child without pipes."""
-
-    def __init__(self, pid: int) -> None:
-        self.pid = pid
-        self.returncode: Optional[int] = None
-        self._lock = threading.Lock()  # once it was waited for, its number may be another process's
-
-    def kill(self) -> None:
-        """Ends it at once. Any thread may call this."""
-        with self._lock:
-            if self.returncode is None:
-                os.kill(self.pid, signal.SIGKILL)
-
-    def wait(self) -> int:
-        """Waits for its end. Returns its exit status; if a signal ended it, the signal's number below 0."""
-        if self.returncode is None:
-            os.waitid(os.P_PID, self.pid, os.WEXITED | os.WNOWAIT)
-            with self._lock:
-                self.returncode = os.waitstatus_to_exitcode(os.waitpid(self.pid, 0)[1])
-        return self.returncode
 
 
 @dataclass(frozen=True)
@@ -133,16 +96,6 @@ class Program:
         """Starts it without waiting."""
         with _deaf_children():
             return subprocess.Popen([self.path, *words], stdin=stdin, stdout=stdout, stderr=stderr, bufsize=0)
-
-    def spawn(self, words: Sequence[str], streams: Tuple[int, int, int]) -> Spawned:
-        """Starts it with these open files as its three streams, without waiting. It takes a fraction of the steps of `start`: for
-        the call at each move."""
-        places = [(os.POSIX_SPAWN_DUP2, number, place) for place, number in enumerate(streams)]
-        arguments = [self.path, *words]
-        defaults = (signal.SIGPIPE, signal.SIGXFSZ)  # which Python ignores, and a child would too
-        return Spawned(
-            os.posix_spawn(self.path, arguments, os.environ, file_actions=places, setsigmask=ENDING, setsigdef=defaults)
-        )
 
 
 class Source(Protocol):
@@ -367,11 +320,11 @@ def ending_of(status: int) -> str:
     return "was killed" if status < 0 else f"ended with status {status}"
 
 
-def wake(child: Child) -> None:
+def wake(child: subprocess.Popen[bytes]) -> None:
     """Lets a stopped child go on."""
     with contextlib.suppress(OSError):
         if child.returncode is None and os.waitid(os.P_PID, child.pid, os.WSTOPPED | os.WNOHANG | os.WNOWAIT):
-            os.kill(child.pid, signal.SIGCONT)
+            child.send_signal(signal.SIGCONT)
 
 
 def lines_of(output: bytes) -> List[str]:
