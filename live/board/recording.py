@@ -3,6 +3,7 @@
 from __future__ import annotations
 
 import enum
+import os
 from dataclasses import dataclass
 from typing import Callable, List, Optional, Protocol, Sequence
 
@@ -230,11 +231,12 @@ class Recording:
             if isinstance(line.event, (Move, Result, Recovered)):
                 self._screen.told(line.event.shown, line.offset < self._old)
                 is_changed = is_changed or line.offset >= self._maker.made_of
+        if is_changed:
+            os.sched_yield()  # whoever reads these lines need not wait for what follows
+            self._maker.want()
         news = [self._take(line) for line in lines]
         if any(news):
             self.standing.show()
-        if is_changed:
-            self._maker.want()
 
     def _take(self, line: Line) -> bool:
         """Takes a line. Returns whether the state may have changed."""
