@@ -4,6 +4,8 @@ where a round has no such board."""
 import os
 import pathlib
 import pwd
+import subprocess
+import sys
 import tempfile
 from typing import List, Tuple, cast
 
@@ -11,7 +13,7 @@ from live.board.disk import Disk, HearsDisk
 from live.board.standing import Standing
 from live.board.state import DISK_FULL, NOT_WRITTEN
 from live.game import files
-from live.game.files import Capture, Log, check_name
+from live.game.files import Capture, Log, check_name, plain
 from live.game.options import Options
 from live.game.program import Program
 from live.game.refusal import is_recorded, reason
@@ -270,4 +272,20 @@ def recorded() -> None:
         same(f"{words} on board {board}", list(is_recorded("g3", board, Options.of_words(words.split()))), told)
 
 
-TABLES = [reasons, no_names, not_had, devices_listed, disks, logs, errors_of_logs, rounds, recorded]
+def plain_paths() -> None:
+    """Parts of a path that mean nothing are left out; `..` may lead through a link, and stays."""
+    for path, expected in [("./a//b.dgt", "a/b.dgt"), ("/a/./b", "/a/b"), ("../a", "../a"), ("a", "a"), ("/", "/")]:
+        same(f"plain {path}", plain(path), expected)
+
+
+def loaded() -> None:
+    """A recorder of one board that nobody else sees loads neither pages nor broadcasts, nor what takes much memory."""
+    top = pathlib.Path(__file__).resolve().parents[2]
+    asks = "import sys; sys.path.insert(0, sys.argv[1]); import live.doors.dgt_live; print(*sys.modules)"
+    words = [sys.executable, "-S", "-c", asks, str(top)]
+    names = subprocess.run(words, stdout=subprocess.PIPE, check=True).stdout.decode().split()
+    heavy = ("live.web", "live.broadcast.broadcast", "pathlib", "urllib", "hashlib", "json", "email", "traceback")
+    same("what is loaded", [name for name in names if name.startswith(heavy)], [])
+
+
+TABLES = [reasons, no_names, not_had, devices_listed, disks, logs, errors_of_logs, rounds, recorded, plain_paths, loaded]

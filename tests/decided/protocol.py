@@ -1,5 +1,7 @@
 """Frames, dumps, placements: worked by hand from FORMATS, 'What the board sends'."""
 
+from typing import List
+
 from live.device.protocol import DUMP_REQUEST, START_REQUEST, FrameKind, Frames
 from live.device.protocol import differing, dump, picture_of_placement, serial_of
 
@@ -25,6 +27,20 @@ def streams() -> None:
         same(text + ", unfinished", frames.unfinished, unfinished)
 
 
+def whole_frames() -> None:
+    """Frames that are taken at once are those that are taken byte by byte."""
+    for text, expected, unfinished in cases("protocol", "streams"):
+        frames, sent, at = Frames(), bytes_of(text), 0
+        seen: List[List[object]] = []
+        while at < len(sent):
+            kind = frames.take_whole(sent, at)
+            at += len(frames.whole) if kind else 1
+            kind = kind or frames.take(sent[at - 1])
+            seen += [[at - 1, kind.value]] if kind else []
+        same(text + ", at once", seen, expected)
+        same(text + ", at once, unfinished", frames.unfinished, unfinished)
+
+
 def pictures() -> None:
     """The codes of a placement, and the frame of a picture on a board that lies either way."""
     for name, text, first, codes in cases("protocol", "placements"):
@@ -39,4 +55,4 @@ def pictures() -> None:
     same("requests", [DUMP_REQUEST.decode(), START_REQUEST.decode()], cases("protocol", "requests"))
 
 
-TABLES = [serials, streams, pictures]
+TABLES = [serials, streams, whole_frames, pictures]
