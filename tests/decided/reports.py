@@ -84,8 +84,8 @@ def seen(course: Course) -> object:
     """What the course of a game comes to."""
     lines = course.lines()
     return (
-        course.placement, course.result, course.has_agreed, course.stood_again, course.changed_at, course.standing(),
-        lines[-1:], game_end(lines, course.start),
+        course.placement, course.clock, course.result, course.has_agreed, course.stood_again, course.changed_at,
+        course.standing(), lines[-1:], game_end(lines, course.start),
     )  # fmt: skip
 
 
@@ -104,7 +104,8 @@ def enough() -> None:
                 offset += 5
                 kind = chance.choice(["picture", "differs", "agrees", "clock"])
                 what = {"picture": chance.choice(pictures[: chance.choice((2, 2, 3))]), "differs": chance.choice(squares)}
-                part.append(f"{offset} {kind} {what.get(kind, '1:00 2:00' if kind == 'clock' else '')}".rstrip())
+                what["clock"] = f"0:{offset % 60:02}:00 1:30:00"
+                part.append(f"{offset} {kind} {what.get(kind, '')}".rstrip())
             if chance.random() < 0.3:
                 part.append(f"{offset} move 2. Nf3")
             parts.append(part)
