@@ -232,8 +232,8 @@ class Recording:
                 self._screen.told(line.event.shown, line.offset < self._old)
                 is_changed = is_changed or line.offset >= self._maker.made_of
         if is_changed:
-            os.sched_yield()  # whoever reads these lines need not wait for what follows
             self._maker.want()
+            os.sched_yield()  # whoever reads these lines need not wait for what follows
         news = [self._take(line) for line in lines]
         if any(news):
             self.standing.show()
