@@ -26,7 +26,7 @@ for stream in played fumbled; do
     beside "recover $stream" 1.5 "$work/$stream" "$program recover" "$program record"
     rm "$work/$stream"
 done
-for stream in promoted lifted; do
+for stream in promoted lifted queens; do
     python3 bench/streams.py "$work" "$stream"
     fen=$(cd bench && python3 -c "import streams; print(streams.${stream^^})")
     head -c 1048576 "$work/$stream" > "$work/part"

@@ -8,6 +8,7 @@ dumps    the dump of the initial position again and again
 faults   bytes FF, each of which but the first is a fault
 promoted 64 MiB: of the pictures that wait, each second one is explained by four pairs, which nothing confirms (PROMOTED)
 lifted   64 MiB: after a move two queens of each side are in hand, and a third one comes and goes (LIFTED)
+queens   64 MiB: in a position of 218 moves a pawn and six queens are in hand, and a seventh comes and goes (QUEENS)
 """
 import pathlib
 import random
@@ -226,6 +227,7 @@ def idle() -> bytes:
 WORST = 64 * 1024 * 1024
 PROMOTED = "4k2r/6P1/8/8/8/8/P7/4K3 w - -"
 LIFTED = "k1q1q1q1/pp6/8/8/8/8/PP6/K1Q1Q1Q1 w - -"
+QUEENS = "R6R/3Q4/1Q4Q1/4Q3/2Q4Q/Q4Q2/pp1Q4/kBNN1KB1 w - -"
 
 
 def toggled(fen: str, before: Way, there_and_back: Way) -> bytes:
@@ -248,6 +250,11 @@ def lifted() -> bytes:
     return toggled(LIFTED, [(48, 0), (40, 1), (58, 0), (60, 0), (2, 0), (4, 0)], [(62, 0), (62, 6)])
 
 
+def queens() -> bytes:
+    """The pawn of a2 and the queens of d7, b6, g6, e5, c4 and h4 are in hand; that of a3 is lifted and put back."""
+    return toggled(QUEENS, [(square, 0) for square in (48, 11, 17, 22, 28, 34, 39)], [(40, 0), (40, 6)])
+
+
 STREAMS: Dict[str, Callable[[], bytes]] = {
     "idle": idle,
     "played": lambda: hands(False),
@@ -256,6 +263,7 @@ STREAMS: Dict[str, Callable[[], bytes]] = {
     "faults": lambda: b"\xff" * SIZE,
     "promoted": promoted,
     "lifted": lifted,
+    "queens": queens,
 }
 
 if __name__ == "__main__":

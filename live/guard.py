@@ -16,6 +16,7 @@ class Guard:
     def __init__(self, loop: Turns, broke: Callable[[Exception], None], notes: Callable[[Exception], None]) -> None:
         self._loop, self._broke, self._notes = loop, broke, notes
         self.now = loop.now  # the time of all timers; it never goes back
+        self.away = loop.away
         self._watched: Set[int] = set()
         self._open: Dict[object, Callback] = {}  # closes each open thing, in the order of opening
         self.ended = False

@@ -14,8 +14,11 @@ import time
 from dataclasses import dataclass
 from typing import Callable, Deque, List, Optional, Protocol, Tuple
 
+from live.time_away import Turn, time_away
+
 Callback = Callable[[], None]
 ENDING = (signal.SIGINT, signal.SIGTERM, signal.SIGHUP)
+PULSE = 1.0  # seconds after which the loop turns at the latest
 
 
 @dataclass
@@ -48,6 +51,9 @@ class Turns(Protocol):
     def now(self) -> float:
         """The time of all timers; it never goes back."""
 
+    def away(self) -> float:
+        """The seconds of all times in which the recorder was stopped, or the computer slept."""
+
     def watch(self, number: int, readable: Optional[Callback] = None, writable: Optional[Callback] = None) -> None:
         """Calls these from now on for the file descriptor; none if both are None."""
 
@@ -72,6 +78,7 @@ class Loop:
         self._timers: List[Tuple[float, int, Timer]] = []  # a heap: those for the same time are called in their order
         self._numbers = itertools.count()
         self._stopped = False
+        self._turn, self._away = self.clocks(), 0.0
         self._soon: Deque[Callback] = collections.deque()
         self._woken, self._wakes = socket.socketpair()
         self._woken.setblocking(False)
@@ -82,6 +89,20 @@ class Loop:
     def now() -> float:
         """The time of all timers; it never goes back."""
         return time.monotonic()
+
+    @staticmethod
+    def clocks() -> Turn:
+        """The time, by a clock that stands still while the computer sleeps and by one that counts on. Nobody can set them."""
+        return Turn(time.monotonic(), time.clock_gettime(time.CLOCK_BOOTTIME))
+
+    def away(self) -> float:
+        """The seconds of all times in which the recorder was stopped, or the computer slept."""
+        return self._away
+
+    def _turned(self, waited: float = 0.0) -> None:
+        """A wait of at most so many seconds is over, or a call. Each call counts as a turn, so many slow ones are no time away."""
+        before, self._turn = self._turn, self.clocks()
+        self._away += time_away(before, self._turn, waited)
 
     def watch(self, number: int, readable: Optional[Callback] = None, writable: Optional[Callback] = None) -> None:
         """Calls these from now on for the file descriptor; none if both are None."""
@@ -126,6 +147,7 @@ class Loop:
             self._woken.recv(4096)
         while self._soon and not self._stopped:
             self._soon.popleft()()
+            self._turned()
 
     def stop(self) -> None:
         """The loop ends after the present call."""
@@ -148,12 +170,15 @@ class Loop:
         """Calls it, unless an earlier call has closed the descriptor or watched it for something else."""
         if callback and not watch.is_over and not self._stopped:
             callback()
+            self._turned()
 
     def _ready(self) -> List[Tuple[Watch, int]]:
         while self._timers and self._timers[0][2].cancelled:
             heapq.heappop(self._timers)
-        wait = max(0.0, self._timers[0][0] - self.now()) if self._timers else None
-        return [(key.data, events) for key, events in self._selector.select(wait)]
+        wait = min(PULSE, max(0.0, self._timers[0][0] - self.now())) if self._timers else PULSE
+        ready = [(key.data, events) for key, events in self._selector.select(wait)]
+        self._turned(wait)
+        return ready
 
     def _call_timers(self) -> None:
         now = self.now()
@@ -161,6 +186,7 @@ class Loop:
             _, _, timer = heapq.heappop(self._timers)
             if not timer.cancelled:
                 timer.callback()
+                self._turned()
 
 
 class Signals:

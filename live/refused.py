@@ -16,6 +16,17 @@ ANOTHER_CALL = (
 )
 
 
+JOINERS = "\u200c\u200d"  # they can't be seen, and Persian and Indian scripts need them
+
+
+def printable(text: str) -> str:
+    """Without what a terminal would take as a command, and without what turns the order of letters round. Bytes of a path that are
+    no text are printed as such."""
+    if text.isprintable():
+        return text
+    return "".join(letter if letter.isprintable() or "\ud800" <= letter <= "\udfff" or letter in JOINERS else "?" for letter in text)
+
+
 class Refused(Exception):
     """A complaint for standard error, in lines, and its exit status."""
 
@@ -26,4 +37,8 @@ class Refused(Exception):
 
     def text(self, command: str) -> str:
         """The text as a command prints it."""
-        return "".join(("  " if number else f"{command}: ") + line + "\n" for number, line in enumerate(self.lines))
+        return "".join(("  " if number else f"{command}: ") + printable(line) + "\n" for number, line in enumerate(self.lines))
+
+
+class Broken(Refused):
+    """A part of the program failed again and again: the recording begins again after a while."""

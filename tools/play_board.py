@@ -6,17 +6,22 @@ named: `e2e4`, castling as the king's move `e1g1`, en passant as `e5d6`, a promo
 """
 
 import argparse
+import contextlib
 import os
+import re
 import select
+import signal
 import sys
 import time
 import tty
-from typing import Iterable, List
+from typing import Iterable, Iterator, List
 
 SEND_DUMP, SEND_UPDATES = 0x42, 0x4B
 DUMP, UPDATE, TIME = 0x86, 0x8E, 0x8D
 EMPTY, PAWN, KING, BLACK = 0, 1, 5, 6
 PROMOTED = {"r": 2, "n": 3, "b": 4, "q": 6}
+TERMINALS = "/dev/pts/"
+MOVE = re.compile("([a-h][1-8]){2}[rnbq]?")
 BACK_RANK = [2, 3, 4, 6, 5, 4, 3, 2]
 INITIAL = [BLACK + kind for kind in BACK_RANK] + [BLACK + PAWN] * 8 + [EMPTY] * 32 + [PAWN] * 8 + BACK_RANK
 
@@ -96,36 +101,70 @@ class Board:
         self.send(frame(TIME, [*(int(digits, 16) for digits in groups), int(runs)]))
 
 
+@contextlib.contextmanager
+def made(device: str) -> Iterator[int]:
+    """The line of a new device, which is removed at the end. One that a killed call has left is replaced."""
+    line, slave = os.openpty()
+    tty.setraw(slave)
+    if os.path.islink(device) and os.readlink(device).startswith(TERMINALS):
+        os.unlink(device)
+    os.symlink(os.ttyname(slave), device)
+    print(f"board: {device} is there", file=sys.stderr, flush=True)
+    try:
+        yield line
+    finally:
+        os.unlink(device)
+
+
+@contextlib.contextmanager
+def opened(device: str) -> Iterator[int]:
+    """The line of a device that is there."""
+    yield os.open(device, os.O_RDWR | os.O_NOCTTY)
+
+
+def move(text: str) -> str:
+    """A move as this program wants it."""
+    if not MOVE.fullmatch(text):
+        raise argparse.ArgumentTypeError(f"{text} is no move: write both squares, as e2e4, e1g1 or e7e8q")
+    return text
+
+
+def play(words: argparse.Namespace) -> None:
+    """Makes all moves."""
+    with (made if words.make else opened)(words.device) as line:
+        board = Board(line, words.pause, words.cut)
+        while not board.asked_for_updates:
+            board.listen(1)
+        times = [words.clock, words.clock]
+        for ply, one in enumerate(words.moves):
+            if words.clock:
+                times[ply % 2] -= 7
+                board.clock(*times)
+                board.listen(words.pause)
+            board.play(one)
+        board.listen(words.stay)
+
+
 def main() -> None:
     parser = argparse.ArgumentParser(description=__doc__)
     parser.add_argument("device")
     parser.add_argument("--make", action="store_true", help="makes the device, and removes it at the end")
-    parser.add_argument("moves", nargs="*")
+    parser.add_argument("moves", nargs="*", type=move)
     parser.add_argument("--pause", type=float, default=0.05, help="seconds after each update")
     parser.add_argument("--cut", type=int, default=0, help="the number of the update that is cut off")
     parser.add_argument("--clock", type=int, default=0, help="seconds on each clock; each ply takes seven")
     parser.add_argument("--stay", type=float, default=0.5, help="seconds before it hangs up")
     words = parser.parse_intermixed_args()
-
-    if words.make:
-        line, slave = os.openpty()
-        tty.setraw(slave)
-        os.symlink(os.ttyname(slave), words.device)
-    else:
-        line = os.open(words.device, os.O_RDWR | os.O_NOCTTY)
-    board = Board(line, words.pause, words.cut)
-    while not board.asked_for_updates:
-        board.listen(1)
-    times = [words.clock, words.clock]
-    for ply, move in enumerate(words.moves):
-        if words.clock:
-            times[ply % 2] -= 7
-            board.clock(*times)
-            board.listen(words.pause)
-        board.play(move)
-    board.listen(words.stay)
-    if words.make:
-        os.unlink(words.device)
+    for number in (signal.SIGTERM, signal.SIGHUP):
+        signal.signal(number, lambda *_: sys.exit(1))
+    try:
+        play(words)
+    except FileExistsError:
+        sys.exit(f"play_board: {words.device} is there already: give another name, or remove it")
+    except OSError as error:
+        sys.exit(f"play_board: {words.device}: {error.strerror}")
+    except KeyboardInterrupt:
+        sys.exit(1)
 
 
 if __name__ == "__main__":

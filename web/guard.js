@@ -16,6 +16,10 @@ export class Guard {
     return this.loop.now();
   }
 
+  away() {
+    return this.loop.away();
+  }
+
   /** Calls it once, after this many seconds. */
   after(seconds, call) {
     return this.loop.after(seconds, () => this.call(call));

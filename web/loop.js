@@ -1,7 +1,13 @@
 // The time, and what is called later. A timer runs in a worker of its own: in a tab that nobody sees a browser lets
 // timers wait for up to a minute, and a board must be asked each second.
 
-const WAITS = 'onmessage = ({ data }) => setTimeout(() => postMessage(data.number), data.milliseconds);';
+import { timeAway } from './time_away.js';
+
+const PULSE = 250; // milliseconds after which the loop turns at the latest
+const WAITS = `
+  onmessage = ({ data }) => setTimeout(() => postMessage(data.number), data.milliseconds);
+  setInterval(() => postMessage(null), ${PULSE});
+`;
 
 export class Loop {
   constructor() {
@@ -11,11 +17,26 @@ export class Loop {
     this.worker = new Worker(url);
     URL.revokeObjectURL(url);
     this.worker.onmessage = ({ data }) => this.due(data);
+    this.turn = this.clocks();
+    this.wasAway = 0;
   }
 
   /** In seconds since 1970. It never goes back, whatever is done to the computer's clock. */
   now() {
     return (performance.timeOrigin + performance.now()) / 1000;
+  }
+
+  /** The time in seconds, by a clock that nobody sets and by the one on the wall. */
+  clocks() {
+    return { running: performance.now() / 1000, counting: Date.now() / 1000 };
+  }
+
+  /** The seconds of all times in which the page was stopped, or the computer slept. */
+  away() {
+    const before = this.turn;
+    this.turn = this.clocks();
+    this.wasAway += timeAway(before, this.turn, PULSE / 1000);
+    return this.wasAway;
   }
 
   /** Calls it once, after this many seconds; `cancel` on what this returns takes that back. */
@@ -28,6 +49,7 @@ export class Loop {
   }
 
   due(number) {
+    this.away();
     const call = this.calls.get(number);
     this.calls.delete(number);
     if (call) call();

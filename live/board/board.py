@@ -9,6 +9,7 @@ from dataclasses import dataclass
 from typing import Callable, List, Optional, Protocol, Tuple
 
 from live.beside import Worker
+from live.board.asked_first import AskedFirst
 from live.board.cable import Heard
 from live.board.plan import Plan
 from live.board.recorder import Recorder
@@ -18,6 +19,7 @@ from live.game import files
 from live.game.adding import Answer, add_by_name, reason_of, refusal
 from live.game.alarms import kept_looks
 from live.game.course import Course
+from live.game.forfeiting import forfeit_of
 from live.game.files import Paths
 from live.game.game import kept_serial, result_of
 from live.game.looks import Looks
@@ -69,13 +71,14 @@ class Board:
     def __init__(self, loop: Turns, program: Program, screen: Screen, paths: Paths, hears: HearsBoard) -> None:
         self._loop, self._program, self._screen, self._hears = loop, program, screen, hears
         self._paths = paths
-        self.options = Options()
-        self.course: Course = new_course(self.options)
+        self._options = Options()
+        self.course: Course = new_course(self._options)
         self.trouble = ""  # why it isn't recorded
         self.refused: Optional[Refused] = None  # why its recording has ended, if that was an error
         self.is_over = False
-        self.is_new = True  # nothing is known about it yet
+        self.is_new = True  # nothing is known about it yet; a call that ends before its game is open leaves it so
         self.pgn = b""
+        self.forfeit = ""  # how its game was forfeited, if it was
         self._looks = Looks()  # alarms of a game that isn't recorded
         self._guard: Optional[Guard] = None  # of the game that is opened or recorded
         self._recorder: Optional[Recorder] = None
@@ -108,18 +111,25 @@ class Board:
         opening = wanted.opening()
         guard.opened(opening.drop)
         now = self._loop.now()
+        asked: List[AskedFirst] = []
+
+        def held() -> None:
+            asked.append(AskedFirst(guard, wanted.plan.device, wanted.plan.serial or self._number))
 
         def opened(found: Opened) -> None:
             close = guard.opened(found.game.capture.close)
             opening.take()
-            self._opened(guard, worker, wanted.plan, dataclasses.replace(found, close=close))
+            self._opened(guard, worker, wanted.plan, dataclasses.replace(found, close=close), asked[0] if asked else None)
+
+        if not wanted.plan.shows:
+            opening.held = lambda: guard.soon(held)
 
         worker.do(lambda: opening.open(now, today()), opened)
 
-    def _opened(self, guard: Guard, worker: Worker, plan: Plan, opened: Opened) -> None:
+    def _opened(self, guard: Guard, worker: Worker, plan: Plan, opened: Opened, asked: Optional[AskedFirst]) -> None:
         """The game is open: recording begins, unless the game is over."""
         self.trouble, self.is_new, self._begun_at = "", False, self._loop.now()
-        self._paths, self.options, self.course = opened.game.paths, opened.game.options, opened.old.course
+        self._paths, self._options, self.course = opened.game.paths, opened.game.options, opened.old.course
         self._read_pgn()
         guard.opened(lambda: self._screen.keep(None))
         self._screen.keep(files.Log(self._paths.log))
@@ -129,10 +139,10 @@ class Board:
         if anew:
             self._screen.say(self._screen.anew(str(self._paths.pgn), "; ".join(anew)))
         self.is_over = opened.is_over
-        if opened.is_over and (plan.board or plan.shows):  # it stays so
+        if plan.shows or (opened.is_over and plan.board):  # it stays so
             self._release(None)
         else:
-            self._recorder = Recorder(guard, worker, self._screen, plan, opened, self)
+            self._recorder = Recorder(guard, worker, self._screen, plan, opened, self, asked)
             self.course = self._recorder.course
         self._hears.remade()
         self._hears.changed()
@@ -146,13 +156,14 @@ class Board:
     def _leave(self) -> None:
         """Stops recording."""
         if self._recorder:
-            self.course, self._paths, self.cable = self._recorder.course, self._recorder.game.paths, self._recorder.cable
+            game = self._recorder.game
+            self.course, self._paths, self._options, self.cable = self._recorder.course, game.paths, game.options, self._recorder.cable
             self._number = self._recorder.number
         self._guard = self._recorder = None
 
     def _put_off(self, why: str, error: Optional[Exception]) -> None:
         """Not recorded, for this reason. It is tried again later unless it is ending."""
-        if self.is_new:
+        if self.is_new and not self._done:
             self.is_new = False
             self._hears.remade()
         if self._done:
@@ -295,14 +306,40 @@ class Board:
         return self._recorder is not None
 
     @property
+    def is_begun(self) -> bool:
+        """Whether it is recorded now, or its game is being opened."""
+        return self._guard is not None
+
+    @property
     def number(self) -> str:
         """The serial number of its board, empty if unknown."""
         return self._recorder.number if self._recorder else self._number
 
     @property
+    def lacks(self) -> str:
+        """The serial number of its board, if that isn't on its cable; else empty."""
+        return self._recorder.lacks if self._recorder else ""
+
+    @property
+    def holds(self) -> str:
+        """The device that is open, if it is."""
+        return self._recorder.holds if self._recorder else ""
+
+    def found_on(self, device: str) -> None:
+        """Its board is on this device."""
+        if self._guard and self._recorder:
+            moves = self._recorder.move_to
+            self._guard.call(lambda: moves(device))
+
+    @property
     def paths(self) -> Paths:
         """The files of the game."""
         return self._recorder.game.paths if self._recorder else self._paths
+
+    @property
+    def options(self) -> Options:
+        """The options of the game."""
+        return self._recorder.game.options if self._recorder else self._options
 
     @property
     def result(self) -> str:
@@ -357,3 +394,4 @@ class Board:
             self._looks = kept_looks(self.paths)
         with contextlib.suppress(OSError):
             self.pgn = files.existing(self.paths.pgn) if written is None else written
+        self.forfeit = forfeit_of(self.paths, self.pgn)

@@ -4,13 +4,14 @@ from __future__ import annotations
 
 from typing import List, Optional, Protocol, Tuple
 
+from live.board.asked_first import AskedFirst
 from live.board.standing import Standing
 from live.board.whose import Whose
 from live.device.asking import Came
 from live.device.connection import Connection
 from live.game.files import MEMORY
 from live.guard import Guard
-from live.refused import ANOTHER_CALL
+from live.refused import ANOTHER_CALL, printable
 from live.terminal.screen import Screen
 
 
@@ -47,14 +48,16 @@ class Cable:
     """The state of a board's line. If it listens `once`, a board that goes away isn't waited for. What a board with another number
     sends is lent to the game that has this board; if there is none, it is kept back."""
 
-    def __init__(self, guard: Guard, screen: Screen, device: str, once: bool, number: str, hears: HearsCable) -> None:
+    def __init__(self, guard: Guard, screen: Screen, device: str, once: bool, number: str, hears: HearsCable,
+                 asked: Optional[AskedFirst] = None) -> None:  # fmt: skip
         self._guard, self._screen, self._device, self._once, self._hears = guard, screen, device, once, hears
         self._unplugged = self._silent = self._was_plugged = False
         self._whose = Whose(number)
         self._other = ""  # the number of the other board that was last reported, while it is on the cable
         self._unsure: List[Heard] = []  # what came since the board was asked for its number
         self._foreign: List[Heard] = []  # what another board has sent and no game has taken
-        self._connection = Connection(guard, device, self)
+        self._asked = asked  # before its game was open
+        self._connection = asked.connection if asked else Connection(guard, device, self)
         if number:
             self._connection.has_number()
 
@@ -73,9 +76,28 @@ class Cable:
         """The serial number of the board on the cable, if it is another board."""
         return self._whose.shown if self._whose.is_other else ""
 
+    @property
+    def lacks(self) -> str:
+        """The serial number of the game's board, if that isn't on this cable; else empty."""
+        return self._whose.own if self._unplugged or self._whose.is_other else ""
+
+    @property
+    def holds(self) -> str:
+        """The device that is open, if it is."""
+        return "" if self._unplugged else self.name
+
+    def move_to(self, device: str) -> None:
+        """The game's board is on this device."""
+        self._screen.say(f"the board with serial number {self._whose.own} is on {device}, and is recorded there")
+        self._device = device
+        self._connection.move_to(device)
+
     def begin(self) -> None:
         """Opens the line, or waits for it."""
-        self._connection.begin()
+        if self._asked:
+            self._asked.pass_on(self)
+        else:
+            self._connection.begin()
 
     def added(self, put: bytes) -> None:
         """Bytes were added by hand and may have cut a frame, so the board is asked for a dump."""
@@ -167,13 +189,24 @@ class Cable:
         self._unplugged, self._silent = True, False
         self._unsure.clear()
         if not self._once and self._hears.standing:  # a game that is over ends without it
-            again = "plug it in again; the recording then goes on"
-            what = again if self._was_plugged else f"plug it in. Is it another device? {self._screen.other_device()}"
-            self._screen.say(f"{self.name} isn't there: {what}")
+            self._screen.say(self._gone())
         if self._hears.standing:
             self._hears.standing.unplugged()
         if self._once:
             self._hears.gone(f"{self._device} has gone away", False)
+
+    def _gone(self) -> str:
+        """What to do so that it is there again."""
+        why, screen = self._connection.why, self._screen
+        if why and self._was_plugged:
+            what = "look at the serial server, its power and its network; it is tried again and again"
+        elif why:
+            what = f"look at the serial server, its power and its network. Is it another address? {screen.other_address()}"
+        elif self._was_plugged:
+            what = "plug it in again; the recording then goes on"
+        else:
+            what = f"plug it in. Is it another device? {screen.other_device()}"
+        return f"{self.name} isn't there{f' ({printable(why)})' if why else ''}: {what}"
 
     def silence(self, silent: bool) -> None:
         """The board sends no dumps, or sends them again."""

@@ -29,7 +29,7 @@ def last_number(name: str) -> int:
 @dataclass(frozen=True)
 class Plan:
     """What to record, and how: a device, and the name of a game or of a series. `board` is its number in a round; `serial` is the
-    board's own serial number, if given. For a game that is over, only `shows` is used, and no board is opened."""
+    board's own serial number, if given. A plan that only `shows` a game opens no board."""
 
     device: str
     name: str

@@ -5,13 +5,16 @@ from __future__ import annotations
 import contextlib
 import dataclasses
 import os
-from typing import Optional, Union
+from typing import Optional, Type, Union
 
 from live.beside import Worker
+from live.board.asked_first import AskedFirst
 from live.board.cable import Cable, Heard
+from live.board.forfeited import Forfeits
 from live.board.game_over import Listening
 from live.board.plan import HearsRecorder, Plan, numbered
 from live.board.recording import Reason, Recording
+from live.board.renaming import Renames
 from live.board.setting_up import SettingUp
 from live.board.standing import Standing
 from live.board.taking_off import TakesOff
@@ -21,25 +24,29 @@ from live.game.adding import Answer, add_by_name, add_to_closed, reason_of, refu
 from live.game.alarms import acknowledge, carry_over, keep_looks, kept_looks
 from live.game.control import Control
 from live.game.files import Capture, Log, Paths, put_in_place, text_of
-from live.game.game import Game, end_mark, keep_options, keep_serial, kept_serial, mark_end
+from live.game.forfeits import Forfeit, read_typed
+from live.game.game import Game, end_mark, keep_options, keep_other, keep_serial, kept_other, kept_serial, mark_end
+from live.game.going_back import forget_question
 from live.game.looks import Look, Looks
 from live.game.making_pgn import Text
 from live.game.names import today
+from live.game.naming import is_naming
 from live.game.opening import Opened
 from live.game.options import Options
 from live.game.reading import game_of, nothing_old
 from live.guard import Guard
 from live.loop import Callback
-from live.refused import DONE, FAILED, Refused
+from live.refused import DONE, FAILED, Broken, Refused
 from live.terminal.screen import Screen
 
 
-class Recorder(TakesOff):
+class Recorder(TakesOff, Renames, Forfeits):
     """Records the games of one board, one after the other, until it is ended."""
 
     def __init__(
-        self, guard: Guard, worker: Worker, screen: Screen, plan: Plan, opened: Opened, hears: HearsRecorder
-    ) -> None:
+        self, guard: Guard, worker: Worker, screen: Screen, plan: Plan, opened: Opened, hears: HearsRecorder,
+        asked: Optional[AskedFirst] = None
+    ) -> None:  # fmt: skip
         self._guard, self._worker, self._screen, self._plan, self._hears = guard, worker, screen, plan, hears
         self._refused: Optional[Refused] = None
         self._before: Optional[Paths] = None  # the game before this one, in this call
@@ -47,7 +54,7 @@ class Recorder(TakesOff):
         self._ending = self._closing = False
         self._begins_anew = False  # whether the start begins this game, and not the next one
         number = plan.serial or kept_serial(opened.game.paths)
-        self._cable = Cable(guard, screen, plan.device, plan.once, number, self)
+        self._cable = Cable(guard, screen, plan.device, plan.once, number, self, asked)
         self._now: Union[Recording, SettingUp, Listening, None] = None  # what takes the board's bytes
         self._take(opened.game, opened.close)
         if plan.serial:
@@ -77,6 +84,7 @@ class Recorder(TakesOff):
 
     def _leave(self) -> None:
         """Closes this game, before another one."""
+        forget_question(self.game.paths)
         self._close_control()
         self._close_capture()
 
@@ -154,7 +162,7 @@ class Recorder(TakesOff):
             end = self.game.capture.size if mark is None else mark
         if mark is None:
             try:
-                mark_end(paths, end)
+                mark_end(paths, self.game.capture, end)
             except OSError as error:
                 self._screen.say(f"{paths.end} can't be written ({text_of(error)})")
         self._screen.say(f"{self._next().name} begins when the pieces are at the start")
@@ -202,8 +210,8 @@ class Recorder(TakesOff):
                 return None
             options = self.game.options.begun(today())
             keep_options(paths, options)
-            game = self._begun(paths, content, options)
             carry_over(self.game.paths, paths)
+            game = self._begun(paths, content, options)
         except (OSError, Refused) as error:
             if isinstance(self._now, SettingUp) and not self._now.standing.trouble:
                 self._screen.say(f"DISK FULL: {paths.name} can't be begun ({reason_of(error)}). Make room: it is tried again")
@@ -250,6 +258,20 @@ class Recorder(TakesOff):
         return self._cable.number
 
     @property
+    def lacks(self) -> str:
+        """The serial number of its board, if that isn't on its cable; else empty."""
+        return self._cable.lacks if self.standing else ""
+
+    @property
+    def holds(self) -> str:
+        """The device that is open, if it is."""
+        return self._cable.holds
+
+    def move_to(self, device: str) -> None:
+        """Its board is on this device."""
+        self._cable.move_to(device)
+
+    @property
     def standing(self) -> Optional[Standing]:
         """The board's state; None if its game is over."""
         return self._now.standing if isinstance(self._now, (Recording, SettingUp)) else None
@@ -290,7 +312,7 @@ class Recorder(TakesOff):
     def another(self, number: str) -> None:
         """The board with this number is on its cable, not its own. If the table says which board is where, each is found by itself."""
         owner = self._hears.owner(number)
-        if owner and self._plan.serial:
+        if owner and (self._plan.serial or number == kept_other(self.game.paths)):
             self._screen.say(f"{self.cable} has the board of {owner.name}, serial number {number}: it goes to that game")
         else:
             self._look(another(self.number, number, owner, bool(self.course.plies)))
@@ -337,11 +359,11 @@ class Recorder(TakesOff):
     def broken(self, what: str) -> None:
         """A child process has ended again and again."""
         pgn = self.game.paths.pgn
-        self._fail(f"a part of the program failed again and again ({what}); what was played is in {pgn}")
+        self._fail(f"a part of the program failed again and again ({what}); what was played is in {pgn}", Broken)
 
-    def _fail(self, message: str) -> None:
+    def _fail(self, message: str, kind: Type[Refused] = Refused) -> None:
         if self._refused is None:
-            self._refused = Refused(FAILED, message, "Start again with the same NAME")
+            self._refused = kind(FAILED, message, "Start again with the same NAME")
         self._guard.after(0, self.end)
 
     # Typed lines.
@@ -370,9 +392,13 @@ class Recorder(TakesOff):
 
     def _add(self, text: str, before: Optional[Paths], sure: bool, may_quit: bool) -> Answer:
         try:
-            typed = added.read_words(text, os.path.basename(self.game.paths.name))
+            if is_naming(text):
+                return self._rename(text)
+            typed = read_typed(text, os.path.basename(self.game.paths.name))
             if isinstance(typed, added.Nothing):
                 return DONE, ""
+            if isinstance(typed, Forfeit):
+                return self._add_before(before, text) if before else self._forfeit(typed)
             if isinstance(typed, added.Quit) and may_quit:
                 self.end()
                 return DONE, "it ends"
@@ -380,22 +406,15 @@ class Recorder(TakesOff):
                 return self._acknowledge(before)
             if before:
                 return self._add_before(before, text)
-            if isinstance(typed, added.Reopened):
-                return self._reopen()
-            if isinstance(typed, added.Back):
-                return self._go_back(typed)
-            if not isinstance(self._now, Recording):
-                return self._add_last(typed)
-            if isinstance(typed, added.Result) and self._before and not sure and not self.course.plies:
-                name, outcome = self.game.paths.name, typed.outcome
-                raise added.Refused(f"{name} has no move yet. Type {outcome} {self._before.name}, or {outcome} {name}")
-            return self._now.add(typed)
+            return self._plays_on(typed, sure)
         except (added.Refused, OSError, Refused) as error:
             return refusal(text, error)
 
     def _acknowledge(self, before: Optional[Paths]) -> Answer:
         """Acknowledges the alarms of this game and of the one before it."""
         takes = before is None and self._may_take()
+        if before is None and self._cable.other and not takes:
+            keep_other(self.game.paths, self._cable.other)
         if before is None and isinstance(self._now, Recording):
             seen = self._now.acknowledge()
         else:
@@ -469,6 +488,7 @@ class Recorder(TakesOff):
             self._all_closed(not self.game.capture.full)
 
     def _all_closed(self, written: bool) -> None:
+        forget_question(self.game.paths)
         if not written and self._refused is None:
             pgn, again = self.game.paths.pgn, "Make room, and start again with the same NAME"
             self._refused = Refused(FAILED, f"{pgn} can't be written: is the disk full?", again)

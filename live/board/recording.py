@@ -2,21 +2,28 @@
 
 from __future__ import annotations
 
+import contextlib
 import enum
+import functools
+import itertools
 import os
 from dataclasses import dataclass
 from typing import Callable, List, Optional, Protocol, Sequence
 
 from live.beside import Worker
+from live.board.arrivals import Arrivals
 from live.board.disk import Disk
 from live.board.standing import Standing
-from live.board.state import DISK_FULL, NOT_WRITTEN
-from live.game import added, ending
+from live.board.state import DISK_FULL, NOT_WRITTEN, lasting
+from live.device.protocol import Picture as Codes
+from live.game import added, back, ending
 from live.game.adding import Addition, Answer
 from live.game.alarms import Alarms, acknowledged
+from live.game.course import Start
 from live.game.edited import told_of_edit
 from live.game.files import LARGEST, text_of
-from live.game.game import mark_end
+from live.game.game import Game, mark_end
+from live.game.going_back import forget_question
 from live.game.looks import Look, Looks
 from live.game.making_pgn import Made, Maker
 from live.game.opening import Opened
@@ -32,6 +39,7 @@ PATIENCE = 5.0  # seconds that the last lines may take
 LATE = 1.0  # seconds by which a timer is late if this process was stopped meanwhile
 SETTLES = 0.2  # seconds after which all lines of a byte have been heard
 SURELY_SETTLES = 1.0  # the same, if a late line would be taken for another one
+LARGE = 48 * 1024 * 1024  # bytes of a capture, at which somebody may still look at its board
 ROOM = 1024 * 1024  # bytes for what `recover` puts in, some 5,000 pairs: no call of the program reads more than LARGEST
 
 
@@ -122,6 +130,7 @@ class Recording:
         self.end: Optional[int] = None  # how many bytes are the game's, if not all are
         self._typed = ""  # the result that an arbiter has typed
         self._faults: List[str] = []
+        self._begins_anew = False  # the start of this game was reported just now, and what follows belongs to its new capture
         self._is_over = self._marks = False  # and whether NAME.end must say how many bytes are the game's
         self._done: Callable[[bool], None] = lambda written: None
         self._watchdog: Optional[Timer] = None
@@ -131,9 +140,15 @@ class Recording:
         self._shows_itself = not opened.old.lines  # whether the board has shown its state; a new game has no older one
         self._maker = Maker(guard, worker, self.game, self)
         self._alarms = Alarms(self.game.paths, self.course)
+        if self.course.board and self._was_put_back(self.course.board):
+            self._alarms.put_back(self.course.board)
+        self._arrivals = Arrivals()
         self._heard_at = guard.now()  # when the board was heard last
+        self._came_at = 0  # the capture's size before what came last
+        self._away = guard.away()  # the seconds that this recorder was away by then
         self._gap = opened.old.gap  # for how long it wasn't heard before this call
         self._was_away = False  # and no dump has come since
+        self._is_large = False  # and that was said
         self._by_hand = range(0)  # the bytes that were added last
         self.standing.board.look = self.looks.short
         self._disk = Disk(screen, self.standing, self.game.capture, self)
@@ -143,6 +158,11 @@ class Recording:
         if opened.old.lines:
             self._tell_old()
         self._watching = Watching(guard, self.game, self, opened.old.lines)
+
+    def _was_put_back(self, board: Codes) -> bool:
+        """Whether plies were taken off, or the game goes on, and the board has sent nothing since."""
+        end = back.end_of_capture(board, self.game.options.rotated)
+        return self.game.capture.bytes(max(0, self._old - len(end)), self._old) == end
 
     def _tell_old(self) -> None:
         """Shows what was played before this call, and the board's state then, until the board shows itself."""
@@ -156,28 +176,37 @@ class Recording:
             self.standing.board.told(self._guard.now(), event)
         self._hear_result(self.course.result)
         if self.course.stood_again and self._rules.series:
-            self._guard.after(SETTLES, self._look_at_start)
+            self._guard.after(0, functools.partial(self._is_at_start, self.course.stood_again))
         self.standing.show()
 
     # What the board sends.
 
     def came(self, sent: bytes) -> None:
         """The board has sent this."""
-        now = self._guard.now()
-        silence, self._heard_at = now - self._heard_at + self._gap, now
-        if self.standing.was_away:
+        now, away = self._guard.now(), self._guard.away()
+        unheard = away - self._away
+        silence = max(now - self._heard_at, unheard) + self._gap
+        self._heard_at, self._away = now, away
+        if unheard:
+            self._screen.say(f"this computer slept, or the recorder was stopped, for {lasting(unheard)}: the board wasn't heard")
+        if self.standing.was_away or unheard:
             self._alarms.away(silence, self._gap > 0)
             self._was_away = True
-        self.standing.was_away, self._gap = False, 0.0
+        self.standing.was_away, self._gap, self._came_at = False, 0.0, self.game.capture.size
         self._append(sent)
 
     def timed(self, data: bytes) -> None:
         """The last bytes end a time message. These are its seven bytes."""
-        self._alarms.time(self._guard.now(), data)
+        self._alarms.time(self._guard.now(), data, self._came_at)
 
     def _append(self, sent: bytes) -> None:
         """Appends what the board has sent or somebody has added."""
         self._disk.append(sent)
+        self._arrivals.came(self._guard.now(), self.game.capture.size)
+        if self.game.capture.size >= LARGE and not self._is_large:
+            self._is_large = True
+            what = f"{self.game.paths.capture} has 48 MiB, and none may have more than 64: does a piece stand badly, and its square"
+            self._screen.say(f"{what} chatter?", "At 64 MiB the recording ends; the game can go on under another name, with --fen")
         self._watching.feed()
         if self.game.capture.at_limit:
             self._end(Reason.LIMIT)
@@ -206,6 +235,11 @@ class Recording:
         """Makes the text anew, whatever is there."""
         self._maker.want()
 
+    def renamed(self, game: Game) -> None:
+        """The game has other tags from now on."""
+        self.game = game
+        self._maker.makes(game)
+
     def _each_second(self) -> None:
         self._tick = self._guard.after(TICK, self._each_second)
         self._disk.try_again()
@@ -223,8 +257,17 @@ class Recording:
     # What the program reports.
 
     def heard(self, lines: Sequence[Line]) -> None:
-        """Takes the next lines of its report, which came at once. What changes the game is printed first, since somebody waits for
-        it. The state is shown last and once: states that lasted no time would help nobody."""
+        """Takes the next lines of its report, which came at once. The state is shown last and once: states that lasted no time would
+        help nobody."""
+        news = [self._hear(list(of_a_byte)) for _, of_a_byte in itertools.groupby(lines, lambda line: line.offset)]
+        if any(news):
+            self.standing.show()
+
+    def _hear(self, lines: Sequence[Line]) -> bool:
+        """Takes the lines of a byte. What changes the game is printed first, since somebody waits for it. Returns whether the state
+        may have changed."""
+        if self._begins_anew:
+            return False
         lines = [line for line in lines if self.end is None or line.offset < self.end or line.is_picture]  # else the game is over
         is_changed = False
         for line in lines:
@@ -234,9 +277,24 @@ class Recording:
         if is_changed:
             self._maker.want()
             os.sched_yield()  # whoever reads these lines need not wait for what follows
-        news = [self._take(line) for line in lines]
-        if any(news):
-            self.standing.show()
+        is_news, means = False, None
+        for line in lines:
+            is_news = self._take(line) or is_news
+            if self._rules.series or line.offset >= self._old:  # a single game that goes on hasn't ended where it seemed to
+                means = means or self.course.stands_again
+        if means:
+            self._is_at_start(means)
+        return is_news
+
+    def _is_at_start(self, means: Start) -> None:
+        """The board shows the start again, and the program has reported all about it."""
+        if self._is_over:
+            return
+        if means is Start.ENDS:
+            self._end(Reason.RESULT if self.course.result != "*" else Reason.SET_UP)
+        else:
+            self._begins_anew = True
+            self._hears.anew()
 
     def _take(self, line: Line) -> bool:
         """Takes a line. Returns whether the state may have changed."""
@@ -246,14 +304,14 @@ class Recording:
             if not is_old:
                 self._faults.append(f"{event.words} at {line.offset}")
             return False
-        now = self._guard.now()
+        now = self._arrivals.at(line.offset, self._guard.now())
         self.course.take(line, now)
         look = None if is_old else self._alarms.take(now, line, line.offset in self._by_hand)
         if isinstance(event, (Position, Clock)):
             return False
         is_news = True
         if isinstance(event, Picture):
-            is_news = self._see(event, is_old)
+            is_news = self.standing.board.shows(event.codes)  # the next line reports what differs
         elif not isinstance(event, Recovered):
             if not is_old:
                 self.standing.board.shows_itself()
@@ -297,29 +355,11 @@ class Recording:
         self._tell_looks()
         return seen
 
-    def _see(self, picture: Picture, is_old: bool) -> bool:
-        """Takes what the board shows. Returns whether that alone changes its state: the next line reports what differs."""
-        is_another = self.standing.board.shows(picture.codes)
-        # A single game that somebody goes on with hasn't ended where it seemed to.
-        if self.course.stands_again and (self._rules.series or not is_old):
-            self._guard.after(SETTLES, self._look_at_start)
-        return is_another
-
     def _hear_result(self, result: str) -> None:
         self._lingering.cancel()
         if result != "*" and not self._is_over:
             self._screen.say(f"ends in {self._rules.linger} seconds, unless the result changes")
             self._lingering.begin()
-
-    def _look_at_start(self) -> None:
-        """The board shows the start after a set-up, and the program has reported it. That ends a game that isn't at its start.
-        But if the board has never shown the game's position, the reported move was part of the set-up."""
-        if self._is_over or self.course.stands_at_start:
-            return
-        if self.course.has_agreed or len(self.course.plies) > 1:
-            self._end(Reason.RESULT if self.course.result != "*" else Reason.SET_UP)
-        else:
-            self._hears.anew()
 
     def says(self, text: str) -> None:
         """A child has ended, and is started again."""
@@ -369,9 +409,12 @@ class Recording:
         if self.game.capture.full:
             raise added.Refused("the disk is full, and nothing can be added. Make room, and type it again")
         put, what = Addition(self.game, self.game.capture.bytes()).of(typed)
-        self._screen.say(f"added by hand: {what}")
         self._by_hand = range(self.game.capture.size, self.game.capture.size + len(put))
         self._append(put)
+        with contextlib.suppress(OSError):  # if the disk has a fault, its text says so
+            self.game.capture.sync()  # the board doesn't show it again
+        forget_question(self.game.paths)
+        self._screen.say(f"added by hand: {what}")
         self._hears.asks(put)
         if isinstance(typed, added.Result) and not self._is_over:
             self._typed = typed.outcome
@@ -407,8 +450,9 @@ class Recording:
         """Hears the last lines, makes the text a last time, and reports whether it could be written."""
         self._is_over, self._done = True, done
         self._lingering.cancel()
+        forget_question(self.game.paths)
         self.game.capture.write()
-        if self._marks:
+        if self._marks and not self.game.capture.full:
             self._mark()
         self._watchdog = self._guard.after(PATIENCE, self._all_is_heard)
         self._watching.finish(self._all_is_heard)
@@ -416,7 +460,7 @@ class Recording:
     def _mark(self) -> None:
         paths = self.game.paths
         try:
-            mark_end(paths, self.game.capture.size if self.end is None else self.end)
+            mark_end(paths, self.game.capture, self.game.capture.size if self.end is None else self.end)
         except OSError as error:
             self._screen.say(f"{paths.end} can't be written ({text_of(error)})")
 

@@ -10,17 +10,17 @@ from typing import Callable, Optional, Tuple
 from live.board.board import Board, Wanted
 from live.board.plan import Plan
 from live.board.state import Kind
-from live.device import serial_line
+from live.device.line import check, check_free
 from live.game.adding import reason_of, refusal
 from live.game.files import LARGEST, Paths, size_of
 from live.game.game import end_mark
-from live.game.opening import Chooses, Chosen, Opening, strictly
-from live.game.options import Options
+from live.game.opening import Chooses, Chosen, Opening, added_to_kept
+from live.game.options import Options, as_typed
 from live.game.program import Program
 from live.game.tags import Tags
 from live.guard import traced
 from live.loop import Loop
-from live.refused import FAILED, REFUSED, Refused
+from live.refused import FAILED, REFUSED, Broken, Refused
 from live.terminal.screen import Screen
 
 QUITS = ("q", "quit")
@@ -51,6 +51,7 @@ class Single:
         self.asked: Callable[[], None] = loop.stop  # and when somebody ends it
         self.goes_on: Callable[[], None] = lambda: None  # and when it is recorded again
         self.greeting: Tuple[str, ...] = ()  # what to print once it is recorded
+        self.secret = ""  # a line with a password, to print after that
         self.is_open = False  # whether its game has been opened
         self._is_faulty = False  # whether an error has ended its recording
 
@@ -70,18 +71,19 @@ class Single:
         """What the command line says."""
         plan, choice = self._plan, self._choice
         paths = plan.paths
-        shows = (choice.is_unseen or self.is_open) and not plan.rules.series and end_mark(paths) is not None
+        is_left = (choice.is_unseen or self.is_open) and not plan.rules.series and end_mark(paths) is not None
+        shows = plan.shows or is_left
 
         def prepares() -> Chooses:
             if not shows:
-                serial_line.check(plan.device, may_wait=size_of(paths.capture) > 0)
-                serial_line.check_free(plan.device)
-            strict = strictly(choice.given, paths.name, choice.told)
+                check(plan.device, may_wait=size_of(paths.capture) > 0)
+                check_free(plan.device)
+            is_over = plan.rules.series and end_mark(paths) is not None
+            added = added_to_kept(choice.given, paths.name, choice.told, is_over)
 
             def chooses(kept: Optional[Options], has_moves: Callable[[], bool]) -> Chosen:
-                if not (plan.rules.series or shows):
-                    refuse_over(paths, choice.given)
-                return strict(kept, has_moves)
+                over = None if plan.rules.series or shows else why_over(paths, choice.given)
+                return Chosen(kept or Options(), refused=over) if over else added(kept, has_moves)
 
             return chooses
 
@@ -98,9 +100,13 @@ class Single:
     def _opened(self) -> None:
         """Its game is open."""
         self.is_open = True
+        self._choice = Choice(Options(), (), self._choice.is_unseen)  # what was given is kept beside the game by now
         greeting, self.greeting = self.greeting, ()
         for line in greeting:
             self._screen.say(line)
+        if self.secret:
+            self._screen.secret(self.secret)
+        self.secret = ""
 
     def remade(self) -> None:
         """The text of its game has changed."""
@@ -110,7 +116,7 @@ class Single:
         """Its recording has ended, or couldn't begin. Returns whether to try again."""
         if why is None:
             self._opened()
-        elif self.is_open and (self._is_faulty or not isinstance(why, Refused)):
+        elif self.is_open and (self._is_faulty or isinstance(why, Broken) or not isinstance(why, Refused)):
             self._is_faulty = True
             self._screen.state("NOT RECORDED", why)
             return True
@@ -133,7 +139,8 @@ class Single:
     def refuses(self, text: str, error: Exception) -> None:
         """A line of the terminal raised an error."""
         self._screen.say(refusal(text, error)[1])
-        self._screen.note(traced(error))
+        if not isinstance(error, Refused):
+            self._screen.note(traced(error))
 
     def trouble(self, text: str) -> None:
         """An error that should never happen, and where: for the log."""
@@ -172,16 +179,17 @@ class Single:
         return dict(self.board.options.tags)
 
 
-def refuse_over(paths: Paths, given: Options) -> None:
-    """Refuses a game that is over, or whose capture is full."""
+def why_over(paths: Paths, given: Options) -> Optional[Refused]:
+    """The refusal of a game that is over, or whose capture is full; None if it goes on."""
     if end_mark(paths) is not None:
         what = [
             f"{paths.name} is over: choose another name. To add to it: dgt_live --add 1-0 {paths.name}.",
             f'To go on with it all the same: dgt_live --add "*" {paths.name}',
         ]
-        reading = " ".join(given.reading().words())
+        reading = " ".join(as_typed(given.reading().words()))
         if reading:
             what.append(f"For --first, --recover and --strict leave the device out: dgt_live {reading} {paths.name}")
-        raise Refused(REFUSED, *what)
+        return Refused(REFUSED, *what)
     if size_of(paths.capture) >= LARGEST:
-        raise Refused(REFUSED, f"{paths.capture} has 64 MiB, and none may have more: choose another name")
+        return Refused(REFUSED, f"{paths.capture} has 64 MiB, and none may have more: choose another name")
+    return None

@@ -6,12 +6,14 @@ from __future__ import annotations
 
 from typing import Callable, Dict, Iterable, List, Optional, Protocol, Set, Tuple
 
+from live.beside import Worker
 from live.broadcast.games import Game, Shots, written_name
 from live.broadcast.going_out import GoingOut
 from live.broadcast.late import Late
 from live.broadcast.publishing import Publisher
 from live.broadcast.view import Player, SpectatorBoard
 from live.game.files import AnyPath, Paths
+from live.game.forfeiting import told_to_readers
 from live.game.tags import published
 from live.guard import Guard, traced
 from live.loop import Loop, Timer
@@ -65,9 +67,9 @@ class OneGame:
         if shown_of == self._shown:
             return False
         self._shown, self._shot = shown_of, shot  # the shot is kept, so that its id stays its own
-        of = (tuple(tags.items()), shot.text)
+        of = (tuple(tags.items()), shot.text, shot.forfeit)
         if of != self._text[0]:
-            self._text = of, published(shot.text, tags)
+            self._text = of, published(shot.text, tags, told_to_readers(shot.forfeit))
         white, black = (Player.of_tags(tags, side, written_name(game, side)) for side in SIDES)
         before = self.board
         shown = SpectatorBoard(game.number, white, black, shot, self._text[1], self.late.history.delay)
@@ -105,6 +107,7 @@ class Broadcast:
         self._guard = guard = Guard(self._loop, self._broke, lambda error: self._hears.trouble(traced(error)))
         self._file: Optional[Published] = None
         self._publisher: Optional[Publisher] = None
+        self._syncs: Optional[Worker] = None
         if self._place:
             self._file = Published(guard, self._place, self.text, self._hears.say)
             guard.opened(self._file.stop)
@@ -194,8 +197,15 @@ class Broadcast:
         if one is None or one.name != paths.name:
             if one:
                 one.late.close()
-            one = OneGame(paths.name, Late(paths, self._out.delay, now))
+            one = OneGame(paths.name, Late(paths, self._out.delay, now, self._sync))
         return one
+
+    def _sync(self, job: Callable[[], None]) -> None:
+        """Does beside the loop what waits for the disk."""
+        if self._syncs is None:
+            self._syncs = Worker(self._guard)
+            self._guard.opened(self._syncs.close)
+        self._syncs.do(job, lambda _: None)
 
     def _wait(self) -> None:
         """Sets a timer for the next thing that is due."""
@@ -228,6 +238,11 @@ class Broadcast:
         return is_written and (self._publisher is None or self._publisher.is_idle)
 
     # How it is carried away.
+
+    def carry(self) -> None:
+        """Something else that the command carries away has changed."""
+        if self._publisher:
+            self._publisher.changed()
 
     def published(self, trouble: str) -> None:
         """A run of the command has ended, with what went wrong, or nothing."""

@@ -14,7 +14,18 @@ from live.game.tags import Tags
 from live.web.view import Ply
 
 
-class Game(Protocol):
+class Named(Protocol):
+    """What is read of the names of a game."""
+
+    @property
+    def tags(self) -> Tags:
+        """The tags that are published but not recorded, or published in other letters."""
+
+    def player_name(self, option: str) -> str:
+        """The name for `--white` or `--black`."""
+
+
+class Game(Named, Protocol):
     """What is read of a board and its game."""
 
     board: Board
@@ -27,15 +38,8 @@ class Game(Protocol):
     def name(self) -> str:
         """The name of its files."""
 
-    @property
-    def tags(self) -> Tags:
-        """The tags that are published but not recorded, or published in other letters."""
 
-    def player_name(self, option: str) -> str:
-        """The name for `--white` or `--black`."""
-
-
-def written_name(game: Game, side: str) -> str:
+def written_name(game: Named, side: str) -> str:
     """A player's name as it is published: in the letters of the table, if they differ."""
     return game.tags.get(side) or game.player_name(f"--{side.lower()}")
 
@@ -48,12 +52,13 @@ class Seen:
     sizes: Tuple[int, int]
     last: Tuple[Optional[Move], str]
     text: bytes
+    forfeit: str
 
     @staticmethod
     def of(board: Board) -> "Seen":
         plies, fens = board.plies, board.fens
         last = (plies[-1] if plies else None, fens[-1] if fens else "")
-        return Seen((id(plies), id(fens)), (len(plies), len(fens)), last, board.pgn)
+        return Seen((id(plies), id(fens)), (len(plies), len(fens)), last, board.pgn, board.forfeit)
 
 
 class Shots:
@@ -74,5 +79,5 @@ class Shots:
             plies = board.plies[: max(0, len(board.fens) - 1)]
             moves = tuple(Ply(ply.san, ply.clock) for ply in plies)
             shown = Clocks(*clocks_of(plies)) if clocks is STANDING else clocks
-            self._shot = Shot(board.result, moves, tuple(board.fens), board.pgn, shown)
+            self._shot = Shot(board.result, moves, tuple(board.fens), board.pgn, shown, board.forfeit)
         return self._shot

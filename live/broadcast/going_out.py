@@ -1,13 +1,14 @@
-"""How a round is published: with what delay, and by which command. A delay stays in force until another one is given."""
+"""How a round is published: with what delay, and by which command. A delay stays in force until another one is given, also for each
+game of the round or series for which it was given."""
 
 from __future__ import annotations
 
-import contextlib
+import math
 import os
 from dataclasses import dataclass
-from typing import Optional, Tuple
+from typing import List, Optional, Sequence, Tuple
 
-from live.game.files import NO_SUCH_FILE, Paths, beginning, put_in_place, text_of
+from live.game.files import NO_SUCH_FILE, ROUND, Paths, beginning, existing, put_in_place, remove, text_of
 from live.refused import ARGUMENTS, FAILED, REFUSED, Refused
 
 MINUTE = 60.0
@@ -43,7 +44,7 @@ def read_command(text: str) -> Tuple[str, ...]:
         words = ()
         why = "a quote in it isn't closed"
     else:
-        why = "it is a command, as 'cp -t /srv/www'"
+        why = "it is a command, as /home/anna/copy.sh"
     if not words:
         raise Refused(ARGUMENTS, f"--publish: {why}")
     return words
@@ -55,8 +56,27 @@ def minutes(seconds: float) -> str:
     return f"{whole} minute{'' if whole == '1' else 's'}"
 
 
+def owners_of(paths: Paths) -> List[Paths]:
+    """A game's own files, and those of the round and of the series to which it may belong."""
+    folder, _, name = paths.name.rpartition("/")
+    front = paths.name[: len(paths.name) - len(name)]
+    series, dash, number = name.rpartition("-")
+    names = [name, ROUND] if name != ROUND else [name]
+    return [Paths(front + one) for one in (*names, *([series] if dash and series and number.isdigit() else []))]
+
+
+def has_delay(paths: Paths) -> bool:
+    """Whether a delay was given for a game, or for the round or series to which it may belong."""
+    return any(os.path.lexists(owner.delay) for owner in owners_of(paths))
+
+
 def kept_delay(paths: Paths) -> float:
-    """The delay that was given last. Refused if it can't be read: nobody may see delayed moves too soon."""
+    """The delay in force for a game or a round: the longest of those that were given last for it and for what it belongs to.
+    Refused if one can't be read: nobody may see delayed moves too soon."""
+    return max(_given_last(owner) for owner in owners_of(paths))
+
+
+def _given_last(paths: Paths) -> float:
     try:
         text = beginning(paths.delay, LONGEST_FILE).decode("ascii", "replace").strip()
     except OSError as error:
@@ -69,21 +89,36 @@ def kept_delay(paths: Paths) -> float:
         raise Refused(REFUSED, f"{paths.delay} has no number of minutes: give --delay, or remove it") from None
 
 
-def keep_delay(paths: Paths, seconds: float) -> None:
-    """Keeps it. Refused if it can't be written."""
+def keep_delay(paths: Paths, seconds: float, games: Sequence[Paths]) -> None:
+    """Keeps it. What is hidden of these games is forgotten before the delay that hides it. Refused if a file can't be written."""
     try:
         if seconds:
-            put_in_place(paths.delay, minutes(seconds).split()[0].encode("ascii") + b"\n")
-        else:
-            with contextlib.suppress(FileNotFoundError):
-                os.unlink(paths.delay)
+            hundredths = math.ceil(round(seconds / MINUTE * 100, 6))  # of a minute: never less than was given
+            put_in_place(paths.delay, b"%.6g\n" % (hundredths / 100))
+            return
+        for path in (*(game.delayed for game in games), paths.delay):
+            remove(path)
     except OSError as error:
         raise Refused(FAILED, f"{paths.delay} can't be written ({text_of(error)}): is the disk full?") from None
 
 
-def delay_of(paths: Paths, given: Optional[float]) -> float:
-    """The delay of a round or a game from now on: the given one, which is kept, or else the kept one."""
-    kept = kept_delay(paths) if given is None else given
+def delay_of(paths: Paths, given: Optional[float], games: Sequence[Paths]) -> float:
+    """The delay of these games from now on: the given one, which is kept, or else the kept one. If that is lost, it is the one with
+    which they were hidden."""
     if given is not None:
-        keep_delay(paths, given)
-    return kept
+        keep_delay(paths, given, games)
+        return given
+    return kept_delay(paths) if has_delay(paths) else max(map(_delay_in_list, games), default=0.0)
+
+
+def _delay_in_list(game: Paths) -> float:
+    """The delay in NAME.delayed; 0 if there is none."""
+    from live.broadcast import kept  # only games that are hidden need it
+
+    try:
+        content = existing(game.delayed)
+    except OSError as error:
+        if error.errno in NO_SUCH_FILE:
+            return 0.0
+        raise Refused(FAILED, f"{game.delayed} can't be read ({text_of(error)}): give --delay, or remove it") from None
+    return kept.delay_in(content) if content else 0.0

@@ -26,11 +26,12 @@ class Shot:
     positions: Tuple[str, ...] = ()
     text: bytes = b""
     clocks: Clocks = STANDING
+    forfeit: str = ""  # how it was forfeited, if it was
 
     @property
     def says_nothing(self) -> bool:
-        """Whether the game has neither a move nor a result."""
-        return not self.moves and self.result == "*"
+        """Whether the game has neither a move nor a result, nor its text."""
+        return not self.forfeit and not self.moves and self.result == "*" and self.text.partition(b"\n\n")[2].strip() in (b"", b"*")
 
 
 NOTHING = Shot()

@@ -1,8 +1,8 @@
 """NAME.delayed: what spectators haven't seen yet of a game, with its times, so that a restart hides it as long as it would have
 been hidden.
 
-Each line is a JSON object. The first line names the computer's start to whose clock the times belong. An entry has what is new
-in it, and how much of the entry before it stays. What can't be read is ignored: then the game counts as having come just now.
+Each line is a JSON object. The first line names the computer's start to whose clock the times belong, and the delay. An entry has
+what is new in it, and how much of the entry before it stays. What can't be read is ignored: then the game counts as having come just now.
 So if anything is uncertain it is hidden longer, and nothing is hidden for a shorter time than it should be.
 """
 
@@ -10,6 +10,7 @@ from __future__ import annotations
 
 import dataclasses
 import json
+import math
 from typing import Any, Dict, List, Optional
 
 from live.broadcast.history import ALWAYS, NOTHING, Entry, History, Shot
@@ -36,6 +37,7 @@ def entry_line(entry: Entry, before: Shot) -> bytes:
             "positions": [positions, *shot.positions[positions:]],
             "text": [text, shot.text[text:].decode("latin-1")],
             "clocks": [shot.clocks.white, shot.clocks.black, shot.clocks.runs, round(shot.clocks.at, 3)],
+            **({"forfeit": shot.forfeit} if shot.forfeit else {}),
         }
     )
 
@@ -47,12 +49,21 @@ def shown_line(count: int) -> bytes:
 
 def content_of(history: History, boot: str) -> bytes:
     """The whole file."""
-    parts = [line({"boot": boot})]
+    parts = [line({"boot": boot, "delay": history.delay})]
     before = NOTHING
     for entry in history.entries:
         parts.append(entry_line(entry, before))
         before = entry.shot
     return b"".join([*parts, shown_line(history.shown)])
+
+
+def delay_in(content: bytes) -> float:
+    """The delay with which the game was kept, in seconds; 0 if the first line doesn't say it."""
+    try:
+        delay = float(json.loads(content.partition(b"\n")[0])["delay"])
+    except (ValueError, TypeError, KeyError):
+        return 0.0
+    return delay if 0.0 < delay < math.inf else 0.0
 
 
 def _entry(values: Json, before: Shot) -> Entry:
@@ -67,6 +78,7 @@ def _entry(values: Json, before: Shot) -> Entry:
         (*before.positions[:positions], *map(str, fens)),
         before.text[:text] + rest.encode("latin-1"),
         Clocks(white, black, runs, float(values["clocks"][3])),
+        str(values.get("forfeit", "")),
     )
     return Entry(ALWAYS if values["came"] is None else float(values["came"]), shot)
 

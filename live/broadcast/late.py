@@ -8,8 +8,12 @@ import os
 from typing import Callable, Optional
 
 from live.broadcast import kept
+from live.broadcast.going_out import has_delay, kept_delay
 from live.broadcast.history import NOTHING, History, Shot
-from live.game.files import NO_SUCH_FILE, Paths, existing, new_of, open_new
+from live.game.files import NO_SUCH_FILE, Paths, existing, folder_of, new_of, open_new, sync_folder
+from live.game.forfeiting import forfeit_of
+from live.game.game import result_of
+from live.refused import Refused
 
 BOOT = "/proc/sys/kernel/random/boot_id"
 
@@ -24,28 +28,35 @@ def this_start() -> str:
 
 
 def is_hidden(paths: Paths) -> bool:
-    """Whether a game is published late and spectators haven't seen it as it is now."""
+    """Whether a game is published late and spectators haven't seen it as it is now. A delay without its list hides all."""
     try:
-        content = existing(paths.delayed)
-        history = kept.read(content, "", 0.0, 0.0)
-        return bool(content) and (history.is_hidden or history.shot.text != existing(paths.pgn))
+        text = existing(paths.pgn)
+        history = kept.read(existing(paths.delayed), "", 0.0, 0.0)
+        if history.entries:
+            return history.is_hidden or history.shot.text != text
+        shot = Shot(result_of(text), text=text, forfeit=forfeit_of(paths, text))
+        return not shot.says_nothing and kept_delay(paths) > 0
     except OSError as error:
         return error.errno not in NO_SUCH_FILE
+    except Refused:
+        return True
 
 
 def is_unseen(paths: Paths, published: Callable[[bytes], bytes]) -> bool:
     """Whether it is hidden, or its last text was never put in place. `published` turns a text into the published one."""
     with contextlib.suppress(OSError):
-        if existing(paths.delayed):
+        if existing(paths.delayed) or (has_delay(paths) and existing(paths.broadcast)):
             return is_hidden(paths) or existing(paths.broadcast) != published(existing(paths.pgn))
     return False
 
 
 class Late:
-    """What is shown of a game. Times are the loop's."""
+    """What is shown of a game. Times are the loop's. `syncs` does what waits for the disk."""
 
-    def __init__(self, paths: Paths, delay: float, now: float) -> None:
-        self._path = paths.delayed
+    def __init__(
+        self, paths: Paths, delay: float, now: float, syncs: Callable[[Callable[[], None]], None] = lambda job: job()
+    ) -> None:
+        self._path, self._syncs = paths.delayed, syncs
         self._number: Optional[int] = None  # the open file; None if it is to be written as a whole
         self.trouble: Optional[Exception] = None
         self._last = NOTHING  # what the file's last line says
@@ -93,7 +104,7 @@ class Late:
             self.trouble = error
 
     def _renew(self) -> None:
-        """Writes the whole file. It isn't forced to the disk: what a power cut removes is hidden longer."""
+        """Writes the whole file. Later lines aren't forced to the disk: what a power cut removes of them is hidden longer."""
         self.history.dropped = 0
         new = new_of(self._path)
         self._number = open_new(new, os.O_WRONLY | os.O_APPEND)
@@ -101,6 +112,7 @@ class Late:
         while left:
             left = left[os.write(self._number, left) :]
         os.replace(new, self._path)
+        self._syncs(functools.partial(_sync, os.dup(self._number), folder_of(self._path)))
         self._last = self.history.entries[-1].shot if self.history.entries else NOTHING
 
     def _close(self) -> None:
@@ -112,3 +124,13 @@ class Late:
     def close(self) -> None:
         """Keeps nothing further."""
         self._close()
+
+
+def _sync(number: int, folder: str) -> None:
+    """Forces an open file and its name to the disk, and closes it."""
+    try:
+        with contextlib.suppress(OSError):
+            os.fsync(number)
+            sync_folder(folder)
+    finally:
+        os.close(number)

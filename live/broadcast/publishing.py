@@ -10,6 +10,7 @@ import os
 import select
 import signal
 import subprocess
+import sys
 import time
 from dataclasses import dataclass
 from typing import Callable, Optional, Protocol, Sequence, Tuple
@@ -21,9 +22,11 @@ from live.loop import ENDING, Timer, Turns
 EACH = 5.0  # least seconds between the beginnings of two runs
 LONGEST = 30.0  # seconds that a run may take
 PAUSES = (5.0, 10.0, 20.0, 40.0, 60.0)  # seconds from the end of a failed run to the next run
-LOOK = 0.1  # seconds between two checks of a command that writes nothing to standard error
+GRACE = 5.0  # seconds
+LOOK = 0.1  # seconds between two checks of a command that writes nothing
 LONGEST_LINE = 300  # characters of its last line
 PART = 4096  # bytes
+ONE_AT_A_TIME = os.path.join(os.path.dirname(__file__), "one_at_a_time.py")
 
 
 @dataclass
@@ -63,17 +66,17 @@ class Plan:
 
 
 def run(words: Sequence[str], path: AnyPath, seconds: float) -> str:
-    """Runs the command and waits for its end. When its time is over, ends it with all processes that it started. Returns in one
-    line what went wrong; empty if it ended well."""
+    """Runs the command, when no earlier run of it is left, and waits for its end. What it has started has the same time, and then
+    is ended; the next run waits for that. Returns in one line what went wrong; empty if it ended well."""
     errors, into = os.pipe()
     try:
         try:
             # A worker's thread blocks signals, and a child would inherit that.
             signal.pthread_sigmask(signal.SIG_UNBLOCK, ENDING)
             child = subprocess.Popen(
-                [*words, str(path)],
+                [sys.executable, "-I", "-S", "-B", ONE_AT_A_TIME, str(seconds), argument(path), *words],
                 stdin=subprocess.DEVNULL,
-                stdout=subprocess.DEVNULL,
+                stdout=subprocess.PIPE,
                 stderr=into,
                 start_new_session=True,
             )
@@ -82,39 +85,49 @@ def run(words: Sequence[str], path: AnyPath, seconds: float) -> str:
         finally:
             signal.pthread_sigmask(signal.SIG_BLOCK, ENDING)
             os.close(into)
-        try:
-            tail, in_time = _until_it_ends(child, errors, time.monotonic() + seconds)
-        finally:
-            _end(child)
+        tail, answer = _until_it_ends(child, errors, time.monotonic() + 2 * seconds + GRACE)
     finally:
         os.close(errors)
-    if not in_time:
-        return f"it took more than {seconds:.0f} s, and was ended"
-    return "" if child.returncode == 0 else last_line(tail) or _status(child.returncode)
+    word, _, more = answer.partition(" ")
+    if word == "ended":
+        return "" if more == "0" else last_line(tail) or _status(int(more))
+    if word == "unstarted":
+        return f"it can't be started: {more}"
+    return "an earlier run of it goes on" if word == "beside" else f"it took more than {seconds:.0f} s, and was ended"
 
 
-def _until_it_ends(child: subprocess.Popen[bytes], errors: int, ends: float) -> Tuple[bytes, bool]:
-    """The last part of what it writes there, and whether it ended in time. Processes that it started may go on."""
-    tail, is_open = b"", True
-    while child.poll() is None and time.monotonic() < ends:
-        if not is_open:
-            time.sleep(LOOK)
-        elif select.select([errors], [], [], LOOK)[0]:
+def argument(path: AnyPath) -> str:
+    """A path that no command takes for an option."""
+    text = str(path)
+    return f"./{text}" if text.startswith("-") else text
+
+
+def _until_it_ends(child: subprocess.Popen[bytes], errors: int, ends: float) -> Tuple[bytes, str]:
+    """The last part of what the command writes to standard error, and what is said of its end. Processes that it started may go
+    on."""
+    assert child.stdout
+    answers = child.stdout.fileno()
+    tail, answer, is_open = b"", b"", [errors, answers]
+    try:
+        while answers in is_open and b"\n" not in answer and time.monotonic() < ends:
+            for number in select.select(is_open, [], [], LOOK)[0]:
+                part = os.read(number, PART)
+                if not part:
+                    is_open.remove(number)
+                elif number == answers:
+                    answer += part
+                else:
+                    tail = (tail + part)[-PART:]
+        while errors in is_open and select.select([errors], [], [], 0)[0]:
             part = os.read(errors, PART)
-            is_open = bool(part)
+            if not part or time.monotonic() >= ends:
+                break
             tail = (tail + part)[-PART:]
-    while is_open and select.select([errors], [], [], 0)[0]:
-        part = os.read(errors, PART)
-        is_open = bool(part) and time.monotonic() < ends
-        tail = (tail + part)[-PART:]
-    return tail, child.poll() is not None
-
-
-def _end(child: subprocess.Popen[bytes]) -> None:
-    """Ends all processes of a command that is too slow."""
-    if child.poll() is None:
-        os.killpg(child.pid, signal.SIGKILL)
-        child.wait()
+    finally:
+        child.stdout.close()
+        if b"\n" not in answer and child.poll() is None:
+            child.kill()
+    return tail, answer.decode("utf-8", "replace").rstrip("\n")
 
 
 def last_line(text: bytes) -> str:

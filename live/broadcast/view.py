@@ -6,6 +6,7 @@ from dataclasses import dataclass
 from typing import Dict, Optional
 
 from live.broadcast.history import Shot
+from live.game.forfeits import score_of
 from live.game.tags import Tags
 from live.web.view import json_text, pgn_path, same_front
 
@@ -18,12 +19,13 @@ class Player:
     title: str = ""
     rating: str = ""
     team: str = ""
+    federation: str = ""
 
     @staticmethod
     def of_tags(tags: Tags, side: str, name: str) -> Player:
         """`side` is `White` or `Black`."""
-        title, rating, team = (tags.get(f"{side}{what}", "") for what in ("Title", "Elo", "Team"))
-        return Player("" if name == "?" else name, title, rating, team)
+        title, rating, team, federation = (tags.get(f"{side}{what}", "") for what in ("Title", "Elo", "Team", "Fed"))
+        return Player("" if name == "?" else name, title, rating, team, federation)
 
 
 @dataclass(frozen=True)
@@ -50,7 +52,9 @@ class SpectatorBoard:
             "titles": (self.white.title, self.black.title),
             "ratings": (self.white.rating, self.black.rating),
             "teams": (self.white.team, self.black.team),
+            "federations": (self.white.federation, self.black.federation),
             "result": shot.result,
+            "forfeit": score_of(shot.forfeit),
             "clocks": (clocks.white, clocks.black),
             "runs": clocks.runs,
             "at": round(clocks.at + self.delay + offset, 1) if clocks.runs else None,

@@ -6,12 +6,16 @@ import math
 from typing import Optional, Protocol
 
 from live.device.asking import Asking, Came
+from live.device.line import Line, line_of
 from live.device.protocol import START_REQUEST
 from live.device.serial_line import BUSY_PATIENCE, Busy, SerialLine, cable_name
+from live.device.trial import Trial
 from live.guard import Guard
 from live.loop import Timer
 
 LOOK_AGAIN = 0.5  # seconds between two tries to open a device that isn't there
+CONNECT_AGAIN = 2.0  # and to connect to a serial server
+FLOOD = "it sends faster than a board can"
 
 
 class Hears(Protocol):
@@ -37,71 +41,120 @@ class Hears(Protocol):
 
 
 class Connection:
-    """A device that may be unplugged and come back, found by the name of its cable."""
+    """A device that may be unplugged and come back, found by the name of its cable; or a serial server that does so.
+
+    A device that is open is plugged in. A serial server may be there without a board: it counts as plugged in once the board has
+    answered, or is silent."""
 
     def __init__(self, guard: Guard, device: str, hears: Hears) -> None:
         self._guard, self._hears = guard, hears
         self._given = device
-        self._line = SerialLine(device)
+        self._line: Line = line_of(device)
         self._asking = Asking()
         self._silent = False
         self._timer: Optional[Timer] = None
         self._gone = False
+        self._is_plugged = False
+        self._trial: Optional[Trial] = None  # of a connection to a serial server
         self._busy_since = math.inf
+        self._away = 0.0  # the seconds that the recorder was away before the board was asked last
         self._closed = False
-        guard.opened(self._line.close)
+        self.why = ""  # why a serial server isn't there
+        guard.opened(lambda: self._line.close())
+
+    def tell(self, hears: Hears) -> None:
+        """From now on this one gets the reports."""
+        self._hears = hears
 
     @property
     def cable(self) -> str:
         """The name under which it is opened again."""
         return self._line.device
 
+    def move_to(self, device: str) -> None:
+        """From now on the board is on this device."""
+        self._hang_up()
+        self._given = device
+        self._line = line_of(device)
+        self._timer = self._guard.after(0, self.begin)
+
     def begin(self) -> None:
         """Opens it, or waits for it."""
-        if self._line.device == self._given:
-            self._line.device = cable_name(self._given)
+        line = self._line
         try:
-            there = self._line.open()
-            self._busy_since = math.inf
-        except Busy:
-            there = False
-            now = self._guard.now()
-            self._busy_since = min(self._busy_since, now)
-            if now - self._busy_since >= BUSY_PATIENCE:
-                self._hears.busy()
+            if not isinstance(line, SerialLine):
+                line.connect(self._guard, self._tried)
                 return
+            if line.device == self._given:
+                line.device = cable_name(self._given)
+            there = line.open()
+        except Busy:
+            self._waits_for_another()
+        else:
+            self._tried(there)
+
+    def _tried(self, there: bool) -> None:
+        self._busy_since = math.inf
         if there:
             self._opened()
-            return
-        if not self._gone and self._busy_since == math.inf:
-            self._gone = True
-            self._hears.unplugged()
-        if not self._closed:
+        else:
+            self._is_gone()
+
+    def _waits_for_another(self) -> None:
+        """Another process has the line: one that was just killed lets it go soon."""
+        now = self._guard.now()
+        self._busy_since = min(self._busy_since, now)
+        if now - self._busy_since >= BUSY_PATIENCE:
+            self._hears.busy()
+        elif not self._closed:
             self._timer = self._guard.after(LOOK_AGAIN, self.begin)
 
     def _opened(self) -> None:
         assert self._line.number is not None
-        self._gone = False
+        now = self._guard.now()
         self._guard.watch(self._line.number, self._readable)
-        self._asking.connected(self._guard.now())
-        self._hears.plugged()
+        self._asking.connected(now)
+        if isinstance(self._line, SerialLine):
+            self._plugged()
+        else:
+            self._trial = Trial(now)
         self._ask()
 
+    def _plugged(self) -> None:
+        if not self._is_plugged:
+            self._is_plugged, self._gone = True, False
+            self._hears.plugged()
+
     def _readable(self) -> None:
-        sent = self._line.read()
+        sent, now = self._line.read(), self._guard.now()
         if sent is None:
-            self._lost()
+            self._lost(self._line.why)
+        elif sent and self._trial and self._trial.is_flood(now, len(sent)):
+            self._lost(FLOOD)
         elif sent:
-            self._hears.came(sent, self._asking.came(self._guard.now(), sent))
+            heard = sent, self._asking.came(now, sent)
+            passed = self._trial.passes(heard) if self._trial else [heard]
+            if passed:
+                self._plugged()
+            for one in passed:
+                self._hears.came(*one)
+            self._ask_after_time_away()
             self._tell_silence()
             self._ask()
 
-    def _lost(self) -> None:
+    def _lost(self, why: str) -> None:
+        said = self._trial.said if self._trial and not self._trial.has_answered else ""
         self._hang_up()
-        self._gone = True
-        self._hears.unplugged()
+        self._is_gone(f"{why}, and said '{said}'" if said else why)
+
+    def _is_gone(self, why: str = "") -> None:
+        """It isn't there, which is told once, and is tried again."""
+        self.why = why or self._line.why
+        if not self._gone:
+            self._gone = True
+            self._hears.unplugged()
         if not self._closed:
-            self._timer = self._guard.after(LOOK_AGAIN, self.begin)
+            self._timer = self._guard.after(LOOK_AGAIN if isinstance(self._line, SerialLine) else CONNECT_AGAIN, self.begin)
 
     def _hang_up(self) -> None:
         if self._timer:
@@ -109,19 +162,27 @@ class Connection:
             self._timer = None
         if self._line.number is not None:
             self._guard.forget(self._line.number)
-            self._line.close()
+        self._line.close()
         self._asking.disconnected()
-        self._silent = False
+        self._silent = self._is_plugged = False
+        self._trial = None
+
+    def _ask_after_time_away(self) -> None:
+        """Asks anew if the recorder was away: a dump that has waited since before that isn't what the board shows now."""
+        before, self._away = self._away, self._guard.away()
+        if self._away > before:
+            self._asking.added(b"")
 
     def _ask(self) -> None:
         """Sends the request that is due, and calls itself again when the next one is."""
         if self._line.number is None:
             return
+        self._ask_after_time_away()
         now, due = self._guard.now(), self._asking.due()
         if now >= due:
             request = self._asking.request(now)
             self._line.ask(request)
-            if START_REQUEST in request:
+            if START_REQUEST in request and self._is_plugged:
                 self._hears.asked_whose()
             self._tell_silence()
             due = self._asking.due()
@@ -138,6 +199,7 @@ class Connection:
     def _tell_silence(self) -> None:
         if self._silent != self._asking.silent:
             self._silent = self._asking.silent
+            self._plugged()
             self._hears.silence(self._silent)
 
     def has_number(self) -> None:
@@ -152,7 +214,7 @@ class Connection:
     def last_words(self) -> None:
         """Takes what has come, once more, and closes the line for good."""
         self._closed = True
-        if self._line.number is not None:
+        if self._line.number is not None and self._is_plugged:
             sent = self._line.read()
             if sent:
                 self._hears.came(sent, Came(serial=self._asking.came(self._guard.now(), sent).serial))

@@ -2,20 +2,31 @@
 
 from __future__ import annotations
 
+import os
 import select
 import time
-from typing import Dict, Sequence
+from dataclasses import dataclass, field
+from typing import Dict, List, Sequence, Set, Tuple
 
 from live.device.protocol import SERIAL_REQUEST, Frames, serial_of
-from live.device.serial_line import Busy, SerialLine
+from live.device.serial_line import Busy, SerialLine, may_not_open
 
 ANSWERS_IN = 2.0  # seconds that a board may take
-IN_USE = "in use"
 
 
-def numbers_of(devices: Sequence[str], seconds: float = ANSWERS_IN) -> Dict[str, str]:
-    """The number of each board that answers within this many seconds, all asked at once; `in use` if another call has the board."""
-    found: Dict[str, str] = {}
+@dataclass
+class Asked:
+    """What came of asking some devices: the serial numbers of the boards that answered, the devices that another call has, and
+    those that this user may not open."""
+
+    numbers: Dict[str, str] = field(default_factory=dict)
+    in_use: Set[str] = field(default_factory=set)
+    shut: Set[str] = field(default_factory=set)
+
+
+def ask(devices: Sequence[str], seconds: float = ANSWERS_IN) -> Asked:
+    """Asks the boards on these devices for their numbers, all at once, and waits this many seconds at most."""
+    asked = Asked()
     lines: Dict[int, SerialLine] = {}
     try:
         for device in devices:
@@ -24,13 +35,15 @@ def numbers_of(devices: Sequence[str], seconds: float = ANSWERS_IN) -> Dict[str,
                 if line.open() and line.number is not None:
                     lines[line.number] = line
                     line.ask(SERIAL_REQUEST)
+                elif os.path.exists(device) and not os.access(device, os.R_OK | os.W_OK):
+                    asked.shut.add(device)
             except Busy:
-                found[device] = IN_USE
-        found.update(_answers(lines, seconds))
+                asked.in_use.add(device)
+        asked.numbers = _answers(lines, seconds)
     finally:
         for line in lines.values():
             line.close()
-    return found
+    return asked
 
 
 def _answers(lines: Dict[int, SerialLine], seconds: float) -> Dict[str, str]:
@@ -47,3 +60,23 @@ def _answers(lines: Dict[int, SerialLine], seconds: float) -> Dict[str, str]:
             if sent is None or lines[number].device in found:
                 del frames[number]
     return found
+
+
+def listing(found: Sequence[Tuple[str, str]], asked: Asked) -> List[str]:
+    """The printed list of devices: each with the name of its cable and its board's serial number, as far as known; or what to do
+    if there is none."""
+    if not found:
+        return ["dgt_live: no board is plugged in: there is no /dev/ttyUSB*, /dev/ttyACM* or /dev/rfcomm*. Plug it in, and try again"]
+    return ["  ".join(filter(None, (device, name, _state(device, asked)))) for device, name in found]
+
+
+def _state(device: str, asked: Asked) -> str:
+    """A device's number, or why it gave none."""
+    if device in asked.shut:
+        return "may not be opened"
+    return "in use" if device in asked.in_use else asked.numbers.get(device, "")
+
+
+def told_of_shut(asked: Asked, user: str) -> List[str]:
+    """What to do about the devices that this user may not open."""
+    return [may_not_open(", ".join(sorted(asked.shut)), user)] if asked.shut else []

@@ -8,21 +8,25 @@ import os
 import pwd
 import stat
 import termios
-from typing import List, Mapping, Optional, Sequence, Tuple
+from typing import List, Optional, Tuple
 
 from live.lock import locked
 from live.refused import ANOTHER_CALL, FAILED, Refused
 
 SEE_DEVICES = "see which devices there are with dgt_live --devices"
-PLUGGED = ("ttyUSB", "ttyACM")  # how the names of their devices begin
+PLUGGED = ("ttyUSB", "ttyACM", "rfcomm")  # how the names of their devices begin; the last is a Bluetooth board's
 CONTROLLING_TERMINAL = os.makedev(5, 0)  # the number of /dev/tty, under any name
 BUSY_PATIENCE = 3.0  # seconds: a call that was just killed may still hold the lock
 
 
+def serial_folder() -> str:
+    """Where the system keeps the names of cables. The devices themselves are in the folder above it."""
+    return os.environ.get("DGT_LIVE_SERIAL", "/dev/serial").rstrip("/")
+
+
 def serial_folders() -> List[str]:
-    """Where the system keeps the names of cables: first by the cable itself, then by its socket."""
-    top = os.environ.get("DGT_LIVE_SERIAL", "/dev/serial").rstrip("/")
-    return [f"{top}/by-id", f"{top}/by-path"]
+    """The names of cables: first by the cable itself, then by its socket."""
+    return [f"{serial_folder()}/by-id", f"{serial_folder()}/by-path"]
 
 
 def serial_names() -> List[str]:
@@ -41,18 +45,11 @@ def cable_name(device: str) -> str:
 
 def devices() -> List[Tuple[str, str]]:
     """Each device that may be a board, with the name of its cable, or an empty one."""
-    found = [f"/dev/{name}" for name in os.listdir("/dev") if name.startswith(PLUGGED)]
-    found += [os.path.realpath(name) for name in serial_names() if os.path.exists(name)]
+    above = os.path.dirname(serial_folder())
+    names = [f"{above}/{name}" for name in os.listdir(above) if name.startswith(PLUGGED)] if os.path.isdir(above) else []
+    found = {os.path.realpath(name) for name in (*names, *serial_names()) if os.path.exists(name)}
     named = {device: cable_name(device) for device in found}
     return sorted((device, "" if name == device else name) for device, name in named.items())
-
-
-def listing(found: Sequence[Tuple[str, str]], numbers: Mapping[str, str]) -> List[str]:
-    """The printed list of devices: each with the name of its cable and its board's serial number, as far as known; or what to do
-    if there is none."""
-    if not found:
-        return ["dgt_live: no board is plugged in: there is no /dev/ttyUSB* and no /dev/ttyACM*. Plug it in, and try again"]
-    return ["  ".join(filter(None, (device, name, numbers.get(device)))) for device, name in found]
 
 
 def login_name() -> str:
@@ -139,6 +136,7 @@ class SerialLine:
     def __init__(self, device: str) -> None:
         self.device = device
         self.number: Optional[int] = None
+        self.why = ""  # nothing more is known than that it isn't there
 
     def open(self) -> bool:
         """Opens it if it is there, and returns whether it is open. Raises Busy if another process has it."""

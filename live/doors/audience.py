@@ -8,19 +8,20 @@ from typing import Sequence, Tuple
 
 from live.board.single import QUITS, Single
 from live.broadcast.broadcast import Broadcast
-from live.broadcast.going_out import GoingOut, delay_of, minutes
+from live.broadcast.going_out import GoingOut, delay_of, has_delay, minutes
 from live.broadcast.late import is_hidden, is_unseen
 from live.broadcast.leaving import Leaving, clock_in, hold
 from live.doors.calls import Call
 from live.game import files
+from live.game.forfeiting import forfeit_of, told_to_readers
 from live.game.files import Paths
 from live.game.game import end_mark, kept_options, kept_tags
 from live.game.options import Options
 from live.game.tags import published
 from live.loop import Loop
 from live.refused import FAILED, Refused
-from live.web.address import Pages
 from live.web.doors import Title, TwoPages
+from live.web.kept_pages import AS_BEFORE, pages_of
 from live.web.round_page import ArbiterView
 from live.web.view import round_pgn
 
@@ -31,15 +32,16 @@ class Audience:
     def __init__(self, loop: Loop, call: Call, given: Options) -> None:
         self._loop, self._call, self._given = loop, call, given
         self._paths = paths = Paths(call.name)
-        if not call.series and (call.delay is not None or os.path.lexists(paths.delay) or os.path.lexists(paths.delayed)):
+        if not call.series and (call.delay is not None or has_delay(paths) or os.path.lexists(paths.delayed)):
             hold(paths)
         # whether spectators haven't seen all of a game that is over
         self.is_unseen = not call.series and is_unseen(paths, lambda text: published_of(paths, text)) and end_mark(paths) is not None
-        self._delay = delay_of(paths, call.delay)
+        self._delay = delay_of(paths, call.delay, [paths])
         self._late = minutes(self._delay) if self._delay else ""
         self._event = os.path.basename(call.name)
         title = Title(given.event or self._event, given.round or "", self._late)
-        self._pages = TwoPages(loop, call.pages or Pages(), title)
+        where, self._is_kept = pages_of(paths, call.pages)
+        self._pages = TwoPages(loop, where, title)
 
     def join(self, single: Single) -> None:
         """From now on the game of this board is shown. The call ends when spectators have seen it."""
@@ -59,12 +61,19 @@ class Audience:
 
         single.on_change = changed
         self._leaving = leaving = Leaving(self._loop, broadcast, single.say)
-        single.over, single.asked, single.goes_on = leaving.over, leaving.asked, leaving.goes_on
-        single.greeting = self._greeting()
+
+        def over() -> None:
+            if single.refused or not call.shows:  # a game that is only shown is shown until somebody ends it
+                leaving.over()
+
+        single.over, single.asked, single.goes_on = over, leaving.asked, leaving.goes_on
+        single.greeting, single.secret = self._greeting(), self._pages.secret
 
     def _greeting(self) -> Tuple[str, ...]:
         """What is printed once the game is recorded."""
-        greeting = self._pages.told("the game")
+        greeting = self._pages.told("the game") + ([AS_BEFORE] if self._is_kept else [])
+        if self._call.shows:
+            greeting.append("Ctrl-C ends it")
         if self.is_unseen:
             greeting.append(f"{self._paths.name} is over: spectators get what they haven't seen of it")
         if self._late:
@@ -88,7 +97,7 @@ class Audience:
 
 def published_of(paths: Paths, text: bytes) -> bytes:
     """The published text of a game that has this text."""
-    return round_pgn([published(text, kept_tags(paths))])
+    return round_pgn([published(text, kept_tags(paths), told_to_readers(forfeit_of(paths, text)))])
 
 
 def publish_anew(paths: Paths, given: Options) -> str:
@@ -97,7 +106,9 @@ def publish_anew(paths: Paths, given: Options) -> str:
         return f"{paths.broadcast} gets its tags as the rest of it is shown"
     kept = kept_options(paths)
     try:
-        files.put_in_place(paths.broadcast, published(files.existing(paths.pgn), dict(kept.tags) if kept else {}))
+        text = files.existing(paths.pgn)
+        says = told_to_readers(forfeit_of(paths, text))
+        files.put_in_place(paths.broadcast, published(text, dict(kept.tags) if kept else {}, says))
     except OSError as error:
         raise Refused(FAILED, f"{paths.broadcast} can't be written ({files.text_of(error)}): is the disk full?") from None
     return f"{paths.broadcast} has its tags"

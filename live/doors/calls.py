@@ -7,13 +7,15 @@ from typing import TYPE_CHECKING, Dict, List, Optional, Sequence, Tuple
 
 from live.broadcast.going_out import read_command, read_delay
 from live.game.added import BACK
-from live.game.options import PLAIN, RECOVER, SEE_HELP, STRICT, TAG, VALUED, Options, typed_tag, value_of
+from live.game.options import PLAIN, RECOVER, SEE_HELP, STRICT, TAG, VALUED, Options
+from live.game.options import assigned, no_option, typed_tag, typed_value
 from live.refused import ARGUMENTS, Refused
 
 if TYPE_CHECKING:
     from live.web.address import Pages
 
 RECORDING = ("--linger", "--page", "--arbiter-page", "--delay", "--publish")  # options of a recording that have a value
+HELP, VERSION = ("--help", "-h"), ("--version", "-V")
 QUOTES = "is one argument too many. Put a text with blanks in quotes, as 'Anna Kern'"
 LINGER = 10  # seconds that a result stands before it ends a game
 LONGEST_LINGER = 10**6
@@ -30,11 +32,17 @@ class Call:
     once: bool = False
     linger: int = LINGER
     help: bool = False
+    version: bool = False
     devices: bool = False
     typed: Tuple[str, ...] = ()  # lines for an existing game
     pages: Optional[Pages] = None
     delay: Optional[float] = None  # seconds; None leaves it as it was
     publish: Tuple[str, ...] = ()  # a command
+
+    @property
+    def shows(self) -> bool:
+        """Whether an existing game is only shown."""
+        return not self.device and bool(self.pages and self.pages.any) and self.options == Options()
 
 
 def parse(arguments: Sequence[str]) -> Call:
@@ -49,25 +57,27 @@ def parse(arguments: Sequence[str]) -> Call:
     while left:
         word = left.pop(0)
         option, equals, value = word.partition("=")
-        if word in ("--help", "-h"):
+        if word in HELP:
             return Call(help=True)
+        if word in VERSION:
+            return Call(version=True)
         if word in flags:
             flags[word] = True
         elif word in PLAIN:
             words.append(word)
         elif option in VALUED:
-            words += [option, value if equals else value_of(word, left)]
+            words.append(assigned(option, value if equals else typed_value(word, left)))
         elif option == TAG:
-            words += [TAG, typed_tag(value if equals else value_of(word, left))]
+            words.append(assigned(TAG, typed_tag(value if equals else typed_value(word, left))))
         elif option in RECORDING:
-            values[option] = value if equals else value_of(word, left)
+            values[option] = value if equals else typed_value(word, left)
         elif option == "--page-host":
-            hosts.append(value if equals else value_of(word, left))
+            hosts.append(value if equals else typed_value(word, left))
         elif option in ("--add", "--back"):
-            line = value if equals else value_of(word, left)
+            line = value if equals else typed_value(word, left)
             typed.append(line if option == "--add" else f"{BACK} {line}")
         elif word.startswith("-") and len(word) > 1:
-            raise Refused(ARGUMENTS, f"there is no option {word}: {SEE_HELP}")
+            raise no_option(word)
         else:
             plain.append(word)
     refuse_both(words)
@@ -81,8 +91,9 @@ def parse(arguments: Sequence[str]) -> Call:
             raise Refused(ARGUMENTS, f"--devices takes nothing else: {SEE_HELP}")
         return Call(devices=True)
     options = Options.of_words(words)
-    remakes = not typed and len(plain) == 1 and not flags["--series"] and bool(words) and options.fixed() == Options()
-    wanted = 1 if typed or remakes else 2
+    reads_otherwise = bool(words) and options.lies_as(Options()) and not options.unrotated
+    has_name = not typed and len(plain) == 1 and not flags["--series"]
+    wanted = 1 if typed or (has_name and (reads_otherwise or (pages and pages.any and not words))) else 2
     if len(plain) > wanted:
         raise Refused(ARGUMENTS, f"{plain[wanted]} {QUOTES}: {SEE_HELP}")
     if len(plain) < wanted or not plain[-1]:

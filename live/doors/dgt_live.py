@@ -5,24 +5,28 @@ from __future__ import annotations
 import os
 from typing import TYPE_CHECKING, List, Optional, Sequence
 
+from live.board.finding import Finder
 from live.board.plan import Plan, last_number, numbered
 from live.board.recording import Rules
 from live.board.single import Choice, Single
+from live.broadcast.going_out import has_delay
 from live.device import serial_line
-from live.device.numbers import numbers_of
+from live.device.numbers import ask, listing, told_of_shut
 from live.doors import calls
 from live.doors.calls import Call
 from live.doors.door import Outcome, through
 from live.game import control, files, refusal
-from live.game.adding import add_by_name
+from live.game.adding import Answer, add_by_name
+from live.game.file_names import check_name
 from live.game.files import LOCK_PATIENCE, Paths
 from live.game.game import kept_tags
 from live.game.names import today
+from live.game.naming import line_of
 from live.game.opening import Opening, checked, read_otherwise
 from live.game.options import Options
 from live.game.program import Program
 from live.loop import Loop, Signals
-from live.refused import DONE, FAILED, REFUSED, Refused
+from live.refused import DONE, FAILED, REFUSED, Refused, printable
 from live.terminal.screen import Screen
 from live.terminal.terminal import Terminal, Typed
 
@@ -31,7 +35,7 @@ if TYPE_CHECKING:
 
 HELP = """\
 usage: dgt_live [--series] [--once] [--linger SECONDS] DEVICE NAME [OPTION..]
-       dgt_live (--add WORDS|--back PLY|--first SIDE|--recover|--strict) NAME
+       dgt_live (--add TEXT|--back PLY|--first SIDE|--recover|--page PORT) NAME
 
 Records the DGT board at DEVICE, prints the game line by line, and keeps
   NAME.dgt   what the board sent
@@ -51,19 +55,32 @@ OPTION says how the board lies, how the game begins, and what its tags say:
   --first SIDE       whose time comes first, white (without it) or black
   --fen TEXT         the position at the start
   --event, --site, --date, --round, --white, --black TEXT; --tag NAME=VALUE
-  --devices          lists the boards that are plugged in. Set up the pieces:
+  --devices, --version   the boards that are plugged in. Set up the pieces:
   dgt_live /dev/ttyUSB0 game --white Anna --black Ben --date 31.05.2024
 """
 PRINTED = 2.0  # seconds that a slow terminal has for the last lines
 
 
 def record(call: Call, program: Program, signals: Signals) -> Outcome:
-    """Records a game, or a series of them."""
+    """Records a game, or a series of them. A call that is refused before there is a game leaves no file."""
+    paths = Paths(call.name)
+    made = [path for path in (paths.delay, paths.pages, paths.log, paths.options) if not os.path.lexists(path)]
+    try:
+        return record_in(call, program, signals)
+    except Refused:
+        if not any(map(os.path.lexists, (paths.capture, numbered(call.name, 1).capture))):
+            for path in made:
+                files.remove(path)
+        raise
+
+
+def record_in(call: Call, program: Program, signals: Signals) -> Outcome:
+    """The same, with files that may be left."""
     given = checked(program, call.options)
     loop = Loop()
     audience = audience_of(loop, call, given)
     terminal = Terminal(loop)
-    plan = Plan(call.device, call.name, Rules(call.linger, call.series), call.once)
+    plan = Plan(call.device, call.name, Rules(call.linger, call.series), call.once, shows=call.shows)
     choice = Choice(given, tuple(given.told_of_turned(call.options)), audience is not None and audience.is_unseen)
     single = Single(loop, program, Screen(terminal), plan, choice)
     if audience:
@@ -73,12 +90,16 @@ def record(call: Call, program: Program, signals: Signals) -> Outcome:
         if audience is None or audience.hears(text):
             single.typed(text)
 
+    finder = Finder(loop, lambda: [single.board], single.trouble)
     single.begin()
     signals.tell(loop, single.end)
     reader = Typed(loop, typed, single.refuses)
     loop.run()
     reader.close()
+    finder.close()
     complaints, unseen = audience.close() if audience else ((), "")
+    if audience is None and kept_tags(single.board.paths):  # the first of them was typed
+        publish_anew(single.board.paths, single.board.options)
     terminal.clear()
     if unseen:
         single.say(unseen)
@@ -94,7 +115,8 @@ def audience_of(loop: Loop, call: Call, given: Options) -> Optional[Audience]:
     """Who else sees the game; None if nobody does."""
     paths = Paths(call.name)
     is_asked = call.pages or call.delay is not None or call.publish or given.tags or kept_tags(paths)
-    if not is_asked and not any(map(os.path.lexists, (paths.broadcast, paths.delay, paths.delayed))):
+    left = (paths.broadcast, paths.delayed, paths.pages)
+    if not (is_asked or has_delay(paths) or any(map(os.path.lexists, left))):
         return None
     from live.doors.audience import Audience
 
@@ -110,21 +132,26 @@ def publish_anew(paths: Paths, given: Options = Options()) -> List[str]:
     return [audience.publish_anew(paths, given)]
 
 
-def existing_game(name: str) -> Paths:
-    """The files of an existing game."""
+def existing_game(name: str, *more: str) -> Paths:
+    """The files of an existing game. Refused, with these lines too, if it isn't there."""
     paths = Paths(name)
     if not os.path.isfile(paths.capture):
         last = numbered(name, last_number(name))
         known = f" The last one is {last.name}" if os.path.isfile(last.capture) else ""
-        raise Refused(REFUSED, f"there is no {paths.capture}: type the NAME of a game, with its folder.{known}")
+        raise Refused(REFUSED, f"there is no {paths.capture}: type the NAME of a game, with its folder.{known}", *more)
     return paths
 
 
 def remake(call: Call, program: Program) -> Outcome:
-    """Makes anew the text of a game that nobody records: with or without its recovered pairs, or with the other side's time
-    first."""
+    """Makes anew the text of a game that nobody records: with or without its recovered pairs, with the other side's time first, or
+    with other names. The call that records a game takes names from here too."""
+    line = line_of(call.options)
+    device_first = f"To record a new game, type its DEVICE first, as dgt_live /dev/ttyUSB0 {call.name}"
+    paths = existing_game(call.name, *([device_first] if line else []))
+    asked = control.ask(paths.capture, line) if line else None
+    if asked:
+        return answered(asked)
     given = checked(program, call.options)
-    paths = existing_game(call.name)
     try:
         opened = Opening(program, paths, lambda: read_otherwise(given)).open(Loop.now(), today())
     except files.Recorded:
@@ -132,12 +159,19 @@ def remake(call: Call, program: Program) -> Outcome:
     opened.game.capture.close()
     options = opened.game.options
     said = [f"{options.side.capitalize()}'s time comes first"] if call.options.first else []
-    if given.tags:
-        said += publish_anew(paths, given)
-    pairs = opened.old.course.recovered
-    what = "; ".join([*(said + pairs or ["nothing recovered"]), *opened.results, *opened.told])
+    said += [*opened.told, *publish_anew(paths, given), *opened.old.course.recovered]
+    what = "; ".join([*(said or ["nothing recovered" if call.options.recover is not None else "nothing has changed"]), *opened.results])
     files.log_once(paths, f"made anew: {what}")
-    print(f"dgt_live: {paths.pgn} is made anew: {what}")
+    print(printable(f"dgt_live: {paths.pgn} is made anew: {what}"))
+    return DONE, ()
+
+
+def answered(answer: Answer) -> Outcome:
+    """Prints what was done. Refused if it wasn't."""
+    status, text = answer
+    if status != DONE:
+        raise Refused(status, text)
+    print(printable(f"dgt_live: {text}"))
     return DONE, ()
 
 
@@ -146,31 +180,40 @@ def add(call: Call, program: Program) -> Outcome:
     paths = existing_game(call.name)
     for line in call.typed:
         asked = control.ask(paths.capture, line)
-        status, text = asked or add_by_name(program, paths, line, LOCK_PATIENCE)
-        if status != DONE:
-            raise Refused(status, text)
+        answered(asked or add_by_name(program, paths, line, LOCK_PATIENCE))
         if not asked:
             publish_anew(paths)
-        print(f"dgt_live: {text}")
     return DONE, ()
+
+
+def list_devices() -> Outcome:
+    """Prints the list of the devices that are plugged in."""
+    found = serial_line.devices()
+    devices = ask([device for device, _ in found])
+    print("\n".join(listing(found, devices)))
+    shut = told_of_shut(devices, serial_line.login_name())
+    return (FAILED if shut else DONE), shut
 
 
 def main(arguments: Sequence[str], here: str) -> int:
     """Does what the arguments ask for. Returns the status."""
 
-    def answered(signals: Signals) -> Outcome:
+    def call(signals: Signals) -> Outcome:
         asked = calls.parse(arguments)
         if asked.help:
             print(HELP, end="")
             return DONE, ()
-        if asked.devices:
-            found = serial_line.devices()
-            print("\n".join(serial_line.listing(found, numbers_of([device for device, _ in found]))))
+        if asked.version:
+            print(f"dgt_live {Program.find(here).version()}")
             return DONE, ()
-        files.check_name(asked.name)
+        if asked.devices:
+            return list_devices()
+        check_name(asked.name)
         program = Program.find(here)
         if asked.typed:
             return add(asked, program)
-        return record(asked, program, signals) if asked.device else remake(asked, program)
+        if asked.shows:
+            existing_game(asked.name)
+        return record(asked, program, signals) if asked.device or asked.shows else remake(asked, program)
 
-    return through("dgt_live", answered)
+    return through("dgt_live", call)

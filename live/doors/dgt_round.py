@@ -9,31 +9,35 @@ from dataclasses import dataclass, replace
 from typing import Dict, List, Optional, Sequence, Tuple
 
 from live.broadcast.going_out import GoingOut, delay_of, minutes, read_command, read_delay
+from live.doors import calls
 from live.doors.calls import LINGER, QUOTES, linger_of, refuse_both, refuse_hosts
 from live.doors.door import Outcome, through
-from live.game.files import LOCK_PATIENCE, Paths, text_of
+from live.game.files import LOCK_PATIENCE, ROUND, Paths, text_of
 from live.game.game import keep_options, kept_options
 from live.game.opening import recordable, turned, unknown
-from live.game.options import RECOVER, STRICT, TAG, UNKNOWN, Options, typed_tag
+from live.game.options import RECOVER, STRICT, TAG, UNKNOWN, Options
+from live.game.options import as_typed, assigned, no_option, typed_tag, typed_value
 from live.game.program import Program
 from live.lock import locked
 from live.loop import Loop, Signals
 from live.refused import ARGUMENTS, DONE, FAILED, REFUSED, Refused
 from live.round.display import terminal_of_lines
-from live.round.pairings import ROUND
-from live.round.round import Round, first_pairings
+from live.round.encodings import ENCODING, encoding_in, known_encoding
+from live.round.round import Round, first_pairings, refuse_another_round
 from live.round.row import Hall
+from live.round.site import SiteFiles
 from live.round.sources import Source
 from live.round.tournament import Tournament, made, tournament_of
 from live.round.tournament_files import RESULTS, TournamentFiles, all_text, results_text
 from live.web.address import Pages, read_pages
 from live.web.doors import Title, TwoPages
+from live.web.kept_pages import AS_BEFORE, pages_of
 from live.web.round_page import ArbiterView
 
 SEE_HELP = "see dgt_round --help"
 TAGS = ("--event", "--site", "--date", "--round")
-NEW = "--new"
-VALUED = (*TAGS, TAG, "--linger", "--page", "--page-host", "--arbiter-page", "--delay", "--publish")
+NEW, EMBED, WEB = "--new", "--embed", "--web"
+VALUED = (*TAGS, TAG, "--linger", "--page", "--page-host", "--arbiter-page", EMBED, WEB, "--delay", "--publish", ENCODING)
 HELP = """\
 usage: dgt_round FILE [FOLDER] [OPTION..]     a round of its own
        dgt_round CUP ROUND [OPTION..]         a round of a tournament
@@ -47,16 +51,17 @@ and if needed rotated (yes), first (white or black), fen, name (of files),
 result, recover (yes or no), serial (the board's number), WhiteElo and so on. A
 line that is wrong stops no other. dgt_live --devices lists devices, numbers.
 While it records, type
-  3 1-0       the result of board 3: 1-0, 0-1 or 1/2-1/2
+  3 1-0       the result of board 3: 1-0, 0-1, 1/2-1/2; by forfeit +-, -+, --
   3 Nf3 Nc6   moves that board 3 has missed; 3 back takes one off, 3 * a result
   3, 3 ok     the state of board 3; you have looked at its LOOK
   r, q        read FILE again (HUP does so too); end, as Ctrl-C does
 OPTION, kept: --event, --site, --date, --round with TEXT; --tag NAME=VALUE
   --page [ADDRESS:]PORT     a page for spectators, as --page 8000
   --page-host NAME, --arbiter-page [ADDRESS:]PORT   its names; the arbiter's
+  --embed https://SITE, --web FOLDER   who may frame it; a site of files
   --delay MINUTES           how late spectators and broadcast.pgn have it
   --publish COMMAND         run with broadcast.pgn whenever that has changed
-  --linger SECONDS, --recover, --strict   see man dgt_round
+  --linger SECONDS, --encoding NAME, --recover, --strict, --version   see man
 """
 
 
@@ -71,9 +76,12 @@ class Asked:
     pages: Pages = Pages()
     delay: Optional[float] = None  # seconds; None leaves it as it was
     publish: Tuple[str, ...] = ()  # a command
+    web: str = ""  # the folder of the static site
+    encoding: str = ""  # of tables that aren't Unicode; empty if none is given
     tournament: Optional[Tournament] = None  # the one whose round is played
     new: bool = False  # the files of a tournament are to be made
     help: bool = False
+    version: bool = False
 
 
 def parse(arguments: Sequence[str]) -> Asked:
@@ -87,24 +95,24 @@ def parse(arguments: Sequence[str]) -> Asked:
     while left:
         word = left.pop(0)
         option, equals, value = word.partition("=")
-        if word in ("--help", "-h"):
+        if word in calls.HELP:
             return Asked(help=True)
+        if word in calls.VERSION:
+            return Asked(version=True)
         if word in (RECOVER, STRICT):
             words.append(word)
         elif word == NEW:
             is_new = True
         elif option in VALUED:
-            if not equals and not left:
-                raise Refused(ARGUMENTS, f"{option} wants a value: {SEE_HELP}")
-            value = value if equals else left.pop(0)
+            value = value if equals else typed_value(option, left, SEE_HELP)
             if option == "--page-host":
                 hosts.append(value)
             elif option == TAG:
-                words += [TAG, typed_tag(value, SEE_HELP)]
+                words.append(assigned(TAG, typed_tag(value, SEE_HELP)))
             else:
                 values[option] = value
         elif word.startswith("-") and len(word) > 1:
-            raise Refused(ARGUMENTS, f"there is no option {word}: {SEE_HELP}")
+            raise no_option(word, SEE_HELP)
         else:
             plain.append(word)
     refuse_both(words, SEE_HELP)
@@ -115,17 +123,21 @@ def parse(arguments: Sequence[str]) -> Asked:
     linger = linger_of(values.pop("--linger", str(LINGER)))
     page, arbiter_page = (values.pop(option, None) for option in ("--page", "--arbiter-page"))
     refuse_hosts(page or arbiter_page, hosts, SEE_HELP)
-    delay, publish = (values.pop(option, None) for option in ("--delay", "--publish"))
-    for option, value in values.items():
-        words += [option, value]
+    embed, web = values.pop(EMBED, None), values.pop(WEB, "")
+    if embed and not page:
+        raise Refused(ARGUMENTS, f"{EMBED} lets a site show the page, and there is none without --page PORT: {SEE_HELP}")
+    delay, publish, encoding = (values.pop(option, None) for option in ("--delay", "--publish", ENCODING))
+    words += [assigned(option, value) for option, value in values.items()]
     return Asked(
         plain[0],
         "".join(plain[1:]),
         Options.of_words(words),
         linger,
-        read_pages(page, arbiter_page, hosts),
+        read_pages(page, arbiter_page, hosts, embed),
         None if delay is None else read_delay(delay),
         () if publish is None else read_command(publish),
+        web,
+        known_encoding(encoding) if encoding else "",
         new=is_new,
     )
 
@@ -133,14 +145,14 @@ def parse(arguments: Sequence[str]) -> Asked:
 def of_tournament(arguments: Sequence[str], tournament: Tournament) -> Asked:
     """The round of a tournament: what its settings say, and what is typed in addition."""
     table = tournament.table()
-    words = tournament.words(table, VALUED)
+    words = tournament.words(table, VALUED, encoding_in(arguments))
     if RECOVER in arguments or STRICT in arguments:
         words = [word for word in words if word not in (RECOVER, STRICT)]
     try:
         parse([*words, str(table)])
     except Refused as refused:
         raise Refused(REFUSED, f"{tournament.settings}: {refused.lines[0].replace(f': {SEE_HELP}', '')}") from None
-    asked = parse(["--round", str(tournament.number), *words, *arguments])
+    asked = parse([assigned("--round", str(tournament.number)), *words, *arguments])
     return replace(asked, file=str(table), folder=tournament.games, tournament=tournament)
 
 
@@ -168,7 +180,7 @@ def told_of_kept(given: Options, kept: Options) -> str:
     filled, tags = given.filled(kept, TAGS), dict(given.tags)
     left = filled.only([option for option in TAGS if given.value(option) is None])
     words = left.tagged({name: value for name, value in filled.tags if name not in tags}).words()
-    return f"the round goes on with {shlex.join(words)}; give others to change that" if words else ""
+    return f"the round goes on with {shlex.join(as_typed(words))}; give others to change that" if words else ""
 
 
 def play(asked: Asked, program: Program, signals: Signals) -> Outcome:
@@ -176,22 +188,24 @@ def play(asked: Asked, program: Program, signals: Signals) -> Outcome:
     asked.options.refuse_breaks()
     given = turned(recordable(asked.options, unknown))
     file = pathlib.Path(asked.file)
-    source = Source(file, round_of(asked.options.round))
+    source = Source(file, round_of(asked.options.round), encoding=asked.encoding)
     source.in_tournament = asked.tournament is not None
     read = first_pairings(source)
     folder, _ = folder_of(asked)
     files = Paths(str(folder / ROUND))
     kept = Options() if asked.tournament else (kept_options(files) or Options()).only(TAGS)
     told, given = told_of_kept(given, kept), given.filled(kept, TAGS)
-    delay = delay_of(files, asked.delay)
-    late = minutes(delay) if delay else ""
     loop = Loop()
+    hall = Hall(program, str(folder), given, asked.linger, terminal_of_lines(loop))
+    refuse_another_round(source, read, hall)
+    delay = delay_of(files, asked.delay, [Paths(str(folder / pairing.file_name)) for pairing in read.boards])
+    late = minutes(delay) if delay else ""
     shown = given.written("--event") or file.stem
-    pages = TwoPages(loop, asked.pages, Title(shown, given.round or "", late))
-    event = "" if given.event == UNKNOWN else given.event
+    where, is_kept = pages_of(files, asked.pages)
+    pages = TwoPages(loop, where, Title(shown, given.round or "", late))
+    event = "" if given.event == UNKNOWN else given.written("--event")
     title = ", ".join(filter(None, (event, given.round and f"round {given.round}"))) or file.stem
-    out = GoingOut(delay, asked.publish)
-    games = Round(loop, source, read, title, Hall(program, str(folder), given, asked.linger, terminal_of_lines(loop), out))
+    games = Round(loop, source, read, title, replace(hall, out=GoingOut(delay, asked.publish)))
     if told:
         games.say(told)
     if late:
@@ -207,13 +221,14 @@ def play(asked: Asked, program: Program, signals: Signals) -> Outcome:
     pages.trouble = games.trouble
     pages.show(arbiter, games.broadcast)
     games.on_change = pages.changed
-    for line in pages.told("the round"):
-        games.say(line)
+    for line in filter(None, (*pages.told("the round"), pages.secret, AS_BEFORE if is_kept else "")):
+        games.say(line)  # the round's log has only faults
     signals.tell(loop, games.end, games.hung_up)
     more = files_of(asked.tournament, loop, games) if asked.tournament else None
+    site = site_of(asked.web, loop, games, Title(shown, given.round or "", late)) if asked.web else None
     loop.run()
     pages.close()
-    complaints = more.close() if more else []
+    complaints = [*(more.close() if more else []), *(site.close() if site else [])]
     status, others = games.close()
     return (FAILED if complaints else status), [*complaints, *others]
 
@@ -228,6 +243,13 @@ def files_of(tournament: Tournament, loop: Loop, games: Round) -> TournamentFile
     return TournamentFiles(loop, texts, games.say, games.trouble)
 
 
+def site_of(folder: str, loop: Loop, games: Round, title: Title) -> SiteFiles:
+    """The static site, which has what is broadcast."""
+    site = SiteFiles(loop, pathlib.Path(folder), title, lambda: games.broadcast.boards, games.say, games.trouble)
+    site.written = games.broadcast.carry
+    return site
+
+
 def main(arguments: Sequence[str], here: str) -> int:
     """Does what the arguments ask for. Returns the status."""
 
@@ -235,6 +257,9 @@ def main(arguments: Sequence[str], here: str) -> int:
         asked = parse(arguments)
         if asked.help:
             print(HELP, end="")
+            return DONE, ()
+        if asked.version:
+            print(f"dgt_round {Program.find(here).version()}")
             return DONE, ()
         if asked.new:
             print("\n".join(made(pathlib.Path(asked.file))))

@@ -8,8 +8,8 @@ from typing import Callable, Sequence, Tuple
 
 from live import descriptors
 from live.loop import Signals
-from live.refused import DONE, FAILED, Refused
-from live.terminal.terminal import open_standard_streams
+from live.refused import DONE, FAILED, Refused, printable
+from live.terminal.terminal import folded_for, leave_as_found, open_standard_streams
 
 Outcome = Tuple[int, Sequence[str]]  # a status, and complaints
 
@@ -22,15 +22,16 @@ def through(command: str, call: Callable[[Signals], Outcome]) -> int:
     status, complaint = DONE, ""
     try:
         status, complaints = call(signals)
-        complaint = "".join(f"{command}: {line}\n" for line in complaints)
+        complaint = "".join(f"{command}: {printable(line)}\n" for line in complaints)
     except Refused as refused:
         status, complaint = refused.status, refused.text(command)
     except OSError as error:
-        status, complaint = FAILED, f"{command}: {error}\n"
+        status, complaint = FAILED, f"{command}: {printable(str(error))}\n"
+    leave_as_found()
     try:
         if sys.stdout:
             sys.stdout.flush()
-        os.write(2, complaint.encode("utf-8", "backslashreplace"))
+        os.write(2, folded_for(2, complaint, "  ").encode("utf-8", "backslashreplace"))
     except OSError:
         pass  # nobody reads it any more
     return status

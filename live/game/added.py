@@ -23,7 +23,7 @@ REOPENS = "*"  # takes a typed result off
 ALONE = "type {} alone, in a line of its own"
 NOUGHTS = "0-0"  # a result, or castling typed with noughts
 BOTH_LOSE = f"{NOUGHTS}: do both lose? PGN has no such result: leave the game without one, and note it. Castling is O-O"
-QUIT_TOO = ", or q to end the recording"
+QUIT_TOO = ", name White=Anna (a name put right), or q to end the recording"
 
 EMPTY = 0
 WHITE_KING, BLACK_KING = LETTERS.index("K"), LETTERS.index("k")
@@ -39,6 +39,14 @@ MOVE = re.compile(r"(?:[KQRBN]?[a-h]?[1-8]?x?[a-h][1-8](?:=[QRBN])?|O-O(?:-O)?)[
 NUMBER = re.compile(r"\d{1,4}\.+", re.ASCII)
 PLY = re.compile(r"(\d{1,4})(\.+)(.+)", re.ASCII)
 LONGEST = 7  # characters of a move in SAN, as exd8=Q+
+# A move in other letters: those of German, French, Spanish, Italian .., or small ones for a piece, or capitals for a square.
+OTHER_LETTERS = re.compile(r"([KQRBNSDTLCFA]?)([a-h]?[1-8]?x?[a-h][1-8])(?:=?([QRBNSDTLCFA]))?([+#]?)", re.ASCII | re.IGNORECASE)
+ENGLISH = {"S": "N", "C": "N", "L": "B", "F": "B", "A": "B", "T": "R", "D": "Q"}
+SQUARES_OF_MOVE = re.compile(r"[KQRBN]?([a-h][1-8])x?([a-h][1-8])(=[QRBN])?[+#]?", re.ASCII)
+WITH_A_DASH = re.compile(r"[A-Z]?[a-h][1-8][-:][a-h][1-8].*", re.ASCII | re.IGNORECASE)
+LETTERS_OF_PIECES = "in English letters: pieces are K, Q, R, B and N, in capitals, and squares a1 to h8"
+BY_LETTER = "the piece's letter and where it goes"
+HOW_TO_WRITE = f"write {BY_LETTER}, as Nf3, and e4 for a pawn"
 
 
 class Refused(Exception):
@@ -183,8 +191,45 @@ def _move(word: str) -> str:
     if promoted:
         move = "=".join(promoted.groups())
     if len(move) > LONGEST or not MOVE.fullmatch(move):
-        raise Refused(f"{_shown(word)}: neither a move nor a result. {WAYS}")
+        if WITH_A_DASH.fullmatch(move):
+            raise Refused(f"{_shown(word)}: {HOW_TO_WRITE}")
+        meant = in_english(move)
+        raise Refused(written_so(word, meant) if meant else f"{_shown(word)}: neither a move nor a result. {WAYS}")
     return move
+
+
+def written_so(word: str, meant: str) -> str:
+    """The message that a move is to be written otherwise."""
+    how = "with letters" if meant.startswith("O-O") else BY_LETTER if squares_of(word) else LETTERS_OF_PIECES
+    return f"{_shown(word)}: write {meant}, {how}"
+
+
+def in_english(move: str) -> str:
+    """A move with the letters of PGN, if it has others; empty if it is no move in those either."""
+    found = OTHER_LETTERS.fullmatch(move)
+    if found is None:
+        return ""
+    piece, squares, promoted, mark = (part or "" for part in found.groups())
+    letters = [ENGLISH.get(letter.upper(), letter.upper()) for letter in (piece, promoted)]
+    written = f"{letters[0]}{squares.lower()}{promoted and '='}{letters[1]}{mark}"
+    return written if written != move and MOVE.fullmatch(written) else ""
+
+
+def squares_of(move: str) -> Optional[Tuple[str, str, str]]:
+    """Where a move begins and where it ends, if it names both, and what a pawn becomes, as `=Q`; None if it doesn't."""
+    found = SQUARES_OF_MOVE.fullmatch(move)
+    return (found[1], found[2], found[3] or "") if found else None
+
+
+def may_be(san: str, target: str, promoted: str) -> bool:
+    """Whether a legal move may be the one that ends on this square."""
+    return san.startswith("O-O") or (target in san and promoted in san)
+
+
+def goes(before: Picture, after: Picture, origin: str, target: str) -> bool:
+    """Whether a piece has gone from one square to the other between two positions."""
+    start, end = SQUARES.index(origin), SQUARES.index(target)
+    return before[start] != EMPTY and after[start] == EMPTY and after[end] != before[end]
 
 
 def _shown(text: str) -> str:

@@ -3,6 +3,7 @@
 from __future__ import annotations
 
 import os
+from dataclasses import replace
 from typing import List, Sequence, Tuple
 
 from live.device import protocol
@@ -12,13 +13,18 @@ from live.game.clocks import Reading, without_clock
 from live.game.course import Course
 from live.game.edited import told_of_edit
 from live.game.files import Paths, log_once, open_game, text_of
-from live.game.game import Game, end_mark, kept_options, mark_end
-from live.game.going_back import go_back_closed, take_result_off
+from live.game.forfeiting import drop_forfeit, keep_forfeit
+from live.game.forfeits import NO_RESULT, Forfeit, read_typed, refuse_played
+from live.game.game import Game, end_mark, keep_options, kept_options, mark_end, unmark_end
+from live.game.going_back import forget_question, go_back_closed, take_result_off
 from live.game.making_pgn import Made, Text
+from live.game.naming import is_naming, read_names, told_of_names
+from live.game.opening import checked
 from live.game.options import Options
 from live.game.program import Program
 from live.game.reading import game_of
 from live.game.report import Move
+from live import refused
 from live.refused import DONE, FAILED, REFUSED, Refused
 
 MOST = 100  # moves that may be added in one line
@@ -27,7 +33,7 @@ Answer = Tuple[int, str]  # a status, and its message
 
 def printable(text: str) -> str:
     """The beginning of what was typed, with only what can be printed."""
-    return "".join(letter if letter.isprintable() else "?" for letter in text[:60])
+    return refused.printable(text[:60])
 
 
 def reason_of(error: Exception) -> str:
@@ -95,6 +101,9 @@ class Addition:
                     spelt.append(spelling)
                     break
             else:
+                meant = self._meant(word, spelt)
+                if meant:
+                    raise added.Refused(f"{added.written_so(word, meant)}. Nothing was added")
                 whose = _whose_move([*self._moves, *spelt], fens)
                 raise added.Refused(f"{word} is no legal move: {whose}. Nothing was added")
         dumps = added.dumps_of_moves(fens[-len(spelt) :], self._options.rotated)
@@ -106,6 +115,25 @@ class Addition:
                 "what the board shows would change these moves. Set the pieces as they are after them, and type them again"
             )
         return put, spelt
+
+    def _meant(self, word: str, before: Sequence[str]) -> str:
+        """The legal move that a word in other letters, or with both squares, may mean after these moves; empty if there is none."""
+        fens, wrong = self._positions(before)
+        if wrong:
+            return ""
+        legal = self._program.run("moves", "--fen", fens[-1]).stdout.decode("ascii", "replace").split()
+        english = added.in_english(word)
+        meant = next((san for san in legal if english and san in added.spellings(english)), "")
+        squares = added.squares_of(word)
+        if meant or squares is None:
+            return meant
+        origin, target, promoted = squares
+        at = protocol.picture_of_placement(fens[-1])
+        for san in (san for san in legal if added.may_be(san, target, promoted)):
+            after, _ = self._positions([*before, san])
+            if added.goes(at, protocol.picture_of_placement(after[-1]), origin, target):
+                return san
+        return ""
 
     def _positions(self, more: Sequence[str]) -> Tuple[List[str], str]:
         moves = [*self._moves, *more]
@@ -136,8 +164,9 @@ def add_to_closed(game: Game, typed: added.Typed) -> str:
     text = Text(game)
     text.look(mark)
     game.capture.renew(sent + put + game.capture.bytes(end))
+    forget_question(game.paths)
     if mark is not None or isinstance(typed, added.Result):
-        mark_end(game.paths, end + len(put))
+        mark_end(game.paths, game.capture, end + len(put))
     return what + _made(game, text.make(end + len(put)))
 
 
@@ -167,7 +196,7 @@ def reopen(game: Game, listens: bool = False) -> str:
     text.look(mark)
     if front != sent:
         game.capture.renew(front + game.capture.bytes(mark))
-    os.unlink(game.paths.end)
+    unmark_end(game.paths)
     return f"{game.paths.name} goes on, without the result" + _made(game, text.make(None))
 
 
@@ -182,21 +211,30 @@ def add_by_name(program: Program, paths: Paths, text: str, patience: float) -> A
     can't be opened."""
     capture = open_game(paths, patience)
     try:
-        typed = added.read_words(text, os.path.basename(paths.name))
+        if is_naming(text):
+            return DONE, rename_closed(Game(program, paths, capture, kept_options(paths) or Options()), text)
+        typed = read_typed(text, os.path.basename(paths.name))
         if isinstance(typed, added.Acknowledged):
             seen = acknowledge(paths)
             log_once(paths, seen)
             return DONE, seen
         game = Game(program, paths, capture, kept_options(paths) or Options())
+        if isinstance(typed, Forfeit):
+            told = forfeit_closed(game, typed)
+            log_once(paths, told)
+            return DONE, f"{paths.name}: {told}"
         if isinstance(typed, added.Reopened):
             told = reopen(game)
+            drop_forfeit(paths)
             log_once(paths, told)
             return DONE, told
         if isinstance(typed, added.Back):
             done = go_back_closed(game, typed)
+            drop_forfeit(paths)
             log_once(paths, done)
             return DONE, f"{paths.name}: {done}"
         what = add_to_closed(game, typed)
+        drop_forfeit(paths)
     except added.Refused as refused:
         return refusal(text, refused)
     except OSError as error:
@@ -205,6 +243,29 @@ def add_by_name(program: Program, paths: Paths, text: str, patience: float) -> A
         capture.close()
     log_once(paths, f"added by hand: {what}")
     return DONE, f"added to {paths.name}: {what}"
+
+
+def forfeit_closed(game: Game, typed: Forfeit) -> str:
+    """A game that nobody records now isn't played. Returns the message. Refused if it has moves."""
+    course = game_of(game.program, game.options, game.capture.bytes(0, end_mark(game.paths)))
+    refuse_played(len(course.plies), course.result, typed)
+    keep_forfeit(game.paths, typed.kind)
+    if typed.result not in (NO_RESULT, course.result):
+        add_to_closed(game, added.Result(typed.result))
+    return f"{typed.words}: it isn't played"
+
+
+def rename_closed(game: Game, text: str) -> str:
+    """A game that nobody records now gets these tags. Returns the message. Refused if it can't have them."""
+    options = game.options.with_given(checked(game.program, read_names(text)))
+    told = told_of_names(options, game.options)
+    made_before = Text(game)
+    made_before.look(end_mark(game.paths))
+    keep_options(game.paths, options)
+    renamed = replace(game, options=options)
+    told += _made(game, Text(renamed).make(end_mark(game.paths)))
+    log_once(game.paths, told)
+    return f"{game.paths.name}: {told}"
 
 
 def cannot_be_written(paths: Paths, why: str) -> str:

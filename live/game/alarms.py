@@ -3,16 +3,17 @@ none of it."""
 
 from __future__ import annotations
 
-import contextlib
+import collections
 import os
-from typing import Dict, Optional
+from typing import Deque, Dict, Optional, Tuple
 
+from live.device.protocol import Picture
 from live.game.course import Course
 from live.game.doubts import Doubts
-from live.game.files import Paths, existing, put_in_place
+from live.game.files import Paths, existing, put_in_place, remove
 from live.game.looks import Look, Looks
 from live.game.report import Line, Move
-from live.game.stopped_clock import StoppedClock, has_run
+from live.game.stopped_clock import StoppedClock, has_run, runs
 
 
 def kept_looks(paths: Paths) -> Looks:
@@ -28,8 +29,7 @@ def keep_looks(paths: Paths, looks: Looks) -> None:
     if looks.open:
         put_in_place(paths.look, looks.content())
     else:
-        with contextlib.suppress(FileNotFoundError):
-            os.unlink(paths.look)
+        remove(paths.look)
 
 
 def acknowledged(seen: str) -> str:
@@ -56,8 +56,10 @@ class Alarms:
 
     def __init__(self, paths: Paths, course: Course) -> None:
         self._paths = paths
-        self._doubts = Doubts.going_on(course.fens, course.plies[-1] if course.plies else None, list(course.moved_at))
-        self._clock = StoppedClock(has_run(course.plies), course.plies[-1].short if course.plies else "")
+        last = course.plies[-1] if course.plies else None
+        self._doubts = Doubts.going_on(course.fens, last, list(course.moved_at), course.board)
+        self._clock = StoppedClock(has_run(course.plies), last.short if last else "")
+        self._times: Deque[Tuple[int, float, bytes]] = collections.deque()  # messages that say whether the clock runs
         self.looks = kept_looks(paths)
         self._since: Dict[str, int] = {}  # at which byte each alarm of this call came
         self.trouble: Optional[OSError] = None  # why they can't be kept
@@ -65,19 +67,29 @@ class Alarms:
     def away(self, seconds: float, is_restart: bool) -> None:
         """The board is heard again after this many seconds, or the recorder was away for that long."""
         self._doubts.away(seconds, is_restart)
+        self._times.clear()
         self._clock.gone()
+
+    def put_back(self, shown: Picture) -> None:
+        """Plies were taken off, or the game goes on, while the board shows this."""
+        self._doubts.put_back(shown)
 
     def stands(self, now: float) -> Optional[Look]:
         """The board's first dump since then is fully reported. Returns what somebody must look at, if anything."""
         return self._open(self._doubts.stands(now))
 
-    def time(self, now: float, data: bytes) -> None:
-        """A time message has come, with these seven bytes."""
-        self._clock.time(now, data)
+    def time(self, now: float, data: bytes, size: int) -> None:
+        """A time message has come, with these seven bytes, when the capture had this size. A move that came before it may be reported
+        later."""
+        if not self._times or runs(self._times[-1][2]) != runs(data):
+            self._times.append((size, now, data))
 
     def take(self, now: float, line: Line, by_hand: bool) -> Optional[Look]:
         """Takes the next line of the game. Returns what somebody must look at, if anything; nothing that was added by hand."""
         event = line.event
+        while self._times and self._times[0][0] <= line.offset:
+            _, came_at, data = self._times.popleft()
+            self._clock.time(came_at, data)
         look = self._doubts.take(now, event)
         if isinstance(event, Move) and by_hand:
             self._clock.added(event)

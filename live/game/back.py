@@ -49,9 +49,14 @@ def capture_of(stays: Stays, rotated: bool, black_first: bool) -> bytes:
     pictures = [dump(picture_of_placement(fen), rotated) for fen in stays.fens]
     times = [time_message(reading, black_first) for reading in readings(stays.plies)]
     game = b"".join(time + picture for time, picture in zip(times, pictures[1:]))
-    board = b"" if stays.board is None else dump(stays.board, rotated)
-    start = pictures[0] if stays.plies or not board else b""
-    return start + game + time_message(stays.present, black_first) + board + STRAY
+    board = STRAY if stays.board is None else end_of_capture(stays.board, rotated)
+    start = pictures[0] if stays.plies or stays.board is None else b""
+    return start + game + time_message(stays.present, black_first) + board
+
+
+def end_of_capture(board: Picture, rotated: bool) -> bytes:
+    """What a way back puts at the end of a capture if the board shows this."""
+    return dump(board, rotated) + STRAY
 
 
 def plies_that_stay(plies: Sequence[Move], typed: Back) -> int:

@@ -15,7 +15,7 @@ from typing import Callable, Dict, Optional, Tuple
 
 from live.game.files import open_regular
 from live.loop import Turns
-from live.refused import DONE
+from live.refused import DONE, REFUSED, printable
 
 LONGEST = 4096  # bytes of a request, and of an answer
 WHO = "\0"  # asks who records the game: no argument has such a byte
@@ -38,11 +38,6 @@ def user_of(call: socket.socket) -> int:
     """The user of the process at the other end, as the system knows it."""
     _, user, _ = CREDENTIALS.unpack(call.getsockopt(socket.SOL_SOCKET, socket.SO_PEERCRED, CREDENTIALS.size))
     return int(user)
-
-
-def printable(text: str) -> str:
-    """Without what a terminal would take as a command."""
-    return "".join(letter if letter.isprintable() else "?" for letter in text)
 
 
 class Control:
@@ -119,7 +114,10 @@ def ask(capture: str, words: str) -> Optional[Answer]:
             call.connect(address(file.fileno()))
             if user_of(call) not in believed:
                 return None
-            call.send(words.encode("utf-8", "replace")[: LONGEST - 1])
+            asked = words.encode("utf-8", "replace")
+            if len(asked) > LONGEST:
+                return REFUSED, f"refused: {printable(words[:60])}: more than {LONGEST:,} bytes. Nothing of it counts"
+            call.send(asked)
             answer = call.recv(LONGEST + 1)
             if answer:
                 return answer[0], printable(answer[1:].decode("utf-8", "replace"))

@@ -3,6 +3,7 @@
 from __future__ import annotations
 
 import collections
+import enum
 from typing import Deque, List, Optional, Sequence, Tuple
 
 from live.device import protocol
@@ -12,6 +13,13 @@ from live.game.ending import StartAgain
 from live.game.report import Agrees, Change, Clock, Differs, Event, Line, Move, News, Picture, Position, Recovered, Result
 
 NO_PICTURE: protocol.Picture = ()
+
+
+class Start(enum.Enum):
+    """What it means that the board shows the start again, if the game isn't there."""
+
+    ENDS = "the pieces were set up again, and the game is over"
+    BEGINS = "the game begins only now, and its one move was part of the set-up"
 
 
 class Course:
@@ -27,21 +35,22 @@ class Course:
         self.clock: Optional[Clock] = None  # what the clocks show, if it was reported
         self.changed_at = -1  # the offset of the last line that changed the game
         self.has_agreed = False  # whether the board has shown the game's position
-        self.stands_again = False  # whether the last picture brought the start back
-        self.stood_again = False  # whether an earlier one did, since the first move
+        self.stands_again: Optional[Start] = None  # what the last line means, if it is about the start
+        self.stood_again: Optional[Start] = None  # what the last such line meant
         self.moved_at: Deque[float] = collections.deque(maxlen=PACE_OF + 1)  # when the last moves came
         self.news: List[News] = []  # the reported lines of the game: its changes, and the pairs before them
         self._stands: Optional[Event] = None  # the board's last state
         self._lines = ending.Lines()
         self._start_again = StartAgain(start)
+        self._is_at_start = False  # the start is shown again, and the program reports next what that means
 
     def take(self, line: Line, at: float) -> None:
         """Takes the next line, which came at this time."""
         event = line.event
+        self.stands_again = None
         if isinstance(event, Picture):
             self.placement = event.placement
-            self.stands_again = self._start_again.takes(event.codes, NO_PICTURE)
-            self.stood_again = self.stood_again or bool(self.stands_again and self.plies)
+            self._is_at_start = self._start_again.takes(event.codes, NO_PICTURE)
         elif isinstance(event, Position):
             del self.fens[len(self.plies) :]
             self.fens.append(event.fen)
@@ -59,6 +68,16 @@ class Course:
             if isinstance(event, (Move, Result)):
                 self._take_change(event)
                 self.changed_at = line.offset
+        if self._is_at_start and isinstance(event, (Position, Differs, Agrees)):
+            self._is_at_start = False
+            self._judge_start()
+
+    def _judge_start(self) -> None:
+        """Judges the start by the game as it is at this byte: what follows may be the first move. If the board has never shown the
+        game's position, its first move was part of the set-up."""
+        if not self.stands_at_start:
+            self.stands_again = Start.ENDS if self.has_agreed or len(self.plies) > 1 else Start.BEGINS
+            self.stood_again = self.stands_again
 
     def _take_change(self, change: Change) -> None:
         self.news.append(change)

@@ -150,13 +150,16 @@ class Doubts:
     _comes_first: bool = False  # the next picture is the first after the gap
 
     @staticmethod
-    def going_on(fens: Sequence[str], last: Optional[report.Move], moved_at: Sequence[float]) -> Doubts:
-        """The doubts of a game that goes on, from its positions, its last move, and the times of its last moves."""
+    def going_on(
+        fens: Sequence[str], last: Optional[report.Move], moved_at: Sequence[float], shown: Optional[Picture]
+    ) -> Doubts:
+        """The doubts of a game that goes on, from its positions, its last move, the times of its last moves, and what the board has
+        shown last."""
         doubts = Doubts()
         for fen in fens[-PACE_OF - 1 :]:
             doubts._is_new = True
             doubts._reaches(fen)
-        doubts._shown, doubts._has_begun = doubts._position, bool(last)
+        doubts._shown, doubts._has_begun = shown, bool(last)
         if last and moved_at:
             doubts._last, doubts._moved_at = last.short, moved_at[-1]
             doubts._intervals.extend(then - before for before, then in zip(moved_at, moved_at[1:]))
@@ -173,6 +176,12 @@ class Doubts:
         """The board is heard again after this many seconds."""
         before = self._gap.seconds if self._gap else 0.0
         self._gap, self._comes_first = Gap(before + seconds, is_restart), True
+
+    def put_back(self, shown: Picture) -> None:
+        """Plies were taken off, or the game goes on, while the board shows this. If that isn't the game's position, somebody puts
+        the pieces where they belong, as before a game: that is no news."""
+        if shown != self._position:
+            self._shown, self._has_begun = shown, False
 
     def stands(self, now: float) -> Optional[Look]:
         """The first dump after the board was away is fully reported. If nothing was, the board stands as before."""

@@ -8,25 +8,22 @@ import errno
 import fcntl
 import functools
 import os
+import re
 import stat
 from dataclasses import dataclass
 from typing import Dict, Optional, Union
 
 from live.lock import locked
-from live.refused import ANOTHER_CALL, ARGUMENTS, FAILED, REFUSED, Refused
+from live.refused import ANOTHER_CALL, FAILED, REFUSED, Refused
 
 LARGEST = 64 * 1024 * 1024  # bytes of a capture: the program reads no more
 MEMORY = 1024 * 1024  # bytes that are kept in memory while the disk is full
 MOST_TROUBLES = 8  # messages about a log
 NO_SUCH_FILE = (errno.ENOENT, errno.ENOTDIR, errno.ENAMETOOLONG)  # no file can have this name, and nothing is kept under it
 LOCK_PATIENCE = 3.0  # seconds: a call that was just killed may still have the lock
-# A shell completes to the last one.
-ENDINGS = (
-    ".before.dgt", ".dgt", ".edited.pgn", ".broadcast.pgn", ".pgn", ".options", ".log", ".look", ".back", ".serial", ".end",
-    ".delayed", ".delay", ".",
-)  # fmt: skip
-
-
+ROUND, BROADCAST = "round", "broadcast"
+OF_A_ROUND = (ROUND, BROADCAST)  # the names of a round's own files, in lower case
+OF_A_GAME = re.compile(r"\.(?:(?:before|edited)(?:-[0-9]+)?|broadcast)$", re.IGNORECASE)  # a game's own files end so, before .dgt or .pgn
 AnyPath = Union[str, "os.PathLike[str]"]
 
 
@@ -75,6 +72,11 @@ class Paths:
         return self._with("delay")
 
     @functools.cached_property
+    def pages(self) -> str:
+        """Where it is shown to browsers."""
+        return self._with("pages")
+
+    @functools.cached_property
     def broadcast(self) -> str:
         """The published text."""
         return self._with("broadcast.pgn")
@@ -83,6 +85,11 @@ class Paths:
     def serial(self) -> str:
         """The serial number of its board."""
         return self._with("serial")
+
+    @functools.cached_property
+    def other(self) -> str:
+        """The serial number of another game's board that was left on its cable."""
+        return self._with("cable")
 
     @functools.cached_property
     def end(self) -> str:
@@ -104,6 +111,11 @@ class Paths:
         while os.path.lexists(self.before_back(number)):
             number += 1
         return self.before_back(number - 1) if number > 1 else None
+
+    @functools.cached_property
+    def forfeit(self) -> str:
+        """How it was forfeited."""
+        return self._with("forfeit")
 
     @functools.cached_property
     def question(self) -> str:
@@ -140,8 +152,15 @@ def sync_folder(folder: AnyPath) -> None:
 
 
 def open_regular(path: AnyPath, flags: int) -> int:
-    """Opens a file without waiting. Raises OSError if it isn't a regular file: a pipe might hold up all boards."""
-    number = os.open(path, flags | os.O_NONBLOCK | os.O_NOCTTY, 0o666)
+    """Opens a file without waiting. Raises OSError if it isn't a regular file: a pipe might hold up all boards; or if it is a link
+    and would be written."""
+    writes = flags & (os.O_WRONLY | os.O_RDWR)
+    try:
+        number = os.open(path, flags | os.O_NONBLOCK | os.O_NOCTTY | (os.O_NOFOLLOW if writes else 0), 0o666)
+    except OSError as error:
+        if writes and error.errno == errno.ELOOP:
+            raise OSError(errno.ELOOP, f"{os.path.basename(path)} is a link", os.fspath(path)) from None
+        raise
     try:
         if not stat.S_ISREG(os.fstat(number).st_mode):
             raise OSError(errno.EINVAL, f"{os.path.basename(path)} is no regular file", os.fspath(path))
@@ -181,12 +200,18 @@ def put_in_place(path: AnyPath, content: bytes) -> None:
         os.replace(new, path)
         sync_folder(folder_of(path))
     except BaseException:
-        remove(new)
+        _drop(new)
         raise
 
 
 def remove(path: AnyPath) -> None:
-    """Removes a file, if it is there."""
+    """Removes a file, if it is there, also from the disk."""
+    if os.path.lexists(path):
+        _drop(path)
+        sync_folder(folder_of(path))
+
+
+def _drop(path: AnyPath) -> None:
     with contextlib.suppress(FileNotFoundError):
         os.unlink(path)
 
@@ -222,6 +247,8 @@ class Capture:
                     if not locked(number, patience):
                         raise Recorded(REFUSED, f"{path} {ANOTHER_CALL}, or choose another name")
                     if _has_name(number, path):
+                        if not os.fstat(number).st_size:
+                            sync_folder(folder_of(path))  # it may be new: no other file of the game is there without it
                         return Capture(path, number)
                 except BaseException:
                     os.close(number)
@@ -245,7 +272,7 @@ class Capture:
             return capture
         except BaseException:
             os.close(number)
-            remove(new)
+            _drop(new)
             raise
 
     def renew(self, content: bytes) -> None:
@@ -307,22 +334,6 @@ def _has_name(number: int, path: str) -> bool:
         return os.path.samestat(os.fstat(number), os.stat(path))
     except FileNotFoundError:
         return False
-
-
-def check_name(name: str) -> None:
-    """Refuses a name of a device, or of one of a game's files: a shell completes to those. An existing game of that name goes on."""
-    try:
-        is_device = "\0" not in name and stat.S_ISCHR(os.stat(name).st_mode)
-    except OSError:
-        is_device = False
-    if is_device:
-        raise Refused(ARGUMENTS, f"{name} is a device: type the DEVICE first, and then the NAME")
-    if size_of(Paths(name).capture):
-        return
-    for ending in ENDINGS:
-        game = name[: -len(ending)]
-        if name.endswith(ending) and game.strip("./"):
-            raise Refused(REFUSED, f"{name} would be a file of the game: type its NAME alone, {game}")
 
 
 def beginning(path: AnyPath, most: int) -> bytes:

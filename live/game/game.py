@@ -2,11 +2,12 @@
 
 from __future__ import annotations
 
+import os
 import re
 from dataclasses import dataclass, field
 from typing import Optional
 
-from live.game.files import NO_SUCH_FILE, LARGEST, Capture, Paths, beginning, existing, put_in_place, text_of
+from live.game.files import NO_SUCH_FILE, LARGEST, Capture, Paths, beginning, existing, put_in_place, sync_folder, text_of
 from live.game.options import Options
 from live.game.program import Program
 from live.game.tags import Tags
@@ -56,18 +57,39 @@ def end_mark(paths: Paths) -> Optional[int]:
     return int(words[0]) if words and words[0].isdigit() and len(words[0]) <= LONGEST_MARK else None
 
 
-def mark_end(paths: Paths, size: int) -> None:
-    """Marks the end. Raises OSError on failure."""
+def mark_end(paths: Paths, capture: Capture, size: int) -> None:
+    """Marks the end, when the capture is on the disk. Raises OSError on failure."""
+    capture.sync()
     put_in_place(paths.end, b"%d\n" % size)
+
+
+def unmark_end(paths: Paths) -> None:
+    """The game isn't over any more. Raises OSError on failure."""
+    os.unlink(paths.end)
+    sync_folder(paths.folder)
+
+
+def _number_in(path: str) -> str:
+    try:
+        found = SERIAL.fullmatch(beginning(path, LONGEST_SERIAL))
+    except OSError:
+        return ""
+    return found.group(1).decode("ascii") if found else ""
 
 
 def kept_serial(paths: Paths) -> str:
     """The serial number of its board; empty if none was kept that can be read."""
-    try:
-        found = SERIAL.fullmatch(beginning(paths.serial, LONGEST_SERIAL))
-    except OSError:
-        return ""
-    return found.group(1).decode("ascii") if found else ""
+    return _number_in(paths.serial)
+
+
+def kept_other(paths: Paths) -> str:
+    """The serial number of the board of another game that somebody has seen on its cable, and left there; else empty."""
+    return _number_in(paths.other)
+
+
+def keep_other(paths: Paths, number: str) -> None:
+    """Keeps it. Raises OSError on failure."""
+    put_in_place(paths.other, f"{number}\n".encode("ascii"))
 
 
 def keep_serial(paths: Paths, number: str) -> None:

@@ -18,8 +18,8 @@ from live.game.back import Stays
 from live.game.clocks import Reading
 from live.game.course import Course
 from live.game.edited import told_of_edit
-from live.game.files import Capture, Paths, existing, put_in_place, sync_folder
-from live.game.game import Game, end_mark, mark_end
+from live.game.files import Capture, Paths, existing, put_in_place, remove, sync_folder
+from live.game.game import Game, end_mark, mark_end, unmark_end
 from live.game.making_pgn import Text
 from live.game.reading import game_of
 from live.game.report import Move
@@ -130,17 +130,18 @@ def put_way(game: Game, way: Way, is_over: bool = False) -> str:
     """Makes the new game the current one; it goes on from where its end was marked, unless it stays over. Returns the message.
     Raises OSError if a file can't be written."""
     kept = keep_before(game.capture, game.paths)
+    forget_question(game.paths)
     mark = end_mark(game.paths)
     if mark is not None:
         # First what came after the end is removed; then the mark is moved, to allow the longer capture: each step leaves a
         # whole game.
         game.capture.renew(game.capture.bytes(0, mark))
-        mark_end(game.paths, max(mark, len(way.content)))
+        mark_end(game.paths, game.capture, max(mark, len(way.content)))
     game.capture.renew(way.content)
     if mark is not None and is_over:
-        mark_end(game.paths, len(way.content))
+        mark_end(game.paths, game.capture, len(way.content))
     elif mark is not None:
-        os.unlink(game.paths.end)
+        unmark_end(game.paths)
     return f"{way.words}. {_settle(game.paths, way)}What the board had sent is kept in {kept}"
 
 
@@ -212,6 +213,10 @@ def _is_new(paths: Paths, asked: str) -> bool:
     if existing(paths.question) != asked.encode():
         put_in_place(paths.question, asked.encode())
         return True
-    with contextlib.suppress(FileNotFoundError):
-        os.unlink(paths.question)
     return False
+
+
+def forget_question(paths: Paths) -> None:
+    """The game has changed, or ends: a question from before would be asked again."""
+    with contextlib.suppress(OSError):
+        remove(paths.question)

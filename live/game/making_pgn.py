@@ -212,6 +212,7 @@ class Maker:
     def __init__(self, guard: Guard, worker: Worker, game: Game, hears: HearsMaker) -> None:
         self._guard, self._worker, self._capture, self._hears = guard, worker, game.capture, hears
         self._text = Text(game)
+        self._next: Optional[Text] = None  # of the same game with other tags
         self._running = self._closed = False
         self._covers = 0
         self._wanted = False
@@ -221,13 +222,18 @@ class Maker:
         self.limit: Optional[int] = None
         self.made_of = game.capture.size  # bytes of the capture that NAME.pgn surely has: it was made when this began
         self.last = Made()  # the outcome of the last call
-        self._stop = guard.opened(self._text.close)
+        self._stop = guard.opened(lambda: self._text.close())
 
     def want(self) -> None:
         """The game has changed. Makes it anew, now or after the call under way."""
         self._wanted = True
         if not self._running and self._timer is None:
             self._start()
+
+    def makes(self, game: Game) -> None:
+        """The game has other tags: its text is made with them from now on."""
+        self._next = Text(game)
+        self.want()
 
     def finish(self, done: Callable[[bool], None], tries: int = 3) -> None:
         """Makes it a last time, and reports whether that succeeded within this many tries."""
@@ -239,11 +245,12 @@ class Maker:
 
     def _start(self) -> None:
         self._wanted, self._running = False, True
+        self._text, self._next = self._next or self._text, None
         size = self._capture.size
         self._covers = size if self.limit is None else min(self.limit, size)
         self._timer = self._guard.after(SLOWEST, self._text.kill)
-        limit = self.limit
-        self._worker.do(lambda: self._text.make(limit), self._ended)
+        text, limit = self._text, self.limit
+        self._worker.do(lambda: text.make(limit), self._ended)
 
     def _ended(self, made: Made) -> None:
         if self._closed:

@@ -2,17 +2,19 @@
 
 from __future__ import annotations
 
+import contextlib
 import dataclasses
+import os
 import threading
 from dataclasses import dataclass
 from typing import Callable, Dict, List, Optional, Protocol, Sequence, Tuple
 
 from live.game import names, refusal, tags
 from live.game.edited import told_of_edit
-from live.game.files import LOCK_PATIENCE, Capture, Paths, open_game
+from live.game.files import LOCK_PATIENCE, Capture, Paths, open_game, size_of
 from live.game.game import Game, end_mark, is_over, keep_options, kept_options, result_in
 from live.game.making_pgn import Text, told_of_reading, told_of_result
-from live.game.options import PUBLISHED, UNKNOWN, Options
+from live.game.options import PUBLISHED, UNKNOWN, Options, as_typed
 from live.game.program import Program
 from live.game.reading import Old, nothing_old, read_game
 from live.loop import Callback
@@ -90,10 +92,11 @@ def checked(program: Program, typed: Options) -> Options:
 
 @dataclass(frozen=True)
 class Chosen:
-    """The options with which a game goes on, and the message about them."""
+    """The options with which a game goes on, and the message about them; or why it doesn't go on, once its text is made."""
 
     options: Options
     told: Tuple[str, ...] = ()
+    refused: Optional[Refused] = None
 
 
 class Chooses(Protocol):
@@ -128,6 +131,7 @@ class Opening:
         self._lock = threading.Lock()
         self._capture: Optional[Capture] = None
         self._dropped = False
+        self.held: Callback = lambda: None  # called in the worker's thread when a game that goes on is held, and is to be read
 
     def open(self, now: float, today: str) -> Opened:
         """Opens it at this time of the loop, and on this day. Refused if that isn't possible."""
@@ -141,8 +145,16 @@ class Opening:
         try:
             return self._read(capture, chooses, now, today)
         except BaseException:
+            self._remove_if_empty()
             self.drop()
             raise
+
+    def _remove_if_empty(self) -> None:
+        """A game that couldn't be begun leaves no capture."""
+        with self._lock:
+            if self._capture and not self._capture.size and not os.path.lexists(self._paths.pgn):
+                with contextlib.suppress(OSError):
+                    os.unlink(self._paths.capture)
 
     def take(self) -> None:
         """From now on the caller owns the capture."""
@@ -168,7 +180,12 @@ class Opening:
         options = chosen.options.begun(before.day(today, has_moves) if before else None if capture.size else today)
         kept = kept_options(paths)
         game = Game(self._program, paths, capture, kept or Options())
+        if capture.size and not chosen.refused and _goes_on(game):
+            self.held()
         Text(game).look(end_mark(paths))
+        if chosen.refused:
+            _make_again(game)
+            raise chosen.refused
         game = dataclasses.replace(game, options=options)
         if options != kept:
             keep_options(paths, options)
@@ -190,24 +207,64 @@ class Opening:
         return bool(capture.size and read_game(game, None, now).course.plies)
 
 
-def strictly(given: Options, name: str, told_first: Sequence[str] = ()) -> Chooses:
-    """For a game that is recorded by itself: the same options as at its beginning, or none."""
+def _goes_on(game: Game) -> bool:
+    """Whether it isn't over; not if its text can't be read, which is said when the text is made."""
+    try:
+        return not is_over(game)
+    except OSError:
+        return False
+
+
+def _make_again(game: Game) -> None:
+    """Makes the text of a game that doesn't go on: a call that was killed may have left an old one. One that somebody has edited
+    stays."""
+    if game.written.text is not None or not size_of(game.paths.pgn):
+        Text(game).make(end_mark(game.paths))
+
+
+def added_to_kept(given: Options, name: str, told_first: Sequence[str] = (), is_over: bool = False) -> Chooses:
+    """For a game that is recorded by itself: what is given is added to what was kept. Once the game has a move, its board stays as
+    it lies and its start as it was, and one player at least keeps the name. A game that is over changes nothing."""
+
+    def chooses(kept: Optional[Options], has_moves: Callable[[], bool]) -> Chosen:
+        if kept is None:
+            return Chosen(Options().with_given(given), tuple(told_first))
+        chosen = kept.with_given(given)
+        if kept.is_said_by(given) or not has_moves():
+            return Chosen(chosen, (*told_first, *filter(None, [chosen.told_of_all(kept)])))
+        refuse_another_game(chosen, kept, name, is_over)
+        return Chosen(chosen, (*told_first, *filter(None, [chosen.told_of_tags(kept)])))
+
+    return chooses
+
+
+def refuse_another_game(chosen: Options, kept: Options, name: str, is_over: bool) -> None:
+    """Refuses options that a game with moves can't go on with."""
+    if not chosen.lies_as(kept) or (is_over and not chosen.has_tags_of(kept)):
+        why = f"{name} has moves, and was begun with other options: give none to go on, or choose another name. They were"
+        raise Refused(REFUSED, why, kept.said)
+    if chosen.has_other_players_than(kept):
+        raise Refused(
+            REFUSED,
+            f"{name} has moves of {kept.players}: choose another name for another game",
+            "To change both names, start it without them, and type: name White=Anna Black=Ben",
+        )
+
+
+def strictly(given: Options, name: str) -> Chooses:
+    """The same options as at the game's beginning, or none; while it has no move, all that are given and no others."""
 
     def chooses(kept: Optional[Options], has_moves: Callable[[], bool]) -> Chosen:
         wanted: Optional[Options] = given if kept is None else kept
         if kept is not None and not kept.is_said_by(given):
             wanted = kept.going_on(given, has_moves())
         if wanted is None:
-            raise Refused(
-                REFUSED,
-                f"{name} was begun with other options: give none to go on, or choose another name. They were",
-                kept.said if kept else "none",
-            )
+            raise Refused(REFUSED, f"{name} was begun with other options")
         before = kept or Options()
         tags_now = given if wanted == given else given.tagged_over(before)
         chosen = wanted.tagged(dict(tags_now.tags)).recovering(before.recovers_with(given))
         told = chosen.told_of_all(kept or chosen)
-        return Chosen(chosen, (*told_first, *filter(None, [told])))
+        return Chosen(chosen, tuple(filter(None, [told])))
 
     return chooses
 
@@ -224,22 +281,25 @@ def of_a_line(given: Options, name: str) -> Chooses:
                 raise
             stays, asked = kept.fixed().of_board(), given.fixed().of_board()
             if stays != asked:
-                words = " ".join(stays) or "nothing in the columns rotated and fen"
+                words = " ".join(as_typed(stays)) or "nothing in the columns rotated and fen"
                 told.append(f"the game has moves, and keeps what it was begun with: {words}")
             wanted = kept.with_tags_of(given).recovering(kept.recovers_with(given))
             told += filter(None, [wanted.told_of_tags(kept)])
-        return Chosen(wanted.tagged(dict(given.tags)).with_first(given.side), tuple(told))
+        chosen = wanted.tagged(dict(given.tags)).with_first(given.side)
+        if kept is not None and not told and chosen.players != kept.players and has_moves():
+            told.append(chosen.told_of_tags(kept))  # they are recorded in the same letters as before
+        return Chosen(chosen, tuple(told))
 
     return chooses
 
 
 def read_otherwise(given: Options) -> Chooses:
-    """For a game that is made anew: its own options, except for how its capture is read."""
+    """For a game that is made anew: its own options, except for how its capture is read, and for its names and other tags."""
 
     def chooses(kept: Optional[Options], has_moves: Callable[[], bool]) -> Chosen:
         before = kept or Options()
-        tagged = before.tagged(dict(given.tagged_over(before).tags))
-        return Chosen(tagged.with_first(given.first).recovering(before.recovers_with(given)))
+        chosen = before.with_given(given)
+        return Chosen(chosen, tuple(filter(None, [chosen.told_of_tags(before)])))
 
     return chooses
 

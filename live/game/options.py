@@ -15,11 +15,13 @@ PLAYERS = ("--white", "--black")
 TAGS = ("--event", "--site", DATE, "--round", *PLAYERS)
 TAG = "--tag"  # NAME=VALUE: a tag that is published
 PUBLISHED = {"--event": "Event", "--site": "Site", "--round": "Round", "--white": "White", "--black": "Black"}
+TYPED = ("--event", "--site", *PLAYERS)  # those that are shown as they were typed
 UNKNOWN = "?"  # PGN's value for an unknown tag
 BEGAN = "--began"  # the day on which a game began; kept beside the game, never typed
 VALUED = (FIRST, FEN, *TAGS)
 ROTATED, RECOVER, STRICT = "--rotated", "--recover", "--strict"
-PLAIN = (ROTATED, RECOVER, STRICT)
+NOT_ROTATED = f"{ROTATED}=no"  # takes ROTATED back
+PLAIN = (ROTATED, NOT_ROTATED, RECOVER, STRICT)
 SEE_HELP = "see dgt_live --help"
 INITIAL = "rnbqkbnr/pppppppp/8/8/8/8/PPPPPPPP/RNBQKBNR"
 
@@ -28,7 +30,7 @@ INITIAL = "rnbqkbnr/pppppppp/8/8/8/8/PPPPPPPP/RNBQKBNR"
 class Options:
     """The options of a game; None for one that isn't given. `recover` says whether moves that two hands hid are added. The day on
     which the game began is its date, unless another one is given. `tags` are those that are only published, or published in
-    other letters than recorded; a tag without a value is removed."""
+    other letters than recorded; a tag without a value is removed. `unrotated` is given, and never kept."""
 
     rotated: bool = False
     first: Optional[str] = None
@@ -41,6 +43,7 @@ class Options:
     black: Optional[str] = None
     recover: Optional[bool] = None
     began: Optional[str] = None
+    unrotated: bool = False
     tags: Tuple[Tuple[str, str], ...] = ()  # in order of their names
 
     # Words and text.
@@ -63,8 +66,8 @@ class Options:
                 continue
             if option[2:] in values:
                 raise Refused(ARGUMENTS, f"{option} is given twice: {SEE_HELP}")
-            if word == ROTATED:
-                values["rotated"] = True
+            if word in (ROTATED, NOT_ROTATED):
+                values["rotated"], values["unrotated"] = word == ROTATED, word == NOT_ROTATED
             elif option in (*VALUED, BEGAN):
                 values[option[2:]] = value if equals else value_of(word, left)
             else:
@@ -73,14 +76,13 @@ class Options:
 
     def words(self) -> Tuple[str, ...]:
         """The words as they may be typed, in a fixed order."""
-        words = [ROTATED] if self.rotated else []
+        words = [ROTATED] if self.rotated else [NOT_ROTATED] if self.unrotated else []
         if self.recover is not None:
             words.append(RECOVER if self.recover else STRICT)
         for option in VALUED:
             value = self.value(option)
-            words += [option, value] if value is not None else []
-        for name, value in self.tags:
-            words += [TAG, f"{name}={value}"]
+            words += [assigned(option, value)] if value is not None else []
+        words += [assigned(TAG, f"{name}={value}") for name, value in self.tags]
         return tuple(words)
 
     @staticmethod
@@ -92,7 +94,7 @@ class Options:
 
     def text(self) -> str:
         """The text to keep."""
-        began = [BEGAN, self.began] if self.began else []
+        began = [assigned(BEGAN, self.began)] if self.began else []
         return "".join(word + "\n" for word in (*self.words(), *began))
 
     def value(self, option: str) -> Optional[str]:
@@ -101,10 +103,11 @@ class Options:
         return value
 
     def refuse_breaks(self) -> None:
-        """Refuses a word with a line break: it couldn't be read again."""
+        """Refuses a value with a line break: it couldn't be read again."""
         for word in self.words():
             if "\n" in word:
-                raise Refused(REFUSED, f"an option has a line break in it: {word!r}")
+                option, _, value = word.partition("=")
+                raise Refused(REFUSED, f"{option} has a line break in it: type {value!r} in one line")
 
     # Which calls of the program get which options.
 
@@ -114,7 +117,7 @@ class Options:
 
     def of_record(self) -> Tuple[str, ...]:
         """The options that `record` has."""
-        return self._with(recover=None, date=self.date or self.began, tags=()).words()
+        return self._with(recover=None, date=self.date or self.began, unrotated=False, tags=()).words()
 
     def of_pictures(self) -> Tuple[str, ...]:
         """The options that `pictures` has."""
@@ -141,15 +144,19 @@ class Options:
         """What is published for an option, in the letters in which it was typed; empty if it isn't given."""
         return dict(self.tags).get(PUBLISHED[option]) or self.value(option) or ""
 
+    def shown(self, option: str) -> str:
+        """The value of a tag as it was typed: the letters that are recorded may be others."""
+        return (self.written(option) if option in TYPED else "") or self.tag(option)
+
     @property
     def players(self) -> str:
         """White's name and Black's."""
-        return " - ".join(map(self.tag, PLAYERS))
+        return " - ".join(map(self.shown, PLAYERS))
 
     @property
     def said(self) -> str:
         """All of them in one line."""
-        return " ".join(self.words()) or "none"
+        return " ".join(as_typed(self.words())) or "none"
 
     # What a game goes on with.
 
@@ -168,6 +175,8 @@ class Options:
     def is_said_by(self, given: Options) -> bool:
         """Whether a game with these options goes on unchanged if those are given: none, or the same. The day on which it began may
         be given or left out."""
+        if given.unrotated and self.rotated:
+            return False
         return given.of_record() in ((), self._with(began=None).of_record(), self.of_record())
 
     def going_on(self, given: Options, has_moves: bool) -> Optional[Options]:
@@ -176,6 +185,21 @@ class Options:
         if given.fixed() == Options() or (has_moves and given.fixed() == self.fixed()):
             return self.with_first(given.first)
         return None if has_moves else given
+
+    def with_given(self, given: Options) -> Options:
+        """These options, and those that are given in addition or in their place."""
+        values = {option[2:]: given.value(option) for option in (FEN, *TAGS) if given.value(option) is not None}
+        rotated = given.rotated or (self.rotated and not given.unrotated)
+        tags = dict(given.tagged_over(self).tags)
+        return self._with(rotated=rotated, **values).with_first(given.first).tagged(tags).recovering(self.recovers_with(given))
+
+    def lies_as(self, other: Options) -> bool:
+        """Whether both have the same start position and the same side of the board: neither changes once there is a move."""
+        return (self.rotated, self.fen) == (other.rotated, other.fen)
+
+    def has_tags_of(self, other: Options) -> bool:
+        """Whether all tags are the same, as far as they are given."""
+        return self.tags == other.tags and all(self.tag(option) == other.tag(option) for option in TAGS)
 
     def with_first(self, side: Optional[str]) -> Options:
         """The same, with this side's time first, if said."""
@@ -221,7 +245,11 @@ class Options:
         return bool(self.recover if given.recover is None else given.recover)
 
     def has_other_players_than(self, before: Options) -> bool:
-        """Whether neither player is the same as before. Nobody counts as another player than an unknown one."""
+        """Whether neither player is the same as before."""
+        return self.other_players_than(before) == len(PLAYERS)
+
+    def other_players_than(self, before: Options) -> int:
+        """How many players aren't the same as before. Nobody counts as another player than an unknown one."""
 
         def is_other(option: str) -> bool:
             now, then = dict(self.tags).get(PUBLISHED[option]), dict(before.tags).get(PUBLISHED[option])
@@ -229,7 +257,7 @@ class Options:
                 return now != then
             return before.tag(option) not in (UNKNOWN, self.tag(option))
 
-        return all(map(is_other, PLAYERS))
+        return sum(map(is_other, PLAYERS))
 
     def turned(self, turns: Dict[str, Callable[[str], str]]) -> Options:
         """With the value of each of these options changed to what PGN allows."""
@@ -244,8 +272,8 @@ class Options:
         if self.players != before.players:
             told.append(f"its game is now {self.players}, and was {before.players}")
         for option in TAGS:
-            if option not in PLAYERS and self.tag(option) != before.tag(option):
-                told.append(f"its {option[2:]} is now {self.tag(option)}, and was {before.tag(option)}")
+            if option not in PLAYERS and self.shown(option) != before.shown(option):
+                told.append(f"its {option[2:]} is now {self.shown(option)}, and was {before.shown(option)}")
         return "; ".join(told)
 
     def told_of_all(self, before: Options) -> str:
@@ -271,8 +299,36 @@ def typed_tag(text: str, see_help: str = SEE_HELP) -> str:
         raise Refused(ARGUMENTS, f"{TAG} {error}: {see_help}") from None
 
 
-def value_of(option: str, left: List[str]) -> str:
+def value_of(option: str, left: List[str], see_help: str = SEE_HELP) -> str:
     """The value of an option: the next word."""
     if not left:
-        raise Refused(ARGUMENTS, f"{option} wants a value: {SEE_HELP}")
+        raise Refused(ARGUMENTS, f"{option} wants a value: {see_help}")
     return left.pop(0)
+
+
+def typed_value(option: str, left: List[str], see_help: str = SEE_HELP) -> str:
+    """The next word as somebody typed it. One that looks like an option is refused: a value may have been forgotten."""
+    value = value_of(option, left, see_help)
+    if value[:2] == "--" and value[2:3].isalpha():
+        what = f"{option} wants a value, and {value} looks like an option"
+        raise Refused(ARGUMENTS, f"{what}. As a text it is typed {assigned(option, value)}")
+    return value
+
+
+def assigned(option: str, value: str) -> str:
+    """An option with its value in one word, so that no value is taken for an option, whatever it begins with."""
+    return f"{option}={value}"
+
+
+def as_typed(words: Sequence[str]) -> List[str]:
+    """The words as they are mostly typed: an option and its value apart, unless the value looks like an option."""
+    typed: List[str] = []
+    for word in words:
+        option, _, value = word.partition("=")
+        typed += [option, value] if value and not value.startswith("-") else [word]
+    return typed
+
+
+def no_option(word: str, see_help: str = SEE_HELP) -> Refused:
+    """The answer to an unknown option, which may also be a name that begins with `-`."""
+    return Refused(ARGUMENTS, f"there is no option {word}; a name that begins so is typed as ./{word}: {see_help}")

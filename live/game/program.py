@@ -39,9 +39,11 @@ class Program:
 
     @staticmethod
     def find(beside: str) -> Program:
-        """The program in the folder of dgt_live. In the repository a script finds the one that belongs to the sources; if it must
-        build it, that is done here and not in the middle of a game."""
-        finder, path = os.path.join(beside, "program"), os.path.join(beside, "dgt_replay")
+        """The program in the folder of dgt_live, or in `lib` there, as in an archive. In the repository a script finds the one that
+        belongs to the sources; if it must build it, that is done here and not in the middle of a game."""
+        finder, path = os.path.join(beside, "program"), os.path.join(beside, "lib", "dgt_replay")
+        if not os.path.exists(path):
+            path = os.path.join(beside, "dgt_replay")
         if os.path.exists(finder):
             with _deaf_children():
                 found = subprocess.run([finder], stdin=subprocess.DEVNULL, stdout=subprocess.PIPE)
@@ -59,6 +61,10 @@ class Program:
             needed = f"Linux with glibc 2.34 or later, and the archive for this processor, which is {os.uname().machine}"
             raise Refused(NO_PROGRAM, f"{path} doesn't run: it needs {needed}")
         return Program(path)
+
+    def version(self) -> str:
+        """Its version."""
+        return self.run("--version").stdout.decode("ascii", "replace").split()[-1]
 
     def run(self, *words: str, given: bytes = b"") -> subprocess.CompletedProcess[bytes]:
         """Calls it and waits: for calls of a few milliseconds."""

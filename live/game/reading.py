@@ -144,7 +144,8 @@ def _lines(source: int) -> Iterator[List[str]]:
 def wanted(texts: Sequence[str], start: protocol.Picture) -> Sequence[str]:
     """Those of some consecutive lines that a course needs. If nothing has changed the game and no picture is far from the start,
     a square may have chattered, and these are: the first lines that give the board's state, the last one that agrees with the
-    one after it, and the last; the first picture of each kind, and the last; the last clock times. Otherwise it needs all."""
+    one after it, and the last; the first picture of each kind with the line after it, and the last; the last clock times.
+    Otherwise it needs all."""
     words = [text.partition(" ")[2] for text in texts]
     kinds = {word: event_of(word) for word in set(words)}
     if not all(isinstance(event, (Picture, Differs, Agrees, Clock)) for event in kinds.values()):
@@ -154,7 +155,8 @@ def wanted(texts: Sequence[str], start: protocol.Picture) -> Sequence[str]:
         return texts
     stands = [at for at, word in enumerate(words) if word[0] in "ad"]
     last = [*stands[-1:], *_last(words, "p"), *_last(words, "c")]
-    kept = {*stands[:3], *last, *(words.index(f"picture {event.placement}") for event in pictures)}
+    first = {words.index(f"picture {event.placement}") for event in pictures}
+    kept = {*stands[:3], *last, *first, *(at + 1 for at in first if at + 1 < len(texts))}
     for agrees in _last(words, "a"):
         kept |= {agrees, *[at for at in stands if at > agrees][:1]}
     return [texts[at] for at in sorted(kept)]

@@ -10,6 +10,8 @@ import re
 import unicodedata
 from typing import Callable, Dict, List, Mapping, Optional, Tuple
 
+from live.refused import JOINERS
+
 Tags = Mapping[str, str]
 
 ROSTER = ("Event", "Site", "Date", "Round", "White", "Black", "Result")  # the first tags of a PGN text, in order
@@ -28,13 +30,14 @@ LONGEST = 255  # characters of a value, as PGN has it
 TITLES = ("GM", "IM", "FM", "CM", "WGM", "WIM", "WFM", "WCM", "AGM", "AIM", "AFM", "ACM", "NM", "WNM", "LM")
 NONE = ("", "-", "0")  # what pairing programs write if a player has no rating, title or FIDE id
 HIGHEST_RATING = 3999
-JOINERS = "\u200c\u200d"  # they can't be seen, and Persian and Indian scripts need them
 PAIR = re.compile(r'\[(\w+) "((?:[^"\\]|\\.)*)"\]')
 TIME_CONTROL = re.compile(r"(?:\d+/)?\d+(?:\+\d+)?(?::(?:\d+/)?\d+(?:\+\d+)?)*|\*\d+|[?-]", re.ASCII)
-MINUTES = re.compile(
-    r"(\d{1,3}) ?(?:'|′|m|min|minutes|Min\.?)? ?\+ ?(\d{1,2}) ?(?:\"|″|s|sec|seconds|Sek\.?)?(?: ?/ ?(?:move|Zug))?", re.ASCII
+PERIOD = re.compile(  # as an arbiter writes it: 40 moves in 90 minutes, with 30 seconds for each move
+    r"(?:(?P<moves>\d{1,3}) ?/ ?)?(?P<base>\d{1,3}) ?(?P<mark>['’′]|m|min|minutes|Min\.?)?"
+    r"(?: ?\+ ?(?P<increment>\d{1,2}) ?(?:''|’’|′′|[\"”″]|s|sec|seconds|Sek\.?)?(?: ?/ ?(?:move|Zug))?)?",
+    re.ASCII,
 )
-MOST_MINUTES = 150  # a base time with an increment counts as minutes up to this
+MOST_MINUTES = 150  # base times without a mark, but with moves or an increment, count as minutes if none is more than this
 
 
 class Malformed(Exception):
@@ -99,14 +102,29 @@ def _fide_id(text: str) -> str:
 
 
 def _time_control(text: str) -> str:
-    """In seconds, as PGN has it; `90+30` is 90 minutes and 30 seconds for each move."""
-    minutes = MINUTES.fullmatch(text)
-    if minutes and 0 < int(minutes.group(1)) <= MOST_MINUTES:
-        return f"{int(minutes.group(1)) * 60}+{int(minutes.group(2))}"
-    if text and not TIME_CONTROL.fullmatch(text):
-        how = "type 90+30 (minutes and seconds a move), or as PGN has it, 40/5400+30:1800+30"
+    """In seconds, as PGN has it; `40/90+30` is 40 moves in 90 minutes, and 30 seconds for each move."""
+    in_seconds = _from_minutes(text)
+    if not in_seconds and text and not TIME_CONTROL.fullmatch(text):
+        how = "type 90+30 (minutes and seconds a move), 40/90+30:30+30, or as PGN has it, 40/5400+30:1800+30"
         raise Malformed(f"{text!r} is no time control: {how}")
-    return text
+    return in_seconds or text
+
+
+def _from_minutes(text: str) -> str:
+    """The periods in seconds, if their base times are in minutes; else empty."""
+    periods = [PERIOD.fullmatch(part.strip()) for part in re.split("[:,]", text)]
+    found = [period.groupdict() for period in periods if period]
+    is_meant = any(period["mark"] or period["moves"] or period["increment"] for period in found)
+    is_short = all(int(period["base"]) <= MOST_MINUTES or period["mark"] for period in found)
+    if len(found) < len(periods) or not is_meant or not is_short or not all(int(period["base"]) for period in found):
+        return ""
+    return ":".join(map(_in_seconds, found))
+
+
+def _in_seconds(period: Mapping[str, Optional[str]]) -> str:
+    moves = f"{int(period['moves'])}/" if period["moves"] else ""
+    increment = f"+{int(period['increment'])}" if period["increment"] else ""
+    return f"{moves}{int(period['base'] or 0) * 60}{increment}"
 
 
 CHECKS: Dict[str, Callable[[str], str]] = {
@@ -124,14 +142,15 @@ def pairs_of(head: str) -> Dict[str, str]:
     return {name: re.sub(r"\\(.)", r"\1", value) for name, value in PAIR.findall(head)}
 
 
-def published(recorded: bytes, tags: Tags) -> bytes:
+def published(recorded: bytes, tags: Tags, says: Tags = {}) -> bytes:
     """The text of a game with these tags, as it is published: the roster first, the others in order of their names. What the game
-    itself says, also its result, comes from the recorded text."""
+    itself `says`, also its result, comes from the recorded text or is said beside it."""
     if not recorded:
         return b""
     head, gap, movetext = recorded.partition(b"\n\n")
     values = pairs_of(head.decode("utf-8", "replace"))
     values.update({name: value for name, value in tags.items() if value and name not in GAME_SAYS})
+    values.update(says)
     others = sorted(name for name in values if name not in ROSTER)
     lines = [f'[{name} "{escaped(values.get(name, "?"))}"]' for name in (*ROSTER, *others)]
     return "\n".join(lines).encode("utf-8", "replace") + gap + movetext

@@ -6,8 +6,12 @@ import re
 from dataclasses import dataclass, field
 from typing import Dict, List, Optional, Sequence, Tuple, Union
 
+from live.device.network_address import HOW, is_network, read_address
 from live.device.protocol import SERIAL_LENGTH
-from live.game.options import RECOVER, STRICT, TAG
+from live.game.added import NOUGHTS
+from live.game.files import OF_A_GAME, OF_A_ROUND
+from live.game.forfeits import in_a_table, in_one_word
+from live.game.options import FEN, FIRST, PLAYERS, RECOVER, STRICT, TAG, assigned
 from live.game.tags import OTHERS, Malformed, cleaned, is_seen, value_of
 from live.round.headings import COLUMNS, PERHAPS, normal
 from live.round.sheets import Sheet, fields_of, read_sheet, told_of_above
@@ -19,7 +23,6 @@ RESULTS = {
     "1-0": "1-0", "0-1": "0-1", DRAW: DRAW, "1/2": DRAW, "½": DRAW, "½-½": DRAW, "0.5-0.5": DRAW, ".5-.5": DRAW, "=-=": DRAW,
 }  # fmt: skip
 NOT_YET = ("", "*", "-", "--", "---")
-UNPLAYED = ("+--", "--+", "+-", "-+", "1-0F", "0-1F", "1-0K", "0-1K", "1F-0F", "0F-1F")  # for players who haven't come
 BYES = (  # what pairing programs write instead of an opponent, as `normal` makes it
     *("", "bye", "pairingallocatedbye", "notpaired", "unpaired", "absent", "spielfrei", "freilos", "nichtausgelost", "abwesend"),
     *("exempt", "nonapparie", "libre", "descansa", "descanso", "ausente", "riposa", "riposo", "assente", "nonabbinato"),
@@ -30,7 +33,6 @@ LONGEST_SHOWN = 40  # characters of a wrong value
 MOST_UNKNOWN = 5  # columns that are reported one by one
 SERIAL = re.compile(f"[!-~]{{{SERIAL_LENGTH}}}")
 NAME = re.compile(r"[\w][\w .+-]*")
-ROUND = "round"  # the name of the round's own files
 EXAMPLE = "1,/dev/ttyUSB0,Anna,Ben"
 
 
@@ -61,13 +63,10 @@ class Pairing:
     def words(self, tags: Sequence[str]) -> Tuple[str, ...]:
         """The options of the game, with those for all games."""
         words = ["--rotated"] if self.rotated else []
-        for option, value in (("--first", self.first), ("--fen", self.fen)):
-            words += [option, value] if value else []
+        words += [assigned(option, value) for option, value in ((FIRST, self.first), (FEN, self.fen)) if value]
         words += tags
-        for option, value in (("--white", self.white), ("--black", self.black)):
-            words += [option, value] if value else []
-        for name, value in self.tags:
-            words += [TAG, f"{name}={value}"]
+        words += [assigned(option, value) for option, value in zip(PLAYERS, (self.white, self.black)) if value]
+        words += [assigned(TAG, f"{name}={value}") for name, value in self.tags]
         if self.recover is not None:
             words.append(RECOVER if self.recover else STRICT)
         return tuple(words)
@@ -140,9 +139,9 @@ class Taken:
         return None
 
 
-def read_pairings(content: bytes) -> Pairings:
+def read_pairings(content: bytes, encoding: str = "") -> Pairings:
     """Reads the table. Refused if no line has known headings, and if it is too large."""
-    sheet = read_sheet(content)
+    sheet = read_sheet(content, encoding)
     has_devices = sheet.heading.has_devices
     remarks = [*told_of_above(sheet.above), *unknown(sheet.heading.unknown)]
     taken = Taken()
@@ -177,10 +176,8 @@ def _read(number: int, line: str, sheet: Sheet) -> Union[Pairing, Wrong, LeftOut
     if any(fields[len(roles) :]):
         return Wrong(number, board, f"it has {len(fields)} fields, and the first line has {len(roles)}")
     result, why_none = result_of(values["result"])
-    if has_devices and result in UNPLAYED:
-        why_none = no_result(values["result"])
     if not has_devices:
-        no_game = without_a_game(board, values["white"], values["black"], result)
+        no_game = without_a_game(board, values["white"], values["black"])
         if no_game:
             return LeftOut(f"line {number}: {no_game}")
     why = _trouble({name: values[name] for name in COLUMNS}, has_devices)
@@ -201,7 +198,7 @@ def _read(number: int, line: str, sheet: Sheet) -> Union[Pairing, Wrong, LeftOut
         values["first"].lower(),
         values["fen"],
         values["name"],
-        RESULTS.get(result, ""),
+        result,
         values["recover"].lower() in YES if values["recover"] else None,
         serial_number(values["serial"]),
         tags,
@@ -210,25 +207,23 @@ def _read(number: int, line: str, sheet: Sheet) -> Union[Pairing, Wrong, LeftOut
 
 
 def result_of(text: str) -> Tuple[str, str]:
-    """The result in a table, as a pairing program writes it, without blanks; and what is wrong with it, if anything."""
-    result = text.replace(" ", "").replace("–", "-").replace(":", "-").replace(",", ".")
-    if result in RESULTS or result in NOT_YET or result in UNPLAYED:
-        return result, ""
-    return "", no_result(text)
+    """The result in a table, or how the game was forfeited, as a pairing program writes it; empty if there is none. And what is
+    wrong with it, if anything."""
+    result = in_one_word(text).replace(",", ".")
+    if result in NOT_YET:
+        return "", ""
+    found = RESULTS.get(result) or in_a_table(text)
+    if found:
+        return found, ""
+    hint = "; if neither player came, 0-0 FF" if result == NOUGHTS else ""
+    return "", f"result is {shown(text)}: type 1-0, 0-1 or 1/2-1/2{hint}"
 
 
-def no_result(text: str) -> str:
-    """The message about a result that isn't one."""
-    return f"result is {shown(text)}: type 1-0, 0-1 or 1/2-1/2"
-
-
-def without_a_game(board: int, white: str, black: str, result: str) -> str:
+def without_a_game(board: int, white: str, black: str) -> str:
     """Why a pairing program's line has no game, and who has none; empty if it has one."""
     for player, other in ((white, black), (black, white)):
         if normal(other) in BYES:
             return f"board {board}: {player or 'nobody'} has no opponent ({other or 'nobody'}), and no game is recorded"
-    if result in UNPLAYED:
-        return f"board {board}: {white} - {black} isn't played ({result}), and no game is recorded"
     return ""
 
 
@@ -273,6 +268,8 @@ def _trouble(values: Dict[str, str], has_devices: bool) -> str:
     """What is wrong with the values of a line, if anything."""
     if has_devices and not (values["device"] or values["serial"]):
         return "it names no device: type /dev/ttyUSB0, or what dgt_live --devices lists"
+    if is_network(values["device"]) and read_address(values["device"]) is None:
+        return f"device is {shown(values['device'])}: {HOW}"
     odd = next((name for name, value in values.items() if not is_seen(value)), "")
     if odd:
         return f"{odd} has a character that can't be seen: type it anew"
@@ -284,8 +281,11 @@ def _trouble(values: Dict[str, str], has_devices: bool) -> str:
             return f"{name} is {shown(values[name])}: type yes or no"
     if values["first"].lower() not in ("", "white", "black"):
         return f"first is {shown(values['first'])}: type white or black"
-    if values["name"] == ROUND:
-        return f"name is {shown(ROUND)}: the files of the round itself are called so: type another"
+    if values["name"].lower() in OF_A_ROUND:
+        return f"name is {shown(values['name'])}: the files of the round itself are called so: type another"
+    if OF_A_GAME.search(values["name"]):
+        game = OF_A_GAME.sub("", values["name"])
+        return f"name is {shown(values['name'])}: a file of the game {game} may be called so: type another"
     if values["serial"] and not SERIAL.fullmatch(serial_number(values["serial"])):
         return f"serial is {shown(values['serial'])}: type its {SERIAL_LENGTH} characters, as dgt_live --devices lists them"
     if values["name"] and not NAME.fullmatch(values["name"]):

@@ -10,21 +10,25 @@ from typing import Callable, Dict, List, Optional, Sequence, Set, Tuple, Union
 
 from live.beside import Worker
 from live.board.board import Board
+from live.board.finding import Finder
 from live.broadcast.broadcast import NOT_PUBLISHED, Broadcast
 from live.broadcast.games import Game, written_name
 from live.broadcast.leaving import clock_in
+from live.device.line import same_line
 from live.game import added
 from live.game.adding import printable, refusal
-from live.game.files import Log, Paths, logged_at, text_of
+from live.game.files import ROUND, Log, Paths, logged_at, text_of
+from live.game.forfeits import NO_RESULT, score_of, typed_forfeit
 from live.guard import traced
 from live.loop import Loop
 from live.refused import DONE, FAILED, REFUSED, Refused
 from live.round.display import Display
-from live.round.pairings import EXAMPLE, ROUND, Pairing, Pairings, Wrong, device_twice
+from live.round.pairings import EXAMPLE, Pairing, Pairings, Wrong, device_twice
 from live.round.published import Published
 from live.round.row import NOT_RECORDED, Hall, Row, game_of_others
 from live.round.sources import Source
 from live.round.table import RowView, boards_are, counted, lines_are_wrong
+from live.round.tournament_files import FORFEIT, Result
 from live.terminal.terminal import Typed
 from live.web.view import round_pgn
 
@@ -47,15 +51,10 @@ def first_pairings(source: Source) -> Pairings:
         why = f"{file} can't be read ({text_of(error)}): type the FILE of the table first, and then the FOLDER"
         raise Refused(FAILED, why) from None
     except Refused as refused:
-        raise Refused(REFUSED, f"{file}: {refused.lines[0]}") from None
+        raise Refused(REFUSED, f"{file}: {refused.lines[0]}", *refused.lines[1:]) from None
     if not read.boards and not read.wrong:
         raise Refused(REFUSED, f"{file} names no board: each line after the first is one, as {EXAMPLE}")
     return read
-
-
-def same_device(device: str) -> str:
-    """The same path for each name of a device."""
-    return os.path.realpath(device)
 
 
 def another_folder(folder: str) -> str:
@@ -65,6 +64,42 @@ def another_folder(folder: str) -> str:
     stem = folder.rstrip("0123456789")
     number = folder[len(stem) :]
     return stem + str(int(number) + 1).zfill(len(number)) if number else f"{stem}-2"
+
+
+def without_twice(read: Pairings) -> Tuple[List[Pairing], List[Wrong]]:
+    """The boards and the wrong lines. A line is wrong if another line has its device under another name."""
+    found: Dict[str, Pairing] = {}
+    boards, wrong = [], list(read.wrong)
+    for pairing in read.boards:
+        other = found.setdefault(same_line(pairing.device), pairing)
+        if other is pairing:
+            boards.append(pairing)
+        else:
+            wrong.append(device_twice(pairing, other))
+    return boards, sorted(wrong, key=lambda line: line.line)
+
+
+def refuse_another_round(source: Source, read: Pairings, hall: Hall) -> None:
+    """Refuses a table that has other players for what was played: it is another round's. To be called before anything in the
+    folder is changed."""
+    for pairing in without_twice(read)[0]:
+        played = game_of_others(hall, pairing)
+        if played:
+            raise Refused(
+                REFUSED,
+                f"{played}: for another round {other_round(source, hall.folder)}",
+                "To put names right all the same, start with the old table, change it, and type r",
+            )
+
+
+def other_round(source: Source, folder: str) -> str:
+    """What to do for another round."""
+    if source.in_tournament:
+        return f"save its table under its own number, in {source.file.parent}"
+    folder = another_folder(folder)
+    while os.path.lexists(folder):
+        folder = another_folder(folder)
+    return f"take another folder, as {shlex.join(['dgt_round', str(source.file), folder])}"
 
 
 def example(numbers: Sequence[int]) -> int:
@@ -82,6 +117,8 @@ def all_ways(numbers: Sequence[int]) -> str:
 def ways(text: str, numbers: Sequence[int]) -> str:
     """What to type instead of a text that doesn't begin with a board's number."""
     number = example(numbers)
+    if typed_forfeit(text):
+        return f"of which board? Type its number first, as {number} {' '.join(text.split())}"
     try:
         typed = added.read_words(text)
     except added.Refused:
@@ -111,11 +148,12 @@ class Round:
         self._opens_until = loop.now() + OPENS
         loop.after(OPENS, self.remade)
         self._looker: Optional[Worker] = None  # finds out which boards are plugged in
+        self._finder = Finder(loop, lambda: [row.board for row in self.boards()], self.trouble)
         self._ending = self._was_asked = False
+        self._is_over = False  # all games are, and that was said
         self._left = 0
         self.on_change: Callable[[], None] = lambda: None
         self._was_terminal = os.isatty(0)
-        self._refuse_another_round(read)
         self._take(read)
         self._typed = Typed(loop, self.typed, self.refuses)
 
@@ -125,27 +163,6 @@ class Round:
 
     # The file.
 
-    def _refuse_another_round(self, read: Pairings) -> None:
-        """Refuses a table that has other players for what was played: it is another round's, and nothing is changed."""
-        for pairing in self._without_twice(read)[0]:
-            kept = game_of_others(self._hall, pairing)
-            if kept:
-                game = pathlib.Path(self._hall.folder) / pairing.file_name
-                raise Refused(
-                    REFUSED,
-                    f"{game} has moves of {kept.players}: for another round {self._other_round()}",
-                    "To change both names of a game, start with the old table, change it, and type r",
-                )
-
-    def _other_round(self) -> str:
-        """What to do for another round."""
-        if self._source.in_tournament:
-            return f"save its table under its own number, in {self._file.parent}"
-        folder = another_folder(self._hall.folder)
-        while os.path.lexists(folder):
-            folder = another_folder(folder)
-        return f"take another folder, as {shlex.join(['dgt_round', str(self._file), folder])}"
-
     def read_again(self) -> str:
         """Reads the file again. If it can't be read, nothing changes. Returns a message."""
         try:
@@ -153,7 +170,7 @@ class Round:
         except OSError as error:
             return f"refused: {self._file} can't be read ({text_of(error)}): nothing is changed"
         except Refused as refused:
-            return f"refused: {self._file}: {refused.lines[0]}: nothing is changed"
+            return f"refused: {self._file}: {' '.join(refused.lines)}: nothing is changed"
         if not read.boards:
             return f"refused: {self._file} has no line that is right: nothing is changed"
         self._take(read)
@@ -188,7 +205,7 @@ class Round:
     def _take(self, read: Pairings) -> None:
         for remark in read.remarks:
             self.say(remark)
-        boards, self._wrong = self._without_twice(read)
+        boards, self._wrong = without_twice(read)
         self._right = {pairing.board for pairing in boards}
         for wrong in self._wrong:
             self.say(f"line {wrong.line} of {wrong.file or self._file.name} is wrong: {self._why(wrong)}")
@@ -209,18 +226,6 @@ class Round:
                 self.rows[pairing.board].begin()
         self.remade()
         self.changed()
-
-    def _without_twice(self, read: Pairings) -> Tuple[List[Pairing], List[Wrong]]:
-        """The boards and the wrong lines. A line is wrong if another line has its device under another name."""
-        found: Dict[str, Pairing] = {}
-        boards, wrong = [], list(read.wrong)
-        for pairing in read.boards:
-            other = found.setdefault(same_device(pairing.device), pairing)
-            if other is pairing:
-                boards.append(pairing)
-            else:
-                wrong.append(device_twice(pairing, other))
-        return boards, sorted(wrong, key=lambda line: line.line)
 
     # What is shown.
 
@@ -260,6 +265,14 @@ class Round:
             self.broadcast.changed(number)
         if not self._ending:
             self._display.changed()
+            self._look_for_end()
+
+    def _look_for_end(self) -> None:
+        """Says what to type once all games are over."""
+        boards = [row.board for row in self.rows.values()]
+        before, self._is_over = self._is_over, bool(boards) and not self._wrong and all(board.is_over for board in boards)
+        if self._is_over and not before:
+            self.say("all games are over: type q to end")
 
     @property
     def _is_opened(self) -> bool:
@@ -276,12 +289,13 @@ class Round:
         """round.pgn: what was recorded."""
         return round_pgn(row.board.pgn for row in self.boards())
 
-    def results(self) -> List[Tuple[int, str, str, str]]:
+    def results(self) -> List[Result]:
         """Each board with its players, as they are published, and its result: that of its game, else that of its line."""
         found = []
         for row in self.boards():
-            result = row.board.result if row.board.result != "*" else row.pairing.result
-            found.append((row.number, written_name(row, "White"), written_name(row, "Black"), result or "*"))
+            result = row.board.forfeit or (row.board.result if row.board.result != NO_RESULT else row.pairing.result)
+            score, note = (score_of(result), FORFEIT) if score_of(result) else (result.replace(NO_RESULT, ""), "")
+            found.append(Result(row.number, written_name(row, "White"), written_name(row, "Black"), score, note))
         return found
 
     def _paths_of(self, row: Game) -> Paths:
@@ -316,7 +330,8 @@ class Round:
     def refuses(self, text: str, error: Exception) -> None:
         """A line of the terminal raised an error."""
         self.say(refusal(text, error)[1])
-        self.trouble(traced(error))
+        if not isinstance(error, Refused):
+            self.trouble(traced(error))
 
     def _of_board(self, number: str, words: List[str]) -> str:
         row = self.rows.get(int(number)) if len(number) <= HIGHEST else None
@@ -366,6 +381,7 @@ class Round:
                 self._loop.stop()
             return
         self._ending = True
+        self._finder.close()
         self._left = len(self.rows)
         for row in self.boards():
             row.end(self._one_ended)

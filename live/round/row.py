@@ -5,27 +5,31 @@ from __future__ import annotations
 import dataclasses
 import functools
 from dataclasses import dataclass
-from typing import Callable, Optional, Protocol, Tuple
+from typing import Callable, List, Optional, Protocol, Tuple
 
 from live.board.board import Board, Wanted
 from live.board.plan import Plan
 from live.board.recording import Rules
 from live.board.state import OTHER_BOARD, Kind, State
+from live.broadcast.games import written_name
 from live.broadcast.going_out import GoingOut
-from live.device import serial_line
+from live.device.line import check
 from live.device.protocol import SQUARES
 from live.game import files
-from live.game.adding import Answer
+from live.game.adding import Answer, refusal
+from live.game.added import REOPENS
 from live.game.course import clocks_of
 from live.game.files import Paths
-from live.game.game import kept_options
+from live.game.forfeits import Forfeit
+from live.game.game import end_mark, kept_options, result_in
+from live.game.naming import IN_A_TABLE, is_naming
 from live.game.opening import Chooses, Opening, checked, of_a_line, recordable, turned
-from live.game.options import UNKNOWN, Options
+from live.game.options import PLAYERS, UNKNOWN, Options
 from live.game.program import Program
 from live.game.reading import game_of
-from live.game.tags import Tags
+from live.game.tags import SIDES, Tags
 from live.loop import Turns
-from live.refused import Refused
+from live.refused import REFUSED, Refused
 from live.round.pairings import Pairing
 from live.round.table import RowView
 from live.terminal.screen import Screen
@@ -74,11 +78,31 @@ class RowScreen(Screen):
         self._number, self._hears = number, hears
         self.on_change = functools.partial(hears.changed, number)
         self._has_table = terminal is None
+        self._held: Optional[List[str]] = None  # what is said while a typed line is obeyed
 
     def say(self, text: str, *more: str) -> None:
         super().say(text, *more)
         if self._has_table and not any(part in text for part in UNSAID):
-            self._hears.say(f"{self._number}: {' '.join([text, *more])}")
+            self._below(" ".join([text, *more]))
+
+    def _below(self, text: str) -> None:
+        """Shows this below the table, or holds it back."""
+        if self._held is None:
+            self._hears.say(f"{self._number}: {text}")
+        else:
+            self._held.append(text)
+
+    def answered(self, obey: Callable[[], Answer]) -> Answer:
+        """Obeys a typed line. Of what is said meanwhile, only what the answer doesn't have is shown below the table."""
+        self._held = []
+        try:
+            answer = obey()
+        finally:
+            held, self._held = self._held, None
+        for text in held:
+            if text not in answer[1]:
+                self._below(text)
+        return answer
 
     def _print(self, line: str) -> None:
         super()._print(f"{line[:10]}{self._number:>3}  {line[10:]}")
@@ -104,6 +128,8 @@ class RowScreen(Screen):
     def other_device(self) -> str:
         return "Write it in its column device, save the table, and type r"
 
+    other_address = other_device
+
     def hint(self, text: str) -> None:
         if self._has_table:
             self._hears.say(f"{self._number}: {text}")
@@ -126,17 +152,22 @@ def same_but_for_result(one: Pairing, other: Pairing) -> bool:
     return first == second
 
 
-def game_of_others(hall: Hall, pairing: Pairing) -> Optional[Options]:
-    """The options of a line's game if it has moves and the line would give it to two other players; else None."""
+def game_of_others(hall: Hall, pairing: Pairing) -> str:
+    """What a line's game is, if the line would give it to other players: it is over and one of them is another, or it has moves
+    and both are others. Else empty."""
     paths = Paths(f"{hall.folder}/{pairing.file_name}")
     try:
         given = turned(typed_options(hall, pairing))
         kept = kept_options(paths)
-        if kept is None or kept.is_said_by(given) or not kept.with_tags_of(given).has_other_players_than(kept):
-            return None
-        return kept if game_of(hall.program, kept, files.existing(paths.capture)).plies else None
+        others = 0 if kept is None or kept.is_said_by(given) else kept.with_tags_of(given).other_players_than(kept)
+        if kept is None or not others:
+            return ""
+        if end_mark(paths) is not None or result_in(paths) != "*":
+            return f"{paths.name} is over, and was played by {kept.players}"
+        has_moves = others == len(PLAYERS) and game_of(hall.program, kept, files.existing(paths.capture)).plies
+        return f"{paths.name} has moves of {kept.players}" if has_moves else ""
     except (Refused, OSError):
-        return None  # its row will say it
+        return ""  # its row will say it
 
 
 class Row:
@@ -146,7 +177,8 @@ class Row:
         self._loop, self._hall, self._hears = loop, hall, hears
         self.pairing = pairing
         paths = Paths(f"{hall.folder}/{pairing.file_name}")
-        self.board = Board(loop, hall.program, RowScreen(pairing.board, hall.terminal, hears), paths, self)
+        self._screen = RowScreen(pairing.board, hall.terminal, hears)
+        self.board = Board(loop, hall.program, self._screen, paths, self)
         self.board.called = f"board {pairing.board}"
         self._device = ""  # the line's device when the recording began
         self._tags: Tuple[Optional[Pairing], Tags] = (None, {})  # a line, and its tags
@@ -187,7 +219,7 @@ class Row:
 
         def prepares() -> Chooses:
             given = checked(hall.program, typed_options(hall, pairing))
-            serial_line.check(device, may_wait=True)
+            check(device, may_wait=True)
             return of_a_line(given, name)
 
         plan = Plan(device, name, Rules(hall.linger, listens=True), board=str(pairing.board), serial=pairing.serial)
@@ -220,11 +252,13 @@ class Row:
         """Takes the line as it is now. If it has changed, the recording begins anew, and the game goes on."""
         before, self.pairing = self.pairing, pairing
         self._wants_result = True
+        if before.result == self.board.forfeit != "" and not pairing.result:
+            self._hears.say(f"{self.number}: its line has no forfeit any more: if it is played, type {self.number} {REOPENS}")
         if same_but_for_result(before, pairing):
             self._loop.after(0, self._apply_result)
             if not self.board.is_recorded and not self.board.is_over:
                 self.board.begin()
-        elif self.board.is_recorded:
+        elif self.board.is_begun:
             self.board.end(self.board.begin)
         else:
             self.board.try_at_once()
@@ -235,7 +269,7 @@ class Row:
             return
         self._wants_result = False
         wanted = self.pairing.result
-        if wanted and wanted != self.board.result:
+        if wanted and wanted not in (self.board.forfeit, self.board.result):
             if self.board.result != "*":
                 self._hears.say(f"{self.number}: its line has {wanted}, and the game ended {self.board.result}: it stays so")
             else:
@@ -243,7 +277,9 @@ class Row:
 
     def add(self, text: str) -> Answer:
         """Adds a result or moves that were typed. Returns an answer."""
-        return self.board.add(text)
+        if is_naming(text):
+            return refusal(text, Refused(REFUSED, IN_A_TABLE))
+        return self._screen.answered(lambda: self.board.add(text))
 
     # What others see.
 
@@ -271,7 +307,7 @@ class Row:
     def whole_standing(self) -> str:
         """Its state in words, with all squares; if somebody must look at it, also how long it has lasted."""
         state = self.board.state
-        if state is None or self.board.trouble:
+        if state is None or self.board.trouble or self.board.forfeit:
             return self.standing()[0]
         return state.text(self._loop.now(), len(SQUARES))
 
@@ -280,21 +316,26 @@ class Row:
         board = self.board
         if board.trouble:
             return NOT_RECORDED, f": {board.trouble}", None, True
+        if board.forfeit:
+            return self._over(Forfeit(board.forfeit).words, False)
         if state is None:
             if not board.is_over:
                 return BEGUN_ANEW, "", None, False
-            over = f"over {board.result}" if board.result != "*" else "over, no result"
-            look = board.looks.short
-            return look or over, f"; {over}" if look else "", None, bool(look) or board.result == "*"
+            has_result = board.result != "*"
+            return self._over(f"over {board.result}" if has_result else "over, no result", not has_result)
         return (*state.parts(), None if state.kind is Kind.WAITS else state.since, state.is_alarm)
+
+    def _over(self, over: str, alarm: bool) -> Tuple[str, str, Optional[float], bool]:
+        look = self.board.looks.short
+        return look or over, f"; {over}" if look else "", None, alarm or bool(look)
 
     def view(self) -> RowView:
         """What its row shows. A hint was shown in full when it came, and is two words here."""
         state = self.board.state
         front, rest, since, alarm = self._standing(state)
-        if state and state.hint and not (state.disk or self.board.trouble):
+        if state and state.hint and not (state.disk or self.board.trouble or self.board.forfeit):
             front, rest = OTHER if state.hint == OTHER_BOARD else TURNED, ""
         plies = self.board.plies
         last = plies[-1].short if plies else ""
-        white, black = self.player_name("--white"), self.player_name("--black")
+        white, black = (written_name(self, side) for side in SIDES)
         return RowView(self.number, white, black, last, clocks_of(plies), front, rest, since, alarm)

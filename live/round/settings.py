@@ -10,7 +10,8 @@ from live.game.tags import known_name
 from live.refused import REFUSED, Refused
 from live.round.headings import normal
 from live.round.pairings import NO, YES, shown
-from live.round.sheets import LARGEST, text_of
+from live.round.encodings import known_encoding, loose_text, text_of
+from live.round.sheets import LARGEST
 
 ALSO = {"place": "site", "tournament": "event", "dates": "date"}  # other names that arbiters use for some
 FOR_A_ROUND = re.compile(r"(.*\D)\s+(\d{1,3})")  # `date 3`
@@ -22,8 +23,10 @@ place =
 date 1 =
 date 2 =
 date 3 =
-# 90+30 is 90 minutes and 30 seconds a move
+# 90+30 is 90 minutes and 30 seconds a move; 40/90+30:30+30 are 40 moves in the first 90 minutes
 time control =
+# If a table isn't Unicode and its names look wrong: windows-1250 for Central Europe, windows-1251 for Cyrillic
+encoding =
 # Show the games to browsers: 8000 on this computer, 0.0.0.0:8000 in the whole network
 page =
 # Minutes by which what goes out is late, and the command that takes it there
@@ -32,15 +35,17 @@ publish =
 """
 
 
-def words_of(content: bytes, round_number: int, options: Sequence[str]) -> List[str]:
+def words_of(content: bytes, round_number: int, options: Sequence[str], encoding: str = "") -> List[str]:
     """The settings of a round as words of a command line that has these options with a value. Refused if a line isn't a setting: a
-    delay that isn't understood must not be ignored."""
+    delay that isn't understood must not be ignored. If they aren't Unicode, they are in this encoding, or in the one that they set."""
     if len(content) > LARGEST:
         raise Refused(REFUSED, f"it has more than {LARGEST // 1024} kB")
     known = {normal(option): option for option in options if option != TAG}
     for_all: Dict[str, str] = {}
     for_this: Dict[str, str] = {}
-    for number, line in enumerate(re.split("\r\n|\r|\n", text_of(content)), 1):
+    own = re.search(r"(?im)^\s*encoding\s*=\s*(\S+)", loose_text(content))
+    text = text_of(content, encoding or (known_encoding(own.group(1)) if own else ""))
+    for number, line in enumerate(re.split("\r\n|\r|\n", text), 1):
         if not line.strip() or line.lstrip().startswith("#"):
             continue
         name, equals, value = (part.strip() for part in line.partition("="))

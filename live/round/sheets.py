@@ -8,6 +8,7 @@ from dataclasses import dataclass
 from typing import List, Optional, Sequence, Tuple
 
 from live.refused import REFUSED, Refused
+from live.round.encodings import text_of
 from live.round.headings import Heading, heading_of
 
 SEPARATORS = (",", ";", "\t")
@@ -28,20 +29,6 @@ class Sheet:
     above: Tuple[int, ...] = ()
 
 
-def text_of(content: bytes) -> str:
-    """The text as spreadsheets save it: UTF-8 or UTF-16, with or without a byte order mark, else Latin-1 in the Windows form."""
-    if content[:2] in (b"\xff\xfe", b"\xfe\xff"):
-        return content.decode("utf-16", "replace")
-    if b"\0" in content[:2]:  # half of a UTF-16 letter
-        return content.decode("utf-16-be" if content[:1] == b"\0" else "utf-16-le", "replace")
-    for encoding in ("utf-8-sig", "cp1252"):
-        try:
-            return content.decode(encoding)
-        except UnicodeDecodeError:
-            pass
-    return content.decode("latin-1")
-
-
 def refuse_others(content: bytes) -> None:
     """Refused if it is too large, or not text."""
     if len(content) > LARGEST:
@@ -50,16 +37,17 @@ def refuse_others(content: bytes) -> None:
         raise Refused(REFUSED, "it is no text: let the spreadsheet save the table as CSV")
 
 
-def lines_of(content: bytes) -> List[Tuple[int, str]]:
+def lines_of(content: bytes, encoding: str = "") -> List[Tuple[int, str]]:
     """The lines that aren't empty, with their numbers."""
-    lines = enumerate(re.split("\r\n|\r|\n", text_of(content)), 1)
+    lines = enumerate(re.split("\r\n|\r|\n", text_of(content, encoding)), 1)
     return [(number, line) for number, line in lines if line.strip(" \t,;\"")]
 
 
-def read_sheet(content: bytes) -> Sheet:
-    """Reads a table. Refused if none of its first lines has known headings, and if it is too large."""
+def read_sheet(content: bytes, encoding: str = "") -> Sheet:
+    """Reads a table. Refused if none of its first lines has known headings, if it is too large, and if it isn't Unicode and its
+    names can be read in more than one way."""
     refuse_others(content)
-    lines = lines_of(content)
+    lines = lines_of(content, encoding)
     if lines and re.fullmatch("sep=.?", lines[0][1].strip().lower()):  # a line for spreadsheets alone
         lines.pop(0)
     if not lines:

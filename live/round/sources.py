@@ -7,7 +7,7 @@ import pathlib
 from typing import Callable, Dict, List, Mapping, Optional
 
 from live.device import serial_line
-from live.device.numbers import IN_USE, numbers_of
+from live.device.numbers import ask
 from live.game import files
 from live.refused import REFUSED, Refused
 from live.round.joining import joined, placed, serials_wanted
@@ -22,19 +22,23 @@ def plugged_in() -> Dict[str, str]:
     """The device of each board that sends its number, under the name of its cable. It waits for up to two seconds."""
     found = serial_line.devices()
     names = {device: name or device for device, name in found}
-    numbers = numbers_of(list(names))
-    return {number: names[device] for device, number in numbers.items() if number != IN_USE}
+    return {number: names[device] for device, number in ask(list(names)).numbers.items()}
 
 
 class Source:
     """The files of a round. The hall's boards are in a second file, unless the pairs name their devices themselves."""
 
     def __init__(
-        self, file: pathlib.Path, round_number: Optional[int] = None, looks: Callable[[], Mapping[str, str]] = plugged_in
+        self,
+        file: pathlib.Path,
+        round_number: Optional[int] = None,
+        looks: Callable[[], Mapping[str, str]] = plugged_in,
+        encoding: str = "",
     ) -> None:
         self.file = file
         self.boards = file.parent / BOARDS
         self._round, self._looks = round_number, looks
+        self._encoding = encoding  # of files that aren't Unicode; empty if none is given
         self.in_tournament = False  # the round's number is in its file's name
         self._plugged: Dict[str, str] = {}
         self.wants: List[str] = []  # the numbers of boards that weren't found at the last reading
@@ -42,7 +46,10 @@ class Source:
     def read(self) -> Pairings:
         """Reads the files. Raises OSError if one can't be read; refused if one isn't a table."""
         content = files.beginning(self.file, LARGEST + 1)
-        read = read_report(content, self._round) if is_report(content) else read_pairings(content)
+        if is_report(content):
+            read = read_report(content, self._round, self._encoding)
+        else:
+            read = read_pairings(content, self._encoding)
         if not read.has_devices:
             read = joined(self._hall(), self.boards.name, read, self.file.name)
         self.wants = [serial for serial in serials_wanted(read) if serial not in self._plugged]
@@ -50,12 +57,12 @@ class Source:
 
     def _hall(self) -> Pairings:
         try:
-            hall = read_pairings(files.beginning(self.boards, LARGEST + 1))
+            hall = read_pairings(files.beginning(self.boards, LARGEST + 1), self._encoding)
         except FileNotFoundError:
             why = f"it doesn't say where its boards are plugged in: write {self.boards}, with the columns board and device"
             raise Refused(REFUSED, why) from None
         except Refused as refused:
-            raise Refused(REFUSED, f"its boards can't be read: {self.boards}: {refused.lines[0]}") from None
+            raise Refused(REFUSED, f"its boards can't be read: {self.boards}: {refused.lines[0]}", *refused.lines[1:]) from None
         if not hall.has_devices:
             raise Refused(REFUSED, f"its boards can't be read: {self.boards} has neither a column device nor a column serial")
         return hall

@@ -2,9 +2,10 @@
 
 from __future__ import annotations
 
-import textwrap
 from dataclasses import dataclass
 from typing import List, Optional, Sequence, Tuple
+
+from live.terminal.columns import CUT, fitted, folded, seen, split_at, width_of
 
 WIDTH = 80  # columns for which a row is made; names and state get those beyond
 NARROW = 72  # columns below which there are no clocks
@@ -59,22 +60,11 @@ def since(seconds: float) -> str:
     return f"{minutes}m" if minutes < 60 else f"{minutes // 60}h{minutes % 60:02}"
 
 
-def plain(text: str) -> str:
-    """Only what any terminal shows."""
-    return "".join(letter if " " <= letter <= "~" else "?" for letter in text)
-
-
-def fitted(text: str, width: int) -> str:
-    """Within this many columns: a longer text is cut off with two dots."""
-    seen = plain(text)
-    return (seen if len(seen) <= width else seen[: max(0, width - 2)] + "..").ljust(width)
-
-
 def wrapped(text: str, width: int, indent: str, most: int) -> List[str]:
     """In lines of this many columns, indented after the first; more than `most` lines end in two dots."""
-    lines = textwrap.wrap(plain(text), width, subsequent_indent=indent, break_on_hyphens=False) or [""]
+    lines = folded(seen(text), width, indent) or [""]
     if len(lines) > most:
-        lines[most - 1] = lines[most - 1][: width - 2] + ".."
+        lines[most - 1] = split_at(lines[most - 1], width - 2)[0] + CUT
     return lines[:most]
 
 
@@ -98,7 +88,7 @@ def row(view: RowView, now: float, width: int = WIDTH) -> List[str]:
     if columns.clocks:
         parts += [view.clocks[0].rjust(7)[:7], view.clocks[1].rjust(7)[:7]]
     line = front + " ".join(parts) + "  "
-    return [(line + fitted(state, columns.whole - len(line))).rstrip()]
+    return [(line + fitted(state, columns.whole - width_of(line))).rstrip()]
 
 
 def counted(number: int, what: str) -> str:

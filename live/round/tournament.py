@@ -10,12 +10,13 @@ from dataclasses import dataclass
 from typing import List, Optional, Tuple
 
 from live.device import serial_line
-from live.device.numbers import IN_USE, numbers_of
+from live.device.numbers import ask
 from live.game import files
 from live.game.files import text_of
 from live.game.options import TAG
 from live.refused import FAILED, REFUSED, Refused
 from live.round import settings
+from live.round.encodings import encoding_in, loose_text
 from live.round.sheets import LARGEST
 from live.round.sources import BOARDS
 from live.round.trf import head_of, is_report
@@ -51,11 +52,13 @@ class Tournament:
         """What is said once for all rounds."""
         return self.folder / SETTINGS
 
-    def words(self, table: pathlib.Path, options: Tuple[str, ...]) -> List[str]:
-        """What the report and the settings say about the round, as words of a command line that has these options with a value."""
-        return [*self._reported(table), *self._set(options)]
+    def words(self, table: pathlib.Path, options: Tuple[str, ...], encoding: str = "") -> List[str]:
+        """What the report and the settings say about the round, as words of a command line that has these options with a value. The
+        encoding that is typed is that of all files that aren't Unicode; if none is, the settings may have it."""
+        words = self._set(options, encoding)
+        return [*self._reported(table, encoding or encoding_in(words)), *words]
 
-    def _reported(self, table: pathlib.Path) -> List[str]:
+    def _reported(self, table: pathlib.Path, encoding: str) -> List[str]:
         """What the tournament's report says about the round, if the pairs are read from one."""
         try:
             content = files.beginning(table, LARGEST + 1)
@@ -63,21 +66,21 @@ class Tournament:
             return []  # that is said when the pairs are read
         if not is_report(content):
             return []
-        head = head_of(content, self.number)
+        head = head_of(content, self.number, encoding)
         said = (("--event", head.event), ("--site", head.site), ("--date", head.date))
         words = [f"{option}={value}" for option, value in said if value]
         return [*words, f"{TAG}=TimeControl={head.time_control}"] if head.time_control else words
 
-    def _set(self, options: Tuple[str, ...]) -> List[str]:
+    def _set(self, options: Tuple[str, ...], encoding: str) -> List[str]:
         path = self.settings
         try:
-            return settings.words_of(files.beginning(path, LARGEST + 1), self.number, options)
+            return settings.words_of(files.beginning(path, LARGEST + 1), self.number, options, encoding)
         except FileNotFoundError:
             return []
         except OSError as error:
             raise Refused(FAILED, f"{path} can't be read ({text_of(error)})") from None
         except Refused as refused:
-            raise Refused(REFUSED, f"{path}: {refused.lines[0]}") from None
+            raise Refused(REFUSED, f"{path}: {refused.lines[0]}", *refused.lines[1:]) from None
 
     def table(self) -> pathlib.Path:
         """The table of the round, or the report that has it. Refused if there is none, or more than one."""
@@ -87,12 +90,19 @@ class Tournament:
             raise Refused(FAILED, f"{self.folder} can't be read ({text_of(error)})") from None
         tables = [path for path in names if path.suffix.lower() in TABLES and self._is_named(path) and not _is_report(path)]
         reports = [path for path in names if path.suffix.lower() in REPORTS and _is_report(path)]
-        found = tables or [path for path in reports if self._is_named(path)] or reports
+        pairs = [path for path in tables if not _is_empty(path)]
+        found = pairs or [path for path in reports if self._is_named(path)] or reports
         if len(found) == 1:
             return found[0]
         if found:
             listed = ", ".join(path.name for path in found[:MOST_LISTED])
             raise Refused(REFUSED, f"{self.folder} has more than one table of round {self.number}: {listed}: leave one there")
+        if tables:
+            raise Refused(
+                REFUSED,
+                f"{tables[0]} has no pairs yet: fill it in, save the pairing program's table over it,",
+                "or its report of the tournament (TRF16) beside it, as NAME.trf",
+            )
         raise Refused(
             REFUSED,
             f"{self.folder} has no table of round {self.number}: save it there as round{self.number}.csv,",
@@ -113,6 +123,15 @@ class Tournament:
                 with contextlib.suppress(OSError):
                     texts.append((int(number), files.existing(path)))
         return sorted(texts)
+
+
+def _is_empty(path: pathlib.Path) -> bool:
+    """Whether a table has no line but its headings, as the one that --new makes."""
+    try:
+        text = loose_text(files.beginning(path, LARGEST + 1))
+    except OSError:
+        return False  # that is said when the pairs are read
+    return sum(bool(line.strip(' \t,;"')) for line in text.splitlines()) <= 1
 
 
 def _is_report(path: pathlib.Path) -> bool:
@@ -160,9 +179,9 @@ def made(folder: pathlib.Path) -> List[str]:
 def boards_text() -> str:
     """A table of the plugged-in boards, in order of their serial numbers."""
     found = serial_line.devices()
-    numbers = numbers_of([device for device, _ in found])
+    numbers = ask([device for device, _ in found]).numbers
     lines = [BOARDS_HEADER]
-    places = [(numbers.get(device, "").replace(IN_USE, ""), name or device) for device, name in found]
+    places = [(numbers.get(device, ""), name or device) for device, name in found]
     for board, (number, name) in enumerate(sorted(places, key=lambda place: (not place[0], place)), 1):
         lines.append(f"{board};{name};{number};")
     return "\n".join(lines) + "\n"

@@ -6,7 +6,7 @@ from __future__ import annotations
 import csv
 import io
 import pathlib
-from typing import Callable, Iterable, List, Tuple
+from typing import Callable, Iterable, List, NamedTuple, Tuple
 
 from live.guard import Guard, traced
 from live.loop import Turns
@@ -15,9 +15,18 @@ from live.round.published import Published
 LOOK = 1.0  # seconds between two checks; an unchanged text isn't written
 AGAIN = 5.0  # seconds until it is started again after an error
 RESULTS = "results.csv"
-HEADER = ("Board", "White", "Black", "Result")
+HEADER = ("Board", "White", "Black", "Result", "Note")
+FORFEIT = "forfeit"
 
-Result = Tuple[int, str, str, str]  # a board, White's name, Black's, and the result
+
+class Result(NamedTuple):
+    """A board's players and what became of their game; a score that isn't in PGN, as 0-0, has a note."""
+
+    board: int
+    white: str
+    black: str
+    score: str
+    note: str = ""
 
 
 def results_text(results: Iterable[Result]) -> bytes:
@@ -25,8 +34,7 @@ def results_text(results: Iterable[Result]) -> bytes:
     text = io.StringIO()
     writer = csv.writer(text, delimiter=";", lineterminator="\r\n")
     writer.writerow(HEADER)
-    for board, white, black, result in results:
-        writer.writerow((board, white, black, "" if result == "*" else result))
+    writer.writerows(results)
     return text.getvalue().encode("utf-8-sig", "replace")
 
 

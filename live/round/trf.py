@@ -11,14 +11,17 @@ from __future__ import annotations
 
 import re
 from dataclasses import dataclass
-from typing import Dict, List, Optional, Tuple
+from typing import Dict, Iterable, List, Mapping, Optional, Tuple
 
+from live.game.forfeits import BLACK, BOTH, WHITE
 from live.game.tags import Malformed, cleaned, value_of
 from live.refused import REFUSED, Refused
 from live.round.pairings import MOST_UNKNOWN, Pairing, Pairings, Wrong, more_lines, shown
-from live.round.sheets import LARGEST, text_of
+from live.round.encodings import loose_text, text_of
+from live.round.sheets import LARGEST
 
 PLAYER, TEAM, EVENT, SITE, TIME_CONTROL, DATES = "001", "013", "012", "022", "122", "132"
+TEAM_OF_2026 = "310"  # a team's line in the later edition, TRF26
 NOT_NEEDED = ("032", "042", "052", "062", "072", "082", "092", "102", "112")
 EXTENSION = re.compile(r"XX[A-Z]|BB[A-Z]|\d{3}")  # of programs, or of a later edition
 FIRST_ROUND, ROUND_WIDTH = 91, 10
@@ -26,7 +29,6 @@ MOST_NAMED = 5  # players without an opponent
 # Half points for the code after a game: played, not rated, forfeited, and without an opponent.
 HALF_POINTS = {"1": 2, "W": 2, "+": 2, "F": 2, "U": 2, "=": 1, "D": 1, "H": 1}
 OUTCOMES = {"1": "1-0", "W": "1-0", "0": "0-1", "L": "0-1", "=": "1/2-1/2", "D": "1/2-1/2"}  # of White
-FORFEITS = ("+", "-")
 WITHOUT = {"F": "a full point", "H": "half a point", "U": "the bye"}  # an opponent
 
 
@@ -60,11 +62,11 @@ class Player:
 
 def is_report(content: bytes) -> bool:
     """Whether it is a tournament's report, and not a table."""
-    return len(content) <= LARGEST and re.search(r"^\ufeff?001 [ \d]{3}\d ", text_of(content), re.MULTILINE) is not None
+    return len(content) <= LARGEST and re.search(r"^\ufeff?001 [ \d]{3}\d ", loose_text(content), re.MULTILINE) is not None
 
 
-def read_report(content: bytes, round_number: Optional[int]) -> Pairings:
-    """The pairs of a round. Refused if there is no such round."""
+def read_report(content: bytes, round_number: Optional[int], encoding: str = "") -> Pairings:
+    """The pairs of a round. Refused if there is no such round, and if it is a team tournament."""
     if len(content) > LARGEST:
         raise Refused(REFUSED, f"it has more than {LARGEST // 1024} kB")
     if round_number is None:
@@ -73,7 +75,7 @@ def read_report(content: bytes, round_number: Optional[int]) -> Pairings:
     teams: Dict[int, str] = {}
     wrong: List[Wrong] = []
     unknown: List[str] = []
-    for number, line in enumerate(re.split("\r\n|\r|\n", text_of(content)), 1):
+    for number, line in enumerate(re.split("\r\n|\r|\n", text_of(content, encoding)), 1):
         code = line.lstrip("\ufeff")[:3]
         if code == PLAYER:
             player = player_of(number, line)
@@ -84,15 +86,41 @@ def read_report(content: bytes, round_number: Optional[int]) -> Pairings:
                 wrong.append(Wrong(number, None, f"it {why}: {shown(line[:40].strip())}"))
             else:
                 players[player.number] = player
+        elif code == TEAM_OF_2026:
+            raise Refused(REFUSED, *of_teams(number))
         elif code == TEAM:
             teams.update(dict.fromkeys(map(int, re.findall(r"\d+", line[36:])), cleaned(line[4:36])))
         elif line.strip() and code not in (EVENT, SITE, TIME_CONTROL, DATES, *NOT_NEEDED) and not EXTENSION.fullmatch(code):
             unknown.append(f"line {number} isn't known, and isn't used: {shown(line.strip())}")
+    if plays_matches(players.values(), teams, round_number):
+        raise Refused(REFUSED, *of_teams(None))
     rounds = max((len(player.games) for player in players.values()), default=0)
     if not 0 < round_number <= rounds:
         raise Refused(REFUSED, f"it has no pairs of round {round_number}: {told_of_rounds(rounds)}")
     told = [*unknown[:MOST_UNKNOWN], *more_lines(len(unknown) - MOST_UNKNOWN)]
     return _pairs(players, teams, round_number, wrong, told)
+
+
+def of_teams(line: Optional[int]) -> Tuple[str, str]:
+    """The message that a report is of a team tournament: FIDE's order of boards is for players alone."""
+    why = f"line {line} has a team" if line else "its teams play matches"
+    return (
+        f"it is the report of a team tournament ({why}), and doesn't say at which board a pair plays:",
+        "save the pairs of the round as a table, with the columns board, white and black",
+    )
+
+
+def plays_matches(players: Iterable[Player], teams: Mapping[int, str], of: int) -> bool:
+    """Whether teams play matches in a round: of some team two players have opponents, and each team's players have all theirs
+    in one other team."""
+    met: Dict[str, List[Optional[str]]] = {}
+    for player in players:
+        opponent = player.game(of).opponent
+        if opponent and player.number in teams:
+            met.setdefault(teams[player.number], []).append(teams.get(opponent))
+    matches = [set(others) for others in met.values()]
+    several = any(len(others) > 1 for others in met.values())
+    return several and all(len(others) == 1 and None not in others and team not in others for team, others in zip(met, matches))
 
 
 def told_of_rounds(rounds: int) -> str:
@@ -121,16 +149,22 @@ def _pairs(players: Dict[int, Player], teams: Dict[int, str], of: int, wrong: Li
 
     boards: List[Pairing] = []
     for number, (white, black) in enumerate(sorted(pairs, key=place), 1):
-        result = white.game(of).result
-        if result in FORFEITS or black.game(of).result in FORFEITS:
-            told.append(f"board {number}: {white.name} - {black.name} isn't played, and no game is recorded")
-            continue
+        codes = white.game(of).result, black.game(of).result
         tags, remarks = tags_of(white, black, teams)
         told += remarks
         boards.append(
-            Pairing(white.line, number, "", white.name, black.name, result=OUTCOMES.get(result, ""), tags=tags, remarks=remarks)
+            Pairing(white.line, number, "", white.name, black.name, result=outcome_of(*codes), tags=tags, remarks=remarks)
         )
     return Pairings(tuple(boards), tuple(wrong), (*told, *told_of_byes(players, of)), False)
+
+
+def outcome_of(white: str, black: str) -> str:
+    """The result of a pair, or how it was forfeited, from the codes of both players; empty if there is none yet."""
+    if "+" in (white, black):
+        return WHITE if white == "+" else BLACK
+    if "-" in (white, black):
+        return BOTH if white == black else BLACK if white == "-" else WHITE
+    return OUTCOMES.get(white, "")
 
 
 def told_of_byes(players: Dict[int, Player], of: int) -> List[str]:
@@ -195,10 +229,10 @@ class Head:
     time_control: str = ""
 
 
-def head_of(content: bytes, round_number: int) -> Head:
+def head_of(content: bytes, round_number: int, encoding: str = "") -> Head:
     """What the report says about the tournament and the round's day."""
     values: Dict[str, str] = {}
-    for line in re.split("\r\n|\r|\n", text_of(content)):
+    for line in re.split("\r\n|\r|\n", text_of(content, encoding)):
         code = line.lstrip("\ufeff")[:3]
         if code in (EVENT, SITE, TIME_CONTROL):
             values[code] = cleaned(line[4:])

@@ -6,6 +6,7 @@ import os
 from typing import List, Optional, Sequence
 
 from live.loop import Loop
+from live.terminal.columns import seen
 from live.terminal.terminal import opened_again
 
 CLEAR = b"\x1b[H\x1b[2J"
@@ -63,7 +64,7 @@ class Painter:
 
     def end(self, lines: Sequence[str]) -> None:
         """Shows the last lines below the table."""
-        self._waiting += b"\r\n" + b"".join(line.encode("utf-8", "replace") + b"\r\n" for line in lines)
+        self._waiting += b"\r\n" + b"".join(seen(line).encode("utf-8", "replace") + b"\r\n" for line in lines)
         self._write()
 
     def _write(self) -> None:

@@ -8,9 +8,10 @@ from typing import Callable, Deque, Optional
 
 from live.game.added import OK, REOPENS
 from live.game.files import Log, logged_at
-from live.terminal.terminal import Terminal
+from live.game.options import NOT_ROTATED, ROTATED
+from live.refused import printable
+from live.terminal.terminal import INDENT, Terminal
 
-INDENT = " " * 10
 NO_TIME = "--:--:--"
 PROMPT = "  > "
 LASTS = 10.0  # seconds between two writings of an unchanged state
@@ -49,6 +50,10 @@ class Screen:
             self._print(INDENT + line)
             self._write(now, line)
 
+    def secret(self, text: str) -> None:
+        """Shows a line that isn't kept in the log."""
+        self._print(f"{time_of(self._clock())}  {text}")
+
     def old(self, text: str) -> None:
         """Shows a line about what was played before this call, at an unknown time."""
         self._print(f"{NO_TIME}  {text}")
@@ -71,7 +76,7 @@ class Screen:
 
     def turn(self, rotated: bool) -> str:
         """What to do if the board lies the other way round than the option says. The last line has no room for more."""
-        return f"Ctrl-C, start again {'without' if rotated else 'with'} --rotated"
+        return f"Ctrl-C, start again with {NOT_ROTATED if rotated else ROTATED}"
 
     def ok(self) -> str:
         """What to type to acknowledge an alarm."""
@@ -84,6 +89,10 @@ class Screen:
     def other_device(self) -> str:
         """What to do if the device that isn't there is the wrong one."""
         return "Ctrl-C, and see dgt_live --devices"
+
+    def other_address(self) -> str:
+        """The same for the address of a serial server."""
+        return "Ctrl-C, and type that one"
 
     def hint(self, text: str) -> None:
         """Shows a new hint, in addition to the state, which has it too."""
@@ -119,7 +128,7 @@ class Screen:
 
     def _write(self, now: datetime.datetime, text: str) -> None:
         if self._log:
-            self._log.write(logged_at(now), text)
+            self._log.write(logged_at(now), printable(text))
 
 
 def time_of(now: datetime.datetime) -> str:

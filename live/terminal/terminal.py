@@ -2,6 +2,7 @@
 
 from __future__ import annotations
 
+import contextlib
 import errno
 import os
 import select
@@ -10,11 +11,15 @@ import time
 from typing import Callable, List, Optional
 
 from live.loop import Loop
+from live.refused import REFUSED, Refused
+from live.terminal import columns as columns_of
 
 WAITING = 64 * 1024  # bytes that may wait to be printed; later lines are dropped
 WIDEST = 79  # columns of the last line
+LONGEST = 4096  # bytes of a typed line
 PAUSE = 1.0  # seconds until a terminal is tried again that can't be read now
 ERASE = b"\r\x1b[K"
+INDENT = " " * 10  # as wide as the time of day in front of a line
 
 
 def open_standard_streams() -> None:
@@ -47,7 +52,10 @@ class Terminal:
         self._number = number if self._file else opened_again(number)
 
     def line(self, text: str) -> None:
-        """Prints a line, above the state."""
+        """Prints a line, above the state. On a terminal a long one is folded, behind the time of day."""
+        text = columns_of.seen(text)
+        if self.in_place:
+            text = "\n".join(folded(text, self._width(), INDENT))
         line = text.encode("utf-8", "backslashreplace") + b"\n"
         if len(self._waiting) + len(line) > WAITING:
             self._dropped += 1
@@ -71,7 +79,8 @@ class Terminal:
 
     def _show_state(self) -> None:
         if self._state and not self._shown:
-            self._waiting += self._state[: self._width() - 1].encode("utf-8", "backslashreplace")
+            shown, _ = columns_of.split_at(columns_of.seen(self._state), self._width() - 1)
+            self._waiting += shown.encode("utf-8", "backslashreplace")
             self._shown = True
 
     def _width(self) -> int:
@@ -138,14 +147,45 @@ class Terminal:
             self._number = None
 
 
+_unblocked: List[int] = []  # standard streams that `opened_again` has made non-blocking
+
+
 def opened_again(number: int) -> int:
-    """The same terminal or pipe, opened a second time, so that making it non-blocking affects no other process."""
-    try:
-        return os.open(f"/proc/self/fd/{number}", os.O_WRONLY | os.O_NONBLOCK | os.O_NOCTTY)
-    except OSError:
-        copy = os.dup(number)
+    """The same terminal or pipe, opened a second time, so that making it non-blocking affects no other process. If it can't be
+    opened again, as a socket, it is made non-blocking itself until `leave_as_found`."""
+    flags = os.O_WRONLY | os.O_NONBLOCK | os.O_NOCTTY
+    with contextlib.suppress(OSError):
+        return os.open(f"/proc/self/fd/{number}", flags)
+    with contextlib.suppress(OSError):
+        os.tcgetpgrp(number)  # only the controlling terminal answers; after `su` its device is another user's
+        return os.open("/dev/tty", flags)
+    copy = os.dup(number)
+    if os.get_blocking(copy):
         os.set_blocking(copy, False)
-        return copy
+        _unblocked.append(number)
+    return copy
+
+
+def leave_as_found() -> None:
+    """At the end of a call: whoever uses the standard streams after it waits for them as before."""
+    while _unblocked:
+        with contextlib.suppress(OSError):
+            os.set_blocking(_unblocked.pop(), True)
+
+
+def folded(text: str, columns: int, indent: str) -> List[str]:
+    """A text in lines for a terminal with this many columns, broken between words; all lines but the first are indented. The last
+    column stays empty."""
+    return columns_of.folded(text, columns - 1, indent, breaks=False) or [""]
+
+
+def folded_for(number: int, text: str, indent: str) -> str:
+    """Lines of text, folded if they go to a terminal."""
+    if not os.isatty(number):
+        return text
+    columns = os.get_terminal_size(number).columns or WIDEST + 1
+    lines = [line for whole in text.splitlines() for line in folded(whole, columns, indent)]
+    return "".join(line + "\n" for line in lines)
 
 
 class Typed:
@@ -197,12 +237,14 @@ class Typed:
             return
         lines: List[bytes]
         *lines, self._text = (self._text + part).split(b"\n")
-        self._text = self._text[-4096:]
+        self._text = self._text[: LONGEST + 1]  # if there is more of it, none of it counts
         for line in lines:
-            self._hear(line.decode("utf-8", "replace").strip())
+            self._hear(line.decode("utf-8", "replace").strip(), len(line) > LONGEST)
 
-    def _hear(self, text: str) -> None:
+    def _hear(self, text: str, is_long: bool) -> None:
         try:
+            if is_long:
+                raise Refused(REFUSED, f"a line has at most {LONGEST:,} bytes. Nothing of it counts")
             self._heard(text)
         except Exception as error:
             self._refused(text, error)

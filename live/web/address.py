@@ -13,8 +13,10 @@ from live.refused import ARGUMENTS, Refused
 HERE = "127.0.0.1"
 SHAPE = re.compile(r"(?:(?:\[(?P<bracketed>[^\[\]]*)\]|(?P<plain>[^\[\]]*)):)?(?P<port>[^:\[\]]*)")
 HIGHEST_PORT = 65535
+NO_PAGE = "no"
 LONGEST_NAME = 253  # letters of a host name, as DNS has it
 NAME = re.compile(r"(?=.*[a-z])[0-9a-z_](?:[0-9a-z_-]*[0-9a-z_])?(?:\.[0-9a-z_](?:[0-9a-z_-]*[0-9a-z_])?)*")
+SITE = re.compile(r"https?://(?P<name>[0-9a-z._-]+)(?::[0-9]{1,5})?")
 HOST = re.compile(r"(?:\[(?P<bracketed>[^\[\]]*)\]|(?P<plain>[^\[\]:]*))(?::[0-9]*)?")
 
 
@@ -59,6 +61,7 @@ class Door:
     address: Address
     names: Names
     password: str = ""
+    embed: str = ""  # the site that may show the page in a frame
 
 
 def names_of(own: str, given: Iterable[str]) -> Names:
@@ -118,21 +121,37 @@ def _refused(option: str, text: str, reason: str) -> Refused:
 
 @dataclass(frozen=True)
 class Pages:
-    """Where the pages are served. Without a page for spectators the arbiter has one only if he asks for it."""
+    """Where the pages are served. Without a page for spectators the arbiter has one only if he asks for it. `words` are the options
+    that say so; `ends` if there is to be none."""
 
     spectators: Optional[Address] = None
     arbiter: Optional[Address] = None
     names: Names = Names(frozenset())
+    words: Tuple[str, ...] = ()
+    ends: bool = False
+    embed: str = ""  # the site that may show the spectators' page in a frame
 
     @property
     def any(self) -> bool:
         return bool(self.spectators or self.arbiter)
 
 
-def read_pages(page: Optional[str], arbiter_page: Optional[str], hosts: Sequence[str]) -> Pages:
-    """The pages that the options ask for. Refused if an option makes no sense."""
-    return Pages(
-        None if page is None else read_address(page),
-        None if arbiter_page is None else read_address(arbiter_page, "--arbiter-page"),
-        read_names(hosts),
-    )
+def read_site(text: str) -> str:
+    """The origin of a site, as `https://chess.example.org`. Refused if it is something else."""
+    site = text.strip().lower().rstrip("/")
+    found = SITE.fullmatch(site)
+    if not found or not (NAME.fullmatch(found["name"]) or _is_address(ipaddress.IPv4Address, found["name"])):
+        raise Refused(ARGUMENTS, f"--embed {text!r}: it is the site whose pages show this one, as https://chess.example.org")
+    return site
+
+
+def read_pages(page: Optional[str], arbiter_page: Optional[str], hosts: Sequence[str], embed: Optional[str] = None) -> Pages:
+    """The pages that the options ask for; `--page no` asks for none. Refused if an option makes no sense."""
+    spectators = None if page in (None, NO_PAGE) else read_address(page or "")
+    arbiter = None if arbiter_page is None else read_address(arbiter_page, "--arbiter-page")
+    words = [f"--page {spectators.text}"] if spectators else []
+    words += [f"--arbiter-page {arbiter.text}"] if arbiter else []
+    words += [f"--page-host {names}" for names in hosts]
+    site = read_site(embed) if embed else ""
+    words += [f"--embed {site}"] if site else []
+    return Pages(spectators, arbiter, read_names(hosts), tuple(words), page == NO_PAGE, site)

@@ -32,12 +32,17 @@ REASONS = {
     505: "HTTP Version Not Supported",
 }
 REALM = 'Basic realm="The arbiter\'s page", charset="UTF-8"'
-MORE = {401: "The recorder's screen has the password", 421: "Type the address of the recorder's computer in numbers, or start the recorder with --page-host NAME"}
+MORE = {
+    401: "The recorder's screen has the password",
+    421: "Type the address of the recorder's computer in numbers, or start the recorder with --page-host NAME",
+    503: "As many readers as there is room for are here already: try again in some seconds",
+}
+POLICY = "Content-Security-Policy"
+ALLOWED = "default-src 'self'; img-src 'self' data:; base-uri 'none'; form-action 'none'; frame-ancestors "
 EVERYWHERE = {
-    "Content-Security-Policy": "; ".join(
-        ["default-src 'self'", "img-src 'self' data:", "base-uri 'none'", "form-action 'none'", "frame-ancestors 'none'"]
-    ),
+    POLICY: f"{ALLOWED}'none'",
     "X-Content-Type-Options": "nosniff",
+    "Cross-Origin-Resource-Policy": "same-origin",
     "Referrer-Policy": "no-referrer",
     "Cache-Control": "no-cache",
 }
@@ -154,6 +159,13 @@ def answer(status: int, fields: Mapping[str, str], now: float) -> bytes:
     dated = {"Date": email.utils.formatdate(now, usegmt=True), **EVERYWHERE, **fields}
     lines = [f"HTTP/1.1 {status} {REASONS[status]}", *(f"{name}: {value}" for name, value in dated.items())]
     return "\r\n".join(lines).encode("ascii") + b"\r\n\r\n"
+
+
+def for_a_site(site: str) -> Dict[str, str]:
+    """The fields with which this site alone may show the page in a frame, and read it; none if there is no such site."""
+    if not site:
+        return {}
+    return {POLICY: f"{ALLOWED}{site}", "Cross-Origin-Resource-Policy": "cross-origin", "Access-Control-Allow-Origin": site}
 
 
 def complaint(status: int, now: float, keeps: bool, with_body: bool = True) -> Tuple[bytes, bytes]:

@@ -5,8 +5,10 @@ from __future__ import annotations
 from typing import Callable, Dict, Iterable, Optional, Protocol, Sequence, Tuple
 
 from live.board.board import Board
+from live.broadcast.games import written_name
 from live.game.course import clocks_of
 from live.game.report import Move
+from live.game.tags import Tags
 from live.guard import Guard, traced
 from live.loop import Loop, Timer
 from live.web.address import Door
@@ -104,6 +106,10 @@ class Game(Protocol):
     def standing(self) -> Tuple[str, Optional[float], bool]:
         """The board's state in words, since when, and whether it is an alarm."""
 
+    @property
+    def tags(self) -> Tags:
+        """The tags that are published but not recorded, or published in other letters."""
+
     def player_name(self, option: str) -> str:
         """The name for `--white` or `--black`."""
 
@@ -145,8 +151,8 @@ def view_of(game: Game) -> BoardView:
     return BoardView(
         number=game.number,
         name=game.name,
-        white=game.player_name("--white"),
-        black=game.player_name("--black"),
+        white=written_name(game, "White"),
+        black=written_name(game, "Black"),
         result=board.result,
         state=NOT_RECORDED if board.trouble else words,
         since=since,

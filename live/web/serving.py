@@ -24,7 +24,6 @@ from live.web import http
 from live.web.address import Address, Door
 
 MOST_READERS = 256
-HERE = ("127.0.0.1", "::1")  # such an address may be a server that passes requests of many readers on
 PART = 64 * 1024  # bytes that are written in a turn, or read after the last request
 KERNEL_BUFFER = 128 * 1024  # bytes that the system may buffer for a reader, each way
 MOST_UNSENT = 32 * 1024 * 1024  # bytes that wait to be sent, of all readers; an answer to many counts once
@@ -78,6 +77,8 @@ class Reader:
         self._goes_on = False  # whether the received bytes are looked at again in the next turn
         self._stream: Optional[Stream] = None
         self._dropped: Optional[int] = None  # bytes that came after the last request
+        self.is_known = False  # whether it has given the password
+        self.is_turned_away = False  # whether there was no place for it
         self.ends_at = server.loop.now() + WHOLE
         self._watch()
 
@@ -85,6 +86,16 @@ class Reader:
     def idle(self) -> bool:
         """Whether no request is under way."""
         return not (self._received or self._answers)
+
+    @property
+    def gives_way(self) -> Optional[Tuple[bool, int]]:
+        """How soon it ends if another reader needs its place, the lowest first; None if it stays. A request that isn't whole goes
+        first, and who has given the password last. Before that nobody keeps a place, even if he doesn't take his answer."""
+        if self.idle:
+            return self.is_known, 1
+        if not self._answers:
+            return self.is_known, 0
+        return (False, 2) if self._server.password and not self.is_known else None
 
     @property
     def closed(self) -> bool:
@@ -148,9 +159,10 @@ class Reader:
             self._keeps = request.keeps
             self._send(*http.complaint(401, time.time(), self._keeps, request.with_body))
             return
+        self.is_known = bool(self._server.password)
         stream = self._server.site.stream(request.path, request.fields.get("last-event-id", ""))
         self._keeps = request.keeps and stream is None
-        fields = {"Connection": "keep-alive" if self._keeps else "close"}
+        fields = {"Connection": "keep-alive" if self._keeps else "close", **self._server.fields}
         content = self._server.site.content(request.path)
         if stream is not None:
             if request.with_body:
@@ -262,6 +274,7 @@ class Server:
 
     def __init__(self, loop: Turns, door: Door, site: Site, trouble: Callable[[str], None]) -> None:
         self.loop, self.names, self.password, self.site, self._trouble = loop, door.names, door.password, site, trouble
+        self.fields = http.for_a_site(door.embed)
         self.readers: Dict[Reader, None] = {}
         self._line = _listening(door.address)
         self.address = Address(*self._line.getsockname()[:2])
@@ -304,29 +317,30 @@ class Server:
     def _take(self, line: socket.socket, host: str, room: descriptors.Room) -> None:
         line.setblocking(False)
         line.setsockopt(socket.IPPROTO_TCP, socket.TCP_NODELAY, 1)
-        places, refusals = share(room.readers, host)
-        if len(self._of(host)) >= places:
-            self._drop_idle(self._of(host))
-        elif len(self.readers) >= room.readers:
-            self._drop_idle(self.readers)
-        own = len(self._of(host))
-        if len(self.readers) >= room.readers + room.turned_away or own >= places + refusals:
-            line.close()
+        places = share(room.readers)
+        if len(self._served(host)) >= places:
+            self._make_place(self._served(host))
+        elif len(self._served()) >= room.readers:
+            self._make_place(self._served())
+        has_room = len(self._served()) < room.readers and len(self._served(host)) < places
+        if not has_room and len(self.readers) - len(self._served()) >= room.turned_away:
+            turn_away(line)
             return
         reader = Reader(self, line, host)
         self.readers[reader] = None
-        if len(self.readers) > room.readers or own >= places:
+        if not has_room:
+            reader.is_turned_away = True
             self.guard(reader, lambda: reader.complain(503))
 
-    def _of(self, host: str) -> List[Reader]:
-        """The readers of this machine."""
-        return [reader for reader in self.readers if reader.host == host]
+    def _served(self, host: str = "") -> List[Reader]:
+        """The readers that have a place, all or those behind an address."""
+        return [reader for reader in self.readers if not reader.is_turned_away and host in ("", reader.host)]
 
-    def _drop_idle(self, readers: Iterable[Reader]) -> None:
-        """Ends the oldest of these that has no request under way, if any."""
-        idle = next((reader for reader in readers if reader.idle), None)
-        if idle is not None:
-            self._drop(idle)
+    def _make_place(self, readers: Iterable[Reader]) -> None:
+        """Ends one of these that gives way, the oldest of those that go first, if any does."""
+        going = [(order, number, reader) for number, reader in enumerate(readers) for order in [reader.gives_way] if order is not None]
+        if going:
+            self._drop(min(going)[2])
 
     def guard(self, reader: Reader, call: Callable[[], None]) -> None:
         """Any error with a reader ends this connection, and never the recorder."""
@@ -391,10 +405,19 @@ def host_of(address: str) -> str:
     return str(mapped or address)
 
 
-def share(readers: int, host: str) -> Tuple[int, int]:
-    """How many of these places one machine may have: a quarter, this computer nearly all; and how many more of its readers get an
-    answer that there are too many."""
-    return max(1, readers * 15 // 16 if host in HERE else readers // 4), max(1, readers // 32)
+def share(readers: int) -> int:
+    """How many of these places one address may have: nearly all, since it may be the router of a school, or a server that passes
+    requests on."""
+    return max(1, readers * 15 // 16)
+
+
+def turn_away(line: socket.socket) -> None:
+    """Answers that there are too many readers, and hangs up at once."""
+    try:
+        line.send(b"".join(http.complaint(503, time.time(), False)))
+        line.shutdown(socket.SHUT_WR)
+    finally:
+        line.close()
 
 
 def _unsent(readers: "list[Reader]") -> int:

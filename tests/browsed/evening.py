@@ -3,7 +3,7 @@
 import pathlib
 from typing import List
 
-from browsed.folders import Chosen, names_of, until_recorded_so
+from browsed.folders import Chosen, names_of, until_recorded_so, until_text
 from browsed.games import QUEENS, QUEENS_SANS, RUY, RUY_SANS, answered, play, until_agrees
 from browsed.hall import Hall, Port
 from browsed.page import Page
@@ -79,6 +79,7 @@ def one_evening(folder: pathlib.Path) -> None:
         answered(stage, page, "back", "back to 3. Bb5; taken off: 3... a6")
         stage.until_moves(page, RUY_SANS[:5])
         play(stage, page, second, ["g8f6"], ["Nf6"])
+        until_text(stage, chosen, "board 2.pgn", "1. e4 e5 2. Nf3 Nc6 3. Bb5 Nf6 *")  # else a text with a6 is kept beside it
 
         for port, move in ((first, QUEENS[3]), (second, "e1g1")):
             port.limit = 7  # the second update is cut
@@ -88,8 +89,7 @@ def one_evening(folder: pathlib.Path) -> None:
         for port in (first, second):
             port.limit = None
         page = stage.tab([chosen.script("prompt")])
-        stage.until_part(page, "#notices", "chosen")
-        page.click("#notices button")
+        stage.press(page, "Write to chosen")
 
         stage.enlarge(page, 1)
         until_recorded(stage, page, first)

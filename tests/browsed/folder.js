@@ -3,14 +3,16 @@
  *
  * The handle is a real one, of a folder that the test drops on the page, so that the page can keep it in its database. What is
  * written goes to the test by the binding `tellBoards`: {what: "file", name, bytes in base64}, {what: "move", name, to},
- * {what: "remove", name}. `folder.permission` is what the page is told and given: "granted", "prompt" or "denied"; `folder.fails`
- * is the name of the error with which a file can't be written, if it can't.
+ * {what: "remove", name}. `folder.permission` is what the page is told: "granted", "prompt" or "denied"; `folder.answers` is what it
+ * is given when it asks. `folder.refuses` has the window that asks for a folder refuse it, as Cancel and Don't Allow do.
+ * `folder.fails` is the name of the error with which a file can't be written, if it can't.
  */
 function provideFolder(start) {
   const tell = (message) => window.tellBoards(JSON.stringify(message));
-  const files = new Map(start.files); // what is there: its name and its text
+  const bytesIn = (base64) => Uint8Array.from(atob(base64), (letter) => letter.charCodeAt(0));
+  const files = new Map(start.files.map(([name, base64]) => [name, bytesIn(base64)])); // what is there
   let handle = null;
-  window.folder = { permission: start.permission, fails: "", get has() { return handle?.name ?? ""; } };
+  window.folder = { permission: start.permission, answers: "granted", refuses: false, fails: "", get has() { return handle?.name ?? ""; } };
 
   addEventListener("dragover", (event) => event.preventDefault(), { capture: true });
   addEventListener(
@@ -23,7 +25,7 @@ function provideFolder(start) {
     { capture: true },
   );
   window.showDirectoryPicker = async () => {
-    if (!handle) {
+    if (!handle || window.folder.refuses) {
       throw new DOMException("The user aborted a request.", "AbortError");
     }
     window.folder.permission = "granted"; // the window asks for that too
@@ -106,8 +108,8 @@ function provideFolder(start) {
     if (!navigator.userActivation.isActive) {
       throw new DOMException("User activation is required to request permissions.", "SecurityError");
     }
-    window.folder.permission = "granted";
-    return "granted";
+    window.folder.permission = window.folder.answers;
+    return window.folder.answers;
   };
   Object.assign(FileSystemHandle.prototype, { queryPermission: permission, requestPermission: request });
   Object.assign(FileSystemDirectoryHandle.prototype, {

@@ -7,7 +7,7 @@ import time
 from typing import Dict, List, Tuple
 
 from browsed.games import QUEENS, QUEENS_SANS, RUY, RUY_SANS, of_record, play, until_agrees
-from browsed.hall import Hall, Port
+from browsed.hall import DROPPED, TRIES, Hall, Port
 from browsed.page import Page
 from browsed.stage import with_chromium
 from paged.devtools import Json
@@ -26,7 +26,9 @@ class Chosen:
         stage.others = self.told
 
     def script(self, permission: str = "granted") -> str:
-        return f"{SCRIPT.read_text()}\nprovideFolder({json.dumps({'permission': permission, 'files': []})});"
+        """With all that is in the folder now."""
+        files = [(name, base64.b64encode(content).decode()) for name, content in self.files.items()]
+        return f"{SCRIPT.read_text()}\nprovideFolder({json.dumps({'permission': permission, 'files': files})});"
 
     def told(self, message: Json) -> None:
         if message["what"] == "file":
@@ -39,9 +41,12 @@ class Chosen:
     def choose(self, stage: Hall, page: Page) -> None:
         """The folder is dropped for the window that a click opens."""
         data = {"items": [], "files": [str(self.path)], "dragOperationsMask": 1}
-        for kind in ("dragEnter", "dragOver", "drop"):
-            page.tab.call("Input.dispatchDragEvent", type=kind, x=20, y=20, data=data)
-        stage.until(lambda: page.value("folder.has") == "chosen", "the folder that is dropped")
+        for _ in range(TRIES):
+            for kind in ("dragEnter", "dragOver", "drop"):
+                page.tab.call("Input.dispatchDragEvent", type=kind, x=20, y=20, data=data)
+            if stage.comes(lambda: page.value("folder.has") == "chosen", DROPPED):
+                break
+        assert page.value("folder.has") == "chosen", f"the folder that is dropped never comes: {page.describe()}"
         page.click("#folder")
         stage.until(lambda: page.keeps("folder"), "the folder to be kept")
 
@@ -109,8 +114,7 @@ def folder_again(folder: pathlib.Path) -> None:
         stage.enlarge(page, 1)
         stage.until_moves(page, RUY_SANS[:2])
         play(stage, page, port, RUY[2:4], RUY_SANS[2:4])
-        stage.until_part(page, "#notices", "chosen")
-        page.click("#notices button")
+        stage.press(page, "Write to chosen")
         until_text(stage, chosen, name, "1. e4 e5 2. Nf3 Nc6 *")
 
 
@@ -131,6 +135,35 @@ def folder_full(folder: pathlib.Path) -> None:
         until_text(stage, chosen, name, "1. e4 e5 *")
         page.value("folder.fails = ''")
         until_text(stage, chosen, name, "1. e4 e5 2. Nf3 Nc6 *")
+
+
+@with_chromium
+def texts_known_again(folder: pathlib.Path) -> None:
+    """The tab is killed while the files have older texts than the page has made, with another event: opened again, the page knows its
+    own texts, and keeps no copies of them. A text that somebody has edited is kept."""
+    with Hall(folder) as stage:
+        chosen = Chosen(stage)
+        page, port = begin_in(stage, chosen)
+        chosen.choose(stage, page)
+        play(stage, page, port, RUY[:2], RUY_SANS[:2])
+        until_text(stage, chosen, "round.pgn", "1. e4 e5 *")
+        page.value("folder.fails = 'QuotaExceededError'")
+        page.type("Club cup", "#event-name")
+        play(stage, page, port, RUY[2:3], RUY_SANS[2:3])
+        stage.until(lambda: "2. Nf3" in json.dumps(page.setting("round")), "the newer text to be kept")
+        stage.crash(page)
+        for ply, text in ((3, "1. e4 e5 2. Nf3 Nc6 *"), (4, "1. e4 e5 2. Nf3 Nc6 3. Bb5 *")):
+            if ply == 4:
+                chosen.files["round.pgn"] = edited = chosen.files["round.pgn"].replace(b"Nc6", b"d6")
+            page = stage.tab([chosen.script()])
+            stage.enlarge(page, 1)
+            stage.until_moves(page, RUY_SANS[:ply])
+            stage.until(lambda: page in port.holders, "the board to be opened by itself")
+            play(stage, page, port, RUY[ply : ply + 1], RUY_SANS[ply : ply + 1])
+            until_text(stage, chosen, "round.pgn", text)
+            same([name for name in chosen.files if "edited" in name], [] if ply == 3 else ["round.edited.pgn"])
+            stage.crash(page)
+        same(chosen.files["round.edited.pgn"], edited)
 
 
 def page_text(page: Page) -> str:

@@ -4,6 +4,7 @@ board."""
 from __future__ import annotations
 
 import contextlib
+import json
 import os
 import pathlib
 import select
@@ -14,11 +15,13 @@ from typing import Callable, List, Optional, Sequence
 from browsed.page import RECORDER, Device, Page, asked
 from paged.devtools import Browser, Json
 from played.boards import Board
-from played.stage import LIMIT, Stage, a_board
+from played.stage import LIMIT, Patience, Stage, a_board
 
 STARTS = "Starting"  # what the page says before all is there
 SCREEN = (1366, 768)
 PAUSE = 0.004  # seconds between two looks
+DROPPED = 15  # seconds after which a file that the browser hasn't begun to save is given it again
+TRIES = 4  # to save a file
 
 
 class Port:
@@ -66,14 +69,15 @@ def unexpected(message: Json) -> None:
 class Hall:
     """A browser, its tabs and the boards, from `with` on."""
 
-    def __init__(self, folder: pathlib.Path, page: pathlib.Path = RECORDER) -> None:
+    def __init__(self, folder: pathlib.Path, page: pathlib.Path = RECORDER, browser: Optional[Browser] = None) -> None:
         self.folder, self._path = folder, page
         self.downloads = folder / "downloads"
         self.downloads.mkdir()
         self.ports: List[Port] = []
         self.pages: List[Page] = []
-        self.browser = Browser()
+        self.browser = browser or Browser()
         self.others: Callable[[Json], None] = unexpected  # hears what is none of a port
+        self.may_cancel = False  # whether the browser's list may be closed with nothing chosen
 
     def __enter__(self) -> Hall:
         self.browser.__enter__()
@@ -129,14 +133,14 @@ class Hall:
             page.tab.line.close()
         self.pages.clear()
         self.browser.kill()
-        self.browser = Browser(self.browser.folder).__enter__()
+        self.browser = Browser(self.browser.folder, self.browser.start, self.browser.seen).__enter__()
 
     def told(self, page: Page, message: Json) -> None:
         """What a page does with its ports."""
         if message["what"] == "began":
             self.leave(page)
         elif message["what"] == "ask":
-            assert message["wasChosen"], f"the page asks for a port, and none was to be chosen: {self.describe()}"
+            assert message["wasChosen"] or self.may_cancel, f"the page asks for a port, and none was to be chosen: {self.describe()}"
         elif "port" not in message:
             self.others(message)
         else:
@@ -181,11 +185,22 @@ class Hall:
         select.select([*lines, *(port.board.slave for port in self.ports if port.board.plugged)], [], [], pause)
 
     def until(self, holds: Callable[[], object], what: str) -> None:
-        """Until it holds."""
+        """Until it holds. One wait may take a third of the case's time."""
+        patience = Patience(LIMIT / 3)
         while not holds():
-            if time.monotonic() > Stage.ends:
-                raise AssertionError(f"{LIMIT} s are over, still to come: {what}\n{self.describe()}")
+            if time.monotonic() > Stage.ends or patience.is_over():
+                raise AssertionError(f"{patience.seconds:.0f} s are over, still to come: {what}\n{self.describe()}")
+            assert not self.browser.has_ended, f"the browser has ended, still to come: {what}"
             self.turn()
+
+    def comes(self, holds: Callable[[], object], seconds: float) -> bool:
+        """Whether it holds within this time."""
+        patience = Patience(seconds)
+        while not holds():
+            if patience.is_over():
+                return False
+            self.turn()
+        return True
 
     def rest(self, seconds: float) -> None:
         over = time.monotonic() + seconds
@@ -225,10 +240,32 @@ class Hall:
             page.click(tile)
         self.until_text(page, "#title", f"Board {number}")
 
+    def press(self, page: Page, label: str) -> None:
+        """Presses the button of a notice that has this label."""
+        button = f"[...document.querySelectorAll('#notices button')].find((one) => one.textContent === {json.dumps(label)})"
+        page.click_on(button, f"the button {label}")
+
     def saved(self, page: Page, where: str) -> bytes:
-        """The file that a click on a button gives."""
-        count = len(page.downloads)
-        page.click(where)
-        self.until(lambda: len(page.downloads) > count, f"a file from {where}")
-        self.saved_as = page.downloads[-1]
+        """The file that a click on a button gives. If the browser drops it, the button is clicked again."""
+        for _ in range(TRIES):
+            count = len(page.saves)
+            page.click(where)
+            self.until(lambda: len(page.saves) > count, f"a file from {where}")
+            url = page.saves[count]
+            if self.comes(lambda: page.download(url), DROPPED):
+                return self.file(page, url, where)
+            print(f"  the browser has dropped a file from {where}")
+        raise AssertionError(f"the browser saves no file from {where}: {self.describe()}")
+
+    def file(self, page: Page, url: str, what: str) -> bytes:
+        """A file that the browser has begun to save, as soon as it is whole."""
+
+        def is_whole() -> bool:
+            told = page.download(url) or {}
+            assert told.get("state") != "canceled", f"the browser has cancelled {what}: {told}"
+            return told.get("state") == "completed"
+
+        self.until(is_whole, f"the end of {what}")
+        told = page.download(url) or {}
+        self.saved_as = pathlib.Path(told.get("filePath") or told["suggestedFilename"]).name
         return (self.downloads / self.saved_as).read_bytes()

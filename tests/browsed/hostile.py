@@ -1,6 +1,7 @@
-"""What isn't as it should be: files that are no captures, a browser that lacks something, storage that runs out, and a page
-that somebody would have call home."""
+"""What isn't as it should be: odd texts in each field, files that are no captures, a browser that lacks something, storage that
+runs out, and a page that somebody would have call home."""
 
+import json
 import pathlib
 import random
 from typing import List
@@ -32,6 +33,86 @@ CALLS = (  # home, which nobody answers
 def said(page: Page) -> str:
     """All that the page says of itself."""
     return " ".join(page.text(where) for where in ("#line", "#notices", "#messages", "#answer", "#state"))
+
+PUT = """
+{{
+  document.querySelector('#answer').textContent = '';
+  const field = document.querySelector('{where}');
+  field.value = {text};
+  field.dispatchEvent(new Event('change'));
+}}
+"""
+NAMES = ("#event-name", "#site", "#round", "#white", "#black")
+ODD = {  # what is typed, and what stands between the quotes of a tag then
+    "-": "-",
+    "--": "--",
+    "-1": "-1",
+    "-bye-": "-bye-",
+    "- Open -": "- Open -",
+    "--white": "--white",
+    "=x": "=x",
+    "  x ": "x",
+    "O'Neill, \"Jim\"": "O'Neill, \\\"Jim\\\"",
+    "C:\\": "C:\\\\",
+    "a\nb": "ab",  # a field of one line takes no line feed
+    "x" * 101: "x" * 101,
+    "-bye- ": "-bye-",
+}
+REFUSED = ("a\u2028b", "\ud800", "x" * 256)  # no tag can have these
+NO_MOVES = ("-", "--", "-1", "-bye-", "--white", "=x", "\\", '"', "x" * 101, "a\u2028b", "\ud800")
+
+
+def put(page: Page, where: str, text: str) -> str:
+    """A text in a field, as it comes from a keyboard or from another program; what the page answers."""
+    page.value(PUT.format(where=where, text=json.dumps(text)))
+    return page.text("#answer")
+
+
+def until_refused(stage: Hall, page: Page, where: str, text: str, part: str) -> None:
+    """A field refuses a text, and says what to type. What was typed before may be answered meanwhile: then it is put there again."""
+    stage.until(lambda: part in put(page, where, text), f"{part!r} in the answer to {text!r} in {where}")
+
+
+@with_chromium
+def odd_texts(folder: pathlib.Path) -> None:
+    """Names that look like options, and other odd texts, are recorded in each field, or refused at once with what to type. The
+    recording never stops, and what is typed for all boards is taken for a new one too."""
+    with Hall(folder) as stage:
+        page, port = begin(stage)
+        until_agrees(stage, page)
+        for typed, written in ODD.items():
+            same([put(page, where, typed).startswith("refused") for where in NAMES], [False] * len(NAMES))
+            lines = stage.saved(page, "#save-game").decode().splitlines()
+            tags = ("Event", "Site", "Round", "White", "Black")
+            same([line for line in lines if line[1:].startswith(tags)], [f'[{tag} "{written}"]' for tag in tags])
+        for odd in REFUSED:
+            for where in NAMES:
+                until_refused(stage, page, where, odd, "type")
+        for where, part in (("#date", "write it as 2024.05.31"), ("#white-elo", "type up to four digits")):
+            for odd in ("--", "-bye-", "--white", "=x"):
+                until_refused(stage, page, where, odd, part)
+        for odd in (*ODD, *REFUSED[:2]):
+            put(page, "#name", odd)
+            assert page.field("#name"), odd
+        for move in NO_MOVES:
+            put(page, "#typed", move)
+            page.value("document.querySelector('#enter').click()")
+            stage.until_part(page, "#answer", "Type 1-0")
+        until_agrees(stage, page)
+        play(stage, page, port, RUY[:2], RUY_SANS[:2])
+        text, capture = stage.saved(page, "#save-game"), stage.saved(page, "#save-capture")
+        options = [f"--{tag}=-bye-" for tag in ("event", "site", "round", "white", "black")]
+        same(text, of_record(text, capture, *options))
+        other = stage.board()
+        page.click("#back")
+        stage.add(page, other)
+        stage.enlarge(page, 2)
+        until_agrees(stage, page)
+        play(stage, page, other, RUY[:2], RUY_SANS[:2])
+        text, capture = stage.saved(page, "#save-game"), stage.saved(page, "#save-capture")
+        same(text, of_record(text, capture, *options[:3]))
+        page.click("#back")
+        assert "NOT RECORDED" not in said(page), page.describe()
 
 
 @with_chromium

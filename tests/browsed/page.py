@@ -7,7 +7,7 @@ import json
 import os
 import pathlib
 from dataclasses import dataclass
-from typing import Any, Callable, Dict, List, Protocol, Sequence
+from typing import Any, Callable, Dict, List, Optional, Protocol, Sequence
 
 from browsed import TOP
 from paged.devtools import Json, Tab
@@ -16,20 +16,29 @@ from paged.devtools import Json, Tab
 RECORDER = pathlib.Path(os.environ.get("RECORDER_PAGE") or TOP / "bin" / "recorder.html").resolve()
 SERIAL = pathlib.Path(__file__).with_name("serial.js")
 MOVES = "[...document.querySelectorAll('#moves button .san')].map((san) => san.textContent)"
-# Where an element can be clicked; whether the click came to it is kept.
+# Where an element can be clicked; whether the click came to it, or to one that has taken its place, is kept.
 CENTRE = """
 (() => {{
-  const element = document.querySelector({where});
+  const find = () => {element};
+  const element = find();
   if (!element || element.disabled) return null;
   const folded = element.closest('details');
   if (folded) folded.open = true;
   element.scrollIntoView({{ block: 'center', inline: 'center' }});
   const {{ left, top, width, height }} = element.getBoundingClientRect();
   window.wasHit = false;
-  const hit = ({{ target }}) => (window.wasHit = element.contains(target));
+  const hit = ({{ target }}) => (window.wasHit = Boolean(find()?.contains(target)));
   addEventListener('click', hit, {{ capture: true, once: true }});
   return width && height ? [left + width / 2, top + height / 2] : null;
 }})()
+"""
+# Tells of each file that the page gives the browser to save.
+SAVES = """
+const click = HTMLAnchorElement.prototype.click;
+HTMLAnchorElement.prototype.click = function () {
+  if (this.download) window.tellBoards(JSON.stringify({ what: 'saves', url: this.href }));
+  click.call(this);
+};
 """
 FOCUS = """
 (() => {{
@@ -64,7 +73,7 @@ const {{ game }} = await read('boards', (store) => store.get({number}));
 const chunks = await read('chunks', (store) => store.getAll(IDBKeyRange.bound([game, 0], [game, Infinity])));
 return chunks.flatMap(({{ bytes }}) => [...bytes]);
 """
-SETTING = "return Boolean(await read('settings', (store) => store.get('{name}')));"
+SETTING = "return ((await read('settings', (store) => store.get('{name}'))) ?? {{}}).value ?? null;"
 
 
 @dataclass(frozen=True)
@@ -93,6 +102,7 @@ class Page:
         self._before = before
         self._scripts: List[str] = []
         self._taken = 0
+        self.saves: List[str] = []  # the URLs of the files that it has given the browser to save
         self.tab.call("Runtime.addBinding", name="tellBoards")
         self.tab.call("Inspector.enable")
 
@@ -102,7 +112,8 @@ class Page:
             self.tab.call("Page.removeScriptToEvaluateOnNewDocument", identifier=identifier)
         told = [{"number": one.number, "isGranted": one.is_granted, "isPlugged": one.is_plugged} for one in devices]
         serial = f"{SERIAL.read_text()}\nprovideSerial({json.dumps(told)});"
-        added = [self.tab.call("Page.addScriptToEvaluateOnNewDocument", source=source) for source in (serial, *self._before)]
+        sources = (serial, SAVES, *self._before)
+        added = [self.tab.call("Page.addScriptToEvaluateOnNewDocument", source=source) for source in sources]
         self._scripts = [one["identifier"] for one in added]
         self.tab.open(path.as_uri())
 
@@ -113,14 +124,18 @@ class Page:
             event = self.tab.events[self._taken]
             self._taken += 1
             if event["method"] == "Runtime.bindingCalled":
-                self._hears.told(self, json.loads(event["params"]["payload"]))
+                message = json.loads(event["params"]["payload"])
+                if message["what"] == "saves":
+                    self.saves.append(message["url"])
+                else:
+                    self._hears.told(self, message)
 
-    @property
-    def downloads(self) -> List[str]:
-        """The files that it has given, whole, by their names on the disk."""
+    def download(self, url: str) -> Optional[Json]:
+        """What the browser has told last of a file that the page has given it; None if it has told nothing."""
         self.tab.listen()
-        told = [event["params"] for event in self.tab.events if event["method"] == "Browser.downloadProgress"]
-        return [pathlib.Path(one["filePath"]).name for one in told if one["state"] == "completed"]
+        told = [event["params"] for event in self.tab.events if event["method"].startswith("Browser.download")]
+        begun = next((one for one in told if one.get("url") == url), None)
+        return begun and {**begun, **[one for one in told if one["guid"] == begun["guid"]][-1]}
 
     # What is read on it.
 
@@ -146,7 +161,11 @@ class Page:
 
     def keeps(self, setting: str) -> bool:
         """Whether a setting is on the disk."""
-        return bool(self.value(DATABASE.format(body=SETTING.format(name=setting))))
+        return self.setting(setting) is not None
+
+    def setting(self, name: str) -> object:
+        """A setting, as it is on the disk; None if there is none."""
+        return self.value(DATABASE.format(body=SETTING.format(name=name)))
 
     def kept(self, number: int) -> bytes:
         """What a board has sent of its game, as far as it is on the disk."""
@@ -167,9 +186,13 @@ class Page:
 
     def click(self, where: str) -> None:
         """With the mouse, in the middle of an element as soon as it is there; again if it moved away under the mouse."""
+        self.click_on(f"document.querySelector({json.dumps(where)})", where)
+
+    def click_on(self, element: str, what: str) -> None:
+        """The same, on what an expression finds."""
 
         def hits() -> bool:
-            point = self.value(CENTRE.format(where=json.dumps(where)))
+            point = self.value(CENTRE.format(element=element))
             if not point:
                 return False
             at = {"x": point[0], "y": point[1], "button": "left", "clickCount": 1}
@@ -177,13 +200,22 @@ class Page:
                 self.tab.call("Input.dispatchMouseEvent", type=kind, **at)
             return bool(self.value("window.wasHit"))
 
-        self._hears.until(hits, f"a click on {where}")
+        self._hears.until(hits, f"a click on {what}")
 
     def type(self, text: str, where: str = "#typed") -> None:
-        """Types a line into a field, and Enter; what stood there is typed over. A part that is folded up is opened first."""
-        self._hears.until(lambda: self.value(FOCUS.format(where=json.dumps(where))), f"{where} to take a text")
-        self.tab.call("Input.insertText", text=text)
+        """Types a line into a field, and Enter."""
+        self.fill(text, where)
         self.tab.press("Enter")
+
+    def fill(self, text: str, where: str) -> None:
+        """Types over what stands in a field. A part that is folded up is opened first."""
+
+        def takes() -> bool:
+            if self.value(FOCUS.format(where=json.dumps(where))):
+                self.tab.call("Input.insertText", text=text)
+            return self.field(where) == text
+
+        self._hears.until(takes, f"{where} to take a text")
 
     def give(self, where: str, path: pathlib.Path) -> None:
         """Chooses a file for a field that takes one."""

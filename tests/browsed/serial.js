@@ -3,7 +3,8 @@
  *
  * What the page does with a port is told to the test by the binding `tellBoards`, as JSON: {what: "began"}, "open", "write"
  * (with the bytes in base64), "close", "ask" (for a port, with whether one was chosen). The test calls `boards.deliver(port,
- * base64)`, `boards.unplug(port)`, `boards.plug(port, isGranted)`, and `boards.choose(port)` for what the user will choose next.
+ * base64)`, `boards.unplug(port)`, `boards.plug(port, isGranted)`, `boards.lock(port, isLocked)` for one that may not be opened,
+ * and `boards.choose(port)` for what the user will choose next.
  *
  * Each port is {number, isGranted, isPlugged} at the start.
  */
@@ -58,7 +59,7 @@ function provideSerial(start) {
       if (!(options?.baudRate > 0) || options.bufferSize <= 0) {
         throw new TypeError("Failed to execute 'open' on 'SerialPort'");
       }
-      if (!this.#device.isPlugged) {
+      if (!this.#device.isPlugged || this.#device.isLocked) {
         throw new DOMException("Failed to open serial port.", "NetworkError");
       }
       this.#isOpen = true;
@@ -166,6 +167,9 @@ function provideSerial(start) {
     },
     choose(number) {
       chosen = number;
+    },
+    lock(number, isLocked) {
+      devices.get(number).isLocked = isLocked;
     },
     unplug(number, staysGranted) {
       const device = devices.get(number);

@@ -13,7 +13,7 @@ import hurried
 from recovering.cases import CASES
 
 TOP = pathlib.Path(__file__).resolve().parents[2]
-SECONDS = 120  # no answer takes so long, but on a machine that stands still
+SECONDS = 600  # no answer takes so long, but on a machine that stands still
 GAMES = 12  # that hands play, each in each of the ways
 FENS = (
     "rnbqkbnr/pppppppp/8/8/8/8/PPPPPPPP/RNBQKBNR w KQkq - 0 1",

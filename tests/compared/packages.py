@@ -42,6 +42,8 @@ def is_whole(package: pathlib.Path, root: pathlib.Path) -> None:
     for command in ("dgt_live", "dgt_round", "dgt_replay"):
         assert os.access(root / "usr" / "bin" / command, os.X_OK), command
         assert (root / "usr" / "share" / "man" / "man1" / f"{command}.1.gz").exists(), command
+        completion = root / "usr" / "share" / "bash-completion" / "completions" / command
+        same(completion.read_bytes(), (TOP / "bin" / "completion.bash").read_bytes())
     same(files_below(root / "usr" / "lib" / "dgt_replay" / "live"), files_below(TOP / "live"))
     sample = root / "usr" / "share" / "doc" / "dgt-replay" / "examples" / "short-game.dgt"
     same(sample.read_bytes(), SAMPLE.with_suffix(".dgt").read_bytes())
@@ -79,9 +81,9 @@ def emulated(folder: pathlib.Path) -> pathlib.Path:
     with tarfile.open(packed) as archive:
         archive.extractall(folder / "archive")
     (unpacked,) = (folder / "archive").iterdir()
-    program = unpacked / "dgt_replay"
-    program.rename(unpacked / "aarch64")
-    program.write_text(f'#!/bin/sh\nexec qemu-aarch64 -L {LIBRARY} {unpacked}/aarch64 "$@"\n')
+    program = unpacked / "lib" / "dgt_replay"
+    program.rename(unpacked / "lib" / "aarch64")
+    program.write_text(f'#!/bin/sh\nexec qemu-aarch64 -L {LIBRARY} {unpacked}/lib/aarch64 "$@"\n')
     program.chmod(0o755)
     return unpacked
 
@@ -126,6 +128,6 @@ def aarch64_has_what_x86_64_has(folder: pathlib.Path) -> None:
             contents.append({name: file.read() for name, file in files.items() if file})
     here, there = contents
     same(set(here), set(there))
-    same([name for name in here if here[name] != there[name]], ["dgt_replay"])
+    same([name for name in here if here[name] != there[name]], ["lib/dgt_replay"])
     native = subprocess.run([PROGRAM.with_name("program")], stdout=subprocess.PIPE, check=True).stdout.decode().strip()
-    same(here["dgt_replay"] == pathlib.Path(native).read_bytes(), True)
+    same(here["lib/dgt_replay"] == pathlib.Path(native).read_bytes(), True)

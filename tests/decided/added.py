@@ -12,11 +12,15 @@ from live.game.added import (
     check_result,
     dumps_of_moves,
     dumps_of_result,
+    goes,
+    in_english,
     is_result,
+    may_be,
     outcome_of_sign,
     read_words,
     sign_of_result,
     spellings,
+    squares_of,
 )
 from live.game.adding import refusal
 from live.refused import REFUSED
@@ -67,6 +71,25 @@ def words() -> None:
         same(f"a check left out, or too many: {move}", list(spellings(move)), expected)
 
 
+def other_letters() -> None:
+    """Moves in other letters than PGN's, or with both squares."""
+    for text, written in cases("typed", "in other letters").items():
+        said = refused(text, Refused, read_words, text)
+        same(text, f": write {written}, in English letters: pieces are K, Q, R, B and N, in capitals" in said, True)
+        same(f"{text}, read", in_english(text.replace(".", " ").split()[-1]), written)
+        same(f"{written} needs no other letters", in_english(written), "")
+    for text in cases("typed", "with both squares"):
+        said = refused(text, Refused, read_words, text)
+        same(text, "write the piece's letter and where it goes, as Nf3" in said, True)
+    for move, expected in cases("typed", "squares").items():
+        same(move, squares_of(move), tuple(expected) if expected else None)
+    for before, after, origin, target, moved in cases("typed", "goes"):
+        seen = goes(picture_of_placement(before), picture_of_placement(after), origin, target)
+        same(f"{origin} {target} in {after}", seen, moved)
+    for san, target, promoted, expected in cases("typed", "may be"):
+        same(f"{san} to {target}{promoted}", may_be(san, target, promoted), expected)
+
+
 def helps() -> None:
     """All that can be typed, in one line."""
     for text in cases("typed", "helps"):
@@ -104,4 +127,4 @@ def bytes_added() -> None:
             refused(name, Refused, check_result, moves)
 
 
-TABLES = [words, helps, signs, bytes_added]
+TABLES = [words, other_letters, helps, signs, bytes_added]

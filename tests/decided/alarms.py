@@ -1,13 +1,17 @@
 """When a board has gone on without its game for too long, when the clock was stopped, and when moves are made after the end."""
 
 import math
+import tempfile
 from typing import Any, List
 
 from live.game.after_the_end import AfterTheEnd
+from live.game.alarms import Alarms
+from live.game.course import Course
+from live.game.files import Paths
 from live.board.agreement import Agreement
 from live.game.stopped_clock import StoppedClock, runs
 from live.device.protocol import picture_of_placement
-from live.game.report import Event, Move, event_of
+from live.game.report import Event, Line, Move, event_of
 
 from decided.cases import bytes_of, cases
 from decided.table import same
@@ -58,6 +62,26 @@ def clocks() -> None:
         same(name, seen, expected)
 
 
+def reported_late() -> None:
+    """Time messages come at once, moves when the program reports them: each counts when its bytes came. Here the clock is stopped at
+    2 s, and runs again at 9 s; two moves are reported after that."""
+    stopped, running = bytes.fromhex("01300001300000"), bytes.fromhex("01300001300001")
+    for name, offsets, expected in [
+        ("both while it stood", (30, 40), ["LOOK since the start: 2 moves were made while the clock was stopped"]),
+        ("one", (15, 40), ["LOOK since 1. e4: a move was made while the clock was stopped"]),
+        ("none", (15, 60), []),
+    ]:
+        with tempfile.TemporaryDirectory() as folder:
+            alarms = Alarms(Paths(f"{folder}/game"), Course(INITIAL))
+            for now, size, data in ((1.0, 10, running), (2.0, 20, stopped), (3.0, 25, stopped), (9.0, 50, running)):
+                alarms.time(now, data, size)
+            looks = [
+                alarms.take(offset / 5, Line(offset, move_of(words)), False)
+                for offset, words in zip(offsets, ("move 1. e4", "move 1... e5"))
+            ]
+        same(name, [look.text for look in looks if look][-1:], expected)
+
+
 def afterwards() -> None:
     for name, lines, expected in cases("alarms", "afterwards"):
         after = AfterTheEnd(INITIAL, "38. Kf2", "1-0")
@@ -68,4 +92,4 @@ def afterwards() -> None:
              [f"LOOK after 38. Kf2: {count} moves were made, and the game is over: 1-0" for count in expected])  # fmt: skip
 
 
-TABLES = [agreements, clocks, afterwards]
+TABLES = [agreements, clocks, reported_late, afterwards]

@@ -5,7 +5,7 @@ from typing import List, Tuple
 from live.game.doubts import AFTER_GAP, SIDES, Doubts, Gap, elsewhere, is_late
 from live.game.looks import Look, Looks
 from live.device.protocol import SQUARES, picture_of_placement
-from live.game.report import Event, event_of
+from live.game.report import Event, Move, event_of
 
 from decided.cases import cases
 from decided.table import same
@@ -30,6 +30,9 @@ def told() -> None:
             when, words = line.split(" ", 1)
             if when in ("away", "restart"):
                 doubts.away(float(words), when == "restart")
+                continue
+            if when == "back":
+                doubts.put_back(picture_of_placement(words))
                 continue
             if words == "stands":
                 look = doubts.stands(float(when))
@@ -57,6 +60,25 @@ def paces() -> None:
             doubts.take(now, event(white))
             seen += [(look.what, look.why)] if look else []
         same(f"a gap of {gap} s at 10 s a ply", seen, expected)
+
+
+def after_a_restart() -> None:
+    """Two kings have repeated a position, ten seconds a ply, and the recorder was away for a minute. If the board shows the game's
+    position at its first dump, four plies may have led back there; if it doesn't, the gap lasts until the next move."""
+    kings = ["k7/8/8/8/8/8/8/K7 w", "k7/8/8/8/8/8/8/1K6 b", "1k6/8/8/8/8/8/8/1K6 w", "1k6/8/8/8/8/8/8/K7 b", "k7/8/8/8/8/8/8/K7 w"]
+    for name, shown, expected in [
+        ("it agrees", "k7/8/8/8/8/8/8/K7", [("after 2... Ka8", AFTER_GAP)]),
+        ("a king is in a hand", "k7/8/8/8/8/8/8/8", [("at 3. Kb1", AFTER_GAP)]),
+        ("nothing is known", "", [("at 3. Kb1", AFTER_GAP)]),
+    ]:
+        picture = picture_of_placement(shown) if shown else None
+        last = event("move 2... Ka8")
+        assert isinstance(last, Move)
+        doubts = Doubts.going_on([f"{fen} - - 0 1" for fen in kings], last, [10.0, 20.0, 30.0, 40.0], picture)
+        doubts.away(60, True)
+        looks = [doubts.stands(101)]
+        looks += [doubts.take(102, event(words)) for words in ("picture k7/8/8/8/8/8/8/1K6", "move 3. Kb1")]
+        same(name, [(look.what, look.why) for look in looks if look], expected)
 
 
 def limits() -> None:
@@ -90,4 +112,4 @@ def kept() -> None:
     same("an old file", Looks.of_content(b"what is this?\n").short, "LOOK at the game")
 
 
-TABLES = [told, paces, limits, kept]
+TABLES = [told, paces, after_a_restart, limits, kept]

@@ -3,10 +3,12 @@
 import contextlib
 import os
 import pathlib
+import subprocess
 import sys
 import tempfile
+import threading
 import time
-from typing import List, Optional, Tuple
+from typing import Callable, List, Optional, Tuple
 
 from live.broadcast import kept
 from live.broadcast.going_out import GoingOut, delay_of, read_command, read_delay
@@ -22,6 +24,7 @@ from live.web.view import Ply
 
 from decided.table import refused, same
 
+TOP = pathlib.Path(__file__).resolve().parents[2]
 START, AFTER_E4, AFTER_E5 = "start", "after e4", "after e5"
 QUIET = Shot(positions=(START,), text=b"[White]\n\n*\n\n")
 E4 = Shot("*", (Ply("e4", "1:29:55"),), (START, AFTER_E4), b"[White]\n\n1. e4 *\n\n", Clocks("1:29:55", "1:30:00", "b", 100.0))
@@ -150,13 +153,34 @@ def on_the_disk() -> None:
 
 def kept_delays() -> None:
     with tempfile.TemporaryDirectory() as folder:
-        paths = Paths(f"{folder}/round")
-        seen = [delay_of(paths, given) for given in (None, 900.0, None, 30.0, None, 0.0, None)]
+        paths, game = Paths(f"{folder}/round"), Paths(f"{folder}/01")
+        seen = [delay_of(paths, given, [game]) for given in (None, 900.0, None, 30.0, None, 0.0, None)]
         same("a delay stays until another is given", seen, [0.0, 900.0, 900.0, 30.0, 30.0, 0.0, 0.0])
         pathlib.Path(paths.delay).write_bytes(b"soon\n")
-        said = refused("a file without a number", Refused, delay_of, paths, None)
+        said = refused("a file without a number", Refused, delay_of, paths, None, [game])
         same("says what to do", said.endswith("give --delay, or remove it"), True)
-        same("a delay that is given takes its place", delay_of(paths, 60.0), 60.0)
+        same("a delay that is given takes its place", delay_of(paths, 60.0, [game]), 60.0)
+        delay_of(paths, 20.0, [game])
+        same("no shorter when it is read again", 20.0 <= delay_of(paths, None, [game]) < 20.6, True)
+        Late(game, 900.0, 0.0).take(0.0, E4)
+        for lost, found in ((None, 900.0), (paths.delay, 900.0), (game.delayed, 900.0), ("both", 0.0)):
+            delay_of(paths, 900.0, [game])
+            Late(game, 900.0, 0.0).take(0.0, E4)
+            for path in [path for path in (paths.delay, game.delayed) if lost in (path, "both")]:
+                os.unlink(path)
+            same(f"{lost} is lost", delay_of(paths, None, [game]), found)
+        Late(game, 900.0, 0.0).take(0.0, E4)
+        delay_of(paths, 0.0, [game])
+        same("what is hidden goes with its delay", (os.listdir(folder), delay_of(paths, None, [game])), ([], 0.0))
+    with tempfile.TemporaryDirectory() as folder:
+        given = {"round": 900.0, "blitz": 60.0, "02": 1200.0, "9-9": 30.0}
+        for name, seconds in given.items():
+            delay_of(Paths(f"{folder}/{name}"), seconds, [])
+        for name, found in (("01", 900.0), ("02", 1200.0), ("blitz-3", 900.0), ("round", 900.0), ("blitz", 900.0)):
+            same(f"the delay of {name} in a round's folder", delay_of(Paths(f"{folder}/{name}"), None, []), found)
+        os.unlink(f"{folder}/round.delay")
+        for name, found in (("01", 0.0), ("blitz-3", 60.0), ("blitz-x", 0.0), ("blitz-", 0.0), ("9-9-1", 30.0), ("-3", 0.0)):
+            same(f"the delay of {name} beside a series", delay_of(Paths(f"{folder}/{name}"), None, []), found)
     for text, seconds in (("15", 900.0), ("0", 0.0), ("0.5", 30.0), (".5", 30.0), ("1440", 86400.0)):
         same(f"--delay {text}", read_delay(text), seconds)
     for text in ("", "-1", "1e3", "x", "15m", "1441", "nan", "inf", "٣", "0x5", "1 5", "."):
@@ -261,7 +285,7 @@ def runs_of_a_command() -> None:
         same("no such program", run(["/nowhere"], path, 60.0), "it can't be started: No such file or directory")
         number = pathlib.Path(folder) / "number"
         slow = f"import os, subprocess, time; open({str(number)!r}, 'w').write(str(subprocess.Popen(['sleep', '99']).pid)); time.sleep(99)"
-        same("one that is too slow", run([*python, slow], path, 3.0), "it took more than 3 s, and was ended")
+        same("one that is too slow", run([*python, slow], path, 8.0), "it took more than 8 s, and was ended")
         ends = time.monotonic() + 60
         while number.exists() and is_alive(int(number.read_text() or 0)) and time.monotonic() < ends:
             time.sleep(0.01)
@@ -272,13 +296,108 @@ def runs_of_a_command() -> None:
     same("a progress bar", last_line(b"10 %\r50 %\rconnection lost\r\n"), "connection lost")
 
 
+# Notes when it begins and ends, and whether another one is in between; it waits for a file.
+TAKES_TURNS = """
+import os, pathlib, sys, time
+name, folder = sys.argv[1], pathlib.Path(sys.argv[2])
+def note(what):
+    with open(folder / "notes", "a") as notes:
+        notes.write(f"{name} {what}\\n")
+note("begins")
+while not (folder / f"{name}.goes").exists():
+    time.sleep(0.01)
+note("ends")
+"""
+# A recorder that publishes, and is killed.
+PUBLISHES = "import sys; sys.path.insert(0, sys.argv[1]); from live.broadcast.publishing import run; run(sys.argv[3:], sys.argv[2], 60.0)"
+# Starts a process in a session of its own, writes its number, and goes on or not.
+OUTLIVED = """
+import pathlib, subprocess, sys, time
+child = subprocess.Popen(["sleep", "600"], start_new_session=True)
+pathlib.Path(sys.argv[1] + ".new").write_text(str(child.pid))
+pathlib.Path(sys.argv[1] + ".new").rename(sys.argv[1])
+time.sleep(float(sys.argv[2]))
+"""
+
+
+def until(holds: Callable[[], bool]) -> bool:
+    """Whether it holds within a minute."""
+    ends = time.monotonic() + 60
+    while not holds() and time.monotonic() < ends:
+        time.sleep(0.01)
+    return holds()
+
+
+def one_run_at_a_time() -> None:
+    """A recorder is killed while its command runs: the next recorder's run begins when that one has ended. What a command has started
+    in a session of its own is ended with it when its time is over."""
+    with tempfile.TemporaryDirectory() as folder:
+        path, notes = pathlib.Path(folder) / "broadcast.pgn", pathlib.Path(folder) / "notes"
+        path.write_bytes(b"*\n\n")
+        takes_turns = [sys.executable, "-c", TAKES_TURNS]
+        killed = subprocess.Popen([sys.executable, "-c", PUBLISHES, str(TOP), str(path), *takes_turns, "first", folder])
+        until(notes.exists)
+        killed.kill()
+        killed.wait()
+        said: List[str] = []
+        again = threading.Thread(target=lambda: said.append(run([*takes_turns, "second", folder], path, 60.0)))
+        again.start()
+        pathlib.Path(folder, "second.goes").touch()
+        time.sleep(1.5)  # in which it could begin
+        same("the first one alone", notes.read_text(), "first begins\n")
+        pathlib.Path(folder, "first.goes").touch()
+        again.join(60)
+        same("then the second one", (notes.read_text(), said), ("first begins\nfirst ends\nsecond begins\nsecond ends\n", [""]))
+        for stays, told in (("600", "it took more than 8 s, and was ended"), ("0", "")):
+            number = pathlib.Path(folder) / f"number{stays}"
+            same(f"a command that stays {stays} s", run([sys.executable, "-c", OUTLIVED, str(number), stays], path, 8.0), told)
+            same("and the next one", run(["true"], path, 60.0), "")
+            same("comes after all that it started", is_alive(int(number.read_text())), False)
+        killed = subprocess.Popen([sys.executable, "-c", PUBLISHES, str(TOP), str(path), *takes_turns, "third", folder])
+        until(lambda: "third begins" in notes.read_text())
+        same("an earlier run that goes on", run(["true"], path, 2.0), "an earlier run of it goes on")
+        same("of another file", run(["true"], path.with_name("other.pgn"), 60.0), "")
+        pathlib.Path(folder, "third.goes").touch()
+        same("it ends", killed.wait(60), 0)
+
+
+def scripts_of_the_docs() -> None:
+    """copy.sh, as BROADCAST has it, is killed or is slow in the middle of a copy, and another one runs beside it: nobody ever sees a
+    part of a text."""
+    text = (TOP / "docs" / "BROADCAST.md").read_text()
+    script = next(part for part in text.split("\n\n") if "#!/bin/sh" in part and "/srv/www" in part and "cp " in part)
+    with tempfile.TemporaryDirectory() as folder:
+        place = pathlib.Path(folder)
+        copies, whole, seen = place / "copy.sh", place / "whole", place / "round.pgn"
+        copies.write_text("\n".join(line[4:] for line in script.split("\n")).replace("/srv/www", folder) + "\n")
+        copies.chmod(0o755)
+        whole.write_bytes(b"whole\n" * 20000)
+        for ends in ("killed", "goes on"):
+            slow = place / f"slow, {ends}"  # a killed copy may keep its own for a moment
+            os.mkfifo(slow)
+            first = subprocess.Popen([copies, slow], start_new_session=True, umask=0o022)
+            with open(slow, "wb") as writing:
+                writing.write(b"half\n" * 100)
+                writing.flush()
+                same("the other one", subprocess.run([copies, whole], umask=0o022).returncode, 0)
+                same("is whole", seen.read_bytes() == whole.read_bytes(), True)
+                if ends == "killed":
+                    os.killpg(first.pid, 9)
+                    first.wait()
+                else:
+                    writing.write(b"half\n" * 100)
+            first.wait()
+            same(f"whole, where the first one {ends}", seen.read_bytes() in (whole.read_bytes(), b"half\n" * 200), True)
+            same("for everybody", seen.stat().st_mode & 0o044, 0o044)
+
+
 def for_spectators() -> None:
     """A board in JSON for the spectators' page: the whole of it, and what is new."""
     white = Player.of_tags({"WhiteTitle": "GM", "WhiteElo": "2701", "WhiteTeam": "Club"}, "White", "Ünal, Ü")
     board = SpectatorBoard(3, white, Player.of_tags({}, "Black", "?"), E4, b"", 900.0)
     same("whole", board.text(5.0, None), (
-        b'{"number":3,"white":"\\u00dcnal, \\u00dc","black":"","titles":["GM",""],"ratings":["2701",""],"teams":["Club",""],'
-        b'"result":"*","clocks":["1:29:55","1:30:00"],"runs":"b","at":1005.0,"pgn":"/03.pgn",'
+        b'{"number":3,"white":"\\u00dcnal, \\u00dc","black":"","titles":["GM",""],"ratings":["2701",""],"teams":["Club",""],"federations":["",""],'
+        b'"result":"*","forfeit":"","clocks":["1:29:55","1:30:00"],"runs":"b","at":1005.0,"pgn":"/03.pgn",'
         b'"moves":[{"san":"e4","clock":"1:29:55"}],"positions":["start","after e4"]}'
     ))  # fmt: skip
     after = SpectatorBoard(3, white, Player(), E5, b"", 900.0).text(5.0, board)
@@ -288,4 +407,5 @@ def for_spectators() -> None:
     ))  # fmt: skip
 
 
-TABLES = [shown_when, game_goes_by, restarts, on_the_disk, kept_delays, clocks_run, runs_of_a_command, for_spectators]
+TABLES = [shown_when, game_goes_by, restarts, on_the_disk, kept_delays, clocks_run, runs_of_a_command, one_run_at_a_time,
+          scripts_of_the_docs, for_spectators]  # fmt: skip

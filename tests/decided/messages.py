@@ -13,13 +13,15 @@ from live.board.disk import Disk, HearsDisk
 from live.board.standing import Standing
 from live.board.state import DISK_FULL, NOT_WRITTEN
 from live.game import files
-from live.game.files import Capture, Log, check_name, plain
+from live.game.file_names import check_name
+from live.game.files import Capture, Log, plain
 from live.game.options import Options
 from live.game.program import Program
 from live.game.refusal import is_recorded, reason
 from live.refused import Refused
 from live.round.round import another_folder, ways
-from live.device.serial_line import listing, login_name, may_not_open
+from live.device.numbers import Asked, listing, told_of_shut
+from live.device.serial_line import login_name, may_not_open
 from live.round.table import boards_are
 from live.terminal.screen import Screen
 
@@ -46,6 +48,8 @@ NAMES = {
     "club/blitz-2.before.dgt": "club/blitz-2",
     "game.": "game",
     "a.b.end": "a.b",
+    "game.pages": "game",
+    "game.cable": "game",
 }
 BOARDS: List[Tuple[List[int], str]] = [
     ([], "no line of the table is right"),
@@ -126,12 +130,17 @@ def not_had() -> None:
 def devices_listed() -> None:
     """Each with the name of its cable, where it has one; and what to do where no board is plugged in."""
     two = [("/dev/ttyACM0", ""), ("/dev/ttyUSB0", "/dev/serial/by-id/board")]
-    same("with their numbers", listing(two, {"/dev/ttyACM0": "01234", "/dev/ttyUSB0": "in use"}),
+    same("with their numbers", listing(two, Asked({"/dev/ttyACM0": "01234"}, in_use={"/dev/ttyUSB0"})),
          ["/dev/ttyACM0  01234", "/dev/ttyUSB0  /dev/serial/by-id/board  in use"])  # fmt: skip
-    same("two", listing(two, {}),
+    shut = Asked({"/dev/ttyACM0": "01234"}, shut={"/dev/ttyUSB0"})
+    same("one may not be opened", listing(two, shut),
+         ["/dev/ttyACM0  01234", "/dev/ttyUSB0  /dev/serial/by-id/board  may not be opened"])  # fmt: skip
+    same("and what to do", told_of_shut(shut, "anna"), [may_not_open("/dev/ttyUSB0", "anna")])
+    same("all may be opened", told_of_shut(Asked(), "anna"), [])
+    same("two", listing(two, Asked()),
          ["/dev/ttyACM0", "/dev/ttyUSB0  /dev/serial/by-id/board"])  # fmt: skip
-    none = "dgt_live: no board is plugged in: there is no /dev/ttyUSB* and no /dev/ttyACM*. Plug it in, and try again"
-    same("none", listing([], {}), [none])
+    none = "dgt_live: no board is plugged in: there is no /dev/ttyUSB*, /dev/ttyACM* or /dev/rfcomm*. Plug it in, and try again"
+    same("none", listing([], Asked()), [none])
 
 
 class Full:

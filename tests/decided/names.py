@@ -61,8 +61,8 @@ def days() -> None:
         same(f"{words}, moves: {has_moves}", kept.begun(kept.day(TUESDAY, lambda: has_moves)).tag("--date"), date)
     kept = Options.of_words(("--white", "Anna")).begun(MONDAY)
     same("it is kept", Options.of_text(kept.text()), kept)
-    same("`record` has it", kept.of_record(), ("--date", MONDAY, "--white", "Anna"))
-    same("a typed one counts", Options.of_words(("--date", TUESDAY)).begun(MONDAY).of_record(), ("--date", TUESDAY))
+    same("`record` has it", kept.of_record(), (f"--date={MONDAY}", "--white=Anna"))
+    same("a typed one counts", Options.of_words(("--date", TUESDAY)).begun(MONDAY).of_record(), (f"--date={TUESDAY}",))
     for given, says in (((), True), (("--white", "Anna"), True), (("--date", MONDAY, "--white", "Anna"), True),
                         (("--date", TUESDAY, "--white", "Anna"), False)):  # fmt: skip
         same(f"the same: {given}", kept.is_said_by(Options.of_words(given)), says)

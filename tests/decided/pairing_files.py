@@ -4,6 +4,7 @@ hall's boards that go with them. The files are written after the programs' pages
 from typing import Dict, List, Tuple
 
 from live.refused import Refused
+from live.round.encodings import ENCODING, encoding_in, known_encoding, text_of
 from live.round.joining import joined, placed
 from live.round.pairings import Pairing, Pairings, Wrong, read_pairings
 from live.round.settings import words_of
@@ -72,9 +73,9 @@ TABLES_READ = [
     ("French", FRENCH, ("utf-8-sig", "latin-1", "utf-16"), [
         (1, "KERN Anna", "ÜNAL Ben", "", {**RATED, "WhiteFed": "SUI"}), (2, "ROTH Carl", "LUND Åse", "0-1", {**LOWER, "WhiteFed": "SUI"}),
     ], ["line 4: board 3: OTT Dora has no opponent (Exempt), and no game is recorded"]),
-    ("Spanish", SPANISH, ("utf-8", "cp1252"), [(*FIRST, "1/2-1/2", {**RATED, "WhiteFideId": "1503014"})], [
+    ("Spanish", SPANISH, ("utf-8", "cp1252"), [(*FIRST, "1/2-1/2", {**RATED, "WhiteFideId": "1503014"}), (*SECOND, "+-", {"BlackElo": "2102"})], [
         "the column 'mesa de honor' isn't known, and isn't used",
-        "line 3: board 2: Roth, Carl - Lund, Åse isn't played (+--), and no game is recorded",
+        "line 3, column WhiteElo: '19x7' is no rating: type up to four digits, as 2050, or nothing; the board is recorded without it",
         "line 4: board 3: Ott, Dora has no opponent (Descansa), and no game is recorded",
     ]),
     ("Italian", ITALIAN, ("utf-8", "utf-16"), [(*FIRST, "", TITLED), (*SECOND, "1-0", BLACK_TITLED)], [
@@ -215,14 +216,81 @@ def pairs_that_differ() -> None:
         player(5, "", "F", "", "", "", "0.0", "   6 w +"), player(6, "", "G", "", "", "", "0.0", "   5 b -"),
     ]).encode()  # fmt: skip
     read = read_report(content, 1)
-    same("pairs", [(pairing.board, pairing.white) for pairing in read.boards], [(1, "A")])
+    same("pairs", [(pairing.board, pairing.white, pairing.result) for pairing in read.boards], [(1, "A", ""), (2, "F", "+-")])
     same("wrong", [(line.line, line.why.partition(":")[0]) for line in read.wrong], [
         (5, "it has the number 2 of line 2"),
         (6, "it is no player's"),
         (3, "C has 4 in round 1, and that one has another opponent or colour"),
         (4, "D has 9 in round 1, and that one has another opponent or colour"),
     ])  # fmt: skip
-    same("said", read.remarks, ("board 2: F - G isn't played, and no game is recorded",))
+    same("said", read.remarks, ())
+
+
+# Teams of two. In round 1 each team's players meet one other team; in round 2 they are paired as players alone.
+TEAMS = [
+    *(player(number, "", name, "", "", "", "0.0", *games) for number, name, *games in [
+        (1, "A1", "   3 w  ", "   4 w  "), (2, "A2", "   4 b  ", "   5 b  "), (3, "B1", "   1 b  ", "   6 b  "),
+        (4, "B2", "   2 w  ", "   1 b  "), (5, "C1", "0000 - U", "   2 w  "), (6, "C2", "0000 - U", "   3 w  "),
+    ]),
+    "013 Team A                              1    2", "013 Team B                              3    4",
+    "013 Team C                              5    6",
+]  # fmt: skip
+
+
+def reports_of_teams() -> None:
+    """A report gives no order of boards if teams play matches in the round, or if it has a team's line of the later edition."""
+    content = "\n".join(TEAMS).encode()
+    told = refused("matches", Refused, read_report, content, 1)
+    same("matches", told, "it is the report of a team tournament (its teams play matches), and doesn't say at which board a pair plays:")
+    same("players alone", [pairing.white for pairing in read_report(content, 2).boards], ["C1", "C2", "A1"])  # who had a bye leads
+    later = "\n".join([*TEAMS[:6], "310   1 Team A"]).encode()
+    told = refused("the later edition", Refused, read_report, later, 2)
+    same("the later edition", told.partition(",")[0], "it is the report of a team tournament (line 7 has a team)")
+
+
+# Names as they are written, by the encoding in which a spreadsheet saved them.
+WESTERN_NAMES = (
+    *("Müller", "Åse Lund", "Muñoz", "Conceição", "João", "Magalhães", "Jørgensen", "Øystein", "Næss", "Hélène", "Lecœur"),
+    *("Lefèvre", "Loïc", "Forlì", "Niccolò", "Väänänen", "Großöhme", "Noël", "Mª Carmen", "D’Angelo", "½ - ½"),
+)
+CENTRAL_NAMES = (
+    *("Świercz", "Dvořák", "Kučera", "Čech", "Němec", "Růžička", "Kamiński", "Wałęsa", "Łukasz", "Jiří", "Ćirić", "Petrović"),
+    *("Đorđević", "Szőke", "Erdős", "Brăila", "Mureş", "Węgrzyn", "Žák, Jiří", "Vaněk", "Hodaň"),
+)
+CYRILLIC_NAMES = ("Петров", "Ли", "Каспаров", "Юдасин")
+
+
+def encodings() -> None:
+    """A text that isn't Unicode is read as Western where its names look so, and else asked about; an encoding that is given is used."""
+    for name in WESTERN_NAMES:
+        same(name, text_of(name.encode("cp1252")), name)
+    for codec, names in (("cp1250", CENTRAL_NAMES), ("cp1251", CYRILLIC_NAMES)):
+        for name in names:
+            content = f"board;white;black\n1;{name};Müller\n".encode(codec, "replace")
+            asked = refused(name, Refused, text_of, content)
+            same(f"{name} is asked about", asked, "it isn't Unicode, and its names can be read in more than one way:")
+            same(f"{name}, as it is said to be", name in text_of(content, codec), True)
+    try:
+        text_of("1;Świercz, Jan;Dvořák".encode("cp1250"))
+    except Refused as asked:
+        same("the question", asked.lines, (
+            "it isn't Unicode, and its names can be read in more than one way:",
+            "windows-1252 (Western Europe): Œwiercz, Dvoøák",
+            "windows-1250 (Central Europe): Świercz, Dvořák",
+            "windows-1251 (Cyrillic): Њwiercz, Dvoшбk",
+            "say which is right, as --encoding windows-1250 (in tournament.txt: encoding = windows-1250),",
+            "or save it as UTF-8",
+        ))  # fmt: skip
+    same("Unicode stays", text_of("Świercz".encode(), "cp1251"), "Świercz")
+    same("settings", words_of("encoding = Windows-1250\nevent = Wałęsa".encode("cp1250"), 1, ("--event", ENCODING)), [
+        "--encoding=Windows-1250", "--event=Wałęsa",
+    ])  # fmt: skip
+    same("typed", encoding_in(["--page", "1", ENCODING, "latin2", "--encoding=cp1250"]), "cp1250")
+    told = refused("no encoding", Refused, known_encoding, "windows-9")
+    same("no encoding", told, "there is no encoding 'windows-9': type one as windows-1250, iso-8859-2 or utf-8")
+    same("no text", refused("no text", Refused, known_encoding, "hex").partition(":")[0], "there is no encoding 'hex'")
+    told = refused("not in it", Refused, text_of, b"a\nb\n\xc0", "ascii")
+    same("not in it", told, "line 3 isn't in the encoding ascii: give another one, or save it as UTF-8")
 
 
 OPTIONS = ("--event", "--site", "--date", "--round", "--tag", "--linger", "--page", "--delay", "--publish")
@@ -260,4 +328,4 @@ def settings() -> None:
         same(text, refused(text, Refused, words_of, text.encode(), 1, OPTIONS), why)
 
 
-TABLES = [tables_of_programs, what_is_not_understood, boards_of_the_hall, reports, pairs_that_differ, settings]
+TABLES = [tables_of_programs, what_is_not_understood, boards_of_the_hall, reports, pairs_that_differ, reports_of_teams, encodings, settings]

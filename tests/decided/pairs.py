@@ -106,9 +106,9 @@ def kept() -> None:
     for (before, given), recovers in KEPT.items():
         same(f"{before}, {given}", Options.of_words(before).recovers_with(Options.of_words(given)), recovers)
     options = Options.of_words(("--rotated", "--recover", "--white", "Anna"))
-    same("of record", options.of_record(), ("--rotated", "--white", "Anna"))
+    same("of record", options.of_record(), ("--rotated", "--white=Anna"))
     same("of the board", options.of_board(), ("--rotated",))
-    same("no longer", options.recovering(False).words(), ("--rotated", "--white", "Anna"))
+    same("no longer", options.recovering(False).words(), ("--rotated", "--white=Anna"))
 
 
 def goes_on() -> None:
@@ -126,13 +126,13 @@ def goes_on() -> None:
 
 def calls() -> None:
     """With a device a game is recorded so; without one its text is made anew."""
-    for words in (YES, NO, BLACK, (*YES, *BLACK)):
+    for words in (YES, NO, BLACK, (*YES, *BLACK), ANNA, (*BLACK, *ANNA)):
         call = parse(["/dev/ttyUSB0", "game", *words])
         options = Options.of_words(words)
         same(f"{words} with a device", (call.device, call.name, call.options), ("/dev/ttyUSB0", "game", options))
         call = parse([*words, "game"])
         same(f"{words} without", (call.device, call.name, call.options), ("", "game", options))
-    wrong = [[*YES], [*YES, *NO, "game"], [*YES, "--rotated", "game"], [*YES, "--series", "game"], [*BLACK, *ANNA, "game"]]
+    wrong = [[*YES], [*YES, *NO, "game"], [*YES, "--rotated", "game"], [*YES, "--series", "game"], ["--rotated=no", "game"]]
     for given in (*wrong, ["game"]):
         refused(" ".join(given), Refused, parse, given)
 

@@ -6,7 +6,7 @@ import random
 from typing import Any, Dict, List, Optional, Sequence
 
 from live.device.protocol import SQUARES, picture_of_placement
-from live.game.course import Course, clocks_of
+from live.game.course import Course, Start, clocks_of
 from live.game.ending import game_end
 from live.game.options import Options
 from live.game.reading import wanted
@@ -66,7 +66,7 @@ def looked_at(course: Course) -> Dict[str, object]:
         "news": [event.words for event in course.news if not isinstance(event, Recovered)],
         "stands at start": course.stands_at_start,
         "has agreed": course.has_agreed,
-        "stood again": course.stood_again,
+        "stood again": course.stood_again is not None,
     }
 
 
@@ -78,6 +78,30 @@ def courses() -> None:
             same(f"{name}: {what}", seen_so[what], value)
     for plies, clocks in cases("reports", "clocks"):
         same(f"the clocks after {len(plies)} plies", list(clocks_of([Move(*ply) for ply in plies])), clocks)
+
+
+def starts() -> None:
+    """What a start means that is shown after a set-up, whatever is reported with it at once."""
+    set_up, plays = [f"70 picture {START}", "70 differs e4 e2"], ["75 picture rnbqkbnr/pppppppp/8/8/3P4/8/PPP1PPPP/RNBQKBNR"]
+    moves = ["66 move 1. e4", "66 position rnbqkbnr/pppppppp/8/8/4P3/8/PPPP1PPP/RNBQKBNR b KQkq e3 0 1"]
+    more = ["67 move 1... e5", "67 position rnbqkbnr/pppp1ppp/8/4p3/4P3/8/PPPP1PPP/RNBQKBNR w KQkq e6 0 2"]
+    own = [f"70 picture {START}", "70 agrees", *plays, "75 move 1. d4"]
+    for name, texts, means in [
+        ("a game's own start, and its first move", own, None),
+        ("and another move", [*own, "80 move 1... d5"], None),
+        ("a set-up that looked like a move", [*moves, *set_up], Start.BEGINS),
+        ("and the first move", [*moves, *set_up, *plays, "75 agrees"], Start.BEGINS),
+        ("a game of one move", ["64 agrees", *moves, *set_up], Start.ENDS),
+        ("a game of two moves", [*moves, *more, *set_up], Start.ENDS),
+        ("and a first move of the next game", [*moves, *more, *set_up, *plays, "75 differs d2 d4"], Start.ENDS),
+        ("what it means isn't reported yet", [*moves, *more, *set_up[:1]], None),
+    ]:
+        course = course_of([f"60 picture {FAR}", *texts])
+        same(name, course.stood_again, means)
+    course = course_of([f"60 picture {FAR}", *moves, *set_up])
+    same("its line says so", course.stands_again, Start.BEGINS)
+    course.take(a_line("75 clock 1:30:00 1:30:00"), 1.0)
+    same("the next one doesn't", (course.stands_again, course.stood_again), (None, Start.BEGINS))
 
 
 def seen(course: Course) -> object:
@@ -96,16 +120,18 @@ def enough() -> None:
     squares = [" ".join(chance.sample(SQUARES, count)) for count in (1, 2, 9)]
     fewer = 0
     for trial in range(400):
-        texts, offset = [f"66 picture {START}", "66 agrees", "70 move 1. e4", "75 move 1... Nc6"], 80
+        begins = ["66 agrees", "70 move 1. e4", "75 move 1... Nc6"] if chance.random() < 0.5 else ["70 move 1. e4"]
+        texts, offset = [f"66 picture {START}", *begins], 80
         parts = []
         for _ in range(chance.randrange(1, 5)):
-            part = []
+            part, shown = [], pictures[: chance.choice((2, 2, 3))]
             for _ in range(chance.randrange(1, 40)):
                 offset += 5
-                kind = chance.choice(["picture", "differs", "agrees", "clock"])
-                what = {"picture": chance.choice(pictures[: chance.choice((2, 2, 3))]), "differs": chance.choice(squares)}
-                what["clock"] = f"0:{offset % 60:02}:00 1:30:00"
-                part.append(f"{offset} {kind} {what.get(kind, '')}".rstrip())
+                if chance.random() < 0.3:
+                    part.append(f"{offset} clock 0:{offset % 60:02}:00 1:30:00")
+                    continue
+                part.append(f"{offset} picture {chance.choice(shown)}")
+                part.append(f"{offset} {chance.choice(['agrees', f'differs {chance.choice(squares)}'])}")
             if chance.random() < 0.3:
                 part.append(f"{offset} move 2. Nf3")
             parts.append(part)
@@ -114,6 +140,11 @@ def enough() -> None:
         all_of = course_at([*texts, *(text for part in parts for text in part)])
         same(f"trial {trial}", seen(course_at([*texts, *few])), seen(all_of))
     same("they are fewer", fewer > 4000, True)
+    game = [f"60 picture {START}", "60 agrees", "70 move 1. e4", f"80 picture {FAR}"]
+    chatter = [line for at in range(90, 190, 10) for line in (f"{at} picture {NO_KNIGHT}", f"{at} differs g1 e2 e4")]
+    start = [f"200 picture {START}", "200 differs e2 e4", f"210 picture {NO_KNIGHT}", "210 differs g1 e2 e4"]
+    kept = wanted([*chatter, *start, *chatter], picture_of_placement(START))
+    same("a start in the midst of others", course_at([*game, *kept]).stood_again, Start.ENDS)
 
 
 def course_at(texts: Sequence[str]) -> Course:
@@ -128,10 +159,10 @@ def course_at(texts: Sequence[str]) -> Course:
 WORDS = {
     (): (),
     ("--rotated",): ("--rotated",),
-    ("--white=Anna", "--first", "black"): ("--first", "black", "--white", "Anna"),
-    ("--fen", "", "--recover"): ("--recover", "--fen", ""),
-    ("--white", "--rotated"): ("--white", "--rotated"),
-    ("--event=a=b",): ("--event", "a=b"),
+    ("--white=Anna", "--first", "black"): ("--first=black", "--white=Anna"),
+    ("--fen", "", "--recover"): ("--recover", "--fen="),
+    ("--white", "--rotated"): ("--white=--rotated",),
+    ("--event=a=b",): ("--event=a=b",),
     ("--recover", "--strict"): ("--strict",),
 }
 NO_WORDS = [("--rotated", "--rotated"), ("--white", "A", "--white=B"), ("--what",), ("Anna",), ("--white",), ("--rotated=yes",)]
@@ -148,4 +179,4 @@ def options() -> None:
     refused("a NUL", Refused, Options.of_text, "--white\nAn\0na\n")
 
 
-TABLES = [lines, courses, enough, options]
+TABLES = [lines, courses, starts, enough, options]

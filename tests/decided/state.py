@@ -83,7 +83,7 @@ def times() -> None:
 def hints() -> None:
     """A board that lies the other way round, and another board on the cable."""
     ways = [Screen(None).turn(given) for given in (False, True)]
-    same("what to do then", ways, ["Ctrl-C, start again with --rotated", "Ctrl-C, start again without --rotated"])
+    same("what to do then", ways, ["Ctrl-C, start again with --rotated", "Ctrl-C, start again with --rotated=no"])
     for way in ways:
         last = f"13:11:08  {TURNED_ROUND} {way}{PROMPT}"
         same(f"it has room: {last!r}", len(last) < 80, True)

@@ -1,8 +1,11 @@
 """Tags: which values they may have, and the text of a game as it is published. With the options that keep them."""
 
-from live.game.opening import recordable, strictly
+from live.game.added import Refused as NotNamed
+from live.game.naming import is_naming, line_of, read_names, told_of_names
+from live.game.opening import added_to_kept, read_otherwise, recordable, strictly
 from live.game.options import Options
 from live.game.tags import Malformed, pair_of, published, value_of
+from live.refused import Refused
 
 from decided.cases import cases
 from decided.table import refused, same
@@ -72,7 +75,7 @@ def kept() -> None:
         chosen = strictly(Options.of_words(given), "game")(options, lambda: has_moves)
         same(f"{before} {given}", dict(chosen.options.tags), expected)
     tagged = Options.of_words(("--white", "A", "--tag", "WhiteElo=2050"))
-    same("record is given none", tagged.of_record(), ("--white", "A"))
+    same("record is given none", tagged.of_record(), ("--white=A",))
 
 
 def others_of_one_name() -> None:
@@ -86,4 +89,85 @@ def others_of_one_name() -> None:
     same("a name that was kept without its letters", now.has_other_players_than(old), False)
 
 
-TABLES = [texts, values, names_in_any_script, kept, others_of_one_name]
+TWO = ("--white", "Anna", "--black", "Ben")
+JOERG = ("--white", "Joerg", "--tag", "White=Jörg")
+ADDED = [
+    # what was kept; what is given; whether the game has moves; what it goes on with; what is said
+    (TWO, ("--rotated",), False, ("--rotated", *TWO), "its options are now --rotated --white Anna --black Ben, and were " + " ".join(TWO)),
+    (("--rotated", *TWO), (), False, ("--rotated", *TWO), ""),
+    (("--rotated", *TWO), ("--rotated=no",), False, TWO, "its options are now --white Anna --black Ben, and were --rotated " + " ".join(TWO)),
+    (("--rotated", *TWO), ("--rotated=no", "--black", "Cara"), False, ("--white", "Anna", "--black", "Cara"),
+     "its options are now --white Anna --black Cara, and were --rotated --white Anna --black Ben"),
+    (("--recover", *TWO), ("--date", "2024.05.31"), False, (*TWO, "--date", "2024.05.31", "--recover"),
+     "its options are now --recover --date 2024.05.31 --white Anna --black Ben, and were --recover --white Anna --black Ben"),
+    (TWO, ("--white", "Anne"), True, ("--white", "Anne", "--black", "Ben"), "its game is now Anne - Ben, and was Anna - Ben"),
+    (TWO, ("--black", "Ben", "--round", "3"), True, (*TWO, "--round", "3"), "its round is now 3, and was ?"),
+    (("--white", "Anna"), TWO, True, TWO, "its game is now Anna - Ben, and was Anna - ?"),
+    ((), TWO, True, TWO, "its game is now Anna - Ben, and was ? - ?"),
+    (JOERG, ("--white", "Anna"), True, ("--white", "Anna"), "its game is now Anna - ?, and was Jörg - ?"),
+    (JOERG, ("--event", "Club"), True, ("--event", "Club", *JOERG), "its event is now Club, and was ?"),
+    (TWO, ("--first", "black"), True, ("--first", "black", *TWO), ""),
+    (("--rotated", *TWO), ("--rotated",), True, ("--rotated", *TWO), ""),
+]
+NOT_ADDED = [
+    # the same, of games with moves, and what is refused
+    (TWO, ("--rotated",), "was begun with other options"),
+    (("--rotated",), ("--rotated=no",), "was begun with other options"),
+    (TWO, ("--fen", "8/8/4k3/8/8/4K3/4P3/8 w - - 0 1"), "was begun with other options"),
+    (TWO, ("--white", "Cara", "--black", "Dan"), "game has moves of Anna - Ben: choose another name for another game"),
+]
+
+
+def added_to_what_is_kept() -> None:
+    """What is given is added to what was kept, and names may be put right at any time."""
+    for before, given, has_moves, expected, told in ADDED:
+        chosen = added_to_kept(Options.of_words(given), "game")(Options.of_words(before), lambda: has_moves)
+        same(f"{before} {given}", (chosen.options, "; ".join(chosen.told)), (Options.of_words(expected), told))
+    for before, given, told in NOT_ADDED:
+        chooses, kept = added_to_kept(Options.of_words(given), "game"), Options.of_words(before)
+        same(f"{before} {given}", told in refused(str(given), Refused, chooses, kept, lambda: True), True)
+    new = added_to_kept(Options.of_words(("--rotated=no", *TWO)), "game")(None, lambda: False)
+    same("a new game", new.options, Options.of_words(TWO))
+    over = added_to_kept(Options.of_words(("--white", "Anne")), "blitz-3", is_over=True)
+    refused("the last game of a series, which is over", Refused, over, Options.of_words(TWO), lambda: True)
+    both = read_otherwise(Options.of_words(("--white", "Cara", "--black", "Dan")))(Options.of_words(TWO), lambda: True)
+    same("a game that is over", both.told, ("its game is now Cara - Dan, and was Anna - Ben",))
+
+
+NAMED = [
+    ("name White=Anna", ("--white", "Anna")),
+    ("name white = Anna Kern  ", ("--white", "Anna Kern")),
+    ("name White=Anna Kern Black=Ben  Ott", ("--white", "Anna Kern", "--black", "Ben  Ott")),
+    ("name Event=Club cup Round=3 Date=31.05.2024 Site=Basel",
+     ("--event", "Club cup", "--round", "3", "--date", "31.05.2024", "--site", "Basel")),
+    ("name Black=", ("--black", "?")),
+    ("name WhiteElo=2050 Black=Ben", ("--tag", "WhiteElo=2050", "--black", "Ben")),
+    ("name TimeControl=90+30", ("--tag", "TimeControl=5400+30")),
+]
+NOT_NAMED = {
+    "name": "type name White=Anna",
+    "name Anna": "'Anna' has no =",
+    "name Result=1-0": "Result is what the game says",
+    "name Colour=red": "there is no tag 'Colour'",
+    "name WhiteElo=20x0": "WhiteElo: '20x0' is no rating",
+}
+
+
+def named() -> None:
+    """`name White=Anna`, as it is typed while a game is recorded."""
+    for text, expected in NAMED:
+        same(text, (is_naming(text), read_names(text)), (True, Options.of_words(expected)))
+    for text, told in NOT_NAMED.items():
+        same(text, told in refused(text, NotNamed, read_names, text), True)
+    same("no names", [is_naming(text) for text in ("", "Nf3", "names", "back", "1-0")], [False] * 5)
+    given = Options.of_words(("--white", "Anna", "--tag", "WhiteElo=2050"))
+    same("as a line", line_of(given), "name White=Anna WhiteElo=2050")
+    same("more than names", [line_of(Options.of_words(more)) for more in ((), ("--first", "black"), ("--strict", *TWO))], [None] * 3)
+    before = Options.of_words((*TWO, "--tag", "WhiteElo=2050"))
+    now = Options.of_words(("--white", "Anne", "--black", "Ben", "--tag", "BlackElo=1900"))
+    same("what has changed", told_of_names(now, before),
+         "its game is now Anne - Ben, and was Anna - Ben; its BlackElo is now 1900; it has no WhiteElo any more")  # fmt: skip
+    same("nothing", told_of_names(before, before), "nothing has changed")
+
+
+TABLES = [added_to_what_is_kept, named, texts, values, names_in_any_script, kept, others_of_one_name]

@@ -1,6 +1,6 @@
 /** Which news of a game somebody is to look at. */
 import { Doubts, isLate } from "/web/game/doubts.js";
-import { eventOf } from "/web/game/report.js";
+import { codesOf, eventOf } from "/web/game/report.js";
 
 const AFTER_GAP = "the board wasn't heard for a time: moves may be missing";
 
@@ -13,6 +13,10 @@ export function told(counts, cases) {
       const [when, words] = [line.slice(0, at), line.slice(at + 1)];
       if (when === "away" || when === "restart") {
         taken.away(Number(words), when === "restart");
+        continue;
+      }
+      if (when === "back") {
+        taken.putBack(codesOf(words));
         continue;
       }
       const look = words === "stands" ? taken.stands(Number(when)) : taken.take(Number(when), eventOf(words));

@@ -1,7 +1,8 @@
 /** What an arbiter types and adds. */
 import { pictureOfPlacement, SQUARES } from "/web/device/protocol.js";
 import {
-  checkResult, dumpsOfMoves, dumpsOfResult, isResult, outcomeOfSign, readWords, signOfResult, spellings as spellingsOf,
+  checkResult, dumpsOfMoves, dumpsOfResult, goes, inEnglish, isResult, mayBe, outcomeOfSign, readWords, signOfResult,
+  spellings as spellingsOf, squaresOf,
 } from "/web/game/added.js";
 import { bytesOf } from "./table.mjs";
 
@@ -45,6 +46,29 @@ export function words(counts, cases) {
   counts.same("named", counts.refused("Sf3", "Refused", () => readWords("e4 Sf3")).slice(0, 4), "Sf3:");
   for (const [move, expected] of Object.entries(cases("spellings"))) {
     counts.same(`a check left out, or too many: ${move}`, spellingsOf(move), expected);
+  }
+}
+
+export function otherLetters(counts, cases) {
+  for (const [text, written] of Object.entries(cases("in other letters"))) {
+    const said = counts.refused(text, "Refused", () => readWords(text));
+    counts.same(text, said.includes(`: write ${written}, in English letters: pieces are K, Q, R, B and N, in capitals`), true);
+    counts.same(`${text}, read`, inEnglish(text.split(/[ .]/).pop()), written);
+    counts.same(`${written} needs no other letters`, inEnglish(written), "");
+  }
+  for (const text of cases("with both squares")) {
+    const said = counts.refused(text, "Refused", () => readWords(text));
+    counts.same(text, said.includes("write the piece's letter and where it goes, as Nf3"), true);
+  }
+  for (const [move, expected] of Object.entries(cases("squares"))) {
+    counts.same(move, squaresOf(move), expected);
+  }
+  for (const [before, after, origin, target, expected] of cases("goes")) {
+    const [from, to] = [before, after].map(pictureOfPlacement);
+    counts.same(`${origin} ${target} in ${after}`, goes(from, to, origin, target), expected);
+  }
+  for (const [san, target, promoted, expected] of cases("may be")) {
+    counts.same(`${san} to ${target}${promoted}`, mayBe(san, target, promoted), expected);
   }
 }
 

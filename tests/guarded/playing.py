@@ -323,8 +323,17 @@ def finish(room: Room, readers: Readers) -> None:
     room.first.codes = list(INITIAL)
     if not room.first.plugged:
         room.first.plug()
-    room.type("r")
-    room.until(lambda: bytes_of(f"{room.path}.dgt") and room.first.asked_for_updates, "that the first board is recorded again")
+    typed_at = 0.0
+
+    def is_recorded() -> bool:
+        """An error of before may have taken what is typed: it is typed again."""
+        nonlocal typed_at
+        if time.monotonic() - typed_at > 3:
+            typed_at = time.monotonic()
+            room.type("r")
+        return b"agrees" in bytes_of(f"{room.path}.log") and room.first.asked_for_updates
+
+    room.until(is_recorded, "that the first board is recorded again")
     for ply, move in enumerate(("d2d4", "d7d5", "c2c4", "e7e6")):
         room.first.play(move)
         wanted = " ".join("1. d4 d5 2. c4 e6".split()[: (2, 3, 5, 6)[ply]]) + " *"

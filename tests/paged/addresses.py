@@ -4,7 +4,7 @@ from decided.table import refused, same
 
 from live.doors import calls, dgt_round
 from live.refused import Refused
-from live.web.address import names_of, read_address, read_names
+from live.web.address import Pages, names_of, read_address, read_names, read_pages
 
 TAKEN = [
     ("8000", ("127.0.0.1", 8000), "127.0.0.1:8000"),
@@ -49,6 +49,9 @@ def typed() -> None:
     for text, address, shown in TAKEN:
         read = read_address(text)
         same(f"--page {text}", (tuple(read), read.text), (address, shown))
+    same("no page", read_pages("no", None, []), Pages(names=read_names([]), ends=True))
+    pages = read_pages("0.0.0.0:8000", "8001", ["chess.example.org"])
+    same("to be kept", pages.words, ("--page 0.0.0.0:8000", "--arbiter-page 127.0.0.1:8001", "--page-host chess.example.org"))
     for text, word in REFUSED:
         said = refused(f"--page {text}", Refused, read_address, text)
         same(f"--page {text} says what to type", word in said, True)

@@ -5,10 +5,12 @@ import json
 import socket
 import time
 
-from decided.table import same, skip
+from decided.table import refused, same, skip
 
+from live.refused import Refused
 from live.web import http
-from paged.web import PATIENCE, Answer, Site, a_board, parted, rest
+from live.web.address import read_site
+from paged.web import EMBEDDED, PATIENCE, Answer, Site, a_board, parted, rest
 
 KINDS = {
     "/": "text/html; charset=utf-8",
@@ -25,6 +27,30 @@ NOTHING = [
     "/03.pgn", "/-1.pgn", "/pieces", "/page.js/", "/./page.js", "/%70age.js", "/page.js%00", "/events/", "/Events", "\\..\\x",
     "*", "http://localhost/../x", "http://localhost//", "ftp://x/", "x" * 2000, "/" * 2000,
 ]  # fmt: skip
+
+
+def embedded() -> None:
+    """A page that a site may embed says so, of that site alone, on each path; any other says that nobody may."""
+    with Site(spectators=1, embedded=1) as site:
+        for path in ("/", "/spectators.js", "/state.json", "/round.pgn"):
+            _, fields, _ = site.get(path)
+            policy = fields["Content-Security-Policy"].split("; ")
+            same(path, [part for part in policy if part.startswith("frame-ancestors")], [f"frame-ancestors {EMBEDDED}"])
+            same(f"{path}: the rest", sorted(policy)[:3], sorted(http.EVERYWHERE["Content-Security-Policy"].split("; "))[:3])
+            read_by = fields.get("Access-Control-Allow-Origin"), fields.get("Cross-Origin-Resource-Policy")
+            same(f"{path}: who may read it", read_by, (EMBEDDED, "cross-origin"))
+    with Site(spectators=1) as site:
+        _, fields, _ = site.get("/state.json")
+        same("nobody", (fields.get("Access-Control-Allow-Origin"), fields["Cross-Origin-Resource-Policy"]), (None, "same-origin"))
+    for typed, expected in (
+        ("https://Chess.Example.org/", "https://chess.example.org"), ("http://localhost:8080", "http://localhost:8080"),
+        ("http://192.168.1.5", "http://192.168.1.5"),
+    ):  # fmt: skip
+        same(typed, read_site(typed), expected)
+    for typed in ("*", "chess.example.org", "https://", "https://a b", "https://x/page", "https://x; script-src *", "null", "https://*.example.org",
+                  "ftp://x", "https://x y"):  # fmt: skip
+        why = f"--embed {typed!r}: it is the site whose pages show this one, as https://chess.example.org"
+        same(typed, refused(typed, Refused, read_site, typed), why)
 
 
 def paths() -> None:
@@ -163,8 +189,8 @@ def late_ones() -> None:
             line.sendall(b"GET / HTTP/1.1\r\nHost:")
         with line:
             same("half a request", parted(rest(line))[0], 408)
+        begun = time.monotonic()
         with site.line() as line:
-            begun = time.monotonic()
             same("nothing is asked", rest(line), b"")
             same("and not at once", time.monotonic() - begun > 0.2, True)
         with site.stopped():
@@ -207,4 +233,4 @@ def has_ipv6() -> bool:
         return False
 
 
-TABLES = [paths, hosts, changes, long_ones, connections, late_ones, addresses]
+TABLES = [paths, embedded, hosts, changes, long_ones, connections, late_ones, addresses]

@@ -1,5 +1,6 @@
 """The page in a browser without a screen: it follows the games, is read by keys alone, and asks nobody else for anything."""
 
+import json
 import signal
 import time
 from typing import Callable, List, Mapping, Optional
@@ -90,7 +91,7 @@ def followed(site: Site, page: Page) -> None:
     site.show(a_board(1, 3, alarm=True, state="WRONG: e2 a7", differing=["e2", "a7"]))
     page.follows("a move", tile + ".last", "2. Nf3")
     page.says("its piece", page.square(45, "wN", 1), True)
-    page.reads("its clock", tile + ".seat .w + .clock", "1:29:41")
+    page.reads("its clock", tile + ".seat .w ~ .clock", "1:29:41")
     page.says("where it came from", page.square(62, "from", 1), True)
     page.says("where it went", page.square(45, "to", 1), True)
     page.says("a square that differs", [page.square(number, "off", 1) for number in (8,)][0], True)
@@ -392,4 +393,43 @@ def left_and_back() -> None:
         page.tab.close()
 
 
-TABLES = [followed, by_keys, one_board, connected_again, standing_still, pieces, many_tabs, without_locks, left_and_back]
+PRINTED = """(() => {
+  const shown = (where) => {
+    const found = document.querySelector(where);
+    return found !== null && found.getClientRects().length > 0;
+  };
+  const top = (where) => document.querySelector(where).getBoundingClientRect().top;
+  return {
+    gone: ['#line', '#pgn', '#back', '#diagram', '#at', '#steps', '#files', '#keys'].filter(shown),
+    there: ['#event', '#title', '#upper', '#lower', '#moves'].filter(shown),
+    columns: getComputedStyle(document.querySelector('#moves')).columnCount,
+    whole: document.querySelector('#moves').scrollHeight <= document.querySelector('#moves').clientHeight + 2,
+    white_first: top('#play .player.w') < top('#play .player.b'),
+    names: [...document.querySelectorAll('#play .player')].map((seat) => seat.innerText.trim()).sort(),
+    result: getComputedStyle(document.querySelector('#large'), '::after').content,
+  };
+})()"""
+
+
+@with_page(a_board(1, 8, result="1-0"), event="Club cup")
+def score_sheet(site: Site, page: Page) -> None:
+    """The page of one game, printed: event, board, both names, White's first, all moves in two columns, and the result; nothing
+    to press, and no board. A game without a result has no such line."""
+    page.tab.open(f"{site.url}#1")
+    page.reads("the game", "#title", "Board 1")
+    page.tab.call("Emulation.setEmulatedMedia", media="print")
+    wanted = {
+        "gone": [], "there": ["#event", "#title", "#upper", "#lower", "#moves"], "columns": "2", "whole": True,
+        "white_first": True, "names": ["Black: Black 1", "White: White 1"], "result": '"Result: 1–0"',
+    }  # fmt: skip
+    page.says("printed", f"JSON.stringify({PRINTED})", json.dumps(wanted, separators=(",", ":"), ensure_ascii=False))
+    page.tab.call("Emulation.setEmulatedMedia", media="")
+    page.tab.value("document.getElementById('turn').click()")
+    page.tab.call("Emulation.setEmulatedMedia", media="print")
+    page.says("White first, also where the board is turned", f"{PRINTED}.white_first", True)
+    site.show(a_board(1, 8))
+    page.says("no result", f"{PRINTED}.result", "none")
+    page.tab.call("Emulation.setEmulatedMedia", media="")
+
+
+TABLES = [score_sheet, followed, by_keys, one_board, connected_again, standing_still, pieces, many_tabs, without_locks, left_and_back]

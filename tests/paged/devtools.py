@@ -15,7 +15,7 @@ import tempfile
 import time
 import urllib.parse
 import urllib.request
-from typing import Any, Dict, List, Optional
+from typing import Any, Dict, List, Optional, Sequence
 
 import outside
 from played.recorder import processes
@@ -27,14 +27,18 @@ KEYS = {"ArrowLeft": 37, "ArrowUp": 38, "ArrowRight": 39, "ArrowDown": 40, "Home
 
 
 class Browser:
-    """A browser with a profile of its own, from `with` on, or with that of a browser that was killed."""
+    """A browser with a profile of its own, from `with` on, or with that of a browser that was killed. `start` are words that start
+    it, and `seen` is where this process sees its profile, if that isn't where the browser sees it."""
 
-    def __init__(self, folder: str = "") -> None:
-        self.folder = folder
+    screen: Sequence[str] = ("--headless=new",)  # where it is shown
+
+    def __init__(self, folder: str = "", start: Sequence[str] = (), seen: str = "") -> None:
+        self.folder, self.start, self.seen = folder, tuple(start), seen
 
     def __enter__(self) -> "Browser":
         self.folder = self.folder or tempfile.mkdtemp(prefix="page-")
-        words = ["--headless=new", "--remote-debugging-port=0", f"--user-data-dir={self.folder}", "--no-first-run", "--disable-gpu",
+        self.seen = self.seen or self.folder
+        words = [*self.screen, "--remote-debugging-port=0", f"--user-data-dir={self.folder}", "--no-first-run", "--disable-gpu",
                  "--disable-background-networking", "--disable-component-update", "--disable-sync", "--disable-dev-shm-usage",
                  "--hide-scrollbars", "--mute-audio"]  # fmt: skip
         if os.geteuid() == 0:
@@ -42,9 +46,9 @@ class Browser:
         browser = outside.path_of("chromium")
         if browser is None:
             raise OSError(outside.lacks("chromium"))
-        self.process = subprocess.Popen([browser, *words, "about:blank"], stdout=subprocess.DEVNULL, stderr=subprocess.DEVNULL,
+        self.process = subprocess.Popen([*self.start, browser, *words, "about:blank"], stdout=subprocess.DEVNULL, stderr=subprocess.DEVNULL,
                                         stdin=subprocess.DEVNULL, start_new_session=True)  # fmt: skip
-        told = pathlib.Path(self.folder) / "DevToolsActivePort"
+        told = pathlib.Path(self.seen) / "DevToolsActivePort"
         ends = time.monotonic() + PATIENCE
         while not (told.exists() and told.read_text().count("\n")):
             if time.monotonic() > ends or self.process.poll() is not None:
@@ -59,7 +63,7 @@ class Browser:
         with contextlib.suppress(subprocess.TimeoutExpired):
             self.process.wait(ENDS)
         self._kill_all()
-        shutil.rmtree(self.folder, ignore_errors=True)
+        shutil.rmtree(self.seen, ignore_errors=True)
 
     def _kill_all(self) -> None:
         """All its processes at once, and until they have ended: one of them may still have its profile open."""
@@ -70,12 +74,20 @@ class Browser:
         while processes(self.process.pid) and time.monotonic() < ends:
             time.sleep(0.01)
 
+    def send(self, number: int) -> None:
+        """A signal to all its processes."""
+        os.killpg(self.process.pid, number)
+
+    @property
+    def has_ended(self) -> bool:
+        return self.process.poll() is not None
+
     def kill(self) -> None:
         """All its processes at once, as when the power fails. Its profile stays."""
         self._kill_all()
         for name in ("DevToolsActivePort", "SingletonLock", "SingletonSocket", "SingletonCookie"):
             with contextlib.suppress(FileNotFoundError):
-                os.unlink(os.path.join(self.folder, name))
+                os.unlink(os.path.join(self.seen, name))
 
     def tab(self) -> "Tab":
         """A new tab, which shows nothing yet."""

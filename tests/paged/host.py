@@ -23,7 +23,7 @@ from live.web.address import Address, Door, names_of, read_address  # noqa: E402
 from live.loop import Loop, Watch  # noqa: E402
 from live.web.page import ARBITER, SPECTATORS, BoardView, Page, Ply, RoundView  # noqa: E402
 from live.web.view import Shows, board_text  # noqa: E402
-from paged.web import SpectatorsGiven, Work  # noqa: E402
+from paged.web import EMBEDDED, SpectatorsGiven, Work  # noqa: E402
 
 
 class CountingLoop(Loop):
@@ -84,9 +84,10 @@ class CountedLine:
 def spectators_board_of(values: SpectatorsGiven, now: float) -> SpectatorBoard:
     """A board as spectators see it, of JSON."""
     players = [
-        Player(name, title, rating)
-        for name, title, rating in zip(
-            (values["white"], values["black"]), values.get("titles", ("", "")), values.get("ratings", ("", ""))
+        Player(*parts)
+        for parts in zip(
+            (values["white"], values["black"]),
+            *(values.get(what, ("", "")) for what in ("titles", "ratings", "teams", "federations")),
         )
     ]
     white, black = values["clocks"]
@@ -128,7 +129,8 @@ class Host:
             setattr(page if hasattr(page, name) else serving, name, value)
         self.loop = CountingLoop()
         self.loop.count()
-        door = Door(address, names_of("Hall.club.example", ["chess.example.org"]))
+        embed = EMBEDDED if "embedded" in limits else ""
+        door = Door(address, names_of("Hall.club.example", ["chess.example.org"]), embed=embed)
         self.page = Page(self.loop, door, SPECTATORS if spectators else ARBITER, self.trouble)
         self.boards: Dict[int, Shows] = {}
         self.text = b""

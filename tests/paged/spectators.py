@@ -22,7 +22,7 @@ FONT = "parseFloat(getComputedStyle(document.querySelector({!r})).fontSize)"
 
 def a_spectators_board(number: int, plies: int, **more: object) -> "dict[str, object]":
     """That game, with titles, ratings and a clock that runs where they are given."""
-    own = {name: more.pop(name) for name in ("titles", "ratings", "runs", "ago") if name in more}
+    own = {name: more.pop(name) for name in ("titles", "ratings", "teams", "federations", "runs", "ago") if name in more}
     return {**a_board(number, plies, **more), **own}  # type: ignore[arg-type]  # what a_board takes by name
 
 
@@ -64,17 +64,18 @@ def watched() -> None:
     with Site(spectators=1) as site:
         site.said = {"round": "3"}
         first = a_spectators_board(1, 3, white=NAME, titles=["WGM", ""], ratings=["2441", ""], runs="b", ago=20,
-                                   clocks=["1:29:41", "1:29:48"])  # fmt: skip
+                                   federations=["GER", ""], teams=["SC Turm", ""], clocks=["1:29:41", "1:29:48"])  # fmt: skip
         site.show(first, a_spectators_board(2, 2), a_spectators_board(4, 7, result="1/2-1/2", runs="w", ago=50), event="Äpfel")
         page = opened(site)
         tile = ".tile[href='#1'] "
         page.reads("event and round", "h1", "Äpfel, round 3")
         page.says("in the title too", "document.title", "Äpfel, round 3")
-        page.reads("title, name, rating", tile + ".player.w", f"WGM {NAME} 2441")
+        page.reads("a name on a line of its own", tile + ".player.w", NAME)
+        page.reads("title, rating, federation, team below it", tile + ".w ~ .about", "WGM 2441 GER, SC Turm")
         page.says("a name with markup is no markup", "document.querySelectorAll('img, b, script:not([src])').length", 0)
         page.reads("without them", ".tile[href='#2'] .player.w", "White 2")
-        page.reads("White's clock stands", tile + ".seat .w + .clock", "1:29:41")
-        runs = f"{page.text(tile + '.seat .b + .clock')} <= '1:29:26' && {page.text(tile + '.seat .b + .clock')} > '1:27:00'"
+        page.reads("White's clock stands", tile + ".seat .w ~ .clock", "1:29:41")
+        runs = f"{page.text(tile + '.seat .b ~ .clock')} <= '1:29:26' && {page.text(tile + '.seat .b ~ .clock')} > '1:27:00'"
         page.says("Black's runs, for twenty seconds already", runs, True)
         page.tab.press("ArrowRight", "Enter")
         page.reads("it is large", "#title", "Board 1")
@@ -93,7 +94,9 @@ def watched() -> None:
         page.reads("it follows the game again", "#line", "Live")
         page.says("the board before", "document.getElementById('board-before').hidden", True)
         page.reads("the next board", "#board-after", "Board 2 →")
-        page.tab.press("n", "n")
+        page.tab.press("n")
+        page.reads("a board on", "#title", "Board 2")
+        page.tab.press("n")
         page.reads("two boards on", "#title", "Board 4")
         page.reads("its result", "#at", "4. O-O   ½–½")
         page.reads("its clock stands", "#lower .clock", "1:29:02")
@@ -119,15 +122,68 @@ def watched() -> None:
         closed(site, page)
 
 
+HALLS = [(8, 390), (8, 1024), (8, 1440), (40, 390), (40, 1024), (40, 1440)]
+WIDTHS = "[...document.querySelectorAll('.tile')].map((tile) => tile.getBoundingClientRect().width)"
+CUT = "[...document.querySelectorAll('.tile .player')].filter((one) => one.scrollWidth > one.clientWidth).length"
+
+
+def halls() -> None:
+    """Cards are never below 200 px, and names are not cut: on a phone, a tablet and a laptop, with 8 boards and with 40."""
+    if skipped("halls"):
+        return
+    for count, width in HALLS:
+        with Site(spectators=1) as site:
+            site.show(*[a_spectators_board(number, 4, white="Keymer, Vincent", black="Nepomniachtchi, Ian") for number in range(1, count + 1)])
+            page = opened(site, width, 900)
+            page.says(f"{count} boards at {width}", "document.querySelectorAll('.tile').length", count)
+            page.says("each has 200 px", f"Math.min(...{WIDTHS}) >= 200", True)
+            page.says("no name is cut", CUT, 0)
+            page.says("nothing to the side", "document.documentElement.scrollWidth <= innerWidth", True)
+            closed(site, page)
+
+
+TAKEN = ("r4rk1/1pp2ppp/p1n5/3Qp3/8/5N2/PPP2PPP/R4RK1 b - - 0 15", "[...document.querySelectorAll('#{} .taken i')].map((one) => one.classList[1]).join()")
+
+
+def chosen() -> None:
+    """A board is put in front, finished games are left out, and both are there when the page comes again. Taken pieces, and by how much
+    a side is ahead. In another site's frame the page has no heading."""
+    if skipped("chosen"):
+        return
+    start = "rnbqkbnr/pppppppp/8/8/8/8/PPPPPPPP/RNBQKBNR w KQkq - 0 1"
+    with Site(spectators=1) as site:
+        site.show(*[a_spectators_board(number, 2, result="1-0" if number == 2 else "*") for number in range(1, 5)], event="Open")
+        site.show(a_spectators_board(4, 1, positions=[start, TAKEN[0]]))
+        page = opened(site)
+        order = "[...document.querySelectorAll('#boards .number')].map((one) => one.textContent).join()"
+        page.says("in order", order, "1,2,3,4")
+        page.tab.value("document.querySelectorAll('.pin')[2].click()")
+        page.says("board 3 is in front", order, "3,1,2,4")
+        page.tab.value("document.getElementById('hide').click()")
+        page.says("board 2 is over", order, "3,1,4")
+        page.tab.open(site.url)
+        page.says("when it comes again", order, "3,1,4")
+        page.says("which is said", "document.getElementById('hide').getAttribute('aria-pressed')", "true")
+        page.tab.value("document.querySelectorAll('.pin')[0].click(); document.getElementById('hide').click()")
+        page.says("as it was", order, "1,2,3,4")
+        page.reads("by how much", ".tile[href='#4'] .ahead", "White +8")
+        page.tab.value("location.hash = '#4'")
+        page.says("White has taken", TAKEN[1].format("lower"), "bQ,bB,bB,bN,bP")
+        page.says("Black has taken", TAKEN[1].format("upper"), "wB,wB,wN,wP,wP")
+        page.reads("and is behind", "#lower .points", "+8")
+        page.tab.open(f"{site.url}?compact")
+        page.says("without a heading", "getComputedStyle(document.querySelector('h1')).display", "none")
+        closed(site, page)
+
+
 def sizes() -> None:
-    """On a laptop all boards are in sight, and no text is too small; nowhere does anything stand to the side."""
+    """No text is too small; nowhere does anything stand to the side."""
     if skipped("sizes"):
         return
     with Site(spectators=1) as site:
         site.show(*[a_spectators_board(number, 4, titles=["GM", "IM"], ratings=["2700", "2500"]) for number in range(1, BOARDS + 1)])
         page = opened(site)
         page.says("all boards", "document.querySelectorAll('.tile').length", BOARDS)
-        page.says("in sight", "document.getElementById('boards').getBoundingClientRect().bottom <= innerHeight + 1", True)
         small = [where for where in (".tile .player", ".tile .clock", ".tile .last", "#line", "#pgn", "#to-results")
                  if float(str(page.tab.value(FONT.format(where)))) < 13]  # fmt: skip
         same("no small text at 1366 x 768", small, [])
@@ -201,4 +257,4 @@ def crowd() -> None:
             reader.close()
 
 
-TABLES = [nothing_of_the_recorder, watched, sizes, back_and_forward, twelve_tabs, crowd]
+TABLES = [nothing_of_the_recorder, watched, halls, chosen, sizes, back_and_forward, twelve_tabs, crowd]

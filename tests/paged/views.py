@@ -1,12 +1,20 @@
 """What of a game is shown to anybody who reads the page."""
 
+import json
+import pathlib
+import re
 from types import SimpleNamespace
-from typing import Optional, Tuple, cast
+from typing import Dict, List, Optional, Tuple, cast
 
 from decided.table import same
 
+from live.broadcast.history import Shot
+from live.broadcast.running import Clocks
+from live.broadcast.view import Player, SpectatorBoard
 from live.web.round_page import Game, view_of, ways_to_mend
-from live.web.view import board_text
+from live.web.view import Ply, board_text, round_text
+
+TOP = pathlib.Path(__file__).resolve().parents[2]
 
 REASONS = [
     "/dev/ttyUSB0 may not be opened: let an administrator type 'sudo adduser anna dialout', and then log in again",
@@ -32,6 +40,7 @@ class Stand:
         parts = {"fens": (), "plies": (), "differing": (), "result": "*", "pgn": b"", "trouble": trouble}
         self.board, self.number, self.name, self._words = SimpleNamespace(**parts), 5, "05", words
         self.in_front = "5 "
+        self.tags: Dict[str, str] = {}
 
     def standing(self) -> Tuple[str, Optional[float], bool]:
         return self._words, None, True
@@ -57,4 +66,39 @@ def what_to_type() -> None:
     same("in a round", view_of(cast(Game, Stand("", "WRONG: e2"))).mend, MENDED[0][2])
 
 
-TABLES = [nothing_private, what_to_type]
+SHAPES = {
+    "number": int, "pgn": str, "white": str, "black": str, "titles": list, "ratings": list, "teams": list, "federations": list, "result": str,
+    "forfeit": str,
+    "moves": list, "positions": list, "clocks": list, "runs": str, "at": float,
+}  # fmt: skip
+
+
+def documented(page: str) -> List[str]:
+    """The fields in the table of /state.json in BROADCAST."""
+    rows = page.partition("`/state.json`")[2].partition("| Field | Has |\n|---|---|\n")[2].partition("\n\n")[0]
+    return [name for row in rows.splitlines() for name in re.findall(r"`(\w+)`", row.split("|")[1])]
+
+
+def state_is_what_is_documented() -> None:
+    """A board of spectators' /state.json has the fields that BROADCAST promises, each of its kind, and the page has no others."""
+    names = documented((TOP / "docs" / "BROADCAST.md").read_text(encoding="utf-8"))
+    shot = Shot("1-0", (Ply("e4", "1:29:53"),), ("start", "after"), b"", Clocks("1:29:53", "1:30:00", "b", 5.0))
+    tags = {"WhiteTitle": "GM", "WhiteElo": "2401", "BlackTeam": "Basel", "BlackFed": "SUI"}
+    white, black = Player.of_tags(tags, "White", "Anna"), Player.of_tags(tags, "Black", "?")
+    board = json.loads(SpectatorBoard(3, white, black, shot, b"").text(100.0, None))
+    same("documented", sorted(names), sorted(board))
+    same("known here", sorted(names), sorted(SHAPES))
+    same("of these kinds", {name: type(board[name]) for name in names}, {name: SHAPES[name] for name in names})
+    values = {
+        "number": 3, "pgn": "/03.pgn", "white": "Anna", "black": "", "titles": ["GM", ""], "ratings": ["2401", ""],
+        "teams": ["", "Basel"], "federations": ["", "SUI"], "result": "1-0", "forfeit": "", "moves": [{"san": "e4", "clock": "1:29:53"}], "positions": ["start", "after"],
+        "clocks": ["1:29:53", "1:30:00"], "runs": "b", "at": 105.0,
+    }  # fmt: skip
+    same("as they are documented", board, values)
+    still = json.loads(SpectatorBoard(3, white, black, Shot()).text(100.0, None))
+    same("no clock runs", (still["clocks"], still["runs"], still["at"], still["result"]), (["", ""], "", None, "*"))
+    round_of = json.loads(round_text("Club cup", [SpectatorBoard(3, white, black, shot).text(0.0, None)]))
+    same("the round", (round_of["event"], len(round_of["boards"]), sorted(round_of)), ("Club cup", 1, ["boards", "event"]))
+
+
+TABLES = [state_is_what_is_documented, nothing_private, what_to_type]

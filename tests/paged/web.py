@@ -51,6 +51,8 @@ class SpectatorsGiven(Given, total=False):
 
     titles: Sequence[str]
     ratings: Sequence[str]
+    teams: Sequence[str]
+    federations: Sequence[str]
     runs: str
     ago: float
 
@@ -139,6 +141,9 @@ def a_board(
         "positions": POSITIONS[: plies + 1] if positions is None else positions,
         "pgn": f'[White "White {number}"]\n\n{plies} *\n\n' if pgn is None else pgn,
     }
+
+
+EMBEDDED = "http://federation.example"  # the site that may show a page with `embedded`
 
 
 class Site:

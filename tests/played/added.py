@@ -109,6 +109,52 @@ def typed_nonsense(folder: pathlib.Path) -> None:
     same(ended(live), 0)
 
 
+def typed_in_other_letters(folder: pathlib.Path) -> None:
+    """Moves in small letters, in those of another language, or with both squares: the answer says how they are written."""
+    board, live = begin_game(folder, typed=True)
+    board.play("g1f3")
+    until_game(live.name, "1. e4 e5 2. Nf3 *")
+    asked = {
+        "nf6": "refused: nf6: write Nf6",
+        "Sf6": "refused: Sf6: write Nf6",
+        "g8f6": "refused: g8f6: write Nf6",
+        "Ng8f6": "refused: Ng8f6: write Nf6",
+        "Nf6 f3e5 Dxe5": "refused: Nf6 f3e5 Dxe5: Dxe5: write Qxe5",
+        "Nf6 f3e5": "refused: Nf6 f3e5: f3e5: write Nxe5, the piece's letter and where it goes. Nothing was added",
+        "Nf6 Bc4 Bc5 e1g1": "e1g1: write O-O, with letters. Nothing was added",
+        "f7f8": "refused: f7f8 is no legal move",
+        "Nf6 bb5": "bb5: write Bb5",
+        "e5e4": "refused: e5e4 is no legal move",
+        "g8-f6": "refused: g8-f6: write the piece's letter and where it goes, as Nf3",
+    }
+    for text, part in asked.items():
+        said = len(live.lines())
+        live.type(text)
+        until(lambda: live.lines()[said:].count("\n"), f"an answer to {text}")
+        assert part in live.lines()[said:], live.lines()[said:]
+    live.type("Nf6")
+    until_game(live.name, "1. e4 e5 2. Nf3 Nf6 *")
+    same(stop(live), 0)
+
+
+def begun_late(folder: pathlib.Path) -> None:
+    """A recorder that is started after the first moves: they are typed, and the game goes on."""
+    board = a_board(folder)
+    for move in RUY[:3]:
+        board.play(move)
+    live = Live(board.device, folder / "game", typed=True)
+    until_line(live, words.IN_HAND)
+    board.play("b8c6")
+    board.play("f1b5")
+    until_line(live, words.NO_START)
+    live.type("e4 e5 Nf3 Nc6 Bb5")
+    until_game(live.name, RUY_TEXT)
+    until_line(live, words.AGREES)
+    board.play("a7a6")
+    until_game(live.name, RUY_TEXT.replace(" *", " a6 *"))
+    same(stop(live), 0)
+
+
 def typed_after_mate(folder: pathlib.Path) -> None:
     """After mate a typed result is refused with a word, since it would change nothing."""
     board = a_board(folder)

@@ -2,6 +2,7 @@
 
 import pathlib
 import re
+import sys
 from typing import List, Tuple
 
 from play_board import EMPTY, field
@@ -10,6 +11,7 @@ from played.boards import Board
 from played.recorder import Live
 from played.stage import (
     a_board,
+    begin_game,
     begun,
     bytes_of,
     go_on,
@@ -129,6 +131,48 @@ def after_a_gap(folder: pathlib.Path) -> None:
     again = go_on(board, live, typed=True)
     until_line(again, "LOOK at 1... e5; agrees")
     same(stop(again), 0)
+
+
+# The program reports a line each 0.2 s, as one does that is held up.
+REPORTS_LATE = """
+import subprocess, sys, time
+with subprocess.Popen(sys.argv[1:], stdout=subprocess.PIPE) as watch:
+    for line in watch.stdout:
+        time.sleep(0.2)
+        sys.stdout.buffer.write(line)
+        sys.stdout.buffer.flush()
+"""
+HELD_UP = """
+import subprocess, sys
+start = subprocess.Popen.__init__
+def starts(self, words, *more, **named):
+    late = [sys.executable, "-S", "-c", {script!r}] if "watch" in words else []
+    start(self, [*late, *words], *more, **named)
+subprocess.Popen.__init__ = starts
+"""
+
+
+def report_held_up(folder: pathlib.Path) -> None:
+    """The program is held up, and reports later than the board shows. Pieces that pass by at once have stood nowhere: nobody is
+    to look. Pieces of both sides that stand elsewhere for a while have moved."""
+    (folder / "sitecustomize.py").write_text(HELD_UP.format(script=REPORTS_LATE))
+    board, live = begin_game(folder, start=[sys.executable], environment={"PYTHONPATH": str(folder)})
+    there_and_back = ("e5e7", "e4e2", "e2e4", "e7e5")
+    board.play(*there_and_back)
+    board.play("g1f3")
+    until_line(live, "2. Nf3")
+    assert "LOOK" not in live.lines(), live.lines()
+    board.play("b8c6")
+    until_line(live, "2... Nc6")
+
+    def is_said() -> bool:
+        for move in ("c6b8", "f3g1", "g1f3", "b8c6"):
+            board.play(move)
+            rest(0.3)
+        return live.says("LOOK after 2... Nc6")
+
+    until(is_said, "that somebody is to look")
+    same(stop(live), 0)
 
 
 def typed_moves_are_known(folder: pathlib.Path) -> None:

@@ -150,6 +150,19 @@ def all_taken_off(folder: pathlib.Path) -> None:
     is_whole(live)
 
 
+def question_forgotten(folder: pathlib.Path) -> None:
+    """A question is open until the game changes, or ends: then it is asked anew, and its file is gone."""
+    _, live = ruy(folder)
+    question = folder / "game.back"
+    answered(live, "back 0", "takes off 5 plies, from 1. e4: type it again")
+    same(question.exists(), True)
+    answered(live, "a6", "added by hand: a6")
+    same(question.exists(), False)
+    answered(live, "back 0", "takes off 6 plies, from 1. e4: type it again")
+    same(stop(live), 0)
+    same(question.exists(), False)
+
+
 def result_taken_off(folder: pathlib.Path) -> None:
     """The kings were set into the centre by mistake: they are put back, and the result goes; a mate stays."""
     board, live = begin_game(folder, "--linger", "60", typed=True)

@@ -3,6 +3,7 @@
 Nothing of it runs by itself: `turn` takes what it is asked and sends what is due, and stands in the loop of whoever waits.
 """
 
+import contextlib
 import os
 import pathlib
 import random
@@ -55,6 +56,7 @@ class Board(play_board.Board):
         self.outgoing = bytearray()
         self.answers: List[float] = []
         self.noise_ends = 0.0
+        self.holds = 0
         self.turned_at = time.monotonic()
         self.room = 0.0
         self.plug()
@@ -136,9 +138,20 @@ class Board(play_board.Board):
             elif command == SEND_SERIAL and self.serial_number:
                 self.outgoing += frame(SERIAL, self.serial_number)
 
+    @contextlib.contextmanager
+    def at_once(self) -> Iterator[None]:
+        """What is shown meanwhile goes out at the end in one write: however often this process is held up, no piece stands for
+        long where a hand has only passed."""
+        self.holds += 1
+        try:
+            yield
+        finally:
+            self.holds -= 1
+            self.flush()
+
     def flush(self) -> None:
         """Writes what the line takes."""
-        while self.outgoing and self.plugged:
+        while self.outgoing and self.plugged and not self.holds:
             take = len(self.outgoing) if self.rate is None else int(self.room)
             if take == 0:
                 return
@@ -191,6 +204,12 @@ class Board(play_board.Board):
             kept = None
         return whole[:kept]
 
+    def play(self, *moves: str) -> None:
+        """Plays them at once."""
+        with self.at_once():
+            for move in moves:
+                super().play(move)
+
     def lift(self, square: str) -> None:
         self.show(field(square), EMPTY)
 
@@ -198,19 +217,21 @@ class Board(play_board.Board):
         self.show(field(square), code)
 
     def kings_in_centre(self, white: str, black: str) -> None:
-        for code in (KING, BLACK + KING):
-            self.show(self.codes.index(code), EMPTY)
-        self.put(white, KING)
-        self.put(black, BLACK + KING)
+        with self.at_once():
+            for code in (KING, BLACK + KING):
+                self.show(self.codes.index(code), EMPTY)
+            self.put(white, KING)
+            self.put(black, BLACK + KING)
 
     def set_up(self, last: Sequence[int]) -> None:
         """Takes all pieces off and sets them up again, those of these codes last."""
-        for number in range(64):
-            if self.codes[number] != EMPTY:
-                self.show(number, EMPTY)
         pieces = [(code in last, number, code) for number, code in enumerate(INITIAL) if code != EMPTY]
-        for _, number, code in sorted(pieces):
-            self.show(number, code)
+        with self.at_once():
+            for number in range(64):
+                if self.codes[number] != EMPTY:
+                    self.show(number, EMPTY)
+            for _, number, code in sorted(pieces):
+                self.show(number, code)
 
     def homecoming(self, kings_first: bool = False) -> Iterator[None]:
         """Brings the pieces home one by one in random order, each from where it stands, else from the box; one step a round."""

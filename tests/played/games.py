@@ -22,6 +22,7 @@ from played.stage import (
     same,
     stop,
     until,
+    until_dumped,
     until_game,
     until_line,
 )
@@ -193,6 +194,33 @@ def set_up_wrongly(folder: pathlib.Path) -> None:
     board.play("e2e4")
     until_game(right.name, "1. e4 *")
     same(stop(right), 0)
+
+
+def set_up_and_played_at_once(folder: pathlib.Path) -> None:
+    """The pieces are set up, and the first moves are made, and all of it is reported at once, as after a stalled recorder: the start
+    doesn't end its own game."""
+    for name, is_series, passed_over in (("game", False, ""), ("blitz", True, ""), ("set up by e4", False, "e4")):
+        board = a_board(folder, [EMPTY] * 64, device=folder / f"board of {name}")
+        live = Live(board.device, folder / name, *(["--series"] if is_series else []))
+        path = folder / (f"{name}-1" if is_series else name)
+        until(lambda: board.asked_for_updates and board.dump() in bytes_of(f"{path}.dgt"), "the empty board")
+        with board.at_once():
+            for number, code in enumerate(INITIAL):
+                if code and number != field("e2"):
+                    board.show(number, code)
+            if passed_over:  # which looks like a move
+                board.put(passed_over, 1)
+                board.lift(passed_over)
+            board.put("e2", 1)
+            board.play("d2d4", "d7d5")
+        until_game(path, "1. d4 d5 *")
+        until_dumped(board, path)
+        board.play("c2c4")
+        until_game(path, "1. d4 d5 2. c4 *")
+        until_line(live, "2. c4")
+        same(live.lines().count("1. d4"), 1)
+        assert "is over" not in live.lines(), live.lines()
+        same(stop(live), 0)
 
 
 def black_first(folder: pathlib.Path) -> None:

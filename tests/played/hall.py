@@ -1,6 +1,7 @@
 """What happens in a hall: updates that are cut or lost, boards that are switched off, cables that change places, noise, and
 processes that are killed."""
 
+import os
 import pathlib
 import signal
 import sys
@@ -12,7 +13,7 @@ from emulated.cable import Cable
 from emulated.room import stopwatch
 from play_board import EMPTY, field
 from played import words
-from played.boards import Cables
+from played.boards import Board, Cables
 from played.recorder import Live, command, signal_to
 from played.stage import (
     RUY,
@@ -336,9 +337,14 @@ def another_board(folder: pathlib.Path) -> None:
 
 
 def devices(folder: pathlib.Path) -> None:
-    """--devices lists the cables by their own names, with the serial numbers of boards that give one."""
+    """--devices lists the cables by their own names, with the serial numbers of boards that give one; those of the case alone,
+    whatever is plugged into this machine."""
+    none = Live("", "", "--devices")
+    same(ended(none), 0)
+    assert "no board is plugged in" in none.lines(), none.lines()
     cables = Cables(folder)
-    Stage.boards += [cables.board(f"DGT_{letter}", at) for at, letter in enumerate("AB")]
+    bluetooth = Board(folder, device=cables.folder / "rfcomm0")
+    Stage.boards += [*(cables.board(f"DGT_{letter}", at) for at, letter in enumerate("AB")), bluetooth]
 
     def listed(*parts: str) -> None:
         """A list has all of these. Where this process was held up its boards have answered too late, and it is made again."""
@@ -349,7 +355,7 @@ def devices(folder: pathlib.Path) -> None:
             same(ended(live), 0)
             lines = live.lines()
 
-    listed("usb-DGT_A", "usb-DGT_B")
+    listed("usb-DGT_A", "usb-DGT_B", os.path.realpath(bluetooth.device))
     now = stopwatch()
     for letter, manner in (("C", Manner()), ("D", Manner(late=(0.4, 0.8)))):
         device = cables.folder / f"ttyUSB{letter}"

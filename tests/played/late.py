@@ -8,7 +8,9 @@ from typing import List
 from played import words
 from played.boards import Board
 from played.recorder import Live
-from played.stage import RUY, RUY_TEXT, a_board, begun, bytes_of, ended, holds_within, kill, refuses, same, stop, until, until_line
+from played.stage import (
+    RUY, RUY_TEXT, a_board, begun, bytes_of, ended, holds_within, kill, refuses, same, stop, until, until_game, until_line,
+)  # fmt: skip
 from rounds.going_out import Clock
 from rounds.hall import plain
 
@@ -56,7 +58,7 @@ class Game:
     @property
     def shown(self) -> List[str]:
         """What spectators have: the file and its copy, which is empty while it is made anew."""
-        copy = self.www / "game.broadcast.pgn"
+        copy = self.www / f"{self.name.name}.broadcast.pgn"
         until(lambda: bytes_of(copy) or not copy.exists(), "the copy that is just made", 0.002)
         return [text_of(bytes_of(path)) for path in (f"{self.name}.broadcast.pgn", copy)]
 
@@ -224,3 +226,48 @@ def away_at_the_end(folder: pathlib.Path) -> None:
     same(ended(live), 0)
     same(game.shown, [WON] * 2)
     same(re.findall("isn't published", live.complaint()), [])
+
+
+def list_lost(folder: pathlib.Path) -> None:
+    """It is killed, and the list of what is hidden is empty or gone: nothing goes out that --add or an option makes, and the same
+    command hides the game for fifteen minutes more."""
+    game = Game(folder)
+    live = game.record()
+    game.play(live)
+    kill(live)
+    game.board.pull()
+    hidden = pathlib.Path(f"{game.name}.delayed")
+    for options, spoil in ((("--add", "1-0"), "empty"), (("--tag", "Section=A"), "gone"), (("--add", "*"), "gone"), (("--add", "1-0"), "gone")):
+        hidden.write_bytes(b"")
+        if spoil == "gone":
+            hidden.unlink()
+        same(ended(Live("", game.name, *options)), 0)
+        same((options, game.shown[0]), (options, "*"))
+    live = game.record(delay="")
+    until_line(live, REST)
+    until_line(live, WAITS)
+    same(game.shown, ["*", "*"])
+    game.clock.be(910)
+    same(ended(live), 0)
+    same(game.shown, [WON] * 2)
+
+
+def game_of_a_series(folder: pathlib.Path) -> None:
+    """A game of a delayed series that is recorded by itself is as late as the series; --delay 0 shows it at once."""
+    game = Game(folder)
+    game.name = folder / "blitz"
+    live = game.record("--series")
+    begun(live)
+    for move in RUY:
+        game.board.play(move)
+    until_game(folder / "blitz-1", RUY_TEXT)
+    kill(live)
+    game.name = folder / "blitz-1"
+    live = game.record(delay="")
+    until_line(live, "15 minutes late as before; --delay 0 ends that")
+    game.until_kept(RUY_TEXT)
+    game.until_shown("*")
+    kill(live)
+    live = game.record(delay="--delay 0")
+    game.until_shown(RUY_TEXT)
+    same(stop(live), 0)

@@ -3,11 +3,13 @@
 import ast
 import os
 import pathlib
+import socket
 import subprocess
 from typing import Dict, List, Tuple
 
 import outside
 from played import TOP, words
+from played.ports import free_port
 from played.recorder import LIVE, Live
 from played.stage import (
     PROGRAM,
@@ -38,7 +40,11 @@ def refused(folder: pathlib.Path) -> None:
     board = a_board(folder)
     (folder / "plain").write_text("")
     (folder / "shut").mkdir(mode=0o555)
+    (folder / "options.options").mkdir()
+    (folder / "text.pgn.new").mkdir()
     none = str(folder / "none")
+    taken = socket.create_server(("127.0.0.1", 0))
+    port = str(taken.getsockname()[1])
     cases = [
         ([board.device, "game", "--first", "green"], 2, "--first"),
         ([board.device, "game", "--fen", "8/8/8/8/8/8/8/4K3 w - - 0 1"], 1, "each side has one king"),
@@ -56,6 +62,7 @@ def refused(folder: pathlib.Path) -> None:
         (["", "game"], 2, "as dgt_live /dev/ttyUSB0 game"),
         ([str(folder / "plain" / "board"), "game"], 3, "dgt_live --devices"),
         (["", "none", "--strict"], 1, "type the NAME of a game"),
+        (["", "none", "--white", "Anna"], 1, "type its DEVICE first, as dgt_live /dev/ttyUSB0 none"),
         ([board.device, "game", "--devices"], 2, "--devices"),
         (["game", board.device], 2, "DEVICE first"),
         ([board.device, "game.dgt"], 1, "type its NAME alone, game"),
@@ -69,6 +76,12 @@ def refused(folder: pathlib.Path) -> None:
         ([board.device, "/proc/game"], 3, words.NOT_WRITTEN),
         ([board.device, "plain/" + "long" * 100], 3, words.NO_FOLDER),
         ([board.device, "long" * 100], 3, words.NOT_WRITTEN),
+        ([none, "late", "--delay", "5", "--publish", "true"], 3, f"there is no {none}"),
+        ([none, "blitz", "--series", "--delay", "5"], 3, f"there is no {none}"),
+        ([none, "shown", "--page", str(free_port())], 3, f"there is no {none}"),
+        ([board.device, "taken", "--page", port], 3, f"another program has port {port}"),
+        ([board.device, "options"], 3, "options.options can't be read"),
+        ([board.device, "text"], 3, "text.pgn can't be written"),
     ]
     if os.getuid():
         cases.append(([board.device, "shut/game"], 3, words.NOT_WRITTEN))
@@ -81,6 +94,7 @@ def refused(folder: pathlib.Path) -> None:
         assert "dgt_replay <COMMAND>" not in live.complaint(), live.complaint()
     same(sorted(path.name for path in folder.iterdir()), before)
     same(list((folder / "shut").iterdir()), [])
+    taken.close()
     (folder / "foreign.pgn").write_text("a game\n")
     refuses(Live(board.device, folder / "foreign"), 1, "foreign.pgn is there without")
     same((folder / "foreign.pgn").read_text(), "a game\n")
@@ -89,8 +103,8 @@ def refused(folder: pathlib.Path) -> None:
 
 
 def old_name(folder: pathlib.Path) -> None:
-    """Other options with an old NAME are refused once a ply stands; the same, and none, go on. Whose time comes first may be
-    changed, while it is recorded and afterwards, and stays so."""
+    """How the board lies and where the game begins can't be changed once a ply stands; the same options, and none, go on. Whose
+    time comes first may be changed, while it is recorded and afterwards, and stays so."""
     board = a_board(folder)
     options = ["--white", "Anna O'Neil \\ \"x\" $HOME *", "--event", "", "--first=black"]
     live = Live(board.device, folder / "game", *options)
@@ -102,7 +116,7 @@ def old_name(folder: pathlib.Path) -> None:
     board.listen(0)
     asked = board.asked
     kept = bytes_of(live.name + ".dgt"), bytes_of(live.name + ".pgn")
-    for other in (["--white", "Ben"], options[:2], [*options, "--rotated"]):
+    for other in (["--rotated"], [*options, "--rotated"], ["--fen", "8/8/4k3/8/8/4K3/4P3/8 w - - 0 1"]):
         answer = Live(board.device, live.name, *other)
         refuses(answer, 1, words.OTHER_OPTIONS)
         assert "O'Neil" in answer.complaint(), answer.complaint()
@@ -134,28 +148,29 @@ def old_name(folder: pathlib.Path) -> None:
     (folder / "bare").mkdir()
     board, live = begin_game(folder / "bare")
     same(stop(live), 0)
-    answer = Live(board.device, live.name, "--white", "Ben")
+    answer = Live(board.device, live.name, "--rotated")
     refuses(answer, 1, words.OTHER_OPTIONS)
     assert "They were\n  none\n" in answer.complaint(), answer.complaint()
 
 
 def options_changed(folder: pathlib.Path) -> None:
-    """While no ply stands the options may be changed: the same NAME with --rotated, and with another player."""
+    """While no ply stands the options may be changed: the same NAME with --rotated, and with another player. What was given
+    before stays."""
     board = a_board(folder, rotated=True)
     wrong = Live(board.device, folder / "game", "--white", "Anna")
     until(lambda: len(bytes_of(wrong.name + ".dgt")) >= 67, "a dump")
     until(lambda: len(wrong.lines().splitlines()) > 1, "a line on the squares")
     same(stop(wrong), 0)
-    right = Live(board.device, wrong.name, "--rotated", "--white", "Ben")
+    right = Live(board.device, wrong.name, "--rotated", "--black", "Ben")
     begun(right)
-    told = "its options are now --rotated --white Ben, and were --white Anna"
+    told = "its options are now --rotated --white Anna --black Ben, and were --white Anna"
     same((right.lines().count(told), (folder / "game.log").read_text().count(told)), (1, 1))
     for move in RUY:
         board.play(move)
     until_game(right.name, RUY_TEXT)
     same(stop(right), 0)
-    assert b'[White "Ben"]' in bytes_of(right.name + ".pgn")
-    again = go_on(board, right, "--rotated", "--white", "Ben")
+    assert b'[White "Anna"]\n[Black "Ben"]' in bytes_of(right.name + ".pgn")
+    again = go_on(board, right, "--rotated", "--black", "Ben")
     begun(again)
     assert "its options" not in again.lines(), again.lines()
     same(stop(again), 0)
@@ -280,14 +295,11 @@ def dates(folder: pathlib.Path) -> None:
     until_game(live.name, "1. e4 *")
     same(stop(live), 0)
     anna = ("--white", "Anna")
-    for given, wanted in (((), 0), (anna, 0), ((*anna, "--date", began), 0), (("--date", before), 1)):
+    for given in ((), anna, (*anna, "--date", began), ("--date", before), ()):
         again = Live(board.device, live.name, *given, environment=WEST)
-        if wanted:
-            refuses(again, 1, words.OTHER_OPTIONS)
-            assert "They were\n  --white Anna\n" in again.complaint(), again.complaint()
-        else:
-            until_line(again, "1. e4")
-            same(stop(again), 0)
+        until_line(again, "1. e4")
+        same(stop(again), 0)
+        began = before if before in given else began
         same(date_of(live.name), began)
     (folder / "old.dgt").write_bytes((TOP / "samples" / "short-game.dgt").read_bytes())
     (folder / "old.options").write_text("--white\nAnna\n")

@@ -101,19 +101,21 @@ class Playing:
         self.turned_at = now
         if self.process.poll() is not None:
             return True
-        if self.seconds > LIMIT + 60:
+        if self.seconds > LIMIT + 240:
             self.process.kill()
-        elif self.seconds > LIMIT + 30 and not self.was_told:
+        elif self.seconds > LIMIT + 120 and not self.was_told:
             self.was_told = True  # once: a second signal would end it without a word
             self.process.terminate()
         return False
 
 
 def environment(folder: pathlib.Path) -> Dict[str, str]:
-    """That of a case. Each recorder is run by this Python, and takes what was compiled for all of them."""
+    """That of a case. Each recorder is run by this Python, takes what was compiled for all of them, and finds none of the boards
+    that are plugged into this machine."""
     path = f"{pathlib.Path(sys.executable).parent}{os.pathsep}{os.environ.get('PATH', os.defpath)}"
     others = {name: value for name, value in os.environ.items() if name != "PYTHONDONTWRITEBYTECODE"}
-    return {**others, "PATH": path, "PYTHONPYCACHEPREFIX": str(folder / "compiled")}
+    nothing_plugged = str(folder / "dev" / "serial")
+    return {**others, "PATH": path, "PYTHONPYCACHEPREFIX": str(folder / "compiled"), "DGT_LIVE_SERIAL": nothing_plugged}
 
 
 def compile_modules(folder: pathlib.Path) -> None:

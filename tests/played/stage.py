@@ -17,7 +17,8 @@ from played.boards import Board
 from played.recorder import Live, processes
 
 PROGRAM = TOP / "bin" / "dgt_replay"
-LIMIT = int(os.environ.get("CASE_SECONDS", "300"))  # that a case may take
+LIMIT = int(os.environ.get("CASE_SECONDS", "900"))  # that a case may take
+IN_VAIN = 120  # seconds that a wait lasts when no recorder runs
 RUY = ["e2e4", "e7e5", "g1f3", "b8c6", "f1b5"]
 RUY_TEXT = "1. e4 e5 2. Nf3 Nc6 3. Bb5 *"
 SAMPLE_TEXT = (
@@ -28,6 +29,19 @@ SAMPLE_TEXT = (
 
 class Skipped(Exception):
     """A case that can't be played here, and why."""
+
+
+class Patience:
+    """How long a wait has lasted. A machine that was stopped for a while has taken nothing of it."""
+
+    def __init__(self, limit: float) -> None:
+        self.limit, self.seconds, self._at = limit, 0.0, time.monotonic()
+
+    def is_over(self) -> bool:
+        now = time.monotonic()
+        self.seconds += min(now - self._at, 1.0)
+        self._at = now
+        return self.seconds > self.limit
 
 
 class Stage:
@@ -58,10 +72,14 @@ def turn(pause: float = 0.005) -> None:
 
 
 def until(holds: Callable[[], object], what: str, pause: float = 0.005) -> None:
-    """Lets the boards answer until it holds."""
+    """Lets the boards answer until it holds. If all recorders have ended, that isn't waited for until the case's time is over."""
+    patience = Patience(IN_VAIN)
     while not holds():
         if time.monotonic() > Stage.ends:
             raise AssertionError(f"{LIMIT} s are over, still to come: {what}")
+        if not Live.all or any(live.runs for live in Live.all):
+            patience = Patience(IN_VAIN)
+        assert not patience.is_over(), f"no recorder has run for {IN_VAIN} s, still to come: {what}"
         turn(pause)
     for board in Stage.boards:
         board.turn()

@@ -220,6 +220,14 @@ CASES: Tuple[Case, ...] = (
         f"{QUIET_GAME} 5. Be2 Be7 6. O-O *",
     ),
     Case(
+        # While White's first knight and Black's are lifted, the board looks as after 1. Nxc6 Nxc6; then the second knight is lifted and
+        # the first put back, as by 2. Nb4. But each piece that shows is where it was.
+        "three pieces are straightened at once",
+        "4k3/4n3/2n5/8/1N6/8/N7/4K3 e7 b4 a2 b4N a2N e7n",
+        "*",
+        fen="4k3/4n3/2n5/8/1N6/8/N7/4K3 w - - 0 1",
+    ),
+    Case(
         # The same exchange would put no piece where none, or another one, stood. And the kings are no sign without it.
         "two pieces are taken off before the kings are set up",
         f"{QUIET} f3 d6 e1 e8 d4K e5k",
@@ -228,10 +236,16 @@ CASES: Tuple[Case, ...] = (
     Case(
         # White straightens the knight of f3, and then takes with it. What was back before the picture that waits again is no matter.
         "an exchange with a piece that was just straightened",
-        f"{QUIET} f3 d6 f3N f3 e5 e5p d2 f3N [r1bqkb1r/ppp2ppp/2np1n2/4N3/4P3/3P4/PPPN1PPP/R1BQKB1R"
-        " r1bqkb1r/ppp2ppp/2n2n2/4p3/4P3/3P4/PPPN1PPP/R1BQKB1R r1bqkb1r/ppp2ppp/2n2n2/4p3/4P3/3P1N2/PPP2PPP/R1BQKB1R]",
-        f"{QUIET_GAME} 5. Nxe5 dxe5 6. Nf3 *",
+        f"{QUIET} f3 d6 f3N f3 e5 e5p d2 c4N [r1bqkb1r/ppp2ppp/2np1n2/4N3/4P3/3P4/PPPN1PPP/R1BQKB1R"
+        " r1bqkb1r/ppp2ppp/2n2n2/4p3/4P3/3P4/PPPN1PPP/R1BQKB1R r1bqkb1r/ppp2ppp/2n2n2/4p3/2N1P3/3P4/PPP2PPP/R1BQKB1R]",
+        f"{QUIET_GAME} 5. Nxe5 dxe5 6. Nc4 *",
         ("186 recovered 5. Nxe5 5... dxe5",),
+    ),
+    Case(
+        # Played or not, 5. Nxe5 dxe5 6. Nf3 leaves no piece where none stood: nobody can tell it from pieces that are straightened.
+        "an exchange behind which a like piece comes to where the taker stood",
+        f"{QUIET} f3 d6 e5 e5p d2 f3N f8 e7b",
+        f"{QUIET_GAME} *",
     ),
     Case(
         # The queen stands before the pawn is off the board: one piece more, but none that the pair took.

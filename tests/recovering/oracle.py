@@ -65,9 +65,9 @@ def is_back(picture: Picture, now: Position, after: Position) -> bool:
     return any(after.board.count(code) < min(now.board.count(code), picture.count(code)) for code in range(1, 13))
 
 
-def puts_piece(now: Position, after: Position) -> bool:
-    """Whether a piece was put down between two positions."""
-    return any(code not in (EMPTY, old) for old, code in zip(now.board, after.board))
+def shows_new(position: Position, picture: Picture) -> bool:
+    """Whether a picture shows a piece on a square where a position has none, or another."""
+    return any(code not in (EMPTY, old) for old, code in zip(position.board, picture))
 
 
 def two_plies(position: Position, picture: Picture) -> Iterator[Tuple[Move, Move]]:
@@ -156,13 +156,18 @@ class Fold:
         return self.begins(pair).after(pair.first).after(pair.second)
 
     def confirmed(self, picture: Picture) -> List[Pair]:
-        """The pairs that explain an entry that waits and have this picture as their sequel: a move, or a sign over the position
-        after a pair that put a piece down."""
+        """The pairs that explain an entry that waits and have this picture as their sequel."""
         pairs = dict.fromkeys(pair for entry in self.waiting for pair in entry.pairs)
-        return [pair for pair in pairs if self.ends(pair).move_to(picture) or self.is_sign_after(pair, picture)]
+        return [pair for pair in pairs if self.is_move_after(pair, picture) or self.is_sign_after(pair, picture)]
+
+    def is_move_after(self, pair: Pair, picture: Picture) -> bool:
+        """A move, where the pair or this put a piece on a square on which none, or another one, stood before."""
+        is_new = shows_new(self.position, picture) or shows_new(self.position, self.ends(pair).board)
+        return is_new and self.ends(pair).move_to(picture) is not None
 
     def is_sign_after(self, pair: Pair, picture: Picture) -> bool:
-        return is_sign(picture, self.ends(pair)) and puts_piece(self.position, self.ends(pair))
+        """A sign over the position after the pair, which put a piece down."""
+        return is_sign(picture, self.ends(pair)) and shows_new(self.position, self.ends(pair).board)
 
     def without_back(self, pairs: Tuple[Pair, ...], picture: Picture) -> Tuple[Pair, ...]:
         """Those of which no piece that they took is back in a picture."""

@@ -90,6 +90,28 @@ def straightens(chance: random.Random, board: Picture, exchange: Exchange) -> Li
     return merged(chance, straightened(board, one), straightened(board, list(dict.fromkeys(other))))
 
 
+def lifts(chance: random.Random, board: Picture, exchange: Exchange) -> List[Change]:
+    """Both sides lift several pieces, those of the exchange among them, and put them back, in any order."""
+    white = is_white(board[exchange.taker])
+    squares = {exchange.taker, exchange.retaker, *chance.sample(exchange.followers, min(1, len(exchange.followers)))}
+    squares |= {*chosen(chance, board, white, 2), *chosen(chance, board, not white, 2)} if chance.random() < 0.5 else set()
+    left = sorted(squares) * chance.choice((1, 1, 2))  # how often each is lifted
+    off: List[int] = []
+    done: List[Change] = []
+    while left or off:
+        if left and (not off or chance.random() < 0.6):
+            square = left.pop(chance.randrange(len(left)))
+            if square in off:
+                left.append(square)
+                continue
+            off.append(square)
+            done.append((square, EMPTY))
+        else:
+            square = off.pop(chance.randrange(len(off)))
+            done.append((square, board[square]))
+    return done
+
+
 def cleared(chance: random.Random, board: Picture, exchange: Exchange) -> List[Change]:
     """Pieces are taken off the board, the pair of the exchange first or not, and the kings are set up among them: both are lifted
     before one is set down."""
@@ -128,6 +150,13 @@ def played(chance: random.Random, game: hurried.Game, first: int, last: int) -> 
         for before, after in zip(pictures, pictures[1:])
         for touch in hurried.hand(chance, before, after, SLIDES)
     ]
+
+
+def lifting(chance: random.Random, game: hurried.Game, exchange: Exchange) -> bytes:
+    """A game in which both sides have several pieces in hand at once, and then a few plies more."""
+    last = min(exchange.plies + chance.randint(1, 4), len(game.pictures) - 1)
+    changes = played(chance, game, 0, exchange.plies) + lifts(chance, game.pictures[exchange.plies], exchange)
+    return sent_of(changes + played(chance, game, exchange.plies, last))
 
 
 def straightening(chance: random.Random, game: hurried.Game, exchange: Exchange) -> bytes:

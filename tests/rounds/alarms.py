@@ -42,8 +42,8 @@ def looked_at(folder: pathlib.Path) -> None:
     until_line(live, f"  1  {LOOK}; agrees")
     until_line(live, "Look at it, and type 1 ok")
     says(live, 1, f"{LOOK}; agrees; {LOOK}: the board wasn't heard")
-    until(lambda: [board["alarm"] for board in boards_of(port)] == [True, False], "an alarm on the page", 0.05)
-    assert LOOK in str(boards_of(port)[0]), boards_of(port)[0]
+    until(lambda: LOOK in str(boards_of(port)[0]), f"{LOOK} on the page", 0.05)
+    same([board["alarm"] for board in boards_of(port)], [True, False])
     assert f"{LOOK}: " in bytes_of(hall.name(1) + ".log").decode()
     same(stop(live), 0)
     again = hall.record("--arbiter-page", str(port), typed=True)

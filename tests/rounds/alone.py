@@ -13,7 +13,8 @@ from played import words
 from played.ports import free_port
 from played.recorder import Live, command, processes, signal_to
 from played.stage import bytes_of, movetext, refuses, rest, same, stop, until, until_line
-from rounds.hall import Hall, moves, told
+from rounds.delayed import stuck_program
+from rounds.hall import Hall, agrees, moves, told
 
 # A program can't be started for one board as long as a file is there, nor a cable's folder be listed where another one is.
 NOT_STARTED = """
@@ -272,4 +273,35 @@ def square_that_chatters(folder: pathlib.Path) -> None:
     more = (memory(live.process.pid) - before) * 1024 / 500_000
     print(f"   {more:.1f} bytes of memory for each byte", flush=True)
     assert more < 10, f"{more:.1f} bytes of memory for each byte"
+    same(stop(live), 0)
+
+
+def asked_first(folder: pathlib.Path) -> None:
+    """A game that goes on is read, and that takes long: its board is asked before, and no ply of two is lost that are played meanwhile.
+    A capture of 48 MiB is said to be large."""
+    hall, stuck = Hall(folder, 1), folder / "stuck"
+    live = hall.record()
+    hall.begun(live)
+    hall.play(0, 2)
+    same(stop(live), 0)
+    stuck.write_text("watch")
+    before = hall.boards[0].asked.count(b"BK")
+    live = hall.record(program=stuck_program(folder, stuck))
+    until(lambda: hall.boards[0].asked.count(b"BK") > before, "that the board is asked")
+    for move in moves(0)[2:4]:
+        hall.boards[0].play(move)
+    same(agrees(live, 1), False)
+    stuck.unlink()
+    hall.until_text(1, "1. e4 e5 2. Nf3 Nc6 *")
+    same(stop(live), 0)
+    time_message = bytes([0x8D, 0, 10, 0, 0x10, 0, 0, 0x10, 0, 0])
+    with open(hall.name(1) + ".dgt", "ab") as capture:
+        capture.write(time_message * ((48 << 20) // len(time_message) - 2000))
+    live = hall.record()
+
+    def is_said() -> bool:
+        hall.boards[0].clock(600, 600)
+        return live.says("01.dgt has 48 MiB, and none may have more than 64")
+
+    until(is_said, "that it is large", 0.05)
     same(stop(live), 0)

@@ -4,7 +4,8 @@ import pathlib
 
 from played import words
 from played.back_killed import OnTheWay
-from played.stage import bytes_of, movetext, same, stop, until_dumped, until_line
+from played.recorder import Live
+from played.stage import bytes_of, ended, movetext, rest, same, stop, until, until_dumped, until_line
 from rounds.alarms import says
 from rounds.hall import Hall
 
@@ -58,10 +59,10 @@ def set_up_and_back(folder: pathlib.Path) -> None:
     same([bytes_of(hall.name(number) + ".end") for number in (1, 2, 3)], [b"", b"", b""])
     hall.boards[0].play("d2d4")
     hall.until_text(1, "1. d4 *")
-    for board in hall.boards[1:]:
-        for move in ("e2e4", "e7e5"):
-            board.play(move)
-    hall.boards[1].play("g1f3")
+    hall.boards[2].play("e2e4", "e7e5")
+    for move in ("e2e4", "e7e5", "g1f3"):  # by a slow hand, as each piece stands for a while
+        hall.boards[1].play(move)
+        rest(0.3)
     for number in (2, 3):
         says(live, number, "agrees; ")
     same(stop(live), 0)
@@ -76,3 +77,27 @@ def set_up_and_back(folder: pathlib.Path) -> None:
     hall.until_round()
     same(stop(again), 0)
     assert words.WRONG not in again.lines(), again.lines()
+
+
+def last_screen(live: Live) -> str:
+    """The table with the messages below it, as it was drawn whole last."""
+    return " ".join(words.plain(live.told.read().rpartition("\x1b[H\x1b[2J")[2]).split())
+
+
+def answered_once(folder: pathlib.Path) -> None:
+    """What is typed for a board is answered once below the table, also if its cable is out."""
+    hall = Hall(folder, 2)
+    live = hall.record(terminal=True, environment={"TERM": "xterm"})
+    until_line(live, "2 boards, no alarm")
+    until(lambda: all(board.asked_for_updates for board in hall.boards), "a request for updates")
+    hall.play(0, 3)
+    hall.boards[1].pull()
+    until_line(live, words.UNPLUGGED)
+    for typed, answer in (("1-0", "is over: its result was typed"), ("*", "goes on, without the result"), ("ok", "there is no LOOK here")):
+        live.type(f"2 {typed}")
+        until(lambda: answer in last_screen(live), f"{answer}, after 2 {typed}")
+        live.type("help")
+        until(lambda: "(the state of board" in last_screen(live), "the answer to help")
+        same(last_screen(live).count(answer), 1)
+    live.type("q")
+    same(ended(live), 0)

@@ -25,7 +25,7 @@ def on_the_page(ply: int) -> str:
     square = f"document.querySelectorAll(\".tile[href='#1'] i\")[{number}].classList"
     return (
         f"[{TILE.format('.last')}, {square}.contains('{piece}') && {square}.contains('to'), "
-        f"{TILE.format(f'.seat .{side} + .clock')}].join() === '{SHOWN[ply]},true,{clock}'"
+        f"{TILE.format(f'.seat .{side} ~ .clock')}].join() === '{SHOWN[ply]},true,{clock}'"
     )
 
 

@@ -8,12 +8,14 @@ from played import words
 from played.recovered import PAIR, hurried
 from played.stage import bytes_of, movetext, refuses, run, same, stop, until, until_line
 from rounds.alarms import says
+from rounds.delayed import stuck_program, words_of
 from rounds.hall import Hall, games_of, text
 
 
 def another_round(folder: pathlib.Path) -> None:
-    """The next round's file, and the old folder: all is refused before anything is changed. One player's name may be put
-    right, and so may one that wasn't known, and those of a game without a move; r changes both names, and that is told."""
+    """The next round's file, and the old folder: all is refused before anything is changed, also what is kept of options. One
+    player's name may be put right, and so may one that wasn't known, and those of a game without a move; r changes both names,
+    and that is told."""
     hall = Hall(folder, 4)
     header = "board,device,white,black"
     devices = [f"{number},{folder}/board{number}" for number in range(1, 5)]
@@ -26,18 +28,19 @@ def another_round(folder: pathlib.Path) -> None:
         return " - ".join(game.partition(f'[{tag} "')[2].partition('"')[0] for tag in ("White", "Black"))
 
     write("Anne,Ben", "M\u00fcller,Kern", ",", "Eva,Finn")
-    live = hall.record()
+    live = hall.record("--delay", "60")
     hall.begun(live)
     hall.play(0, 2, [0, 1, 2])
     same(stop(live), 0)
     files = {path: bytes_of(path) for path in sorted(hall.games.iterdir())}
+    assert hall.games / "01.delayed" in files, files.keys()
     write("Anna,Ben", "Gus,Hal", "Ida,Jan", "Kim,Lea")
     place = hall.games.parent / "games-2"
-    for options in ((), ("--round", "4")):
+    for options in ((), ("--round", "4"), ("--delay", "0"), ("--page", "8000")):
         live = hall.record(*options)
-        refuses(live, 1, f"dgt_round: {hall.games}/02 has moves of Mueller - Kern: for another round take another folder, as")
+        refuses(live, 1, f"dgt_round: {hall.games}/02 has moves of Müller - Kern: for another round take another folder, as")
         assert live.complaint().splitlines()[0].endswith(f" dgt_round {hall.file} {place}"), live.complaint()
-        assert "\n  To change both names of a game, start with the old table, change it, and type r\n" in live.complaint()
+        assert "\n  To put names right all the same, start with the old table, change it, and type r\n" in live.complaint()
         same({path: bytes_of(path) for path in sorted(hall.games.iterdir())}, files)
     place.mkdir()
     refuses(hall.record(), 1, f"dgt_round {hall.file} {hall.games}-3")
@@ -46,17 +49,49 @@ def another_round(folder: pathlib.Path) -> None:
     live = hall.record(typed=True)
     hall.begun(live)
     until_line(live, "  1  its game is now Anna - Ben, and was Anne - Ben\n")
-    until_line(live, "  2  its game is now Mueller - Hal, and was Mueller - Kern\n")
+    until_line(live, "  2  its game is now Müller - Hal, and was Müller - Kern\n")
     until_line(live, "  3  its game is now Ida - Jan, and was ? - ?\n")
     assert "Kim" not in live.lines(), live.lines()
     write("Anna,Ben", "Gus,Nora", "Ida,Jan", "Kim,Lea")
+    live.type("2 name White=Gus")
+    until_line(live, "2 refused: name White=Gus: the names of a round are in its table: change them there, save it, and type r")
     live.type("r")
-    until_line(live, "  2  its game is now Gus - Nora, and was Mueller - Hal\n")
+    until_line(live, "  2  its game is now Gus - Nora, and was Müller - Hal\n")
     until(lambda: tags(2) == "Gus - Nora", "both names of board 2")
     until(lambda: [tags(number) for number in (1, 3, 4)] == ["Anna - Ben", "Ida - Jan", "Kim - Lea"], "the names of the others")
     same(stop(live), 0)
     live = hall.record("--round", "4")
     until_line(live, "  2  its round is now 4, and was ?\n")
+    same(stop(live), 0)
+
+
+def round_that_is_over(folder: pathlib.Path) -> None:
+    """The next round's table and the old folder, where one player of each pair stays at the board: games that are over keep their
+    players, and all is refused. In a game that isn't over, one name may still be put right; by r also in one that is over."""
+    hall = Hall(folder, 2)
+
+    def write(*players: str) -> None:
+        lines = [f"{number},{folder}/board{number},{pair}" for number, pair in enumerate(players, 1)]
+        hall.file.write_text("\n".join(["board,device,white,black", *lines, ""]))
+
+    write("Anna,Ben", "Cara,Dan")
+    live = hall.record(typed=True)
+    hall.begun(live)
+    hall.play(0, 2)
+    live.type("1 1-0")
+    hall.until_over(live, 1, "1-0")
+    same(stop(live), 0)
+    files = {path: bytes_of(path) for path in sorted(hall.games.iterdir())}
+    write("Anna,Dan", "Cara,Ben")
+    live = hall.record()
+    refuses(live, 1, f"dgt_round: {hall.games}/01 is over, and was played by Anna - Ben: for another round take another folder")
+    same({path: bytes_of(path) for path in sorted(hall.games.iterdir())}, files)
+    write("Anna,Ben", "Cara,Dean")
+    live = hall.record(typed=True)
+    until_line(live, "  2  its game is now Cara - Dean, and was Cara - Dan\n")
+    write("Anne,Ben", "Cara,Dean")
+    live.type("r")
+    until(lambda: b'[White "Anne"]' in bytes_of(hall.name(1) + ".pgn"), "the name that was put right")
     same(stop(live), 0)
 
 
@@ -298,4 +333,22 @@ def renamed(folder: pathlib.Path) -> None:
     hall.boards[0].play("g1f3")
     hall.until_text(1, "1. e4 e5 2. Nf3 *")
     same(live.lines().count("  1  UNPLUGGED"), 1)
+    same(stop(live), 0)
+
+
+def read_while_opened(folder: pathlib.Path) -> None:
+    """The table is read again while a game is being opened: the board gets the game of its new line."""
+    hall = Hall(folder, 1)
+    stuck = folder / "stuck"
+    stuck.write_text("record")
+    live = hall.record(program=stuck_program(folder, stuck), typed=True)
+    until(lambda: any("record" in word for word in words_of(live)), "a call of record that is stuck")
+    hall.extra = {1: ",other"}
+    hall.write(header="board,device,white,black,name")
+    live.type("r")
+    until_line(live, "is read again")
+    stuck.unlink()
+    until_line(live, "  1  agrees")
+    hall.boards[0].play("e2e4")
+    until(lambda: movetext(hall.games / "other") == "1. e4 *", "the move in the game of the new line")
     same(stop(live), 0)

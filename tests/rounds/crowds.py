@@ -19,7 +19,7 @@ from rounds.hall import Hall, moves, told
 FEW = 256  # descriptors
 READERS = 320
 PIPELINING = 100
-PATIENCE = 60  # seconds
+PATIENCE = 300  # seconds
 REQUEST = b"GET /state.json HTTP/1.1\r\nHost: localhost\r\n\r\n"
 LIMITED = """
 import os, resource, sys

@@ -24,16 +24,19 @@ from rounds.rounds import boards_of, fetch
 from live.broadcast import kept
 
 PATHS = ["/", "/state.json", "/round.pgn", "/01.pgn", "/02.pgn", "/03.pgn", "/nothing", "/page.js", "/broadcast.pgn", "/01.delayed"]
-# Starts the recorder with a clock that is ahead of the computer's by as many seconds as a file says, and has it publish quickly.
+# Starts the recorder with a clock that is ahead of the computer's by as many seconds as a file says. It publishes quickly, and a
+# run may take as long as another file says.
 AHEAD = """
 import pathlib, runpy, sys, time
 sys.dont_write_bytecode = True
-ahead, sys.argv = pathlib.Path(sys.argv[1]), sys.argv[2:]
+ahead, longest, sys.argv = pathlib.Path(sys.argv[1]), pathlib.Path(sys.argv[2]), sys.argv[3:]
 sys.path.insert(0, {top!r})
 from live import loop
 from live.broadcast import publishing
 loop.Loop.now = staticmethod(lambda: time.monotonic() + float(ahead.read_text()))
-publishing.EACH, publishing.PAUSES, publishing.LONGEST = 0.1, (0.1, 0.2), {longest}
+publishing.EACH, publishing.PAUSES = 0.1, (0.1, 0.2)
+run = publishing.run
+publishing.run = lambda words, path, _: run(words, path, float(longest.read_text()))
 runpy.run_path(sys.argv[0], run_name="__main__")
 """
 # Puts a file to an address, with a token that it reads itself.
@@ -55,25 +58,34 @@ NOT_TOLD = [b"device", b"differing", b"SILENT", b"LOOK", b"agrees", b"state", b"
 
 
 class Clock:
-    """How far the recorder's clock is ahead."""
+    """How far the recorder's clock is ahead, and how long a run of its command may take."""
 
-    def __init__(self, folder: pathlib.Path, longest: float = 30.0) -> None:
-        self._file, script = folder / "ahead", folder / "ahead.py"
-        script.write_text(AHEAD.format(top=str(TOP), longest=longest))
-        self.start: List[object] = [sys.executable, script, self._file]
+    def __init__(self, folder: pathlib.Path) -> None:
+        self._ahead, self._longest, script = folder / "ahead", folder / "longest", folder / "ahead.py"
+        script.write_text(AHEAD.format(top=str(TOP)))
+        self.start: List[object] = [sys.executable, script, self._ahead, self._longest]
         self.be(0)
+        self.may_take(300)
 
     def be(self, seconds: float) -> None:
-        new = self._file.with_suffix(".new")
-        new.write_text(str(seconds))
-        new.replace(self._file)
+        put(self._ahead, seconds)
+
+    def may_take(self, seconds: float) -> None:
+        put(self._longest, seconds)
+
+
+def put(file: pathlib.Path, seconds: float) -> None:
+    """At once, as a recorder may be reading it."""
+    new = file.with_suffix(".new")
+    new.write_text(str(seconds))
+    new.replace(file)
 
 
 def raw(address: Tuple[str, int], request: str) -> bytes:
     """All that comes back, the head too. Of events, what comes first."""
-    with socket.create_connection(address, 30) as line:
+    with socket.create_connection(address, 300) as line:
         line.sendall(f"{request} HTTP/1.1\r\nHost: localhost\r\nConnection: close\r\n\r\n".encode())
-        line.settimeout(30)
+        line.settimeout(300)
         came = b""
         while part := line.recv(1 << 16):
             came += part
@@ -269,7 +281,7 @@ def published(folder: pathlib.Path) -> None:
     puts.write_text(PUTS)
     hall = Hall(folder, 1)
     command = f"{sys.executable} {puts} http://127.0.0.1:{server.port}/round.pgn {token}"
-    clock = Clock(folder, longest=2.0)
+    clock = Clock(folder)
     live = hall.record("--arbiter-page", str(arbiters), "--publish", command, typed=True, start=clock.start)
     hall.begun(live)
     path, seen, ply = hall.games / "broadcast.pgn", 0, 0
@@ -280,6 +292,7 @@ def published(folder: pathlib.Path) -> None:
         ("slow", "it took more than 2 s, and was ended"),
     ):
         server.mood = mood
+        clock.may_take(2 if mood == "slow" else 300)
         hall.play(ply, ply + 1)
         ply += 1
         if mood == "away":
@@ -289,6 +302,7 @@ def published(folder: pathlib.Path) -> None:
         until(lambda: b"NOT PUBLISHED" in fetch_events(arbiters), "that the arbiter's page says so", 0.1)
         same(TOKEN in command_lines(live), False)
         server.mood = "takes"
+        clock.may_take(300)
         until(lambda: server.last == bytes_of(path) and movetext(hall.name(1)).split(" ")[-2] in server.last.decode(), "the last text", 0.05)
         until(lambda: f"{path} is published again" in live.lines()[seen:], "that it goes out again")
         until(lambda: b"NOT PUBLISHED" not in fetch_events(arbiters), "that the arbiter's page says it no more", 0.1)
@@ -352,7 +366,7 @@ def status_of(port: int, password: str) -> int:
     word = base64.b64encode(f"arbiter:{password}".encode()).decode()
     request = urllib.request.Request(f"http://127.0.0.1:{port}/state.json", headers={"Authorization": f"Basic {word}"})
     try:
-        with urllib.request.urlopen(request, timeout=30) as answer:
+        with urllib.request.urlopen(request, timeout=300) as answer:
             return int(answer.status)
     except urllib.error.HTTPError as error:
         return error.code

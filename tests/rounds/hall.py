@@ -126,7 +126,7 @@ class Hall:
             until(lambda: agrees(live, number), f"that board {number} agrees")
 
     def until_over(self, live: Live, number: int, result: str) -> None:
-        """The board's game is over, and its row says so when it is asked."""
+        """The board's game is over, and its row says so when it is asked, whatever somebody is to look at there."""
         asked_at = 0.0
 
         def over() -> bool:
@@ -134,7 +134,7 @@ class Hall:
             if time.monotonic() - asked_at > 0.5:
                 asked_at = time.monotonic()
                 live.type(str(number))
-            return live.says(f"{number}: over {result}")
+            return re.search(rf" {number}: (LOOK [^;]*; )?over {result}", live.lines()) is not None
 
         until(over, f"the end of the game of board {number}")
 

@@ -9,7 +9,49 @@ from played.stage import ended, refuses, same, stop, until, until_line
 from rounds.hall import ROUND, Hall
 
 LARGEST = 256 * 1024  # bytes of a table
+ODD = {  # names as a table has them, and what stands between the quotes of their tags
+    "-": "-",
+    "--": "--",
+    "-1": "-1",
+    "-bye-": "-bye-",
+    "--white": "--white",
+    "=x": "=x",
+    " x ": "x",
+    '"""Jim"""': '\\"Jim\\"',
+    "C:\\": "C:\\\\",
+    "x" * 101: "White 10",
+}
 
+
+def odd_names(folder: pathlib.Path) -> None:
+    """Names that look like options, and other odd ones, in a table, as the event and as the folder: each board is recorded, and goes
+    on when the round is started again. What publishes the round takes no path for an option."""
+    hall = Hall(folder, len(ODD) + 1)
+    names = [*ODD, "a\u2028b"]
+    hall.file.write_text(
+        "board,device,white,black\n" + "".join(f"{n},{folder}/board{n},{name},-\n" for n, name in enumerate(names, 1))
+    )
+    hall.games = folder / "-r3"
+    publish = folder / "publish"
+    publish.write_text(f"#!/bin/sh\ncat \"$@\" > {folder}/published\n")
+    publish.chmod(0o755)
+    options = ("--event=- Open -", "--site", "-1", f"--publish={publish}")
+    live = Live("round.csv", "./-r3", *options, program=ROUND, cwd=folder)
+    until_line(live, f"line {len(ODD) + 2} of round.csv")
+    until_line(live, "white has a character that can't be seen: type it anew")
+    numbers = list(range(len(ODD)))
+    for number in numbers:
+        until_line(live, f"{number + 1:>3}  agrees")
+    hall.play(0, 1, numbers)
+    for number, recorded in enumerate(ODD.values(), 1):
+        lines = pathlib.Path(f"{hall.name(number)}.pgn").read_text().splitlines()
+        same((lines[0], lines[1], lines[4]), ('[Event "- Open -"]', '[Site "-1"]', f'[White "{recorded}"]'))
+    until(lambda: (folder / "published").exists() and b"- Open -" in (folder / "published").read_bytes(), "what is published")
+    same(stop(live, signal.SIGTERM), 0)
+    again = Live("round.csv", "./-r3", program=ROUND, cwd=folder)
+    until_line(again, "the round goes on with '--event=- Open -' --site=-1; give others to change that")
+    hall.play(1, 2, numbers)
+    same(stop(again, signal.SIGTERM), 0)
 
 
 def pipes(folder: pathlib.Path) -> None:

@@ -133,6 +133,27 @@ def typed(folder: pathlib.Path) -> None:
     same(hall.text(3), "1. e4 c5 0-1")
 
 
+def all_over(folder: pathlib.Path) -> None:
+    """When all games are over, a line says what to type: once, and again after one of them has gone on."""
+    hall = Hall(folder, 2)
+    live = hall.record(typed=True)
+    hall.begun(live)
+    hall.play(0, 2)
+    said = "all games are over: type q to end"
+    live.type("1 1-0")
+    hall.until_over(live, 1, "1-0")
+    same(live.says(said), False)
+    live.type("2 1-0")
+    until_line(live, said)
+    live.type("2 *")
+    until_line(live, "goes on, without the result")
+    live.type("2 0-1")
+    until_line(live, said, 2)
+    live.type("q")
+    same(ended(live), 0)
+    same(live.says(said, 3), False)
+
+
 def all_squares(folder: pathlib.Path) -> None:
     """Ten squares differ: the row counts them, and the number of the board alone names each of them."""
     hall = Hall(folder, 1)
@@ -360,7 +381,7 @@ def a_wrong_line(folder: pathlib.Path) -> None:
 
 def fetch(port: int, path: str) -> bytes:
     """What the page serves there."""
-    with urllib.request.urlopen(f"http://127.0.0.1:{port}{path}", timeout=30) as answer:
+    with urllib.request.urlopen(f"http://127.0.0.1:{port}{path}", timeout=300) as answer:
         return bytes(answer.read())
 
 
@@ -385,6 +406,30 @@ def page(folder: pathlib.Path) -> None:
     same((first["white"], first["black"]), ("White 1", "Black 1"))
     until(lambda: fetch(port, "/round.pgn") == bytes_of(hall.games / "round.pgn"), "round.pgn on the page", 0.05)
     same(stop(live), 0)
+
+
+def page_again(folder: pathlib.Path) -> None:
+    """A round that was shown is shown again where it was, and says so, without the option; `--page no` ends that. So is the game
+    of a single board."""
+    hall = Hall(folder, 1)
+    port, another = free_port(), free_port()
+    shown = [words.AGREES, f"is shown at http://127.0.0.1:{port}/", "it is shown as before; --page no ends that"]
+    board, game = hall.boards[0].device, folder / "game"
+
+    def told(*options: str, of_round: bool) -> "list[str]":
+        """Which of these lines a call prints."""
+        live = hall.record(*options) if of_round else Live(board, game, *options)
+        until_line(live, words.AGREES)
+        if live.says(shown[1]):
+            assert fetch(port, "/state.json"), "nothing is served"
+        same(stop(live), 0)
+        return [part for part in shown if part in live.lines()]
+
+    for of_round in (True, False):
+        same(told("--page", str(port), "--arbiter-page", str(another), of_round=of_round), shown[:2])
+        same([told(of_round=of_round) for _ in range(2)], [shown, shown])
+        same([told("--page", "no", of_round=of_round), told(of_round=of_round)], [shown[:1], shown[:1]])
+    same([path.name for path in (*hall.games.iterdir(), *folder.iterdir()) if path.name.endswith(".pages")], [])
 
 
 def refused(folder: pathlib.Path) -> None:

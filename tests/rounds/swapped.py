@@ -1,5 +1,6 @@
 """Boards that give their serial numbers, and cables that are swapped: each move stands in the game of its board."""
 
+import os
 import pathlib
 from typing import Callable, Dict, List, Sequence, Tuple
 
@@ -8,8 +9,9 @@ from emulated.cable import Cable, swap
 from emulated.protocol import Command
 from emulated.room import stopwatch
 from play_board import EMPTY, INITIAL, field
-from played.recorder import Live
-from played.stage import Stage, bytes_of, movetext, rest, same, stop, until, until_line
+from played.boards import Cables
+from played.recorder import LIVE, Live
+from played.stage import Stage, bytes_of, movetext, rest, same, stop, until, until_game, until_line
 from rounds.hall import ROUND, moves, plain, text
 
 BOARDS = 8
@@ -227,6 +229,66 @@ def swapped_between_calls(folder: pathlib.Path) -> None:
     same(stop(hall.live), 0)
 
 
+def left_swapped(folder: pathlib.Path) -> None:
+    """Two cables are swapped, the arbiter looks, types ok, and leaves them so: when the call is started again, each move still goes
+    to the game of its board, and nobody is to look again."""
+    hall = Tables(folder, 2)
+    hall.begun()
+    hall.play(1)
+    hall.swap([(1, 2)], AT_USB)
+    hall.until_named([(1, 2)])
+    rest(SETTLED)
+    hall.acknowledge([(1, 2)])
+    hall.play(1)
+    same(stop(hall.live), 0)
+    hall.record()
+    for one, other in ((1, 2), (2, 1)):
+        until_line(hall.live, f"has the board of board {other}, serial number {other:05}: it goes to that game")
+    rest(SETTLED)
+    hall.play(3)
+    same((stop(hall.live), hall.live.lines().count("LOOK at the cable")), (0, 0))
+
+
+def found_on_a_free_socket(folder: pathlib.Path) -> None:
+    """A board is plugged in again on another cable, in a socket that the table doesn't name: it is found by its serial number, in a
+    round and by dgt_live; another board is there too, and isn't taken. Then its own cable is there again."""
+    for of_round in (True, False):
+        place = folder / str(of_round)
+        place.mkdir()
+        cables = Cables(place)
+        board, other = cables.board("DGT_A", 0), cables.board("DGT_B", 3)
+        board.serial_number, other.serial_number = b"00001", b"00002"
+        Stage.boards[:] = [board]
+        first, game = board.device, place / ("games/01" if of_round else "game")
+        (place / "round.csv").write_text(f"board,device\n1,{first}\n")
+        words = (place / "round.csv", place / "games") if of_round else (first, game)
+        live = Live(*words, program=ROUND if of_round else LIVE, environment=cables.environment())
+        until_line(live, "agrees")
+        board.play("e2e4")
+        until_game(game, "1. e4 *")
+        until(lambda: bytes_of(f"{game}.serial") == b"00001\n", "its number")
+        board.pull()
+        until_line(live, "UNPLUGGED")
+        own = board.cable
+        board.cable = None
+        cables.plug(board, 5)
+        Stage.boards.append(other)
+        until_line(live, f"the board with serial number 00001 is on {os.path.realpath(board.device)}, and is recorded there")
+        until(lambda: board.asked_for_updates, "a request on the other cable")
+        board.play("e7e5")
+        until_game(game, "1. e4 e5 *")
+        board.pull()
+        until_line(live, "UNPLUGGED", 2)
+        board.cable = own
+        cables.plug(board, 0)
+        until(lambda: board.asked_for_updates, "a request on its own cable")
+        board.play("g1f3")
+        until_game(game, "1. e4 e5 2. Nf3 *")
+        same(stop(live), 0)
+        board.end()
+        other.end()
+
+
 def spare_board(folder: pathlib.Path) -> None:
     """A board that breaks is replaced by one that nobody knows: what it sends is kept back until the arbiter says ok, and then
     it is the game's; so it is when the call is started again."""
@@ -306,7 +368,9 @@ def answers_of_all_kinds(folder: pathlib.Path) -> None:
 
 CASES = [
     found_by_serial,
+    found_on_a_free_socket,
     swapped_between_calls,
+    left_swapped,
     spare_board,
     spare_board_taken_away,
     answers_of_all_kinds,

@@ -169,8 +169,8 @@ def three_rounds(folder: pathlib.Path) -> None:
         assert tag in recorded, recorded
     assert '[White "Uenal, Ben"]' in head_of(cup.game(1, 1)), cup.game(1, 1)
     same(cup.results(1), [
-        ["Board", "White", "Black", "Result"], ["1", "Ünal, Ben", "Иванов, Пётр", "1-0"], ["2", "Γεωργίου, Νίκος", "王浩", "0-1"],
-        ["3", 'Ott, "Dora" \\', "Kern, Anna", "1/2-1/2"],
+        ["Board", "White", "Black", "Result", "Note"], ["1", "Ünal, Ben", "Иванов, Пётр", "1-0", ""],
+        ["2", "Γεωργίου, Νίκος", "王浩", "0-1", ""], ["3", 'Ott, "Dora" \\', "Kern, Anna", "1/2-1/2", ""],
     ])  # fmt: skip
 
     (cup.folder / "round1.csv").write_text(GERMAN, encoding="utf-8")
@@ -264,7 +264,7 @@ def what_is_missing(folder: pathlib.Path) -> None:
     make()
     same(bytes_of(cup / "boards.csv"), b"board;device\n1;/dev/nowhere1\n")  # what is there stays
     refuses(call("cup"), 1, "cup is a folder: say which round of its tournament is played, as dgt_round cup 1")
-    refuses(call("cup", 1), 1, "cup/round1.csv names no board")
+    refuses(call("cup", 1), 1, "cup/round1.csv has no pairs yet: fill it in, save the pairing program's table over it,")
     refuses(call("cup", 2), 1, "cup has no table of round 2: save it there as round2.csv")
     (cup / "pairs2.csv").write_text("Board;White;Black\n1;Anna;Ben\n")
     (cup / "round2.csv").write_text("Board;White;Black\n1;Anna;Ben\n")
@@ -278,6 +278,14 @@ def what_is_missing(folder: pathlib.Path) -> None:
         (cup / "tournament.txt").write_text(line + "\n")
         refuses(call("cup", 2), 1, part)
     (cup / "tournament.txt").unlink()
+    (cup / "round2.csv").write_bytes("Board;White;Black\n1;Świercz;Dvořák\n".encode("cp1250"))
+    refuses(call("cup", 2), 1, "windows-1250 (Central Europe): Świercz, Dvořák")
+    refuses(call("cup", 2, "--encoding", "windows"), 2, "there is no encoding 'windows'")
+    (cup / "report.trf").write_text(REPORT, encoding="utf-8")
+    (cup / "round2.csv").write_text("Board;White;Black\n")  # no pair: the report has them
     (cup / "boards.csv").unlink()
+    refuses(call("cup", 2), 1, "cup/report.trf: it doesn't say where its boards are plugged in: write cup/boards.csv")
+    (cup / "report.trf").unlink()
+    (cup / "round2.csv").write_text("Board;White;Black\n1;Anna;Ben\n")
     refuses(call("cup", 2), 1, "cup/round2.csv: it doesn't say where its boards are plugged in: write cup/boards.csv")
     same(sorted(path.name for path in cup.iterdir()), ["round1.csv", "round2.csv"])

@@ -80,6 +80,14 @@ export class Cable {
     for (const { bytes, ended } of came) this.came(bytes, ended);
   }
 
+  /** Leaves the line open to the game that has its board: { connection, came }. */
+  leave() {
+    const { connection, unsure } = this;
+    this.connection = null;
+    this.close();
+    return { connection, came: unsure };
+  }
+
   /** Bytes were added by hand. */
   added(bytes) {
     if (this.connection) this.connection.added(bytes);
@@ -100,9 +108,9 @@ export class Cable {
   }
 
   came(bytes, ended) {
+    keep(this.unsure, { bytes, ended });
     if (ended.dumped) this.whose.dumped();
     if (ended.serial) this.gives(ended.serial);
-    keep(this.unsure, { bytes, ended });
     if (this.whose.isUnsure(this.guard.now())) return;
     const heard = this.unsure;
     this.unsure = [];

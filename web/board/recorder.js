@@ -9,17 +9,18 @@ import { reached } from '../game/back.js';
 import { endingWithSign, gameEnd } from '../game/ending.js';
 import { textOfLook } from '../game/looks.js';
 import { dayOf } from '../game/names.js';
-import { newCourse } from '../game/reading.js';
-import { codesOf, shownOf } from '../game/report.js';
+import { gameOf, newCourse } from '../game/reading.js';
+import { codesOf, shortOf, shownOf } from '../game/report.js';
 import { Capture, LARGEST } from '../kept/capture.js';
-import { spread } from '../kept/spread.js';
+import { spread, withMore } from '../kept/spread.js';
 import { Cable } from './cable.js';
 import { Reader } from './reader.js';
-import { BoardState, Kind, TURNED_ROUND } from './state.js';
+import { BoardState, Kind, TURNED_ROUND, lasting } from './state.js';
 import { Typing } from './typing.js';
 import { another, back as backAgain, mayTake } from './whose.js';
 
 const LINGER = 10.0; // seconds after which a result ends the game
+const LATE = 1.0; // seconds by which a timer is late if the page was stopped meanwhile
 const SETTLES = 0.2; // seconds after which all lines of a byte have been heard
 const SURELY_SETTLES = 1.0; // the same, if a late line would be taken for another one
 const TICK = 1.0; // seconds between two looks at what waits
@@ -32,11 +33,13 @@ const Reason = {
   TYPED: 'its result was typed',
   SET_UP: 'the pieces are at the start again',
   LIMIT: 'its capture has 64 MiB, and none may have more',
+  NEXT: 'the next one was asked for',
 };
 
 export class Recorder {
   /**
-   * `kept` is what the database has: { board, game, chunks }. `hears` gets says(text), changed(), placed() when the PGN
+   * `kept` is what the database has: { board, game, chunks }; or, from a recorder that an error has ended before all was
+   * kept, { board, game, capture }. `hears` gets says(text), changed(), placed() when the PGN
    * has changed, begun(game) with the last game when another one begins, and keeps(before) with the old capture when a
    * new one was made; it answers owner(number) and lends(number, heard).
    */
@@ -51,26 +54,30 @@ export class Recorder {
     this.trouble = ''; // why it isn't recorded
     this.isStopped = false;
     this.wasAway = false; // unplugged or silent since it was last heard
+    this.isPutBack = false; // whether plies were taken off, or the game goes on, and that isn't reported yet
     this.gap = null; // how long it wasn't heard, while the report is read anew
     this.isUnkept = false; // whether the game's record couldn't be kept
     this.isLate = false; // whether the next game couldn't be begun
     this.typing = new Typing(this);
     this.reader = new Reader(hall, guard, this);
     this.cable = new Cable(guard, kept.board.serial || '', this);
-    this.takeGame(kept.game, kept.chunks);
+    this.takeGame(kept.game, kept.chunks, kept.capture);
     this.tick = guard.after(TICK, () => this.eachSecond());
     this.reread(true);
   }
 
   /** Records this game from now on. */
-  takeGame(game, chunks) {
+  takeGame(game, chunks, capture = new Capture(this.database, game.id, chunks)) {
     this.game = game;
-    this.capture = new Capture(this.database, game.id, chunks, {
+    this.capture = capture;
+    capture.hearBy({
       kept: (bytes) => this.guard.call(() => this.reader.kept(bytes)),
       changed: () => this.guard.call(() => this.diskChanged()),
     });
     this.reader.take(String(game.id), this.capture);
+    this.opened = this.capture.size;
     this.heardAt = this.capture.lastAt === null ? this.guard.now() : this.capture.lastAt;
+    this.away = this.guard.away(); // the seconds that this page was away by then
     this.isRestart = this.capture.lastAt !== null;
     this.showsItself = !this.isRestart;
     this.awaitsDump = false;
@@ -167,6 +174,8 @@ export class Recorder {
     this.isOld = false;
     const now = this.guard.now();
     this.alarms = new Alarms(this.course, this.game.looks);
+    if (this.isPutBack) this.alarms.putBack(this.course.board);
+    this.isPutBack = false;
     if (this.gap) this.alarms.away(this.gap.seconds, this.gap.isRestart);
     this.gap = null;
     this.state.look = this.alarms.looks.short;
@@ -185,9 +194,12 @@ export class Recorder {
     if (this.typing.holds({ bytes, ended })) return;
     if (this.capture.size + bytes.length > LARGEST) return; // the game is over, and nobody has begun another one
     const now = this.guard.now();
-    const silence = now - this.heardAt;
+    const unheard = this.guard.away() - this.away;
+    const silence = Math.max(now - this.heardAt, unheard);
     this.heardAt = now;
-    if (this.wasAway || this.isRestart) {
+    this.away += unheard;
+    if (unheard > 0) this.sayUnheard(unheard);
+    if (this.wasAway || this.isRestart || unheard > 0) {
       if (this.isOld) this.gap = { seconds: silence + (this.gap ? this.gap.seconds : 0), isRestart: this.isRestart };
       else this.alarms.away(silence, this.isRestart);
       this.awaitsDump = true;
@@ -198,6 +210,11 @@ export class Recorder {
     if (ended.time.length > 0) this.alarms.time(now, ended.time);
     if (ended.dumped) this.dumped();
     if (this.capture.size >= LARGEST - ROOM && !this.isOver) this.end(Reason.LIMIT);
+  }
+
+  sayUnheard(seconds) {
+    const what = `this computer slept, or the browser was stopped, for ${lasting(seconds)}`;
+    if (!this.isOver) this.hears.says(`${what}: the board wasn't heard`);
   }
 
   /** What came ends a complete dump. The program's report on it follows soon. */
@@ -230,10 +247,8 @@ export class Recorder {
   }
 
   taken(why) {
-    this.trouble = 'another program has its device';
-    this.hears.says(
-      `its device can't be opened (${why}): close the program or the tab that has it. It is tried again each 2 seconds`,
-    );
+    this.trouble = "its device can't be opened";
+    this.hears.says(`its device can't be opened: ${why}`);
     this.hears.changed();
   }
 
@@ -249,7 +264,13 @@ export class Recorder {
   }
 
   numbered(number) {
-    this.board = { ...this.board, serial: number };
+    this.knows({ serial: number });
+    this.hears.numbered(number);
+  }
+
+  /** This is known of its board from now on. */
+  knows(more) {
+    this.board = { ...this.board, ...more };
     this.keep(() => this.database.putBoard(this.board));
   }
 
@@ -309,6 +330,12 @@ export class Recorder {
     );
   }
 
+  /** Keeps the texts that the game's file may have soon: so the page knows them again, whenever its tab is killed. */
+  keepTexts(texts) {
+    this.game = { ...this.game, texts };
+    return this.database.putGame(this.game);
+  }
+
   /** Keeps something besides the capture. A failure is reported. */
   keep(change) {
     change().catch((error) => this.hears.says(`the browser can't keep a change (${error.message}): make room on the disk`));
@@ -317,15 +344,15 @@ export class Recorder {
   diskChanged() {
     this.state.disk(this.capture.trouble);
     const { trouble, why } = this.capture;
-    const what = `${trouble}: the browser can't keep what the board sends (${why}). Make room on the disk, and choose a folder`;
+    const what = `${trouble}: the browser can't keep what the board sends (${why}). Don't reload this page. Make room on the disk`;
     const until = 'what comes is in memory alone until then, and is tried again each second';
-    this.hears.says(trouble ? `${what}: ${until}` : 'there is room again, and all is kept');
+    this.hears.says(trouble ? `${what}: ${until}` : 'all that the board has sent is kept again');
     this.hears.changed();
   }
 
   eachSecond() {
     this.tick = this.guard.after(TICK, () => this.eachSecond());
-    if (this.capture.trouble) this.capture.write();
+    if (this.capture.isUnkept) this.capture.write();
     if (this.isUnkept) this.keepGame();
     this.sayState();
     this.hears.changed();
@@ -382,7 +409,16 @@ export class Recorder {
     this.cancelLingering();
     if (result === '*' || this.isOver) return;
     if (!isOld) this.hears.says(`ends in ${LINGER} seconds, unless the result changes`);
-    this.lingering = this.guard.after(LINGER, () => this.end(Reason.RESULT));
+    this.linger(LINGER);
+  }
+
+  /** Ends the game after this time. If the page was stopped meanwhile, what came is heard first. */
+  linger(seconds) {
+    const due = this.guard.now() + seconds;
+    this.lingering = this.guard.after(seconds, () => {
+      if (this.guard.now() - due > LATE) this.linger(LATE);
+      else this.end(Reason.RESULT);
+    });
   }
 
   cancelLingering() {
@@ -445,7 +481,7 @@ export class Recorder {
   beginNext(offset) {
     return this.typing.exclusively(async () => {
       if (!this.isOver || this.starts[0] !== offset) return;
-      await this.begin(this.fromStart(offset));
+      await this.begin(this.fromStart(offset), this.board.next || {});
       this.hears.says(`the pieces are at the start: ${this.game.name} begins`);
     });
   }
@@ -462,17 +498,35 @@ export class Recorder {
     }
   }
 
-  /** Somebody wants the next game, whatever the board shows. */
-  async nextGame() {
+  /**
+   * Somebody wants the next game, whatever the board shows; with { options, name }, if given. If the pieces stand as after
+   * a first move, the game begins with it only if `takesMove`; else it waits until they are set up.
+   */
+  async nextGame(given = {}, takesMove = false) {
     await this.typing.exclusively(async () => {
-      if (!this.isOver) {
-        this.cancelLingering();
-        this.game = { ...this.game, end: this.capture.size };
-        await this.database.putGame(this.game);
+      const dump = this.lastDump();
+      const { plies } = await gameOf(this.program, given.options || this.options, dump);
+      if (plies.length > 0 && !takesMove) {
+        this.awaitStart(given, shortOf(plies[0]));
+        return;
       }
-      await this.begin(this.lastDump());
+      const ended = this.isOver ? this.game : { ...this.game, end: this.capture.size };
+      await this.begin(dump, given, ended);
       this.hears.says(`${this.game.name} begins`);
     });
+  }
+
+  /** The next game, with { options, name } if given, begins when the pieces are set up. */
+  awaitStart(given, move) {
+    this.knows({ next: given });
+    if (!this.isOver) this.closeGame(this.capture.size, Reason.NEXT);
+    this.hears.says(`the board stands as after ${move}: set up the pieces, and the next game begins`);
+    this.hears.changed();
+  }
+
+  /** What the next game has, { options, name }, if it waits until the pieces are set up; else null. */
+  get awaited() {
+    return this.isOver ? this.board.next || null : null;
   }
 
   /** The last complete dump: without one no update would count. */
@@ -486,15 +540,17 @@ export class Recorder {
     return new Uint8Array(0);
   }
 
-  async begin(content) {
-    const before = this.game;
+  /** The next game begins with this. It has the same options, unless others are given. The game before it has ended so. */
+  async begin(content, { options: given = this.options, name: wanted = '' } = {}, before = this.game) {
     const pgn = await this.reader.text(before.end);
-    const options = { ...this.options, began: dayOf(new Date()) };
-    const name = this.hears.nextName(before.name);
+    const options = { ...given, began: dayOf(new Date()) };
+    const name = wanted || this.hears.nextName(before.name);
     const game = { board: this.board.id, name, options, end: null, looks: this.alarms.looks.open };
     const chunks = content.length > 0 ? spread(content, this.guard.now()) : [];
-    game.id = await this.database.beginGame(this.board, game, chunks);
-    this.board = { ...this.board, game: game.id };
+    const board = { ...this.board, next: null };
+    game.id = await this.database.beginGame(board, game, chunks, before);
+    this.cancelLingering();
+    this.board = { ...board, game: game.id };
     this.hears.begun({ ...before, pgn, bytes: this.capture.bytes() });
     this.takeGame(game, chunks);
     this.isRestart = false;
@@ -532,8 +588,19 @@ export class Recorder {
     this.isRestart = false;
     this.showsItself = true;
     this.wasAway = true; // pieces may have been moved meanwhile
+    this.isPutBack = changes.end === null;
     this.reread();
     this.cable.added(STRAY);
+  }
+
+  /** Puts in what a longer capture of this game has beyond what was kept when the game was opened. */
+  async takeUp(longer, name) {
+    await this.typing.exclusively(async () => {
+      const content = withMore(this.capture.bytes(), this.opened, longer);
+      if (!content) return;
+      await this.renew(content, false);
+      this.hears.says(`${name} in the folder has more of ${this.game.name} than the browser had kept: the game goes on with it`);
+    });
   }
 
   // What is edited.

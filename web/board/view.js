@@ -22,7 +22,7 @@ export function standing(state, now) {
 const MENDS = {
   [Kind.WRONG]:
     'Set the pieces as the diagram shows them. Did the board miss a move? Type it below. Is the last move wrong? Take it back.',
-  [Kind.NO_START]: 'Set up the start. Is a game being played already? Take its moves back on the board, and make them again.',
+  [Kind.NO_START]: 'Set up the start. Is a game being played already? Type its moves so far, as e4 e5 Nf3 Nc6.',
   [Kind.SILENT]: "Look at the cable and at the board's power. The board is asked again and again.",
   [Kind.UNPLUGGED]: 'Plug the board in again, in any socket. The recording then goes on.',
 };

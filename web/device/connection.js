@@ -13,6 +13,7 @@ export class Connection {
     this.isSilent = false;
     this.timer = null;
     this.closed = false;
+    this.away = guard.away(); // the seconds that the page was away before the board was asked last
     this.line = new Line(port, {
       heard: (bytes) => this.guard.call(() => this.heard(bytes)),
       lost: () => this.guard.call(() => this.lost()),
@@ -22,10 +23,7 @@ export class Connection {
   /** Opens it, and asks. Throws Taken if it can't be opened. */
   async open() {
     await this.line.open();
-    if (this.closed) {
-      this.line.close();
-      return;
-    }
+    if (this.closed) return;
     this.asking.connected(this.guard.now());
     this.ask();
   }
@@ -33,6 +31,7 @@ export class Connection {
   heard(bytes) {
     if (this.closed) return;
     this.hears.came(bytes, this.asking.came(this.guard.now(), bytes));
+    this.askAfterTimeAway();
     this.tellSilence();
     this.ask();
   }
@@ -43,9 +42,17 @@ export class Connection {
     this.hears.lost();
   }
 
+  /** Asks anew if the page was away: a dump that has waited since before that isn't what the board shows now. */
+  askAfterTimeAway() {
+    const before = this.away;
+    this.away = this.guard.away();
+    if (this.away > before) this.asking.added([]);
+  }
+
   /** Sends the request that is due, and calls itself again when the next one is. */
   ask() {
     if (this.closed) return;
+    this.askAfterTimeAway();
     const now = this.guard.now();
     const request = this.asking.request(now);
     if (request.length > 0) {
@@ -79,11 +86,12 @@ export class Connection {
     this.ask();
   }
 
-  close() {
+  /** The promise ends when the port can be opened again. */
+  async close() {
     if (this.closed) return;
     this.closed = true;
     if (this.timer) this.timer.cancel();
     this.asking.disconnected();
-    this.line.close();
+    await this.line.close();
   }
 }

@@ -22,6 +22,10 @@ export class Line {
     } catch (error) {
       throw new Taken(error && error.message ? error.message : String(error));
     }
+    if (this.closed) {
+      await this.port.close().catch(() => {});
+      return;
+    }
     this.writer = this.port.writable.getWriter();
     this.ending = this.read();
   }
@@ -64,8 +68,9 @@ export class Line {
     } catch (error) {
       // It is gone.
     }
+    if (!this.writer) return; // another line may have the port open
     try {
-      if (this.writer) this.writer.releaseLock();
+      this.writer.releaseLock();
       await this.port.close();
     } catch (error) {
       // It is gone.

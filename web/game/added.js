@@ -33,6 +33,14 @@ const MOVE = /^(?:[KQRBN]?[a-h]?[1-8]?x?[a-h][1-8](?:=[QRBN])?|O-O(?:-O)?)[+#]?$
 const NUMBER = /^[0-9]{1,4}\.+/;
 const PLY = /^([0-9]{1,4})(\.+)([^]+)$/;
 const LONGEST = 7; // characters of a move in SAN, as exd8=Q+
+// A move in other letters: those of German, French, Spanish, Italian .., or small ones for a piece, or capitals for a square.
+const OTHER_LETTERS = /^([KQRBNSDTLCFA]?)([a-h]?[1-8]?x?[a-h][1-8])(?:=?([QRBNSDTLCFA]))?([+#]?)$/i;
+const ENGLISH = { S: 'N', C: 'N', L: 'B', F: 'B', A: 'B', T: 'R', D: 'Q' };
+const SQUARES_OF_MOVE = /^[KQRBN]?([a-h][1-8])x?([a-h][1-8])(=[QRBN])?[+#]?$/;
+const WITH_A_DASH = /^[A-Z]?[a-h][1-8][-:][a-h][1-8].*$/i;
+const LETTERS_OF_PIECES = 'in English letters: pieces are K, Q, R, B and N, in capitals, and squares a1 to h8';
+const BY_LETTER = "the piece's letter and where it goes";
+const HOW_TO_WRITE = `write ${BY_LETTER}, as Nf3, and e4 for a pawn`;
 
 /** What was typed isn't done. Its message says why, and what to type. */
 export class Refused extends Error {}
@@ -124,8 +132,43 @@ function readMove(word) {
   if (move.startsWith('0-0')) move = move.replaceAll('0', 'O');
   const promoted = /^(.*[18])([QRBN][+#]?)$/.exec(move);
   if (promoted) move = `${promoted[1]}=${promoted[2]}`;
-  if (move.length > LONGEST || !MOVE.test(move)) throw new Refused(`${beginningOf(word)}: neither a move nor a result. ${WAYS}`);
-  return move;
+  if (move.length <= LONGEST && MOVE.test(move)) return move;
+  if (WITH_A_DASH.test(move)) throw new Refused(`${beginningOf(word)}: ${HOW_TO_WRITE}`);
+  const meant = inEnglish(move);
+  throw new Refused(meant ? writtenSo(word, meant) : `${beginningOf(word)}: neither a move nor a result. ${WAYS}`);
+}
+
+/** The message that a move is to be written otherwise. */
+export function writtenSo(word, meant) {
+  const how = squaresOf(word) ? BY_LETTER : LETTERS_OF_PIECES;
+  return `${beginningOf(word)}: write ${meant}, ${meant.startsWith('O-O') ? 'with letters' : how}`;
+}
+
+/** A move with the letters of PGN, if it has others; empty if it is no move in those either. */
+export function inEnglish(move) {
+  const found = OTHER_LETTERS.exec(move);
+  if (!found) return '';
+  const [, piece, squares, promoted = '', mark] = found;
+  const [letter, became] = [piece, promoted].map((one) => ENGLISH[one.toUpperCase()] ?? one.toUpperCase());
+  const written = `${letter}${squares.toLowerCase()}${promoted && '='}${became}${mark}`;
+  return written !== move && MOVE.test(written) ? written : '';
+}
+
+/** Where a move begins and where it ends, if it names both, and what a pawn becomes, as `=Q`; null if it doesn't. */
+export function squaresOf(move) {
+  const found = SQUARES_OF_MOVE.exec(move);
+  return found ? [found[1], found[2], found[3] ?? ''] : null;
+}
+
+/** Whether a legal move may be the one that ends on this square. */
+export function mayBe(san, target, promoted) {
+  return san.startsWith('O-O') || (san.includes(target) && san.includes(promoted));
+}
+
+/** Whether a piece has gone from one square to the other between two positions. */
+export function goes(before, after, origin, target) {
+  const [start, end] = [SQUARES.indexOf(origin), SQUARES.indexOf(target)];
+  return before[start] !== EMPTY && after[start] === EMPTY && after[end] !== before[end];
 }
 
 /** The beginning of a text, with only what can be printed. */

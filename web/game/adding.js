@@ -1,7 +1,9 @@
 // What an arbiter adds, checked by the program: the bytes for a capture, and the refusals.
 
-import { dump, joined } from '../device/protocol.js';
-import { Asked, Refused, STRAY, checkResult, dumpsOfMoves, dumpsOfResult, printable, spellings } from './added.js';
+import { dump, joined, pictureOfPlacement } from '../device/protocol.js';
+import {
+  Asked, Refused, STRAY, checkResult, dumpsOfMoves, dumpsOfResult, goes, inEnglish, mayBe, printable, spellings, squaresOf, writtenSo,
+} from './added.js';
 import { readingOfClock, withoutClock } from './clocks.js';
 import { sideOf } from './options.js';
 import { gameOf } from './reading.js';
@@ -62,7 +64,11 @@ async function ofMoves({ program, options, sent, course }, words) {
         break;
       }
     }
-    if (!isLegal) throw new Refused(`${word} is no legal move: ${whoseMove([...moves, ...spelt], fens)}. Nothing was added`);
+    if (!isLegal) {
+      const meant = await meantBy(program, options, word, [...moves, ...spelt]);
+      if (meant) throw new Refused(`${writtenSo(word, meant)}. Nothing was added`);
+      throw new Refused(`${word} is no legal move: ${whoseMove([...moves, ...spelt], fens)}. Nothing was added`);
+    }
   }
   const dumps = dumpsOfMoves(fens.slice(-spelt.length), options.rotated);
   const put = joined(withoutClock(dumps, readingOfClock(course.clock), sideOf(options) === 'black'), STRAY);
@@ -74,6 +80,26 @@ async function ofMoves({ program, options, sent, course }, words) {
     );
   }
   return { put, spelt };
+}
+
+/** The legal move that a word in other letters, or with both squares, may mean after these moves; empty if there is none. */
+async function meantBy(program, options, word, before) {
+  const [fens, wrong] = await positions(program, options, before);
+  if (wrong) return '';
+  const { output } = await program.run(['moves', '--fen', fens[fens.length - 1]]);
+  const legal = new TextDecoder().decode(output).split(/\s+/).filter((san) => san);
+  const english = inEnglish(word);
+  const meant = english && legal.find((san) => spellings(english).includes(san));
+  if (meant) return meant;
+  const squares = squaresOf(word);
+  if (!squares) return '';
+  const [origin, target, promoted] = squares;
+  const at = pictureOfPlacement(fens[fens.length - 1]);
+  for (const san of legal.filter((one) => mayBe(one, target, promoted))) {
+    const [after] = await positions(program, options, [...before, san]);
+    if (goes(at, pictureOfPlacement(after[after.length - 1]), origin, target)) return san;
+  }
+  return '';
 }
 
 async function positions(program, options, moves) {

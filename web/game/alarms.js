@@ -27,6 +27,11 @@ export class Alarms {
     this.clock.gone();
   }
 
+  /** Plies were taken off, or the game goes on, while the board shows this. */
+  putBack(shown) {
+    this.doubts.putBack(shown);
+  }
+
   /** The board's first dump since then is reported in full. Returns an alarm, if any. */
   stands(now) {
     return this.add(this.doubts.stands(now));

@@ -168,6 +168,17 @@ export class Doubts {
     this.comesFirst = true;
   }
 
+  /**
+   * Plies were taken off, or the game goes on, while the board shows this. If that isn't the game's position, somebody puts the
+   * pieces where they belong, as before a game: that is no news.
+   */
+  putBack(shown) {
+    if (shown && !same(shown, this.position)) {
+      this.shown = shown;
+      this.hasBegun = false;
+    }
+  }
+
   /** The board's first dump after it was away is reported in full. If it brought no line, the board stands as before. */
   stands(now) {
     const isSame = this.shown && this.position ? same(this.shown, this.position) : this.shown === this.position;

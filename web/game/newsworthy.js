@@ -1,8 +1,9 @@
 // What a board's bytes may bring, before the program has read them: so a capture isn't read anew each second while
 // nobody moves a piece. Pure.
 //
-// A complete dump that equals the one before it, with no update and no fault in between, brings no line of `watch`. A
-// time message brings only a line for the clocks, which can wait a little.
+// A complete dump that equals the one before it, with no update and no fault in between, brings no line of `watch`, nor
+// does a message of another kind. A time message brings only a line for the clocks, which can wait a little. That is
+// proved: `IdleEventsTellNothing` in crates/board_listing/specs/WatchLaws.antt.
 
 import { Frames, same } from '../device/protocol.js';
 

@@ -19,7 +19,8 @@ export function optionsOf(given = {}) {
   return { ...none, ...given };
 }
 
-const valued = (options, names) => names.flatMap((name) => (options[name] === null ? [] : [`--${name}`, options[name]]));
+/** An option and its value are one word, so that no value is taken for an option, whatever it begins with. */
+const valued = (options, names) => names.flatMap((name) => (options[name] === null ? [] : [`--${name}=${options[name]}`]));
 
 /** The options that `watch` and `recover` have. */
 export function ofBoard(options) {

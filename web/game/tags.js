@@ -22,9 +22,11 @@ const HIGHEST_RATING = 3999;
 const JOINERS = '\u200c\u200d'; // they can't be seen, and Persian and Indian scripts need them
 const PAIR = /\[(\w+) "((?:[^"\\]|\\.)*)"\]/g;
 const TIME_CONTROL = /^(?:(?:\d+\/)?\d+(?:\+\d+)?(?::(?:\d+\/)?\d+(?:\+\d+)?)*|\*\d+|[?-])$/;
-const MINUTES =
-  /^(\d{1,3}) ?(?:'|′|m|min|minutes|Min\.?)? ?\+ ?(\d{1,2}) ?(?:"|″|s|sec|seconds|Sek\.?)?(?: ?\/ ?(?:move|Zug))?$/;
-const MOST_MINUTES = 150; // a base time with an increment counts as minutes up to this
+const PERIOD = new RegExp( // as an arbiter writes it: 40 moves in 90 minutes, with 30 seconds for each move
+  "^(?:(?<moves>\\d{1,3}) ?/ ?)?(?<base>\\d{1,3}) ?(?<mark>['’′]|m|min|minutes|Min\\.?)?" +
+    "(?: ?\\+ ?(?<increment>\\d{1,2}) ?(?:''|’’|′′|[\"”″]|s|sec|seconds|Sek\\.?)?(?: ?/ ?(?:move|Zug))?)?$",
+);
+const MOST_MINUTES = 150; // base times without a mark, but with moves or an increment, count as minutes if none is more than this
 
 /** A value that its tag can't have. The message says what to type; the name of the value goes before it. */
 export class Malformed extends Error {}
@@ -82,17 +84,28 @@ function fideId(text) {
   return text;
 }
 
-/** In seconds, as PGN has it; `90+30` is 90 minutes and 30 seconds for each move. */
+/** In seconds, as PGN has it; `40/90+30` is 40 moves in 90 minutes, and 30 seconds for each move. */
 function timeControl(text) {
-  const minutes = MINUTES.exec(text);
-  if (minutes && Number(minutes[1]) > 0 && Number(minutes[1]) <= MOST_MINUTES) {
-    return `${Number(minutes[1]) * 60}+${Number(minutes[2])}`;
-  }
-  if (text && !TIME_CONTROL.test(text)) {
-    const how = 'type 90+30 (minutes and seconds a move), or as PGN has it, 40/5400+30:1800+30';
+  const inSeconds = fromMinutes(text);
+  if (!inSeconds && text && !TIME_CONTROL.test(text)) {
+    const how = 'type 90+30 (minutes and seconds a move), 40/90+30:30+30, or as PGN has it, 40/5400+30:1800+30';
     throw new Malformed(`'${text}' is no time control: ${how}`);
   }
-  return text;
+  return inSeconds || text;
+}
+
+/** The periods in seconds, if their base times are in minutes; else empty. */
+function fromMinutes(text) {
+  const periods = text.split(/[:,]/).map((part) => PERIOD.exec(part.trim()));
+  const found = periods.filter(Boolean).map((period) => period.groups);
+  const isMeant = found.some(({ mark, moves, increment }) => mark || moves || increment);
+  const isShort = found.every(({ mark, base }) => Number(base) <= MOST_MINUTES || mark);
+  if (found.length < periods.length || !isMeant || !isShort || !found.every(({ base }) => Number(base))) return '';
+  return found.map(secondsOf).join(':');
+}
+
+function secondsOf({ moves, base, increment }) {
+  return `${moves ? `${Number(moves)}/` : ''}${Number(base) * 60}${increment ? `+${Number(increment)}` : ''}`;
 }
 
 const CHECKS = [['Elo', rating], ['USCF', rating], ['Title', title], ['FideId', fideId], ['TimeControl', timeControl]];

@@ -4,6 +4,7 @@ import { Folder } from '../kept/folder.js';
 import { ROUND, freeName } from '../kept/file_names.js';
 
 const MODE = { mode: 'readwrite' };
+const AWAITED = 1.0; // seconds that a file waits until its text is kept in the browser
 const GATHERED = 0.2; // seconds in which changes are gathered into one text of all games
 
 export class Folders {
@@ -14,6 +15,7 @@ export class Folders {
     this.failed = '';
     this.isPersistent = false;
     this.timer = null;
+    this.lastRound = Promise.resolve(); // ends when the last text of all games is waiting to be written
   }
 
   /** Goes on with the earlier folder, if the browser allows it. */
@@ -32,7 +34,13 @@ export class Folders {
 
   async goOn() {
     if ((await this.kept.requestPermission(MODE)) === 'granted') await this.use(this.kept);
-    else this.hall.says(`the browser doesn't let this page write to ${this.kept.name}: choose a folder`);
+    else this.asks(`The browser doesn't let this page write to ${this.kept.name}. The games are kept in this browser alone.`);
+  }
+
+  /** A notice with the button that lets somebody choose a folder. */
+  asks(text, name = 'folder', isAlarm = false) {
+    const choose = () => this.choose().catch((error) => this.asks(`The folder can't be used: ${error.message || error.name}.`));
+    this.hall.notice(name, text, text ? [['Choose a folder', choose]] : [], isAlarm);
   }
 
   /** Lets somebody choose one. */
@@ -41,18 +49,36 @@ export class Folders {
       this.hall.notice('folder', "This browser can't write to a folder. Save each game with the buttons on its board.");
       return;
     }
-    const handle = await window.showDirectoryPicker({ id: 'dgt-recorder', ...MODE });
+    const handle = await this.pick();
+    if (!handle) return;
     await this.use(handle);
     await this.hall.database.set('folder', handle).catch(() => {}); // else it is chosen again when the page is opened anew
   }
 
+  /** The chosen folder, which this page may write to; null if somebody has pressed Cancel, or Don't Allow. */
+  async pick() {
+    try {
+      return await window.showDirectoryPicker({ id: 'dgt-recorder', ...MODE });
+    } catch (error) {
+      if (error.name !== 'AbortError') throw error;
+      const where = this.folder ? `are still written to the folder ${this.folder.name}` : 'are kept in this browser alone';
+      this.asks(`The browser gave this page no folder. The games ${where}.`);
+      return null;
+    }
+  }
+
   async use(handle) {
-    const before = await this.hall.database.setting('round');
-    this.folder = new Folder(this.hall.loop, handle, {
+    const before = await this.hall.database.setting('round').catch(() => null); // the disk is full
+    const folder = new Folder(this.hall.loop, handle, {
       trouble: (text) => this.trouble(text),
       says: (text) => this.hall.says(text),
     });
-    if (before) this.folder.written.set(`${ROUND}.pgn`, before);
+    folder.before.set(`${ROUND}.pgn`, [].concat(before || []));
+    for (const { filed, texts } of this.hall.recorded().flatMap((seat) => [seat.game, ...seat.finished])) {
+      if (filed && filed.folder === folder.name) folder.before.set(`${filed.name}.pgn`, texts || []);
+    }
+    for (const seat of this.hall.recorded()) await this.takeUp(seat, folder);
+    this.folder = folder;
     this.kept = null;
     this.hall.notice('folder', '');
     this.hall.notice('persist', '');
@@ -64,12 +90,18 @@ export class Folders {
     this.hall.changed();
   }
 
+  /** The folder's capture of a game has more than the browser had kept of it, if its disk was full: the game gets that. */
+  async takeUp({ recorder }, folder) {
+    const { filed } = recorder.game;
+    if (!filed || filed.folder !== folder.name) return;
+    const bytes = await folder.bytesOf(`${filed.name}.dgt`).catch(() => null);
+    if (bytes) await recorder.takeUp(bytes, `${filed.name}.dgt`);
+  }
+
   trouble(text) {
     this.failed = text;
     this.hall.says(text ? `${text}: it is tried again each 5 seconds. Or choose another folder` : 'all files are written again');
-    this.hall.notice('files', text ? `${text}. The recording goes on. Put that right, or choose another folder.` : '', [
-      ['Choose a folder', () => this.choose().catch(() => {})],
-    ], true);
+    this.asks(text ? `${text}. The recording goes on. Put that right, or choose another folder.` : '', 'files', true);
     this.hall.changed();
   }
 
@@ -99,7 +131,9 @@ export class Folders {
         seat.wantsFiles = false;
         await this.nameFiles(seat, folder);
         folder.put(`${seat.name}.dgt`, seat.bytes());
-        folder.put(`${seat.name}.pgn`, seat.pgn);
+        const [name, text] = [`${seat.name}.pgn`, seat.pgn];
+        await this.soonKept(seat.recorder.keepTexts([...folder.textsOf(name), text]));
+        folder.put(name, text);
       }
     } finally {
       seat.isFiling = false;
@@ -132,7 +166,7 @@ export class Folders {
       game.name = await this.free(game.name, folder);
       game.filed = { folder: folder.name, name: game.name };
       const { pgn, bytes, ...kept } = game;
-      await this.hall.database.putGame(kept);
+      await this.hall.database.putGame(kept).catch(() => {}); // its files are written all the same
     }
     folder.put(`${game.name}.dgt`, game.bytes);
     folder.put(`${game.name}.pgn`, game.pgn);
@@ -154,9 +188,7 @@ export class Folders {
   async before(name, bytes) {
     const { folder } = this;
     if (!folder) return;
-    let number = 1;
-    while (await folder.has(`${name}.before-${number}.dgt`)) number += 1;
-    folder.put(`${name}.before-${number}.dgt`, bytes);
+    folder.put(await folder.freeBefore(name), bytes);
   }
 
   /** The text of all games has changed. */
@@ -164,10 +196,22 @@ export class Folders {
     if (!this.folder || this.timer) return;
     this.timer = this.hall.loop.after(GATHERED, () => {
       this.timer = null;
-      const text = this.hall.round();
-      this.folder.put(`${ROUND}.pgn`, text);
-      this.hall.database.set('round', text).catch(() => {}); // else the page takes it for somebody's when it is opened anew
+      const put = () => this.putRound(this.folder).catch((error) => this.trouble(error.message || error.name));
+      this.lastRound = this.lastRound.then(put);
     });
+  }
+
+  /** Writes the text of all games. First it is kept: so the page knows it again, whenever its tab is killed. */
+  async putRound(folder) {
+    const name = `${ROUND}.pgn`;
+    const text = this.hall.round();
+    await this.soonKept(this.hall.database.set('round', [...folder.textsOf(name), text]));
+    folder.put(name, text);
+  }
+
+  /** Waits until this is kept, but not for long: the folder is written whatever the browser can keep. */
+  soonKept(keeping) {
+    return Promise.race([keeping.catch(() => {}), new Promise((done) => this.hall.loop.after(AWAITED, done))]);
   }
 
   /** Asks the browser to keep what is stored. If it doesn't promise that, says what that means. */
@@ -175,11 +219,10 @@ export class Folders {
     if (this.isPersistent || !navigator.storage || !navigator.storage.persist) return;
     this.isPersistent = await navigator.storage.persist();
     if (this.isPersistent || this.folder || this.kept) return;
-    this.hall.notice(
-      'persist',
+    this.asks(
       'The games are kept in this browser. It may delete them when the disk is nearly full, or when its data is cleared. Choose a ' +
         'folder: then each game is also a file there.',
-      [['Choose a folder', () => this.choose().catch((error) => this.hall.says(error.message || error.name))]],
+      'persist',
     );
   }
 }

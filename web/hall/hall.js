@@ -2,18 +2,21 @@
 
 import { dayOf } from '../game/names.js';
 import { UNKNOWN, optionsOf, withTag, written } from '../game/options.js';
+import { OF_ALL, byRound } from '../game/rounds.js';
 import { Program } from '../game/program.js';
 import { Database } from '../kept/database.js';
 import { fileName, freeName, nameOfPlayers } from '../kept/file_names.js';
 import { Loop } from '../loop.js';
-import { save } from '../page/elements.js';
+import { save } from '../page/saving.js';
+import { Devices } from './devices.js';
 import { Folders } from './folders.js';
 import { Ports } from './ports.js';
+import { Rounds } from './rounds.js';
 import { Seat } from './seat.js';
 import { Shown } from './shown.js';
 import { Awake } from './awake.js';
 
-const OF_ALL = ['Event', 'Site', 'Round']; // what is typed for one board is also set for boards that are added later
+const AGAIN = 5.0; // seconds until a database that can't be opened is tried again
 
 /** The texts one after the other, with an empty line between them. */
 export function roundText(games) {
@@ -21,7 +24,10 @@ export function roundText(games) {
 }
 
 export class Hall {
-  /** `hears` gets changed(), says(text, number), notice(name, text, buttons). */
+  /**
+   * `hears` gets changed(), says(text, number), notice(name, text, buttons, isAlarm); newRound() when somebody wants one,
+   * and names(number) when somebody wants to change the names of a board.
+   */
   constructor(code, module, hears) {
     this.hears = hears;
     this.loop = new Loop();
@@ -32,31 +38,53 @@ export class Hall {
     this.elsewhere = new Set(); // boards that another tab records
     this.given = {}; // the options of new games
     this.isReady = false;
+    this.wasUnsaved = false; // what the boards send couldn't be kept
     this.folders = new Folders(this);
     this.awake = new Awake();
     this.ports = new Ports(navigator.serial || null, this.loop, {
-      awaited: () => this.recorded().filter((seat) => seat.isWaiting),
+      awaited: () => this.recorded().filter((seat) => seat.isWaiting || seat.isSilent),
       uses: (port) => this.recorded().some((seat) => seat.port === port && !seat.isWaiting),
       says: (text) => this.says(text),
+      unclear: (port, heard) => this.devices.came(port, heard),
     });
+    this.devices = new Devices(this);
+    this.rounds = new Rounds(this);
   }
 
-  /** Opens what is kept, and goes on with it. */
+  /** Opens what is kept, and goes on with it. If that can't be opened, it is tried again. */
   async begin() {
     try {
       this.database = await Database.open();
-      this.given = (await this.database.setting('given')) || {};
-      for (const board of await this.database.boards()) await this.seatBoard(board);
-      await this.folders.begin();
     } catch (error) {
-      this.notice('database', `The browser keeps nothing for this page (${error.message}), so no board can be recorded: leave ` +
-        'private browsing, and allow pages to store data.', [], true);
+      this.notice('database', `The browser can't keep anything for this page (${error.message}), so no board can be recorded. Make ` +
+        'room on the disk, leave private browsing, and allow pages to store data. It is tried again by itself.', [], true);
       this.isReady = true;
+      this.loop.after(AGAIN, () => this.begin());
       return;
     }
+    this.isReady = false;
+    this.notice('database', '');
+    this.database.remembers = () => this.remembered();
+    this.given = (await this.database.setting('given')) || {};
+    for (const board of await this.database.boards()) await this.seatBoard(board);
+    this.rounds.look();
+    await this.folders.begin();
     await this.ports.begin();
     this.isReady = true;
     this.changed();
+  }
+
+  /** What the database must have when it was lost and is opened again, besides what is being recorded. */
+  remembered() {
+    const recorders = this.recorded().map(({ recorder }) => recorder);
+    const finished = this.recorded().flatMap((seat) => seat.finished);
+    const { handle } = this.folders.folder || {};
+    return {
+      boards: recorders.map(({ board }) => board),
+      games: [...recorders.map(({ game }) => game), ...finished.map(({ pgn, bytes, ...game }) => game)],
+      captures: finished.map(({ id, bytes }) => ({ game: id, number: 0, at: this.loop.now(), bytes })),
+      settings: [{ name: 'given', value: this.given }, ...(handle ? [{ name: 'folder', value: handle }] : [])],
+    };
   }
 
   says(text, number = null, isMove = false) {
@@ -68,14 +96,28 @@ export class Hall {
   }
 
   changed() {
+    if (this.isUnsaved !== this.wasUnsaved) this.tellUnsaved();
     this.awake.wanted(this.recorded().some((seat) => seat.recorder.cable.isOpen));
     this.hears.changed();
+  }
+
+  /** What the boards send can't be kept, or again. */
+  tellUnsaved() {
+    this.wasUnsaved = this.isUnsaved;
+    const text = "The browser can't keep what the boards send: is its disk full? Don't reload this page, and don't close it: what " +
+      'has come since is in its memory alone. Make room on the disk, and press Save all games. It is tried again each second.';
+    this.notice('unsaved', this.wasUnsaved ? text : '', [['Save all games', () => this.saveRound()]], true);
   }
 
   // Its boards.
 
   recorded() {
     return [...this.seats.values()].filter((seat) => seat.recorder);
+  }
+
+  /** All seats but captures that are shown. */
+  seated() {
+    return [...this.seats.values()].filter((seat) => !seat.isCapture);
   }
 
   seat(number) {
@@ -98,8 +140,9 @@ export class Hall {
     const count = (number, one, many) => (number === 1 ? one : `${number} ${many}`);
     const others = this.elsewhere.size > 0 ? `; another tab records ${count(this.elsewhere.size, 'one more', 'more')}` : '';
     if (open === 0) return { words: `No board is recorded${others}`, isAlarm: false, isLive: false };
-    const words = `Recording ${count(open, 'one board', 'boards')}${others}${this.folders.words}`;
-    return { words, isAlarm: this.folders.isAlarm, isLive: true };
+    const where = this.wasUnsaved ? ", NOT KEPT: don't reload this page" : this.folders.words;
+    const words = `Recording ${count(open, 'one board', 'boards')}${others}${where}`;
+    return { words, isAlarm: this.folders.isAlarm || this.wasUnsaved, isLive: true };
   }
 
   freeNumber() {
@@ -112,26 +155,18 @@ export class Hall {
     return [...this.seats.values()].flatMap((seat) => [seat.name, ...seat.finished.map(({ name }) => name)]);
   }
 
-  /** Adds a board, on a device that somebody chooses in the browser's list. */
-  async addBoard() {
-    const port = await navigator.serial.requestPort();
-    const owner = this.recorded().find((seat) => seat.port === port);
-    if (owner && !owner.isWaiting) {
-      window.location.hash = `#${owner.id}`;
-      this.says('this device is recorded already', owner.id);
-      return;
-    }
+  /** A new board, with a new game. `info` is about its device. Null if another tab records it. */
+  async addSeat(info) {
     const id = this.freeNumber();
     let options = optionsOf({ began: dayOf(new Date()) });
     for (const [name, typed] of Object.entries(this.given)) options = withTag(options, name, typed, UNKNOWN);
     const game = { board: id, name: freeName(`board ${id}`, this.names()), options, end: null, looks: [] };
-    const board = { id, serial: '', info: port.getInfo(), game: 0 };
+    const board = { id, serial: '', info, game: 0 };
     await this.database.beginGame(board, game, []);
     const seat = await this.seatBoard({ ...board });
-    if (seat) await seat.plug(port);
     this.says(`records ${game.name}`, id);
-    await this.folders.persist();
-    this.changed();
+    this.folders.persist().catch(() => {}); // the notice about that comes with the next board
+    return seat;
   }
 
   /** Records a board. If another tab does, it is recorded as soon as that tab lets it go. */
@@ -158,7 +193,10 @@ export class Hall {
   async begins(board) {
     const seat = new Seat(this, board, {
       changed: () => this.changed(),
-      placed: (one) => this.folders.placed(one),
+      placed: (one) => {
+        this.folders.placed(one);
+        this.rounds.look();
+      },
       says: (one, text, isMove) => this.says(text, one.id, isMove),
       begun: (one, before) => {
         this.folders.finishes(before);
@@ -167,6 +205,7 @@ export class Hall {
       keeps: (one, { name, bytes }) => this.folders.before(name, bytes).catch((error) => this.folders.trouble(error.message)),
       nextName: (name) => this.nextName(name),
       seatOf: (number, asks) => this.seatOf(number, asks),
+      numbered: (one, number) => this.devices.numbered(one, number),
     });
     this.seats.set(board.id, seat);
     await seat.begin().catch((error) => seat.broke(error));
@@ -186,16 +225,6 @@ export class Hall {
     });
   }
 
-  /** Lets somebody choose the device of a board again. */
-  async choosePort(seat) {
-    const port = await navigator.serial.requestPort();
-    const owner = this.recorded().find((other) => other !== seat && other.port === port && !other.isWaiting);
-    if (owner) throw new Error(`board ${owner.id} is recorded from it`);
-    await seat.plug(port);
-    seat.recorder.board = { ...seat.recorder.board, info: port.getInfo() };
-    await this.database.putBoard(seat.recorder.board);
-  }
-
   async stopOrGoOn(seat) {
     if (!seat.isStopped) {
       seat.recorder.stop();
@@ -205,15 +234,18 @@ export class Hall {
       await seat.plug(seat.port);
       return;
     }
-    await this.choosePort(seat);
+    await this.devices.choose(seat);
   }
 
+  /** Removes a board, with its games, or a capture. If the browser can't, the board is recorded as before. */
   async remove(seat) {
+    if (!seat.isCapture) {
+      const games = (await this.database.games()).filter(({ board }) => board === seat.id);
+      await this.database.removeBoard(seat.id, games.map(({ id }) => id));
+    }
     this.seats.delete(seat.id);
     if (!seat.isCapture) {
       seat.close();
-      const games = (await this.database.games()).filter(({ board }) => board === seat.id);
-      await this.database.removeBoard(seat.id, games.map(({ id }) => id));
       const name = `dgt_recorder board ${seat.id}`;
       if (this.locks.has(name)) this.locks.get(name)();
       this.locks.delete(name);
@@ -233,18 +265,16 @@ export class Hall {
 
   // What is edited.
 
-  /** Takes what was typed for a tag. Tags that all boards share are taken for new games too. */
+  /** Takes what was typed for a tag. A tag that all boards share is set where nothing is there yet, too. */
   async edit(seat, name, typed) {
     const players = () => nameOfPlayers(written(seat.options, 'White'), written(seat.options, 'Black'));
     const before = players();
     await seat.edit({ options: withTag(seat.options, name, typed, `${name} ${seat.id}`) });
-    if (OF_ALL.includes(name) && !seat.isCapture) {
-      this.given = { ...this.given, [name]: written(seat.options, name) };
-      await this.database.set('given', this.given);
-    }
+    if (OF_ALL.includes(name) && !seat.isCapture) await this.rounds.share(seat, name, written(seat.options, name));
     const after = players();
     const isNamedSo = [fileName(before), `board ${seat.id}`].includes(seat.name.replace(/-[0-9]{1,4}$/, ''));
     if (after !== before && after && isNamedSo && !seat.isCapture) await this.rename(seat, after);
+    this.rounds.look();
     this.changed();
   }
 
@@ -255,17 +285,23 @@ export class Hall {
     this.changed();
   }
 
+  /** This name, or one like it that no game has. */
+  freeName(typed) {
+    return freeName(typed, this.names());
+  }
+
   // Its files.
 
-  /** The texts of all games with moves, in the order of the boards. */
+  /** The texts of all games with moves. */
   round() {
-    const seats = [...this.seats.values()].filter((seat) => !seat.isCapture).sort((one, other) => one.id - other.id);
-    return roundText(seats.flatMap((seat) => [...seat.finished.map(({ pgn }) => pgn), seat.hasMoves ? seat.pgn : '']));
+    return roundText(byRound(this.rounds.games()).map(({ pgn }) => pgn));
   }
 
   async saveRound() {
     await Promise.allSettled(this.recorded().map((seat) => seat.text()));
-    save('round.pgn', this.round(), 'application/vnd.chess-pgn');
+    const text = this.round();
+    this.notice('saved', text ? '' : 'No game has a move yet, so nothing was saved.');
+    if (text) save('round.pgn', text, 'application/vnd.chess-pgn');
   }
 
   /** Whether something that was shown would be lost with the page. */

@@ -4,7 +4,7 @@
 import { Connection } from '../device/connection.js';
 import { Guard } from '../guard.js';
 
-const DECIDES = 1.5; // seconds in which a board that has a number gives it
+const DUMPS = 2; // complete dumps without a number: a board sends its number before it shows its pieces
 const AGAIN = 2.0; // seconds between two looks for boards that are awaited
 
 /** Whether the device on a port is of this kind. */
@@ -14,25 +14,29 @@ function isAlike(port, info) {
 }
 
 /**
- * Which of the awaited boards, each with its `serial`, is on a port. `number` is what the port's board has sent, if
- * anything; `alike` says of each awaited board whether its device is of the port's kind. Null if that isn't clear.
+ * Which of the awaited boards is on a port. `number` is what the port's board has sent, if anything. Each awaited board
+ * has its `serial`, and `isAlike`, whether its device is of the port's kind and isn't open. Null if that isn't clear.
  * Pure.
  */
-export function awaitedBy(awaited, number, alike) {
+export function awaitedBy(awaited, number) {
   const byNumber = number ? awaited.find(({ serial }) => serial === number) : null;
   if (byNumber) return byNumber;
-  const others = awaited.filter(alike).filter(({ serial }) => !serial || !number);
+  const others = awaited.filter((one) => one.isAlike && (!one.serial || !number));
   return others.length === 1 ? others[0] : null;
 }
 
 export class Ports {
-  /** `hears` has awaited(), the seats whose boards are awaited; uses(port), whether a seat has it; and says(text). */
+  /**
+   * `hears` has awaited(), the seats that don't hear their boards; uses(port), whether a seat records from it; says(text);
+   * and unclear(port, heard) when a board has come that isn't known to be an awaited one.
+   */
   constructor(serial, loop, hears) {
     this.serial = serial;
     this.loop = loop;
     this.hears = hears;
-    this.trying = new Set(); // ports on which a board is being asked
+    this.asked = new Map(); // ports on which a board is being asked, each with what that will come to
     this.unknown = new Set(); // ports on which no awaited board was found
+    this.chosen = new WeakSet(); // ports that somebody has chosen since they were plugged in: he says what they are for
   }
 
   /** Looks at all ports that this page may use, at each new one, and now and then while a board is awaited. */
@@ -40,6 +44,7 @@ export class Ports {
     if (!this.serial) return;
     this.serial.addEventListener('connect', (event) => {
       this.unknown.clear();
+      this.chosen.delete(event.target);
       this.tryOne(event.target);
     });
     await this.look();
@@ -66,58 +71,68 @@ export class Ports {
     });
   }
 
-  /** This port is there. */
+  /** This port is there. If an awaited board is on it, its game goes on with all that the board has sent. */
   async came(port) {
-    const own = this.hears.awaited().find((seat) => seat.port === port);
+    if (this.asked.has(port)) return;
+    const own = this.hears.awaited().find((seat) => seat.port === port && seat.isWaiting);
     if (own) {
       own.plug(port);
       return;
     }
-    const isKnown = this.hears.uses(port) || this.trying.has(port) || this.unknown.has(port);
+    const isKnown = this.hears.uses(port) || this.unknown.has(port) || this.chosen.has(port);
     if (isKnown || this.hears.awaited().length === 0) return;
-    this.trying.add(port);
-    try {
-      await this.ask(port);
-    } finally {
-      this.trying.delete(port);
-    }
+    await this.withBoard(port, (heard) => heard && this.decide(port, heard));
   }
 
-  /** Finds out whose board is on this port, and gives it to its game with all that it has sent. */
+  /** Gives a board to the awaited game that has it. */
+  async decide(port, heard) {
+    const awaited = this.hears.awaited().map((seat) => ({
+      seat,
+      serial: seat.serial,
+      isAlike: seat.isWaiting && isAlike(port, seat.recorder.board.info),
+    }));
+    const found = awaitedBy(awaited, heard.number);
+    if (found) {
+      found.seat.take(port, heard.connection, heard.came);
+      return;
+    }
+    await heard.connection.close();
+    this.unknown.add(port);
+    this.hears.unclear(port, heard);
+  }
+
+  /** Asks the board on a port who it is (see `ask`), and calls `use` with that. Nobody else uses the port meanwhile. */
+  async withBoard(port, use) {
+    while (this.asked.has(port)) await this.asked.get(port).catch(() => {});
+    const done = this.ask(port).then(use).finally(() => this.asked.delete(port));
+    this.asked.set(port, done);
+    await done;
+  }
+
+  /**
+   * Opens a port, and asks the board on it who it is: { connection, came, number, isSilent }. `came` is what it has sent,
+   * `number` is empty if it gives none, and `isSilent` says that no board answers. Null if the port can't be opened, or is
+   * gone again.
+   */
   ask(port) {
     return new Promise((done, failed) => {
       const guard = new Guard(this.loop, failed);
       const came = [];
-      let isDecided = false;
-      const decide = (number) => {
-        if (isDecided) return;
-        isDecided = true;
-        done();
-        const seat = awaitedBy(this.hears.awaited(), number, (one) => isAlike(port, one.recorder.board.info));
-        if (seat) {
-          seat.take(port, connection, came);
-          return;
-        }
-        connection.close();
-        this.unknown.add(port);
-        const isAwaited = this.hears.awaited().length > 0;
-        if (isAwaited) this.hears.says("a board is connected, and the page can't see which one it is: open its card, and choose its device");
-      };
+      let dumps = 0;
+      const decide = (number) => done({ connection, came, number, isSilent: dumps === 0 && !number });
       const connection = new Connection(guard, port, {
         came: (bytes, ended) => {
           came.push({ bytes, ended });
-          if (ended.serial) decide(ended.serial);
+          dumps += ended.dumped ? 1 : 0;
+          if (ended.serial || dumps >= DUMPS) decide(ended.serial);
         },
         asked: () => {},
-        silence: () => {},
-        lost: () => decide(''),
+        silence: (isSilent) => isSilent && decide(''),
+        lost: () => done(null),
       });
-      const isTaken = () => {
-        isDecided = true; // another program has it, or a tab that is just being closed: it is tried again
-        connection.close();
-        done();
-      };
-      connection.open().then(() => guard.after(DECIDES, () => decide('')), isTaken);
+      connection.asking.hasNumber = true; // so it is asked again if its answer is lost
+      // Another program may have it, or a tab that is just being closed.
+      connection.open().catch(() => connection.close().then(() => done(null)));
     });
   }
 }

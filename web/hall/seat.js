@@ -3,10 +3,12 @@
 import { Recorder } from '../board/recorder.js';
 import { resting, standing, viewOf } from '../board/view.js';
 import { joined } from '../device/protocol.js';
+import { lockedDevice, systemOf } from '../device/systems.js';
 import { dayOf } from '../game/names.js';
 import { optionsOf } from '../game/options.js';
 import { newCourse, textOf } from '../game/reading.js';
 import { Guard } from '../guard.js';
+import { unended } from './results.js';
 
 const AGAIN = 5.0; // seconds until a recorder that an error has ended is begun again
 
@@ -26,21 +28,28 @@ export class Seat {
     this.finished = []; // games of this board that are over, with their texts
   }
 
-  /** Begins to record, from what the database has. */
+  /** Begins to record, from what the database has; after an error, from the memory if the database lacks something. */
   async begin() {
-    const { database, loop } = this.hall;
-    const guard = new Guard(loop, (error) => this.broke(error));
+    const guard = new Guard(this.hall.loop, (error) => this.broke(error));
     this.guard = guard;
+    const { recorder } = this;
+    const kept = recorder && recorder.capture.isUnkept ? recorder : await this.read(guard);
+    guard.call(() => {
+      this.recorder = new Recorder(this.hall, guard, kept, this);
+      this.trouble = '';
+      if (this.port) this.recorder.cable.begin(this.port).catch((error) => guard.fail(error));
+    });
+  }
+
+  /** What the database has of its board and its game. */
+  async read(guard) {
+    const { database } = this.hall;
     const board = await database.board(this.id);
     const game = (await database.games()).find(({ id }) => id === board.game);
     if (!game) throw new Error('its game is no more in this browser: remove the board, and add it again');
     const chunks = await database.chunks(game.id);
     await this.readFinished(guard);
-    guard.call(() => {
-      this.recorder = new Recorder(this.hall, guard, { board, game, chunks }, this);
-      this.trouble = '';
-      if (this.port) this.recorder.cable.begin(this.port).catch((error) => guard.fail(error));
-    });
+    return { board, game, chunks };
   }
 
   /** Reads the games of this board that began today and are over. */
@@ -60,7 +69,8 @@ export class Seat {
   /** Goes on with an open connection, which has brought this. */
   take(port, connection, came) {
     this.port = port;
-    this.guard.call(() => this.recorder.cable.take(connection, came));
+    if (connection.closed) this.plug(port); // it is gone again
+    else this.guard.call(() => this.recorder.cable.take(connection, came));
   }
 
   /** Records from this port. */
@@ -86,6 +96,16 @@ export class Seat {
     return this.recorder !== null && !this.recorder.cable.isOpen && !this.recorder.isStopped && !this.recorder.cable.isTaken;
   }
 
+  /** Whether its device is there, and no board answers on it. */
+  get isSilent() {
+    return this.recorder !== null && this.recorder.cable.isOpen && this.recorder.state.silentSince !== null;
+  }
+
+  /** Whether it doesn't hear its board. */
+  get isAway() {
+    return this.recorder !== null && (!this.recorder.cable.isOpen || this.isSilent);
+  }
+
   get serial() {
     return this.recorder ? this.recorder.cable.number : '';
   }
@@ -97,6 +117,10 @@ export class Seat {
   /** Whether it has a game. */
   get isReady() {
     return this.recorder !== null;
+  }
+
+  get game() {
+    return this.recorder.game;
   }
 
   get options() {
@@ -127,10 +151,16 @@ export class Seat {
     return this.recorder.isStopped;
   }
 
-  /** What somebody must look at, in full, and the hint of the state. */
+  /** What somebody must look at, in full; the hint of the state; and whether its device isn't there. */
   get asks() {
-    const { alarms, state } = this.recorder;
-    return { looks: alarms.looks.all, hint: state.state(this.hall.loop.now()).hint };
+    const { alarms, state, cable, isOver, isStopped } = this.recorder;
+    const hint = state.state(this.hall.loop.now()).hint;
+    return { looks: alarms.looks.all, hint, lacksDevice: !cable.isOpen && !isOver && !isStopped };
+  }
+
+  /** The game before the one that is on, if it has no result; else null. */
+  get unended() {
+    return unended(this.finished);
   }
 
   bytes() {
@@ -151,8 +181,18 @@ export class Seat {
     return this.recorder.edit(changes);
   }
 
-  nextGame() {
-    return this.recorder.nextGame();
+  /** Whether the next game waits until the pieces are set up. */
+  get awaitsStart() {
+    return this.recorder.awaited !== null;
+  }
+
+  nextGame(given) {
+    return this.recorder.nextGame(given);
+  }
+
+  /** The next game, which waits, begins with the move that the board shows. */
+  takeMove() {
+    return this.recorder.nextGame(this.recorder.awaited, true);
   }
 
   /** What its card shows; the last view if a new one can't be made. */
@@ -172,10 +212,13 @@ export class Seat {
 
   standing(now) {
     const { recorder, trouble } = this;
-    const why = trouble || recorder.trouble;
-    if (why) return { ...resting(`NOT RECORDED: ${why}`), alarm: true };
+    if (trouble) return { ...resting(`NOT RECORDED: ${trouble}`), alarm: true };
+    if (recorder.trouble) {
+      return { ...resting(`NOT RECORDED: ${recorder.trouble}`), alarm: true, mend: lockedDevice(systemOf(navigator)) };
+    }
     const looks = recorder.alarms.looks.short;
-    if (recorder.isOver && !recorder.capture.trouble) return resting('over', looks);
+    const over = recorder.awaited ? 'over: set up the pieces for the next game' : 'over';
+    if (recorder.isOver && !recorder.capture.trouble) return resting(over, looks);
     if (recorder.isStopped) return resting('stopped', looks);
     return standing(recorder.state.state(now), now);
   }
@@ -205,6 +248,10 @@ export class Seat {
 
   nextName(name) {
     return this.hears.nextName(name);
+  }
+
+  numbered(number) {
+    this.hears.numbered(this, number);
   }
 
   owner(number) {

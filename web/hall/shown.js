@@ -18,8 +18,9 @@ export class Shown {
     this.isReady = true;
     this.hasBefore = false;
     this.isStopped = false;
-    this.asks = { looks: '', hint: '' };
+    this.asks = { looks: '', hint: '', lacksDevice: false };
     this.finished = [];
+    this.unended = null;
   }
 
   /** Reads it. Throws an Error if no board has sent it. */

@@ -1,5 +1,6 @@
 // What a board sent: in memory, and in the database before any of it is reported. If it can't be kept, it waits in
-// memory, is reported all the same, and is tried again each second; the state says so.
+// memory, is reported all the same, and is tried again each second; the state says so. If the database was lost
+// meanwhile, all that it lacks is put into it again.
 
 import { DISK_FULL, NOT_WRITTEN } from '../board/state.js';
 import { joined } from '../device/protocol.js';
@@ -34,17 +35,26 @@ class Times {
 }
 
 export class Capture {
-  /** `kept(bytes)` gets what is kept, in order; `changed()` is called when nothing can be kept any more, or again. */
-  constructor(database, game, chunks, hears) {
+  constructor(database, game, chunks) {
     this.database = database;
     this.game = game;
-    this.hears = hears;
+    this.hears = null;
     this.setContent(chunks);
+    this.epoch = database.epoch; // of the database in which all is kept but what waits
     this.waiting = []; // chunks that aren't kept yet
     this.told = 0; // how many of them were reported all the same
     this.writing = null;
     this.trouble = ''; // why nothing can be kept
     this.why = '';
+  }
+
+  /**
+   * `kept(bytes)` gets what is kept from now on, in order; `changed()` is called when nothing can be kept any more, or
+   * again. All that has come by now is known.
+   */
+  hearBy(hears) {
+    this.hears = hears;
+    this.told = this.waiting.length;
   }
 
   setContent(chunks) {
@@ -97,10 +107,12 @@ export class Capture {
   }
 
   async writeAll() {
-    while (this.waiting.length > 0) {
-      const part = this.waiting.slice();
+    while (this.waiting.length > 0 || this.isLost) {
+      let part;
       try {
-        await this.database.append(this.game, part);
+        if (this.isLost) await this.lookAgain();
+        part = this.waiting.slice();
+        if (part.length > 0) await this.database.append(this.game, part);
       } catch (error) {
         this.fails(error);
         return;
@@ -108,12 +120,43 @@ export class Capture {
       this.waiting.splice(0, part.length);
       const news = part.slice(this.told);
       this.told = Math.max(0, this.told - part.length);
-      if (this.trouble) {
-        this.trouble = '';
-        this.hears.changed();
-      }
       if (news.length > 0) this.hears.kept(joined(...news.map(({ bytes }) => bytes)));
     }
+    if (this.trouble) {
+      this.trouble = '';
+      this.hears.changed();
+    }
+  }
+
+  /** Whether something may be in memory alone. */
+  get isUnkept() {
+    return this.waiting.length > 0 || Boolean(this.trouble) || this.isLost;
+  }
+
+  /** Whether the database was closed since all was kept in it. */
+  get isLost() {
+    return !this.database.isOpen || this.epoch !== this.database.epoch;
+  }
+
+  /** Opens the database again. If it lacks something that was kept, all waits to be kept once more. */
+  async lookAgain() {
+    const count = await this.database.count(this.game);
+    const { epoch } = this.database;
+    const kept = this.number - this.waiting.length;
+    if (count < kept) {
+      this.waiting = this.chunks();
+      this.told += kept;
+    }
+    this.epoch = epoch;
+  }
+
+  /** All that came, as the database keeps it. */
+  chunks() {
+    const { marks } = this.times;
+    return marks.map(([offset, at], number) => {
+      const end = number + 1 < marks.length ? marks[number + 1][0] : this.size;
+      return { number, at, bytes: this.content.slice(offset, end) };
+    });
   }
 
   /** It can't be kept: it stays in memory, and is reported. */
@@ -121,7 +164,7 @@ export class Capture {
     const news = this.waiting.slice(this.told);
     this.told = this.waiting.length;
     const isNew = !this.trouble;
-    this.trouble = troubleOf(error);
+    this.trouble = this.trouble || troubleOf(error);
     this.why = error && error.message ? error.message : String(error);
     if (isNew) this.hears.changed();
     if (news.length > 0) this.hears.kept(joined(...news.map(({ bytes }) => bytes)));

@@ -15,14 +15,48 @@ function answerOf(request) {
   });
 }
 
+/** Makes changes in one transaction. When this ends, all of them are on the disk; if it fails, none. */
+function changed(database, stores, make) {
+  return new Promise((done, failed) => {
+    const transaction = database.transaction(stores, 'readwrite', { durability: 'strict' });
+    let made;
+    transaction.oncomplete = () => done(made && made.result);
+    transaction.onabort = () => failed(transaction.error || new Error('the browser has ended the transaction'));
+    made = make(transaction);
+  });
+}
+
 const chunksOf = (game) => IDBKeyRange.bound([game, 0], [game, LAST]);
 
 export class Database {
-  constructor(database) {
-    this.database = database;
+  constructor() {
+    this.database = null; // the open connection
+    this.opening = null;
+    this.epoch = 0; // how often it was opened
+    this.remembers = () => ({ boards: [], games: [], captures: [], settings: [] }); // what must be in it when it is opened again
   }
 
   static async open() {
+    const opened = new Database();
+    await opened.connection();
+    return opened;
+  }
+
+  /**
+   * The open connection. The browser closes it when its disk is full or its data is cleared, and another tab may delete
+   * all: then it is opened again.
+   */
+  async connection() {
+    if (this.database) return this.database;
+    if (!this.opening) {
+      this.opening = this.connect().finally(() => {
+        this.opening = null;
+      });
+    }
+    return this.opening;
+  }
+
+  async connect() {
     const request = indexedDB.open(NAME, VERSION);
     request.onupgradeneeded = () => {
       const database = request.result;
@@ -32,22 +66,65 @@ export class Database {
       database.createObjectStore('before', { autoIncrement: true });
       database.createObjectStore('settings', { keyPath: 'name' });
     };
-    return new Database(await answerOf(request));
+    const database = await answerOf(request);
+    const lost = () => this.lose(database);
+    database.onclose = lost;
+    database.onversionchange = lost; // another tab deletes it, and waits until it is closed here
+    if (this.epoch > 0) await this.keepAnew(database);
+    this.epoch += 1;
+    this.database = database;
+    return database;
+  }
+
+  /** This connection can't be used any more. */
+  lose(database) {
+    database.close();
+    if (this.database === database) this.database = null;
+  }
+
+  get isOpen() {
+    return this.database !== null;
+  }
+
+  /** Puts what the page remembers into a database that was just opened again; captures that are whole only if they are gone. */
+  async keepAnew(database) {
+    const { boards, games, captures, settings } = this.remembers();
+    try {
+      await changed(database, ['boards', 'games', 'chunks', 'settings'], (transaction) => {
+        const put = (store) => (one) => transaction.objectStore(store).put(one);
+        boards.forEach(put('boards'));
+        games.forEach(put('games'));
+        settings.forEach(put('settings'));
+        for (const chunk of captures) {
+          const counted = transaction.objectStore('chunks').count(chunksOf(chunk.game));
+          counted.onsuccess = () => counted.result === 0 && put('chunks')(chunk);
+        }
+      });
+    } catch (error) {
+      this.lose(database);
+      throw error;
+    }
   }
 
   /** Makes changes. When this ends, all of them are on the disk; if it fails, none. */
-  change(stores, make) {
-    return new Promise((done, failed) => {
-      const transaction = this.database.transaction(stores, 'readwrite', { durability: 'strict' });
-      let made;
-      transaction.oncomplete = () => done(made && made.result);
-      transaction.onabort = () => failed(transaction.error || new Error('the browser has ended the transaction'));
-      made = make(transaction);
-    });
+  async change(stores, make) {
+    const database = await this.connection();
+    return this.watched(database, () => changed(database, stores, make));
   }
 
-  read(store, query) {
-    return answerOf(query(this.database.transaction(store, 'readonly').objectStore(store)));
+  async read(store, query) {
+    const database = await this.connection();
+    return this.watched(database, () => answerOf(query(database.transaction(store, 'readonly').objectStore(store))));
+  }
+
+  /** Does this with the connection, and drops that if the browser has closed it. */
+  async watched(database, use) {
+    try {
+      return await use();
+    } catch (error) {
+      if (error && error.name === 'InvalidStateError') this.lose(database);
+      throw error;
+    }
   }
 
   boards() {
@@ -71,10 +148,11 @@ export class Database {
     return this.change(['games'], (transaction) => transaction.objectStore('games').put(game));
   }
 
-  /** Begins a game of a board, with the first chunks of its capture. Returns its key. */
-  async beginGame(board, game, chunks) {
+  /** Begins a game of a board, with the first chunks of its capture, after the game before it, if any. Returns its key. */
+  async beginGame(board, game, chunks, before = null) {
     let key;
     await this.change(['boards', 'games', 'chunks'], (transaction) => {
+      if (before) transaction.objectStore('games').put(before);
       const put = transaction.objectStore('games').put(game);
       put.onsuccess = () => {
         key = put.result;
@@ -99,6 +177,11 @@ export class Database {
   /** What was kept of a game, in order: [{ number, at, bytes }]. */
   chunks(game) {
     return this.read('chunks', (store) => store.getAll(chunksOf(game)));
+  }
+
+  /** How many chunks of a game it has. */
+  count(game) {
+    return this.read('chunks', (store) => store.count(chunksOf(game)));
   }
 
   append(game, chunks) {

@@ -10,8 +10,10 @@ export class Folder {
     this.loop = loop;
     this.handle = handle;
     this.hears = hears;
-    this.written = new Map(); // the last text of each PGN
+    this.written = new Map(); // the last content of each file
     this.waiting = new Map(); // the newest content of each file
+    this.writing = null; // { name, content } of the file that is being written
+    this.before = new Map(); // texts of this page that a file may have had when the page was closed
     this.isWriting = false;
     this.failed = '';
   }
@@ -36,6 +38,14 @@ export class Folder {
     this.write();
   }
 
+  /** The texts of this page that the file may have by now, or soon. */
+  textsOf(name) {
+    const { written, writing, waiting } = this;
+    const now = written.has(name) ? [written.get(name)] : this.before.get(name) || [];
+    const soon = [writing && writing.name === name ? writing.content : null, waiting.get(name)];
+    return [...now, ...soon.filter((text) => text)];
+  }
+
   /** Removes the file, after those that were put before have been written. */
   remove(name) {
     this.put(name, null);
@@ -48,6 +58,7 @@ export class Folder {
     while (this.waiting.size > 0) {
       const [[name, content]] = this.waiting;
       this.waiting.delete(name);
+      this.writing = { name, content };
       try {
         await this.writeOne(name, content);
       } catch (error) {
@@ -57,6 +68,7 @@ export class Folder {
       }
     }
     this.isWriting = false;
+    this.writing = null;
     const isNews = Boolean(failed) !== Boolean(this.failed);
     this.failed = failed;
     if (isNews) this.hears.trouble(failed);
@@ -71,6 +83,7 @@ export class Folder {
       return;
     }
     if (name.endsWith('.pgn')) await this.keepEdited(name, content);
+    if (name.endsWith('.dgt')) await this.keepLonger(name, content);
     const file = await this.handle.getFileHandle(name, { create: true });
     const stream = await file.createWritable(); // another file, which replaces this one when it is closed
     try {
@@ -80,14 +93,14 @@ export class Folder {
       throw error;
     }
     await stream.close();
-    if (name.endsWith('.pgn')) this.written.set(name, content);
+    this.written.set(name, content);
   }
 
   /** Keeps a text that somebody has edited by hand under another name, before a new one replaces it. */
   async keepEdited(name, content) {
     const found = await this.textOf(name);
     if (found === null || found === this.written.get(name)) return;
-    if (!this.written.has(name) && isEarlier(found, content)) return;
+    if (!this.written.has(name) && ((this.before.get(name) || []).includes(found) || isEarlier(found, content))) return;
     let number = 1;
     while (await this.has(editedName(name, number))) number += 1;
     const kept = editedName(name, number);
@@ -96,11 +109,37 @@ export class Folder {
     this.hears.says(`${name} had another text, which this page has not written: it is kept in ${kept}`);
   }
 
-  /** The text of a file; null if it isn't there. */
+  /** Keeps a capture that this page hasn't written under another name, before one that has less replaces it. */
+  async keepLonger(name, content) {
+    if (this.written.has(name)) return;
+    const found = await this.bytesOf(name);
+    if (found === null || found.length <= content.length) return;
+    const kept = await this.freeBefore(name.replace(/\.dgt$/, ''));
+    await this.writeOne(kept, found);
+    this.hears.says(`${name} had more than this page has of the game: it is kept in ${kept}`);
+  }
+
+  /** A free name for a capture as it was before. */
+  async freeBefore(name) {
+    let number = 1;
+    while (await this.has(`${name}.before-${number}.dgt`)) number += 1;
+    return `${name}.before-${number}.dgt`;
+  }
+
   async textOf(name) {
+    const file = await this.fileOf(name);
+    return file && file.text();
+  }
+
+  async bytesOf(name) {
+    const file = await this.fileOf(name);
+    return file && new Uint8Array(await file.arrayBuffer());
+  }
+
+  /** A file; null if it isn't there. */
+  async fileOf(name) {
     try {
-      const handle = await this.handle.getFileHandle(name);
-      return await (await handle.getFile()).text();
+      return await (await this.handle.getFileHandle(name)).getFile();
     } catch (error) {
       if (error.name === 'NotFoundError') return null;
       throw error;

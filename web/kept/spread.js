@@ -1,7 +1,7 @@
 // A capture that was made anew, in chunks with the times at which they may have come: one dump a second, the last one
-// now. Pure.
+// now. And one that is put together of two. Pure.
 
-import { DUMP_ID, SIZES } from '../device/protocol.js';
+import { DUMP_ID, SIZES, joined, same } from '../device/protocol.js';
 
 /** Chunks as the database keeps them: [{ number, at, bytes }]. */
 export function spread(content, now) {
@@ -13,4 +13,14 @@ export function spread(content, now) {
     const bytes = content.slice(start, number + 1 < starts.length ? starts[number + 1] : content.length);
     return { number, at: now - (starts.length - 1 - number), bytes };
   });
+}
+
+/**
+ * A capture whose beginning of this size has more after it in `longer`: all of that, and then the rest of the capture. Null
+ * if the other one begins otherwise, or has no more.
+ */
+export function withMore(capture, size, longer) {
+  const begins = (whole, part) => whole.length >= part.length && same(whole.subarray(0, part.length), part);
+  if (longer.length <= size || !begins(longer, capture.subarray(0, size)) || begins(capture, longer)) return null;
+  return joined(longer, capture.subarray(size));
 }

@@ -5,6 +5,7 @@ import { element, say } from '../../live/web/page/diagram.js';
 import { fit, placeAfter } from '../../live/web/page/grid.js';
 import { Large } from '../../live/web/page/large.js';
 import { Tile } from '../../live/web/page/tile.js';
+import { announce } from './announcer.js';
 import { at } from './elements.js';
 
 const SURELY = 0.1; // seconds until a change is shown at the latest
@@ -58,7 +59,9 @@ export class Cards {
     }
     views.forEach((view, index) => this.drawOne(view, index));
     say(at('event'), this.hall.event || 'Chess recorder');
+    say(at('add'), this.hall.devices.isAsking ? 'Asking the board' : 'Add a board');
     at('welcome').hidden = views.length > 0;
+    at('new-round').disabled = this.hall.recorded().length === 0;
     this.showLine();
     this.showAlarms(views);
     this.route();
@@ -78,7 +81,7 @@ export class Cards {
     this.shown.set(view.number, { view, text });
     tile.show(view);
     if (this.open === view.number) this.large.show(view);
-    if (before) this.announce(view, before.view);
+    this.announce(view, before ? before.view : { ...view, alarm: false });
   }
 
   /** The page's state, in a line. */
@@ -106,19 +109,21 @@ export class Cards {
     }
   }
 
-  /** What a screen reader reads out: the moves of the large board, and troubles and results of all. */
+  /** What a screen reader reads out: the alarms of all boards, and the moves and the result of the large one. */
   announce(board, before) {
+    const name = `Board ${board.number}`;
+    if (board.alarm && (!before.alarm || board.state !== before.state)) announce(`${name}: ${board.state}`, true);
+    if (this.open !== board.number) return;
     const words = [];
     const count = board.moves.length;
     const isNew = count > before.moves.length || (count > 0 && before.moves[count - 1].san !== board.moves[count - 1].san);
-    if (this.open === board.number && count > 0 && isNew) {
+    if (count > 0 && isNew) {
       const { san, clock } = board.moves[count - 1];
       const { number, side } = numbered(board.positions[0], count - 1);
       words.push(`${number}, ${side === 'w' ? 'White' : 'Black'}: ${spoken(san)}${clock ? `, clock ${clock}` : ''}`);
     }
     if (board.result !== before.result && board.result !== '*') words.push(`result ${printedResult(board.result)}`);
-    if (board.alarm && (!before.alarm || board.state !== before.state)) words.push(board.state);
-    if (words.length > 0) say(at('said'), `Board ${board.number}: ${words.join('. ')}`);
+    if (words.length > 0) announce(`${name}: ${words.join('. ')}`);
   }
 
   // Which board is large.
@@ -171,6 +176,7 @@ export class Cards {
   press(event) {
     if (event.ctrlKey || event.altKey || event.metaKey || event.defaultPrevented) return;
     const { target } = event;
+    if (target.closest('dialog')) return;
     if (event.key === 'Escape' && this.open !== null) {
       window.location.hash = '';
       event.preventDefault();

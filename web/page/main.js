@@ -2,11 +2,14 @@
 
 import { drawPieces } from '../../live/web/page/diagram.js';
 import { Hall } from '../hall/hall.js';
+import { missingDevice, systemOf, whichDevice } from '../device/systems.js';
 import { isRunnable } from '../game/program.js';
+import { announce } from './announcer.js';
 import { Cards } from './cards.js';
 import { Dropping } from './dropping.js';
 import { Messages } from './messages.js';
 import { Panel } from './panel.js';
+import { RoundDialog } from './round_dialog.js';
 import { at, bytesIn, failed } from './elements.js';
 
 const WHERE_SERIAL = 'To record a board, open this page in Chrome or Edge on a computer (Windows, macOS, Linux, ChromeOS)';
@@ -17,18 +20,30 @@ async function begin() {
   const messages = new Messages();
   const cards = new Cards();
   const hall = new Hall(at('worker').textContent, at('module').textContent.trim(), {
-    changed: () => cards.show(hall),
+    changed: () => {
+      cards.show(hall);
+      at('add').disabled = !navigator.serial || !hall.database || !hall.isReady;
+    },
     says: (text, number, isMove) => messages.say(text, number, isMove),
-    notice: (name, text, buttons) => messages.notice(name, text, buttons),
+    notice: (...given) => messages.notice(...given),
+    newRound: () => dialog.open(),
+    names: (number) => {
+      window.location.hash = `#${number}`;
+      at('details').open = true;
+    },
   });
+  const dialog = new RoundDialog(hall);
   cards.hall = hall;
   cards.panel = new Panel(hall, messages);
   const dropping = new Dropping(hall, messages);
 
-  at('add').addEventListener('click', () => hall.addBoard().catch(failed(messages, "the board can't be added")));
+  at('add').addEventListener('click', () => hall.devices.add().catch(failed(messages, "the board can't be added")));
   at('folder').addEventListener('click', () => hall.folders.choose().catch(failed(messages, "the folder can't be used")));
   at('save-round').addEventListener('click', () => hall.saveRound().catch(failed(messages, "the games can't be saved")));
+  at('new-round').addEventListener('click', () => dialog.open());
   at('sample').addEventListener('click', () => dropping.show('short-game.dgt', bytesIn(at('short-game').textContent)));
+
+  at('which').textContent = `${whichDevice(systemOf(navigator))} ${missingDevice(systemOf(navigator))}`;
 
   if (!navigator.serial) {
     const what = "This browser can't reach a board: it has no Web Serial";
@@ -43,9 +58,8 @@ async function begin() {
   }
   hall.program.begin().catch((error) => messages.notice('module', `The recorder can't be begun: ${error.message}`, [], true));
   await hall.begin();
-  cards.show(hall);
+  hall.changed();
   for (const id of ['folder', 'save-round', 'sample', 'open']) at(id).disabled = false;
-  at('add').disabled = !navigator.serial || !hall.database;
   window.addEventListener('beforeunload', (event) => {
     if (hall.isUnsaved) event.preventDefault();
   });
@@ -54,4 +68,5 @@ async function begin() {
 begin().catch((error) => {
   console.error(error);
   at('line').textContent = `This page can't begin: ${error.message || error}`;
+  announce(at('line').textContent, true);
 });

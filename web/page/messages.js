@@ -1,6 +1,7 @@
 // Messages: lines with the time of day, the newest first; and notices that stay until somebody has acted on them.
 
 import { element } from '../../live/web/page/diagram.js';
+import { announce } from './announcer.js';
 import { at, button } from './elements.js';
 
 const KEPT = 300; // lines
@@ -34,6 +35,7 @@ export class Messages {
     for (const [label, pressed] of buttons) root.append(button(label, pressed, 'main'));
     root.append(button('Close', () => this.notice(name, '')));
     at('notices').append(root);
+    announce(text, isAlarm);
     this.notices.set(name, { text, root });
   }
 }

@@ -4,7 +4,10 @@ import { say } from '../../live/web/page/diagram.js';
 import { TURNED_ROUND } from '../board/state.js';
 import { pgnDate } from '../game/names.js';
 import { UNKNOWN, written } from '../game/options.js';
-import { at, failed, save } from './elements.js';
+import { OF_ALL } from '../game/rounds.js';
+import { giveResult } from '../hall/results.js';
+import { at, failed } from './elements.js';
+import { save } from './saving.js';
 
 const CHECKS = [['rotated', 'rotated', true, false], ['black-first', 'first', 'black', null], ['recover', 'recover', true, null]];
 
@@ -22,20 +25,25 @@ export class Panel {
     for (const pressed of document.querySelectorAll('[data-says]')) {
       pressed.addEventListener('click', () => this.type(pressed.dataset.says));
     }
+    for (const pressed of document.querySelectorAll('[data-before]')) {
+      pressed.addEventListener('click', () => this.giveResult(pressed.dataset.before));
+    }
     at('ok').addEventListener('click', () => this.type('ok'));
     at('turned').addEventListener('click', () => this.turnRound());
     for (const input of document.querySelectorAll('[data-tag]')) {
       input.addEventListener('change', () => this.edit(input));
     }
     at('name').addEventListener('change', () => this.rename());
+    at('for-all').addEventListener('click', () => this.shareWithAll());
     for (const [id, option, on, off] of CHECKS) {
       at(id).addEventListener('change', () => this.change({ [option]: at(id).checked ? on : off }, at(id)));
     }
     at('save-game').addEventListener('click', () => this.does(this.saveGame(), "the game can't be saved"));
     at('save-capture').addEventListener('click', () => save(`${this.seat.name}.dgt`, this.seat.bytes(), 'application/octet-stream'));
-    at('save-before').addEventListener('click', () => this.saveBefore());
+    at('save-before').addEventListener('click', () => this.does(this.saveBefore(), "what was taken off can't be saved"));
     at('next-game').addEventListener('click', () => this.nextGame());
-    at('connect').addEventListener('click', () => this.does(this.hall.choosePort(this.seat), "its device can't be used"));
+    at('connect').addEventListener('click', () => this.chooseDevice());
+    at('choose').addEventListener('click', () => this.chooseDevice());
     at('stop').addEventListener('click', () => this.does(this.hall.stopOrGoOn(this.seat), "that can't be done"));
     at('remove').addEventListener('click', () => this.remove());
   }
@@ -60,6 +68,7 @@ export class Panel {
   answer(text, isDone) {
     say(at('answer'), text);
     at('answer').classList.toggle('refused', !isDone);
+    at('for-all').hidden = true;
   }
 
   async type(text) {
@@ -68,7 +77,21 @@ export class Panel {
     const { done, said } = await seat.typed(text);
     if (seat !== this.seat) return;
     this.answer(said, done);
-    if (done) at('typed').value = '';
+    if (done && at('typed').value === text) at('typed').value = ''; // else somebody types the next line already
+  }
+
+  /** Gives the game before a result. */
+  async giveResult(outcome) {
+    const { seat } = this;
+    const game = seat.unended;
+    if (!game) return;
+    try {
+      await giveResult(this.hall, game, outcome);
+      if (seat === this.seat) this.answer(`${game.name}: ${outcome}`, true);
+    } catch (error) {
+      if (seat === this.seat) this.answer(`refused: ${error.message}`, false);
+    }
+    this.hall.changed();
   }
 
   /** Shows a seat's options; fields in which somebody types stay as they are. */
@@ -76,6 +99,7 @@ export class Panel {
     if (!seat) return;
     at('panel').classList.toggle('unready', !seat.isReady);
     say(at('remove'), this.removeWords(seat));
+    at('lacks').hidden = !seat.isReady || !seat.asks.lacksDevice;
     if (!seat.isReady) return;
     const isShown = seat.isCapture;
     const { options } = seat;
@@ -87,14 +111,21 @@ export class Panel {
     if (isNew || document.activeElement !== at('name')) at('name').value = seat.name;
     for (const [id, option, on] of CHECKS) at(id).checked = options[option] === on;
     at('rotated').disabled = seat.hasMoves && !options.rotated && !isShown;
-    say(at('next-game'), this.ends ? 'Press again: this game then ends here' : 'Next game');
+    say(at('next-game'), this.nextWords(seat));
     say(at('stop'), seat.isStopped ? 'Record again' : 'Stop recording');
+    at('before-game').hidden = isShown || !seat.unended;
+    if (seat.unended) say(at('before-which'), `The game before, ${seat.unended.name}, has no result. What was it?`);
     at('save-before').hidden = isShown || !seat.hasBefore;
     this.showAsked(seat);
   }
 
   valueOf(name, options) {
     return name === 'Date' ? options.date || options.began || UNKNOWN : written(options, name);
+  }
+
+  nextWords(seat) {
+    if (this.ends) return 'Press again: this game then ends here';
+    return !seat.isCapture && seat.awaitsStart ? 'Begin with the move on the board' : 'Next game';
   }
 
   removeWords(seat) {
@@ -111,6 +142,10 @@ export class Panel {
     at('ok').hidden = !looks;
     const turned = "White's pieces stand where Black's should. Is the board turned round?";
     say(at('ask'), [looks, isTurned ? turned : ''].filter((part) => part).join('. '));
+  }
+
+  chooseDevice() {
+    this.does(this.hall.devices.choose(this.seat), "its device can't be used");
   }
 
   turnRound() {
@@ -136,9 +171,26 @@ export class Panel {
       else await this.hall.edit(this.seat, tag, typed);
       input.value = this.valueOf(tag, this.seat.options);
       this.answer(typed && input.value !== typed ? `${typed} is written as ${input.value}` : '', true);
+      if (OF_ALL.includes(tag) && typed) this.offerForAll(tag);
     } catch (error) {
       this.answer(`refused: ${error.message.includes(typed) ? '' : `${typed} `}${error.message}`, false);
     }
+  }
+
+  /** Other boards have another event, say: do they get this one too? */
+  offerForAll(tag) {
+    const numbers = this.seat.isCapture ? [] : this.hall.rounds.differing(this.seat, tag).map(({ id }) => id);
+    if (numbers.length === 0) return;
+    const boards = numbers.length === 1 ? `Board ${numbers[0]} has` : `Boards ${numbers.join(', ')} have`;
+    this.answer(`${boards} another ${tag.toLowerCase()}.`, true);
+    at('for-all').hidden = false;
+    at('for-all').dataset.tag = tag;
+    say(at('for-all'), `${tag} ${written(this.seat.options, tag)} for all boards`);
+  }
+
+  shareWithAll() {
+    this.does(this.hall.rounds.shareWithAll(this.seat, at('for-all').dataset.tag), "that can't be done");
+    this.answer('', true);
   }
 
   /** A game in play ends only if the button is pressed twice. */
@@ -150,7 +202,7 @@ export class Panel {
       return;
     }
     this.ends = false;
-    this.does(seat.nextGame(), "the next game can't be begun");
+    this.does(seat.awaitsStart ? seat.takeMove() : seat.nextGame(), "the next game can't be begun");
   }
 
   async saveGame() {

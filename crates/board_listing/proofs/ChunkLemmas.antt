@@ -9,7 +9,7 @@ use Rattle.dgt_frame.specs.Streams.{Timed}
 use Rattle.board_listing.specs.declared.printer.Printer.{Printer}
 use Rattle.board_listing.specs.declared.stream.ListError.{ListError}
 use Rattle.board_listing.specs.declared.stream.ListError.TheVariants.{Write}
-use Rattle.board_listing.specs.Progress.{BreaksLines, BreaksOff, Broken, GathersEvent, HasTaken, ListsChunk}
+use Rattle.board_listing.specs.Inside.Progress.{BreaksLines, BreaksOff, Broken, GathersEvent, HasTaken, ListsChunk}
 use Rattle.board_listing.proofs.GatherLemmas.{front_written}
 use Rattle.watched_streams.proofs.OutputLemmas.{gathers_sent}
 

@@ -1,5 +1,5 @@
 -- The pictures that events show, and the placement that is drawn.
-use Rattle.std.proofs.Common.{◌≡◌, ◌∙◌, ℕ, Bool, true, false, List, [], ◌∷◌, length, slice_set, Some, ap, refl, sym}
+use Rattle.std.proofs.Common.{◌≡◌, ◌∙◌, ℕ, Bool, true, false, List, ◌∷◌, length, slice_set, Some, ap, refl, sym}
 use Rattle.std.proofs.lemmas.Option.{same_Some}
 use Rattle.chess_text.specs.declared.placement_text.PlacementText.{PlacementText}
 use Rattle.chess_text.specs.KeptRanks.{picture_in}
@@ -12,12 +12,11 @@ use Rattle.settle_core.specs.Entries.{last_picture, repeats}
 use Rattle.settle_core.proofs.Repeats.{repeated_last}
 use Rattle.board_events.specs.Entries.{is_entry}
 use Rattle.board_events.specs.History.{fields_of, picture_of, reading_at, turned}
-use Rattle.board_events.specs.Pictures.{pictures}
 use Rattle.board_events.specs.Session.{entries_in}
 use Rattle.board_events.specs.Settings.{Setting}
 use Rattle.board_events.proofs.PictureLemmas.{plain_dump, rotated_dump, updated_picture}
 use Rattle.board_events.proofs.TakeLemmas.{seen_before}
-use Rattle.board_listing.specs.Drawing.{Draws, drawn, is_time}
+use Rattle.board_listing.specs.Inside.Drawing.{Draws, drawn, is_time}
 use Rattle.board_listing.proofs.FollowLemmas.{clash, entries_new, entries_same}
 
 -- ---- the placement

@@ -29,9 +29,9 @@ use Rattle.dgt_frame.specs.declared.events.Event.TheVariants.{Message, Fault}
 use Rattle.board_listing.specs.EventLines.{line_of}
 use Rattle.watched_streams.specs.Lines.{line}
 use Rattle.board_listing.specs.GameLines.{move_words}
-use Rattle.board_listing.specs.Followers.{HasFollowed}
+use Rattle.board_listing.specs.Inside.Followers.{HasFollowed}
 use Rattle.board_listing.specs.GameText.{HasResult, TellsEvent, TellsPly}
-use Rattle.board_listing.specs.News.{AddsNews, LastIsLegal, MayTell}
+use Rattle.board_listing.specs.Inside.News.{AddsNews, LastIsLegal, MayTell}
 
 -- what is known of the latest ply and its position
 abbrev pub FindsLast : Option (Parts × Ply) → Parts → List Ply → Type 0

@@ -8,9 +8,9 @@ use Rattle.watched_streams.specs.declared.WriteFault.{WriteFault}
 use Rattle.dgt_frame.specs.Streams.{Timed}
 use Rattle.board_listing.specs.declared.printer.Printer.{Printer}
 use Rattle.board_listing.specs.declared.listing.Listing.{Listing}
-use Rattle.board_listing.specs.Printers.{AddsLines, Follows}
+use Rattle.board_listing.specs.Inside.Printers.{AddsLines, Follows}
 use Rattle.board_listing.specs.declared.stream.ListError.TheVariants.{Memory, Write}
-use Rattle.board_listing.specs.Progress.{BreaksLines, GathersEvent}
+use Rattle.board_listing.specs.Inside.Progress.{BreaksLines, GathersEvent}
 use Rattle.board_listing.specs.Listings.{LacksMemory, WritesFront}
 use Rattle.watched_streams.specs.Output.{Gathers}
 use Rattle.watched_streams.proofs.OutputLemmas.{gathers_sent}

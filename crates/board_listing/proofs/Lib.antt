@@ -15,3 +15,6 @@ pub mod PlacedLemmas
 pub mod WatchedLemmas
 pub mod WatchLawLemmas
 pub mod WatchPositionLemmas
+pub mod IdleLemmas
+pub mod SameTextLemmas
+pub mod WatchTextLemmas

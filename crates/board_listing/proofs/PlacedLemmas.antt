@@ -26,8 +26,8 @@ use Rattle.board_listing.specs.EventLines.{kind_text, line_of}
 use Rattle.board_listing.specs.GameLines.{move_words, result_words, squares_text, waiting_words}
 use Rattle.board_listing.specs.GameText.{TellsPly, TellsResult, TellsSeen, reached_by}
 use Rattle.board_listing.specs.GivenGame.{GameLine, text_of}
-use Rattle.board_listing.specs.News.{LastIsLegal, MayTell}
-use Rattle.board_listing.specs.Positions.{TellsResultAndPosition, TellsSeenAndPosition}
+use Rattle.board_listing.specs.Inside.News.{LastIsLegal, MayTell}
+use Rattle.board_listing.specs.Inside.Positions.{TellsResultAndPosition, TellsSeenAndPosition}
 use Rattle.board_listing.specs.WatchLines.{position_words, tells_change, tells_game}
 use Rattle.board_listing.specs.WatchText.{IsGameLine, line_with, with_position}
 use Rattle.board_listing.proofs.FollowLemmas.{clash}

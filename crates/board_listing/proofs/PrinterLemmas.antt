@@ -19,11 +19,11 @@ use Rattle.board_listing.specs.declared.follower.Follower.{Follower}
 use Rattle.board_listing.specs.declared.printer.Printer.{Printer}
 use Rattle.board_listing.specs.declared.printer.Printer.TheVariants.{Events as EachEvent, Pictures as EachPicture, Game as EachMove, Watched as EachThing}
 use Rattle.board_listing.specs.declared.listing.Listing.TheVariants.{Events, Pictures, Game, Watched}
-use Rattle.board_listing.specs.Followers.{AddsEvent, HasFollowed}
-use Rattle.board_listing.specs.Printers.{AddsLines}
+use Rattle.board_listing.specs.Inside.Followers.{AddsEvent, HasFollowed}
+use Rattle.board_listing.specs.Inside.Printers.{AddsLines}
 use Rattle.board_listing.specs.declared.watcher.Watcher.{Watcher}
 use Rattle.board_listing.specs.GivenGame.{text_of}
-use Rattle.board_listing.specs.Watchers.{AddsWatched, HasWatched}
+use Rattle.board_listing.specs.Inside.Watchers.{AddsWatched, HasWatched}
 use Rattle.board_listing.proofs.LineLemmas.{each_more, game_more, pictures_added, placed, text_append, watch_more}
 
 -- What a view knows and a kept placement has, whatever events there were.

@@ -12,14 +12,14 @@ use Rattle.board_events.specs.Limits.{limit}
 use Rattle.board_listing.specs.declared.printer.Printer.{Printer}
 use Rattle.board_listing.specs.declared.listing.Listing.{Listing}
 use Rattle.board_listing.specs.declared.listing.Listing.TheVariants.{Events, Pictures, Game, Watched}
-use Rattle.board_listing.specs.Printers.{Follows, HasBegun}
+use Rattle.board_listing.specs.Inside.Printers.{Follows, HasBegun}
 use Rattle.watched_streams.specs.Input.{ReadsWithin}
 use Rattle.board_listing.specs.Listings.{HasLines, Leaves, ListsAll, ListsFirst, ListsFront, ListsRead, ListsRefused, WritesFront, first_line, last_line}
 use Rattle.watched_streams.specs.Output.{Gathers}
 use Rattle.watched_streams.proofs.InputLemmas.{cut_bytes}
 use Rattle.board_listing.specs.WatchLines.{position_words}
 use Rattle.board_listing.specs.WatchText.{line_with}
-use Rattle.board_listing.specs.Progress.{BreaksOff, FinishBreaksOff, Finishes, HasListed, HasTaken, ListsChunk, Stops}
+use Rattle.board_listing.specs.Inside.Progress.{BreaksOff, FinishBreaksOff, Finishes, HasListed, HasTaken, ListsChunk, Stops}
 use Rattle.board_listing.specs.declared.stream.ListError.{ListError}
 use Rattle.board_listing.specs.declared.stream.ListError.TheVariants.{Memory, Read, TooLong, Write}
 

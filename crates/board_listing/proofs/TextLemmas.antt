@@ -41,7 +41,7 @@ IsPrinted byte = 31 < byte
 abbrev pub Printed : List ℕ → Type 0
 Printed text = AllByRecursion IsPrinted text
 
-both : (xs ys : List ℕ) → Printed xs → Printed ys → Printed (xs ++ ys)
+pub both : (xs ys : List ℕ) → Printed xs → Printed ys → Printed (xs ++ ys)
 both xs ys h k = All-append IsPrinted xs ys h k
 
 abbrev pub are_printed : List ℕ → Bool
@@ -82,7 +82,7 @@ decimal_digits : (n : ℕ) → AllByRecursion IsDigit (decimal n)
 unfolding digits
 decimal_digits n = onto_digits 64 n [] tt
 
-weaker : (P Q : ℕ → Type 0) → ((byte : ℕ) → P byte → Q byte) → (text : List ℕ) → AllByRecursion P text → AllByRecursion Q text
+pub weaker : (P Q : ℕ → Type 0) → ((byte : ℕ) → P byte → Q byte) → (text : List ℕ) → AllByRecursion P text → AllByRecursion Q text
 weaker P Q on [] h = tt
 weaker P Q on (byte ∷ bytes) h = (on byte h.0, weaker P Q on bytes h.1)
 
@@ -110,7 +110,7 @@ token_printed : (side : Side) (n : ℕ) → Printed (number_token side n)
 token_printed White n = both (decimal n) (codes ".") (number_printed n) (fixed (codes ".") refl)
 token_printed Black n = both (decimal n) (codes "...") (number_printed n) (fixed (codes "...") refl)
 
-clock_printed : (clock : Option Hms) → Printed (clock_words clock)
+pub clock_printed : (clock : Option Hms) → Printed (clock_words clock)
 clock_printed None = tt
 clock_printed (Some time) = (omega arith, (omega arith, (omega arith, (omega arith, (omega arith, (omega arith, (omega arith, (omega arith, tt))))))))
 
@@ -257,7 +257,7 @@ ends_apart lines others x y hx hy e =
     last_apart (text_of lines) (text_of others) x y (text_whole lines) (text_whole others) hx hy
     (append_cancel_right (text_of lines ++ x) (text_of others ++ y) (codes "\n") (append_assoc (text_of lines) x (codes "\n") ∙ e ∙ sym (append_assoc (text_of others) y (codes "\n"))))
 
-never_empty : (front x : List ℕ) → [] ≡ front ++ (x ++ codes "\n") → ⊥
+pub never_empty : (front x : List ℕ) → [] ≡ front ++ (x ++ codes "\n") → ⊥
 never_empty front x e =
     let long = ap length e in
     omega (arith, long, length-append front (x ++ codes "\n"), length-append x (codes "\n"))
@@ -291,7 +291,7 @@ rest_apart (told ∷ lines) others rest h e =
     let parts = ends_apart lines others (body told) (rest_body rest) (body_printed told h.0) (rest_printed rest) e in
     never_rest (decimal told.offset) told.words (codes "est " ++ decimal rest) (decimal_digits told.offset) (sym (append_assoc (decimal told.offset) (codes " ") told.words) ∙ parts.1)
 
-texts_once : (lines others : List GameLine) (last end : List ℕ) → AllByRecursion IsLine lines → AllByRecursion IsLine others → EndsLines last → EndsLines end
+pub texts_once : (lines others : List GameLine) (last end : List ℕ) → AllByRecursion IsLine lines → AllByRecursion IsLine others → EndsLines last → EndsLines end
     → text_of lines ++ last ≡ text_of others ++ end → (lines ≡ others) × (last ≡ end)
 texts_once lines others last end h k (inl a) (inl b) e =
     let P : List ℕ → List ℕ → Type 0 = λ s t. text_of lines ++ s ≡ text_of others ++ t in

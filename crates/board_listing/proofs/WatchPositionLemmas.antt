@@ -146,7 +146,7 @@ lines_in : (offset : ℕ) (lines : List GameLine) → offset < limit → AllByRe
 lines_in offset [] low h k = tt
 lines_in offset (told ∷ lines) low h k = ((subst (λ n. n < limit) (sym h.0) low, k.0), lines_in offset lines low h.1 k.1)
 
-followed_in : (offset : ℕ) (lines : List GameLine) → offset < limit → AllByRecursion (IsGameLine offset) lines → AllByRecursion IsLine lines
+pub followed_in : (offset : ℕ) (lines : List GameLine) → offset < limit → AllByRecursion (IsGameLine offset) lines → AllByRecursion IsLine lines
 followed_in offset [] low h = tt
 followed_in offset (told ∷ lines) low h = ((subst (λ n. n < limit) (sym h.0.offset_is) low, h.0.one), followed_in offset lines low h.1)
 
@@ -161,11 +161,11 @@ record Steps (setting : Setting) (events : List Timed) (x : Timed) (p : Parts) (
 
 -- What was told of these events gives the plies of the score to which their entries fold, and its positions are those
 -- of the moves.
-record Named (setting : Setting) (events : List Timed) (lines : List GameLine) : Type 0 where
-  score : Score
-  folds : Folds setting.start (deduplicated (entries_in setting (events_of events))) score
-  told : (outcome : Option Outcome) → HasResult setting.start score outcome → Gives setting.start (game_lines lines) score.plies outcome
-  names : NamesPositions setting.start lines
+pub record Named (setting : Setting) (events : List Timed) (lines : List GameLine) : Type 0 where
+  pub score : Score
+  pub folds : Folds setting.start (deduplicated (entries_in setting (events_of events))) score
+  pub told : (outcome : Option Outcome) → HasResult setting.start score outcome → Gives setting.start (game_lines lines) score.plies outcome
+  pub names : (begin : Option Outcome) → IsResult setting.start None begin → NamesPositions setting.start lines
 
 -- No line of the game came.
 no_step : (setting : Setting) (events : List Timed) (x : Timed) (p : Parts) (lines followed : List GameLine) → Named setting events lines
@@ -292,18 +292,18 @@ named_pictured : (offset : ℕ) (start : Parts) (old new : List (List ℕ)) (pic
 named_pictured offset start old new pictured rest (inl (same, none)) names = subst (λ ls. NamesPositions start (ls ++ rest)) (sym none) names
 named_pictured offset start old new pictured rest (inr (picture, newest, is)) names = subst (λ ls. NamesPositions start (ls ++ rest)) (sym is) (λ position. cc, names)
 
-named : TextsArePlain → (setting : Setting) (begin : Option Outcome) → Valid setting.start → IsResult setting.start None begin → (events : List Timed) (lines : List GameLine)
+pub named : TextsArePlain → (setting : Setting) → Valid setting.start → (events : List Timed) (lines : List GameLine)
     → AllByRecursion (λ x. x.offset < limit) events → Watches setting events lines → Named setting events lines
-named law setting begin valid begins [] lines short is =
+named law setting valid [] lines short is =
     let N : List GameLine → Type 0 = λ ls. Named setting [] ls in
     subst N (sym is) (record {
       score = record { plies = []; sign = None };
       folds = refl;
       told = λ outcome has. (refl, has);
-      names = (λ position. ([], begin, (refl, begins), refl), tt);
+      names = λ begin begins. (λ position. ([], begin, (refl, begins), refl), tt);
     })
-named law setting begin valid begins (x ∷ events) lines short (before, more, watches, e, lines_are) =
-    let g = named law setting begin valid begins events before short.1 watches in
+named law setting valid (x ∷ events) lines short (before, more, watches, e, lines_are) =
+    let g = named law setting valid events before short.1 watches in
     let start = setting.start in
     let p = reached_by start e.score in
     let s = step law setting events x before more e valid g short.0 (is_fault x.event) (is_entry x.event (events_of events))
@@ -311,17 +311,17 @@ named law setting begin valid begins (x ∷ events) lines short (before, more, w
     let N : List GameLine → Type 0 = λ ls. NamesPositions start ls in
     let R : List GameLine → Type 0 = λ ls. Reaches start p e.followed ls in
     let T : List GameLine → Type 0 = λ ls. (outcome : Option Outcome) → HasResult start s.score outcome → Gives start ls s.score.plies outcome in
-    let all : NamesPositions start (more ++ before) = subst N (sym (all_of_event setting (events_of events) x more before e))
+    let all : (begin : Option Outcome) → IsResult start None begin → NamesPositions start (more ++ before) = λ begin begins. subst N (sym (all_of_event setting (events_of events) x more before e))
     (named_timed x.offset start _ _ e.timed (flat_map (with_position p) e.followed ++ (e.pictured ++ before)) e.reading_is
-    (named_followed x.offset start p e.followed (e.pictured ++ before) e.each (named_pictured x.offset start _ _ e.pictured before e.picture_is g.names)
+    (named_followed x.offset start p e.followed (e.pictured ++ before) e.each (named_pictured x.offset start _ _ e.pictured before e.picture_is (g.names begin begins))
     (subst R (sym (game_of_pictured x.offset _ _ e.pictured before e.picture_is)) s.reaches))) in
     record {
       score = s.score;
       folds = s.folds;
       told = subst T (sym (ap game_lines lines_are ∙ game_of_event setting (events_of events) x more before e)) s.told;
-      names = subst N (sym lines_are) all;
+      names = λ begin begins. subst N (sym lines_are) (all begin begins);
     }
 
 pub watch_names_the_positions : TextsArePlain → WatchNamesThePositions
 watch_names_the_positions law setting begin events lines valid begins short watches =
-    let whole = named law setting begin valid begins events lines short watches in whole.names
+    let whole = named law setting valid events lines short watches in whole.names begin begins

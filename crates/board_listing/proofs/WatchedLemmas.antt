@@ -25,14 +25,14 @@ use Rattle.board_events.specs.States.{State}
 use Rattle.board_events.proofs.ViewLemmas.{pictures_more, pictures_none, pictures_same}
 use Rattle.board_listing.specs.declared.follower.Follower.{Follower}
 use Rattle.board_listing.specs.declared.watcher.Watcher.{Watcher}
-use Rattle.board_listing.specs.Drawing.{Draws, drawn}
+use Rattle.board_listing.specs.Inside.Drawing.{Draws, drawn}
 use Rattle.board_listing.specs.EventLines.{line_of}
-use Rattle.board_listing.specs.Followers.{HasFollowed}
+use Rattle.board_listing.specs.Inside.Followers.{HasFollowed}
 use Rattle.board_listing.specs.GameText.{TellsEvent, reached_by}
 use Rattle.board_listing.specs.GivenGame.{GameLine, text_of}
-use Rattle.board_listing.specs.News.{AddsNews, MayTell}
-use Rattle.board_listing.specs.Positions.{AddsNewsAndPositions}
-use Rattle.board_listing.specs.Watchers.{HasWatched, ShowsNews}
+use Rattle.board_listing.specs.Inside.News.{AddsNews, MayTell}
+use Rattle.board_listing.specs.Inside.Positions.{AddsNewsAndPositions}
+use Rattle.board_listing.specs.Inside.Watchers.{HasWatched, ShowsNews}
 use Rattle.board_listing.specs.WatchLines.{picture_words}
 use Rattle.board_listing.specs.WatchText.{ShowsPicture, ShowsReading, WatchesEvent, line_with, with_position}
 use Rattle.board_listing.proofs.DrawingLemmas.{draws_new, draws_none, draws_same, now_drawn}

@@ -6,8 +6,8 @@ use Rattle.settle_core.specs.declared.plies.Seen.TheVariants.{Same, Moved, Sign,
 use Rattle.settle_core.specs.Folding.{Score}
 use Rattle.watched_streams.specs.Lines.{line}
 use Rattle.board_listing.specs.GameText.{TellsSeen, reached_by}
-use Rattle.board_listing.specs.Plies.{is_ply}
-use Rattle.board_listing.specs.Positions.{TellsSeenAndPosition}
+use Rattle.board_listing.specs.Inside.Plies.{is_ply}
+use Rattle.board_listing.specs.Inside.Positions.{TellsSeenAndPosition}
 use Rattle.board_listing.specs.WatchLines.{position_words}
 use Rattle.board_listing.proofs.FollowLemmas.{clash}
 use Rattle.board_listing.proofs.SquareLemmas.{line_added, more_added}

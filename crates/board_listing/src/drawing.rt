@@ -3,7 +3,7 @@ ghost use Rattle.std.specs.Prelude.{◌≡◌};
 ghost use Rattle.dgt_frame.specs.Streams.{HasFrame};
 ghost use Rattle.board_events.specs.History.{fields_of};
 ghost use Rattle.chess_text.specs.KeptRanks.{picture_in};
-ghost use Rattle.board_listing.specs.Drawing.{drawn};
+ghost use Rattle.board_listing.specs.Inside.Drawing.{drawn};
 
 use chess_text::PlacementText;
 use dgt_frame::{Event, Message};

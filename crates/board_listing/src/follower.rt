@@ -4,7 +4,7 @@ ghost use Rattle.arrayvec.specs.ArrayVec.{array_vec_len};
 ghost use Rattle.dgt_frame.specs.Streams.{HasFrame};
 ghost use Rattle.settle_core.specs.declared.plies.Seen.{Seen as SeenOf};
 ghost use Rattle.board_listing.specs.GameText.{HasResult, TellsPly, TellsResult, TellsSeen};
-ghost use Rattle.board_listing.specs.News.{AddsNews, LastIsLegal, MayTell};
+ghost use Rattle.board_listing.specs.Inside.News.{AddsNews, LastIsLegal, MayTell};
 
 use crate::events::add_line;
 use crate::game_lines::{add_ply, add_result, add_waiting};
@@ -93,7 +93,7 @@ impl Follower {
     ghost use Rattle.dgt_frame.specs.declared.events.Event.{Event as EventOf};
     ghost use Rattle.board_events.specs.Settings.{Setting};
     ghost use Rattle.board_events.specs.Session.{WantsMemory};
-    ghost use Rattle.board_listing.specs.Followers.{AddsEvent, HasFollowed};
+    ghost use Rattle.board_listing.specs.Inside.Followers.{AddsEvent, HasFollowed};
 
     /// A follower that was given no event. Takes no memory.
     pub fn new(alloc: Global, start: Position, first: First, rotated: bool) -> Follower

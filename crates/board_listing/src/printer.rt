@@ -4,7 +4,7 @@ ghost use Rattle.arrayvec.specs.ArrayVec.{array_vec_len};
 ghost use Rattle.dgt_frame.specs.Streams.{HasFrame, Timed};
 ghost use Rattle.board_listing.specs.declared.listing.Listing.{Listing};
 ghost use Rattle.board_listing.specs.Listings.{LacksMemory, first_line, last_line};
-ghost use Rattle.board_listing.specs.Printers.{AddsLines, Follows, HasBegun};
+ghost use Rattle.board_listing.specs.Inside.Printers.{AddsLines, Follows, HasBegun};
 
 use crate::events::{add_line, add_rest};
 use crate::follower::Follower;

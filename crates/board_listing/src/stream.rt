@@ -6,8 +6,8 @@ ghost use Rattle.watched_streams.specs.Watch.{inner_of, has_failed};
 ghost use Rattle.watched_streams.specs.Input.{ReadsWithin};
 ghost use Rattle.board_listing.specs.Listings.{ListsAll, ListsFirst, ListsFront, ListsRead, ListsRefused, WritesFront, first_line};
 ghost use Rattle.arrayvec.specs.ArrayVec.{array_vec_len};
-ghost use Rattle.board_listing.specs.Printers.{HasBegun};
-ghost use Rattle.board_listing.specs.Progress.{BreaksLines, BreaksOff, FinishBreaksOff, Finishes, GathersEvent, HasTaken, ListsChunk};
+ghost use Rattle.board_listing.specs.Inside.Printers.{HasBegun};
+ghost use Rattle.board_listing.specs.Inside.Progress.{BreaksLines, BreaksOff, FinishBreaksOff, Finishes, GathersEvent, HasTaken, ListsChunk};
 ghost use Rattle.board_listing.specs.Status.{status_of, message_of};
 
 use crate::listing::Listing;

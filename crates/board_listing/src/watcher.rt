@@ -11,10 +11,10 @@ ghost use Rattle.board_listing.specs.EventLines.{line_of};
 ghost use Rattle.board_listing.specs.GameLines.{squares_text, waiting_words};
 ghost use Rattle.board_listing.specs.GameText.{HasResult, reached_by};
 ghost use Rattle.board_listing.specs.GivenGame.{GameLine, text_of};
-ghost use Rattle.board_listing.specs.News.{MayTell};
-ghost use Rattle.board_listing.specs.Plies.{is_ply};
-ghost use Rattle.board_listing.specs.Positions.{TellsResultAndPosition, TellsSeenAndPosition};
-ghost use Rattle.board_listing.specs.Drawing.{is_time};
+ghost use Rattle.board_listing.specs.Inside.News.{MayTell};
+ghost use Rattle.board_listing.specs.Inside.Plies.{is_ply};
+ghost use Rattle.board_listing.specs.Inside.Positions.{TellsResultAndPosition, TellsSeenAndPosition};
+ghost use Rattle.board_listing.specs.Inside.Drawing.{is_time};
 ghost use Rattle.board_listing.specs.WatchLines.{picture_words};
 ghost use Rattle.board_listing.specs.WatchText.{ShowsReading};
 
@@ -159,7 +159,7 @@ impl Watcher {
     ghost use Rattle.dgt_frame.specs.declared.events.Event.{Event as EventOf};
     ghost use Rattle.board_events.specs.Settings.{Setting};
     ghost use Rattle.board_events.specs.Session.{WantsMemory};
-    ghost use Rattle.board_listing.specs.Watchers.{AddsShown, AddsWatched, HasWatched, ShowsNews};
+    ghost use Rattle.board_listing.specs.Inside.Watchers.{AddsShown, AddsWatched, HasWatched, ShowsNews};
 
     /// A watcher that was given no event. Takes no memory.
     pub fn new(alloc: Global, start: Position, first: First, rotated: bool) -> Watcher

@@ -7,7 +7,7 @@ use Rattle.board_session.specs.declared.recorder.Recorder.{Recorder}
 use Rattle.board_events.specs.Settings.{Setting}
 use Rattle.board_events.specs.History.{is_fault}
 use Rattle.board_events.specs.Commands.{faults_in, messages_in, past_of}
-use Rattle.board_session.specs.Recorder.{Kept, event_count}
+use Rattle.board_session.specs.Inside.Recorder.{Kept, event_count}
 
 one_counted : (b : Bool) (m f n : ℕ) → m + f ≡ n → (cond (not b) 1 0 + m) + (cond b 1 0 + f) ≡ suc n
 one_counted true m f n h = omega arith

@@ -18,7 +18,7 @@ use Rattle.board_events.specs.Session.{StandsFor}
 use Rattle.watched_streams.specs.Output.{AppendsPart}
 use Rattle.watched_streams.proofs.OutputLemmas.{part_behind}
 use Rattle.board_events.proofs.CommandLemmas.{at, past_more, commands_more}
-use Rattle.board_session.specs.Recorder.{Kept, Live, Stopped, TakesEvent}
+use Rattle.board_session.specs.Inside.Recorder.{Kept, Live, Stopped, TakesEvent}
 
 -- one more event was counted
 counted_more : (p : Event → Bool) (taken : List Timed) (offset : ℕ) (event : Event)

@@ -13,7 +13,7 @@ use Rattle.board_session.specs.declared.recorder.Recorder.{Recorder}
 use Rattle.board_events.specs.Settings.{Setting}
 use Rattle.board_events.specs.Commands.{past_of}
 use Rattle.board_session.specs.Recording.{Ends, FailsAsking}
-use Rattle.board_session.specs.Recorder.{EndsAtFault, Listened, Live, Stopped, Stops}
+use Rattle.board_session.specs.Inside.Recorder.{EndsAtFault, Listened, Live, Stopped, Stops}
 use Rattle.board_session.proofs.HearLemmas.{stopped_more}
 
 pub read_failed : (recorder : Recorder) (setting : Setting) (input input' input'' before sent : Option (List ℕ)) (bytes : List ℕ) (taken : List Timed)

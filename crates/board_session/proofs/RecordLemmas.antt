@@ -14,7 +14,7 @@ use Rattle.pgn_book.specs.Laws.{TextsTellGames}
 use Rattle.pgn_book.specs.Pgn.{Pgn}
 use Rattle.chess_game.specs.Values.{TagValues}
 use Rattle.board_events.specs.Game.{IsGameOf}
-use Rattle.board_session.specs.Recorder.{Finished}
+use Rattle.board_session.specs.Inside.Recorder.{Finished}
 use Rattle.board_events.specs.Settings.{Setting, setting_of}
 use Rattle.board_events.specs.Commands.{past_of}
 use Rattle.board_events.specs.Session.{entries_in}

@@ -1,7 +1,7 @@
-pub mod Recorder
+pub mod AnyRecording
+pub mod AnyStream
+pub mod HonestBoard
+pub mod Inside
 pub mod Laws
 pub mod Recording
-pub mod AnyStream
-pub mod AnyRecording
-pub mod HonestBoard
 pub mod Sizes

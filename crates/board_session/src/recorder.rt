@@ -8,7 +8,7 @@ ghost use Rattle.pgn_book.specs.Pgn.{Pgn};
 ghost use Rattle.board_events.specs.Settings.{Setting};
 ghost use Rattle.board_events.specs.History.{is_fault};
 ghost use Rattle.watched_streams.specs.Output.{AppendsPart};
-ghost use Rattle.board_session.specs.Recorder.{Finished, Hears, IsFed, IsRefusal, Kept, Listened, Live, TakesEvent, event_count};
+ghost use Rattle.board_session.specs.Inside.Recorder.{Finished, Hears, IsFed, IsRefusal, Kept, Listened, Live, TakesEvent, event_count};
 
 use crate::refusal::RecordError;
 use crate::report::Report;

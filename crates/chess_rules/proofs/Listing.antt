@@ -13,7 +13,7 @@ use Rattle.chess_rules.specs.Board.{row, last_row}
 use Rattle.chess_rules.specs.After.{king_home}
 use Rattle.chess_rules.specs.Legal.{Legal, Goes, step, pawn_step, capture, double_step, en_passant, castling, NamesPromotion, IsOfficer}
 use Rattle.chess_rules.specs.Moves.{promotion_place, Precedes, ListsLegal}
-use Rattle.chess_rules.specs.Places.{place, ListsBelow, HasNone}
+use Rattle.chess_rules.specs.Inside.Places.{place, ListsBelow, HasNone}
 use Rattle.chess_rules.proofs.Shifts.{on_board}
 use Rattle.chess_rules.proofs.Tells.{same_move}
 

@@ -8,8 +8,8 @@ use Rattle.chess_rules.specs.Attack.{gap}
 use Rattle.chess_rules.specs.Legal.{Legal}
 use Rattle.chess_rules.specs.Valid.{Valid}
 use Rattle.chess_rules.specs.Moves.{promotion_place}
-use Rattle.chess_rules.specs.Places.{place, first_place, HasNone}
-use Rattle.chess_rules.specs.Reach.{MayReach, MayPromote}
+use Rattle.chess_rules.specs.Inside.Places.{place, first_place, HasNone}
+use Rattle.chess_rules.specs.Inside.Reach.{MayReach, MayPromote}
 use Rattle.chess_rules.proofs.Shifts.{Own}
 use Rattle.chess_rules.proofs.Listing.{IsSmall, is_small}
 use Rattle.chess_rules.proofs.Reaching.{mover, free_target, reaches, names}

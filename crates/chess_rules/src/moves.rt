@@ -3,10 +3,10 @@ ghost use Rattle.std.specs.Prelude.{◌≡◌, ◌≢◌, ◌<◌, ◌+◌, IfSo
 ghost use Rattle.chess_rules.specs.Board.{on, piece_of, file, row};
 ghost use Rattle.chess_rules.specs.Attack.{gap};
 ghost use Rattle.chess_rules.specs.Valid.{Valid};
-ghost use Rattle.chess_rules.specs.Reach.{MayReach, MayPromote};
+ghost use Rattle.chess_rules.specs.Inside.Reach.{MayReach, MayPromote};
 ghost use Rattle.chess_rules.specs.Legal.{Legal, Mated, Stale};
 ghost use Rattle.chess_rules.specs.Moves.{ListsLegal, promotion_place};
-ghost use Rattle.chess_rules.specs.Places.{ListsBelow, HasNone, first_place};
+ghost use Rattle.chess_rules.specs.Inside.Places.{ListsBelow, HasNone, first_place};
 
 use crate::chess_move::Move;
 use crate::parts::{Parts, Status};

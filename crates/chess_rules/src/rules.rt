@@ -4,7 +4,7 @@ ghost use Rattle.chess_rules.specs.Board.{Ahead, on, piece_of, other, forward, s
 ghost use Rattle.chess_rules.specs.Attack.{Attacks, InCheck};
 ghost use Rattle.chess_rules.specs.Legal.{IsOfficer, NamesPromotion, Steps, PawnSteps, Captures, DoubleSteps, TakesEnPassant, Castles, Goes, BetweenHomes, IsWaySafe};
 ghost use Rattle.chess_rules.specs.Valid.{HasOneKing};
-ghost use Rattle.chess_rules.specs.Walk.{square_from_home};
+ghost use Rattle.chess_rules.specs.Inside.Walk.{square_from_home};
 ghost use Rattle.chess_rules.specs.After.{king_home, rook_home, castling_target, crossed, has_right};
 
 use crate::chess_move::Move;

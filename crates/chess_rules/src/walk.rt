@@ -2,7 +2,7 @@
 ghost use Rattle.std.specs.Prelude.{◌≡◌, ◌≢◌, ◌+◌, ◌%◌, ◌/◌, ◌<◌, ◌↔◌, IsNone, IfSome, IfNone, IsTrue};
 ghost use Rattle.chess_rules.specs.Board.{Ahead, on, piece_of};
 ghost use Rattle.chess_rules.specs.Attack.{Attacks, AttacksFrom, Ranges, IsJump, IsPawnDiagonal};
-ghost use Rattle.chess_rules.specs.Walk.{IsAtEdge, IsOpen, IsFirst, IsHitFrom, IsNotHit, IsJumped, JumpsFrom, NoneJumpsOver, PointsOnly, PointsNowhere, opposite};
+ghost use Rattle.chess_rules.specs.Inside.Walk.{IsAtEdge, IsOpen, IsFirst, IsHitFrom, IsNotHit, IsJumped, JumpsFrom, NoneJumpsOver, PointsOnly, PointsNowhere, opposite};
 
 use crate::lines::Direction;
 use crate::pieces::{Kind, Piece, Side};

@@ -14,7 +14,7 @@ use Rattle.chess_rules.proofs.Tells.{wing-homes}
 use Rattle.chess_rules.proofs.Reaching.{king_stands}
 use Rattle.chess_text.specs.Squares.{file_byte, rank_byte, square_text}
 use Rattle.chess_text.specs.San.{San, IsBody, castling, pawn, piece, letter, castling_text, cross, pawn_cross, promotion_text, pawn_text, origin_text, piece_text, mark_text, is_capture}
-use Rattle.chess_text.specs.Aim.{last_in, kind_at, target_by, promotion_by, aim_by, castling_aim, aim_at, IsAimedAt}
+use Rattle.chess_text.specs.Inside.Aim.{last_in, kind_at, target_by, promotion_by, aim_by, castling_aim, aim_at, IsAimedAt}
 use Rattle.chess_text.specs.declared.aim.Aim.{Aim}
 use Rattle.chess_text.specs.declared.san.Origin.{Origin}
 use Rattle.chess_text.specs.declared.san.Origin.TheVariants.{Nothing, ByFile, ByRank, ByBoth}

@@ -12,7 +12,7 @@ use Rattle.chess_rules.specs.declared.pieces.Piece.{Piece}
 use Rattle.chess_rules.specs.Picture.{code, code_of_piece}
 use Rattle.chess_rules.specs.Board.{Board}
 use Rattle.chess_text.specs.Placement.{IsBoardPicture}
-use Rattle.chess_text.specs.PlacementReading.{decode}
+use Rattle.chess_text.specs.Inside.PlacementReading.{decode}
 
 piece_low : (side : Side) (k : Kind) → code_of_piece side k < 13
 piece_low White Pawn = omega arith

@@ -21,7 +21,7 @@ use Rattle.chess_text.specs.Fen.{side_text, held, or_dash, castling_text, target
 use Rattle.chess_text.specs.declared.fen.FenError.{FenError}
 use Rattle.chess_text.specs.declared.fen.FenError.TheVariants as refusal
 use Rattle.chess_text.specs.declared.fields.RawFields.{RawFields}
-use Rattle.chess_text.specs.FieldReading.{is_space, split, rights_at, refusal_of, AreRaw, six as raw_six, four as raw_four}
+use Rattle.chess_text.specs.Inside.FieldReading.{is_space, split, rights_at, refusal_of, AreRaw, six as raw_six, four as raw_four}
 use Rattle.chess_text.proofs.Placements.{one_picture}
 use Rattle.chess_text.proofs.PlacementBytes.{placement_bytes, placement_some}
 use Rattle.chess_text.proofs.Codes.{board_picture}

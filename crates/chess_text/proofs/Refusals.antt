@@ -5,7 +5,7 @@ use Rattle.chess_rules.specs.declared.parts.Invalid.{Invalid}
 use Rattle.chess_rules.specs.declared.parts.Invalid.TheVariants.{Counters, Kings, Pawns, Rights as RightsFail, EnPassant, Check}
 use Rattle.chess_rules.specs.Valid.{FailsFirst}
 use Rattle.chess_text.specs.Fen.{Fields, fields_of, HasForm, ReadsCounters, ReadsBoard, ReadsAs, RefusedFirst}
-use Rattle.chess_text.specs.FieldReading.{refusal_of}
+use Rattle.chess_text.specs.Inside.FieldReading.{refusal_of}
 use Rattle.chess_text.specs.Laws.{OneRefusal}
 use Rattle.chess_text.specs.declared.fen.FenError.{FenError}
 use Rattle.chess_text.specs.declared.fen.FenError.TheVariants as refusal

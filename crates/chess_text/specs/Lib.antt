@@ -1,11 +1,8 @@
-pub mod Squares
-pub mod Placement
 pub mod Fen
-pub mod Start
-pub mod FieldReading
-pub mod PlacementReading
+pub mod Inside
 pub mod KeptRanks
-pub mod San
 pub mod Laws
-pub mod Rivals
-pub mod Aim
+pub mod Placement
+pub mod San
+pub mod Squares
+pub mod Start

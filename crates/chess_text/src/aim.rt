@@ -1,7 +1,7 @@
 //! What a text says of the move that it may name, before any move is tried.
 ghost use Rattle.std.specs.Prelude.{◌≡◌, ◌<◌, ◌≤◌, IfSome, slice_index, nat_lt, length, ℕ, Some, None, ◌==◌};
 ghost use Rattle.chess_rules.specs.After.{castling_target};
-ghost use Rattle.chess_text.specs.Aim.{last_in as last_lem, kind_at as kind_lem, target_by, promotion_by, text_aim as text_aim_lem, aim_at, wing_by, castling_aim as castling_aim_lem};
+ghost use Rattle.chess_text.specs.Inside.Aim.{last_in as last_lem, kind_at as kind_lem, target_by, promotion_by, text_aim as text_aim_lem, aim_at, wing_by, castling_aim as castling_aim_lem};
 
 use crate::squares::square_at;
 use chess_rules::{Kind, Side, Square, Wing};

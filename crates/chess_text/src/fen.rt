@@ -4,7 +4,7 @@ ghost use Rattle.arrayvec.specs.ArrayString.{array_string_len};
 ghost use Rattle.chess_rules.specs.declared.parts.Parts.{Parts as PartsOf};
 ghost use Rattle.chess_rules.specs.Valid.{Valid};
 ghost use Rattle.chess_text.specs.Fen.{fen, TellsPosition, RefusedFirst, ReadsAs};
-ghost use Rattle.chess_text.specs.FieldReading.{refusal_of as refusal_of_lem};
+ghost use Rattle.chess_text.specs.Inside.FieldReading.{refusal_of as refusal_of_lem};
 
 use crate::field_text::{castling_str, side_str, target_str};
 use crate::fields::{counter_of, fields_of};

@@ -4,7 +4,7 @@ ghost use Rattle.std.specs.List.{slice_split};
 ghost use Rattle.chess_rules.specs.declared.pieces.Side.{Side};
 ghost use Rattle.chess_rules.specs.declared.parts.Rights.{Rights};
 ghost use Rattle.chess_text.specs.Fen.{side_text, castling_text, target_text, IsTargetField, IsDigits, HasForm, Fields as FenFields};
-ghost use Rattle.chess_text.specs.FieldReading.{is_space as is_space_lem, split, split_behind, AreRaw, fields_in, has as has_lem, rights_at as rights_at_lem};
+ghost use Rattle.chess_text.specs.Inside.FieldReading.{is_space as is_space_lem, split, split_behind, AreRaw, fields_in, has as has_lem, rights_at as rights_at_lem};
 
 use crate::bytes::same_bytes;
 use crate::field_text::castling_str;

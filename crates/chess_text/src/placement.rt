@@ -6,7 +6,7 @@ ghost use Rattle.chess_rules.specs.Board.{Board};
 ghost use Rattle.chess_rules.specs.Picture.{code};
 ghost use Rattle.chess_text.specs.Placement.{letter as letter_lem, run_text, rank_text, placement};
 ghost use Rattle.chess_text.specs.Placement.{IsBoardPicture, code_of as code_of_lem, squares_at, squares};
-ghost use Rattle.chess_text.specs.PlacementReading.{decode as decode_lem};
+ghost use Rattle.chess_text.specs.Inside.PlacementReading.{decode as decode_lem};
 
 use crate::bytes::same_bytes;
 use arrayvec::{ArrayString, ArrayVec};

@@ -7,7 +7,7 @@ ghost use Rattle.chess_rules.specs.Legal.{Legal};
 ghost use Rattle.chess_rules.specs.Valid.{Valid};
 ghost use Rattle.chess_text.specs.Squares.{file_byte as file_byte_lem, rank_byte as rank_byte_lem, square_text};
 ghost use Rattle.chess_text.specs.San.{San, IsBody, IsMark, IsNeeded, mark_text, cross, pawn_cross, castling_text, origin_text, promotion_text, pawn_text, piece_text, letter as letter_of};
-ghost use Rattle.chess_text.specs.Rivals.{HasRival, IsRivalAt, Shares};
+ghost use Rattle.chess_text.specs.Inside.Rivals.{HasRival, IsRivalAt, Shares};
 
 use crate::capture::is_capture;
 use crate::squares::{file_byte, rank_byte, square_at};

@@ -4,7 +4,7 @@ ghost use Rattle.chess_rules.specs.Board.{on, piece_of};
 ghost use Rattle.chess_rules.specs.Legal.{Legal};
 ghost use Rattle.chess_rules.specs.declared.chess_move.Move.{Move};
 ghost use Rattle.chess_text.specs.San.{San};
-ghost use Rattle.chess_text.specs.Aim.{aimed_from, IsAimedAt, AimsAt};
+ghost use Rattle.chess_text.specs.Inside.Aim.{aimed_from, IsAimedAt, AimsAt};
 
 use crate::aim::{Aim, aim_of};
 use crate::bytes::same_bytes;

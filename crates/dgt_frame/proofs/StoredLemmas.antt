@@ -3,7 +3,7 @@ use Rattle.std.proofs.Common.{◌≡◌, ◌≤◌, ◌+◌, ◌*◌, ℕ, List,
 use Rattle.std.proofs.lemmas.Bool.{cases_eq, ne_eqb}
 use Rattle.dgt_frame.specs.Layout.{IsHeader, FitsData}
 use Rattle.dgt_frame.specs.Frames.{Frame}
-use Rattle.dgt_frame.specs.Stored.{message_stored}
+use Rattle.dgt_frame.specs.Inside.Stored.{message_stored}
 use Rattle.dgt_frame.specs.declared.events.Message.TheVariants.{Dump, Update, Time}
 use Rattle.dgt_frame.proofs.FrameLemmas.{whole_dump, whole_other, whole_time}
 

@@ -2,15 +2,11 @@
 use Rattle.std.specs.Prelude.{◌≡◌, ℕ, ◌+◌, ◌-◌, ◌<◌, ◌≤◌, List, [], ◌∷◌, ◌++◌, length, take, Option, Some, None}
 use Rattle.std.specs.List.{AllByRecursion}
 use Rattle.dgt_frame.specs.declared.events.Event.{Event}
-use Rattle.dgt_frame.specs.declared.events.Event.TheVariants.{Message as MessageEvent, Fault}
 use Rattle.dgt_frame.specs.declared.decode.Decoder.{Decoder}
-use Rattle.dgt_frame.specs.declared.decode.Progress.{Progress}
-use Rattle.dgt_frame.specs.declared.decode.Progress.TheVariants.{Waits, Fails, Ends}
 use Rattle.dgt_frame.specs.declared.decode.State.{State}
 use Rattle.dgt_frame.specs.declared.decode.State.TheVariants.{Idle, Skipping, Identified, Measured, Filling}
 use Rattle.dgt_frame.specs.Frames.{IsLow}
 use Rattle.dgt_frame.specs.Layout.{FitsData, FitsHigh, IsHeader, IsIdentifier}
-use Rattle.dgt_frame.specs.Stored.{message_stored}
 use Rattle.dgt_frame.specs.Streams.{ShowsFrom, StartsHigh, Timed}
 
 -- These are the bytes of the unfinished frame.
@@ -55,11 +51,6 @@ abbrev pub timed : ℕ → Option Event → List Timed
 timed offset None = []
 timed offset (Some event) = record { offset = offset; event = event } ∷ []
 
--- Whatever the decoder was given, it has now been given this byte too, and has returned this.
-abbrev pub TakesByte : Decoder → ℕ → Option Event → Decoder → Type 0
-TakesByte old byte answer new = (bytes : List ℕ) (events : List Timed) → Decoded old bytes events
-    → Decoded new (bytes ++ byte ∷ []) (events ++ timed (length bytes) answer)
-
 -- The same of several bytes, at none of which an event came.
 abbrev pub TakesAll : Decoder → List ℕ → Decoder → Type 0
 TakesAll old more new = (bytes : List ℕ) (events : List Timed) → Decoded old bytes events → Decoded new (bytes ++ more) events
@@ -68,9 +59,3 @@ TakesAll old more new = (bytes : List ℕ) (events : List Timed) → Decoded old
 abbrev pub TakesUpTo : Decoder → List ℕ → ℕ → Event → Decoder → Type 0
 TakesUpTo old more count event new = (bytes : List ℕ) (events : List Timed) → Decoded old bytes events
     → Decoded new (bytes ++ take count more) (events ++ record { offset = length bytes + (count - 1); event = event } ∷ [])
-
--- what the progress of a byte shows, with the data that is stored
-abbrev pub event_at_byte : Progress → List ℕ → Option Event
-event_at_byte Waits stored = None
-event_at_byte (Fails kind) stored = Some (Fault kind)
-event_at_byte (Ends id size) stored = Some (MessageEvent (message_stored id size stored))

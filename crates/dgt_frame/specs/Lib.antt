@@ -1,11 +1,10 @@
 pub mod Decoder
 pub mod Encoding
 pub mod Frames
+pub mod Inside
 pub mod Layout
+pub mod Losses
+pub mod Restarts
 pub mod Room
-pub mod Stored
 pub mod Streams
 pub mod Times
-pub mod Whole
-pub mod Restarts
-pub mod Losses

@@ -55,7 +55,3 @@ reading_of Black times = record { white = group times 3; black = group times 0 }
 abbrev pub reading_after : First → List ℕ → Option Reading → Option Reading
 reading_after first times before = if is_acknowledgement times then before
     else (if lacks_clock times then None else (if has_digits times then Some (reading_of first times) else before))
-
--- the time of the group from here on, where it is a time
-abbrev pub group_read : List ℕ → ℕ → Option Clock
-group_read times start = if is_group times start then Some (group times start) else None

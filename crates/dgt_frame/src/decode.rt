@@ -3,7 +3,7 @@ ghost use Rattle.std.specs.Prelude.{◌≡◌, ◌≤◌, ◌<◌, ◌+◌, ◌*
 ghost use Rattle.dgt_frame.specs.Frames.{Frame};
 ghost use Rattle.dgt_frame.specs.Room.{has_room};
 ghost use Rattle.dgt_frame.specs.Streams.{HasFrame, Timed, Shows};
-ghost use Rattle.dgt_frame.specs.Stored.{message_stored};
+ghost use Rattle.dgt_frame.specs.Inside.Stored.{message_stored};
 ghost use Rattle.dgt_frame.specs.Layout.{fixed_size, byte_limit, FitsData, FitsSize, IsHeader};
 
 use crate::events::{Event, FaultKind, Message};
@@ -80,7 +80,8 @@ pub struct Decoder {
 }
 
 impl Decoder {
-    ghost use Rattle.dgt_frame.specs.Decoder.{Decoded, TakesByte, TakesAll, TakesUpTo, event_at_byte, timed};
+    ghost use Rattle.dgt_frame.specs.Decoder.{Decoded, TakesAll, TakesUpTo, timed};
+    ghost use Rattle.dgt_frame.specs.Inside.Steps.{TakesByte, event_at_byte};
 
     /// A decoder that was given no byte.
     pub fn new() -> Decoder

@@ -1,7 +1,8 @@
 //! What a time message says of the clock. The protocol gives the frame, and this project what its bytes mean.
 ghost use Rattle.std.specs.Prelude.{◌≡◌, ◌≤◌, ◌+◌, ◌↔◌, IsTrue};
 ghost use Rattle.chess_clock.specs.Clock.{Clock};
-ghost use Rattle.dgt_frame.specs.Times.{tens, units, number_of, are_digits, group_read, reading_after};
+ghost use Rattle.dgt_frame.specs.Times.{tens, units, number_of, are_digits, reading_after};
+ghost use Rattle.dgt_frame.specs.Inside.Groups.{group_read};
 
 use chess_clock::{Hms, Reading};
 

@@ -1,6 +1,6 @@
 //! Frames that lie whole at the front of bytes.
 ghost use Rattle.std.specs.Prelude.{IfSome};
-ghost use Rattle.dgt_frame.specs.Whole.{IsWhole};
+ghost use Rattle.dgt_frame.specs.Inside.Whole.{IsWhole};
 
 use crate::decode::{CODES, DUMP, FIELDS, TIME, TOP_BIT, UPDATE};
 use crate::events::{Event, Message};

@@ -1,11 +1,12 @@
 //! What one subcommand's output has to do with another's, each law as the contract of a function that does nothing.
-ghost use Rattle.dgt_replay.specs.Agreement.{FollowTellsTheGame, RecordsRecovered};
+ghost use Rattle.dgt_replay.specs.Agreement.{FollowTellsTheGame, RecordsRecovered, RecordsShownOrTold, WatchTellsTheGame};
 ghost use Rattle.dgt_replay.specs.Laws.{WrittenTextsAreWithin, WrittenTextsPass};
 
-use board_listing::laws::lines_give_the_game;
+use board_listing::laws::{lines_give_the_game, watch_lines_give_the_game};
 use board_session::laws::moves_take_ten_bytes;
 use dgt_frame::laws::shows_once;
 use pgn_book::laws::texts_are_short;
+use recovery::laws::plies_are_shown_or_told;
 use settle_core::laws::folds_once;
 
 /// `check` refuses no text that `record` made, neither for its size nor for its form.
@@ -28,12 +29,26 @@ pub fn follow_tells_the_game()
     lines_give_the_game();
 }
 
-/// Of bytes with what `recover` puts in, `record` writes the game of the bytes where unseen pairs are recovered.
+/// Of the same bytes the lines of `watch`, without those that it adds, give the game that `record` writes.
+pub fn watch_tells_the_game()
+    ensures { WatchTellsTheGame }
+{
+    // For its clause: the bytes show one list of events.
+    shows_once();
+    // For its clause: the lines of events give their game.
+    watch_lines_give_the_game();
+}
+
+/// Of bytes with what `recover` puts in, `record` writes the game of the bytes where unseen pairs are recovered. Each of
+/// its plies was shown by the bytes, or it is one of a pair whose line was written.
 pub fn recovered_games_are_recorded()
-    ensures { RecordsRecovered }
+    ensures game { RecordsRecovered }
+    ensures plies { RecordsShownOrTold }
 {
     // For its clause: the bytes show one list of events.
     shows_once();
     // For its clause: the entries fold to one score.
     folds_once();
+    // For its clause: each ply was shown, or its pair has a line.
+    plies_are_shown_or_told();
 }

@@ -4,7 +4,7 @@ use Rattle.chess_text.specs.Laws.{TextsArePlain}
 use Rattle.chess_game.specs.Games.{Content, IsGame}
 use Rattle.pgn_book.specs.Movetext.{ShownMove, AreShown, result_text, game_tokens}
 use Rattle.pgn_book.specs.Pgn.{Pgn, IsSetUp, roster}
-use Rattle.pgn_book.specs.Flow.{flow}
+use Rattle.pgn_book.specs.Inside.Flow.{flow}
 use Rattle.pgn_book.proofs.Flowing.{movetext_of, movetext_is}
 use Rattle.pgn_book.proofs.Tokens.{moves_fit, game_fits}
 

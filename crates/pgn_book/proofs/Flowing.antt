@@ -2,7 +2,7 @@
 use Rattle.std.proofs.Common.{◌≡◌, ℕ, ◌+◌, ◌<◌, ◌≤◌, true, false, cond, eqb, leb, List, [], ◌∷◌, ◌++◌, length, refl, sym, ap, subst, ◌∙◌, append_assoc, arith, inl, inr, rules, length-append}
 use Rattle.std.specs.List.{flat_map, AllByRecursion}
 use Rattle.std.proofs.lemmas.Bool.{cases_lt}
-use Rattle.pgn_book.specs.Flow.{piece, column, flow, column_after}
+use Rattle.pgn_book.specs.Inside.Flow.{piece, column, flow, column_after}
 use Rattle.pgn_book.specs.Lines.{line_text, IsLine, first_length, AreFull, AreLines, lines_text, IsMovetext, IsToken}
 
 pub flow-append : (col : ℕ) (ts us : List (List ℕ)) → flow col (ts ++ us) ≡ flow col ts ++ flow (column_after col ts) us

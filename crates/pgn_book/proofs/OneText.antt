@@ -20,7 +20,7 @@ use Rattle.chess_game.specs.Values.{TagValues}
 use Rattle.chess_game.specs.Games.{Content, IsGame}
 use Rattle.pgn_book.specs.Movetext.{ShownMove, AreShown}
 use Rattle.pgn_book.specs.Pgn.{Pgn, IsSetUp, at_initial, elsewhere}
-use Rattle.pgn_book.specs.Parse.{Turn, IsTurn, AreTurns, HasStart, Parses, fen_at, set_up_part, moves_part, words, turns_at}
+use Rattle.pgn_book.specs.Inside.Parse.{Turn, IsTurn, AreTurns, HasStart, Parses, fen_at, set_up_part, moves_part, words, turns_at}
 use Rattle.pgn_book.proofs.Export.{pieces, pgn_is_pieces}
 use Rattle.pgn_book.proofs.TagsRead.{one_list}
 

@@ -20,8 +20,8 @@ use Rattle.chess_game.specs.Values.{TagValues, value_of}
 use Rattle.chess_game.specs.Games.{Content, IsTimed}
 use Rattle.pgn_book.specs.Movetext.{ShownMove, AreShown, result_text, game_tokens}
 use Rattle.pgn_book.specs.Pgn.{Pgn, IsSetUp, at_initial, elsewhere, escape, escaped, tag_line, tag_lines, roster}
-use Rattle.pgn_book.specs.Flow.{flow}
-use Rattle.pgn_book.specs.Parse.{Turn, AreTurns, HasStart, Parses, words, turns_at, value_at, after_value, result_at, HaveValues, behind_lines, value_part, next_part, next_line, result_part, set_up_part, has_fen, fen_part, fen_at, moves_part}
+use Rattle.pgn_book.specs.Inside.Flow.{flow}
+use Rattle.pgn_book.specs.Inside.Parse.{Turn, AreTurns, HasStart, Parses, words, turns_at, value_at, after_value, result_at, HaveValues, behind_lines, value_part, next_part, next_line, result_part, set_up_part, has_fen, fen_part, fen_at, moves_part}
 use Rattle.pgn_book.proofs.Export.{pgn_is_pieces}
 use Rattle.pgn_book.proofs.Tokens.{moves_fit, game_fits}
 use Rattle.pgn_book.proofs.WordLemmas.{turn_of, movetext_back}

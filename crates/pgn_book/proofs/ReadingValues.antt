@@ -7,7 +7,7 @@ use Rattle.std.proofs.Math.Seq.{get_or-append_seam}
 use Rattle.std.proofs.lemmas.List.{drop_more}
 use denote.Ref.{Bor}
 use Rattle.chess_game.specs.Values.{IsText, IsShort, IsPrintable}
-use Rattle.pgn_book.specs.Parse.{is_plain, value_at, after_value, words, words_behind, is_move, is_comment, time_at, clock_at, turns_at}
+use Rattle.pgn_book.specs.Inside.Parse.{is_plain, value_at, after_value, words, words_behind, is_move, is_comment, time_at, clock_at, turns_at}
 
 pub plain_step : (q : Bool) (b : ℕ) (r : List ℕ) → is_plain q b ≡ true → (value_at q (b ∷ r) ≡ b ∷ value_at false r) × (after_value q (b ∷ r) ≡ after_value false r)
 plain_step true b r e = (refl, refl)

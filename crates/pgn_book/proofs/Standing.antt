@@ -5,7 +5,7 @@ use Rattle.std.proofs.KnownBytes.{Appends-trans, Appends-nil, Keeps-trans, Keeps
 use Rattle.std.proofs.lemmas.List.{take-append-le}
 use Rattle.std.proofs.Math.Seq.{take-append-add}
 use Rattle.pgn_book.specs.declared.place.Place.{Place}
-use Rattle.pgn_book.specs.Flow.{flow, column_after, HasAdded, Stops, AddsFrom, Adds, Writes}
+use Rattle.pgn_book.specs.Inside.Flow.{flow, column_after, HasAdded, Stops, AddsFrom, Adds, Writes}
 use Rattle.pgn_book.proofs.Flowing.{flow-append, column_after-append}
 
 pub HasAdded-then : (a b c : Option (List ℕ)) (x y z : ℕ) (s t : List ℕ) → HasAdded a b x s y → HasAdded b c y t z → HasAdded a c x (s ++ t) z

@@ -5,7 +5,7 @@ use Rattle.chess_rules.specs.Valid.{Valid}
 use Rattle.chess_text.specs.Fen.{fen}
 use Rattle.chess_text.specs.Laws.{FensArePlain}
 use Rattle.chess_game.specs.Values.{IsText, IsShort}
-use Rattle.pgn_book.specs.Parse.{HasStart, has_fen, fen_part, fen_at, value_at}
+use Rattle.pgn_book.specs.Inside.Parse.{HasStart, has_fen, fen_part, fen_at, value_at}
 
 -- the value is the start's FEN
 pub fen_is : (start : Parts) (bytes : List ℕ) → has_fen bytes ≡ true → HasStart start (fen_at bytes) → value_at false (fen_part bytes) ≡ fen start

@@ -3,7 +3,7 @@ use Rattle.std.proofs.Common.{◌≡◌, ◌∙◌, ℕ, false, List, [], ◌∷
 use Rattle.chess_game.specs.declared.values.Tag.{Tag}
 use Rattle.chess_game.specs.TagNames.{all_tags, tag_name}
 use Rattle.chess_game.specs.Values.{TagValues, AreValues, IsValue, value_of, with_value}
-use Rattle.pgn_book.specs.Parse.{HaveValues, next_line, value_at, value_part}
+use Rattle.pgn_book.specs.Inside.Parse.{HaveValues, next_line, value_at, value_part}
 use Rattle.chess_game.proofs.TagValues.{with_all, with_values}
 
 -- where these tags are left, the rest of the text gives their values

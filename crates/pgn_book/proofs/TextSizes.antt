@@ -16,7 +16,7 @@ use Rattle.settle_core.specs.declared.plies.Outcome.TheVariants.{WhiteWins, Blac
 use Rattle.settle_core.specs.declared.plies.Ply.{Ply}
 use Rattle.chess_game.specs.declared.values.Tag.{Tag}
 use Rattle.chess_game.specs.declared.values.Tag.TheVariants.{Event, Site, Date, Round, White as WhiteTag, Black as BlackTag}
-use Rattle.pgn_book.specs.Flow.{piece, column, flow}
+use Rattle.pgn_book.specs.Inside.Flow.{piece, column, flow}
 use Rattle.pgn_book.specs.Laws.{TextsAreShort}
 use Rattle.pgn_book.specs.Movetext.{ShownMove, AreShown, number_tokens, clock_tokens, move_tokens, tokens_of, result_text, game_tokens}
 use Rattle.pgn_book.specs.Pgn.{IsSetUp, at_initial, elsewhere, escape, escaped, roster, tag_line, tag_lines}

@@ -5,7 +5,7 @@ use Rattle.chess_rules.specs.After.{after}
 use Rattle.settle_core.specs.declared.plies.Ply.{Ply}
 use Rattle.settle_core.specs.Settling.{Line}
 use Rattle.settle_core.specs.Folding.{moves_of}
-use Rattle.pgn_book.specs.Parse.{Turn, IsTurn, AreTurns, TakesTurn}
+use Rattle.pgn_book.specs.Inside.Parse.{Turn, IsTurn, AreTurns, TakesTurn}
 
 pub record BeginsWith (p : Parts) (plies : List Ply) (turn : Turn) (turns : List Turn) : Type 0 where
   pub ply : Ply

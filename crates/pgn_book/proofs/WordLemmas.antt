@@ -18,9 +18,9 @@ use Rattle.settle_core.specs.declared.plies.Outcome.{Outcome}
 use Rattle.settle_core.specs.declared.plies.Outcome.TheVariants.{WhiteWins, BlackWins, Drawn}
 use Rattle.chess_clock.specs.Clock.{IsTime}
 use Rattle.pgn_book.specs.Lines.{IsToken}
-use Rattle.pgn_book.specs.Flow.{piece, column, flow}
+use Rattle.pgn_book.specs.Inside.Flow.{piece, column, flow}
 use Rattle.pgn_book.specs.Movetext.{ShownMove, number_token, number_tokens, clock_text, clock_tokens, two_digits, tokens_of, result_text, game_tokens}
-use Rattle.pgn_book.specs.Parse.{Turn, is_break, words, is_move, is_comment, time_at, clock_at, turns_at}
+use Rattle.pgn_book.specs.Inside.Parse.{Turn, is_break, words, is_move, is_comment, time_at, clock_at, turns_at}
 use Rattle.pgn_book.proofs.Flowing.{piece-fits, piece-over}
 use Rattle.pgn_book.proofs.Tokens.{BeginsWithLetter, Fits}
 

@@ -1,7 +1,7 @@
 //! Bytes of a text to a watched stream.
 ghost use Rattle.std.specs.Prelude.{◌≡◌};
 ghost use Rattle.watched_streams.specs.Watch.{inner_of, has_failed};
-ghost use Rattle.pgn_book.specs.Flow.{Adds};
+ghost use Rattle.pgn_book.specs.Inside.Flow.{Adds};
 
 use crate::place::Place;
 use std::io::Write;

@@ -10,7 +10,7 @@ ghost use Rattle.chess_game.specs.TagNames.{all_tags};
 ghost use Rattle.chess_game.specs.Values.{TagValues, AreValues, IsValue, with_value};
 ghost use Rattle.chess_game.specs.Games.{Content, IsGame};
 ghost use Rattle.pgn_book.specs.Pgn.{Pgn};
-ghost use Rattle.pgn_book.specs.Parse.{IsTurn, AreTurns, TakesTurn, HasStart, Parses, HaveValues, words, words_behind, turns_at, clock_at, value_at, fen_at};
+ghost use Rattle.pgn_book.specs.Inside.Parse.{IsTurn, AreTurns, TakesTurn, HasStart, Parses, HaveValues, words, words_behind, turns_at, clock_at, value_at, fen_at};
 
 use crate::sections::{
     behind_tags, fen_of, has_fen, moves_of, next_line, read_result, read_value, value_of,

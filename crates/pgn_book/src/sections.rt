@@ -3,7 +3,7 @@ ghost use Rattle.std.specs.Prelude.{◌≡◌, ◌<◌, ◌≤◌, ◌++◌, ◌
 ghost use Rattle.std.specs.Bool.{OnTrue, OnFalse};
 ghost use Rattle.chess_game.specs.TagNames.{all_tags};
 ghost use Rattle.chess_game.specs.Values.{IsText, IsShort};
-ghost use Rattle.pgn_book.specs.Parse.{is_plain as is_plain_lem, value_at, after_value, result_at, value_part, next_part, next_line, behind_lines, has_fen as has_fen_lem, fen_part, moves_part};
+ghost use Rattle.pgn_book.specs.Inside.Parse.{is_plain as is_plain_lem, value_at, after_value, result_at, value_part, next_part, next_line, behind_lines, has_fen as has_fen_lem, fen_part, moves_part};
 
 use arrayvec::ArrayString;
 use chess_game::Tag;
@@ -75,7 +75,7 @@ fn behind(bytes: &[u8], n: usize) -> &[u8]
     if n <= bytes.len() { &bytes[n..] } else { &[] }
 }
 
-#[tactic(auto, unfolding(crate::specs::Parse::next_part))]
+#[tactic(auto, unfolding(crate::specs::Inside::Parse::next_part))]
 fn next(bytes: &[u8], n: usize) -> &[u8]
     ensures { result.now ≡ next_part n bytes.now }
 {
@@ -83,7 +83,7 @@ fn next(bytes: &[u8], n: usize) -> &[u8]
 }
 
 /// Where the value begins of a line that begins here with the tag's name.
-#[tactic(auto, unfolding(crate::specs::Parse::value_part))]
+#[tactic(auto, unfolding(crate::specs::Inside::Parse::value_part))]
 pub fn value_of<'a>(name: &str, line: &'a [u8]) -> &'a [u8]
     requires { length name.now ≤ 6 }
     ensures { result.now ≡ value_part name.now line.now }
@@ -131,7 +131,7 @@ pub fn read_result(bytes: &[u8]) -> Option<Outcome>
 }
 
 /// Whether a set-up part stands at the front.
-#[tactic(auto, unfolding(crate::specs::Parse::has_fen))]
+#[tactic(auto, unfolding(crate::specs::Inside::Parse::has_fen))]
 pub fn has_fen(bytes: &[u8]) -> bool
     ensures { result ≡ has_fen_lem bytes.now }
 {
@@ -139,7 +139,7 @@ pub fn has_fen(bytes: &[u8]) -> bool
 }
 
 /// Where the start's FEN begins.
-#[tactic(auto, unfolding(crate::specs::Parse::fen_part))]
+#[tactic(auto, unfolding(crate::specs::Inside::Parse::fen_part))]
 pub fn fen_of(bytes: &[u8]) -> &[u8]
     ensures { result.now ≡ fen_part bytes.now }
 {

@@ -2,7 +2,7 @@
 ghost use Rattle.std.specs.Prelude.{◌≡◌, ◌<◌, ◌∷◌, ◌≤◌, IfSome, IfNone};
 ghost use Rattle.std.specs.Option.{ForSome};
 ghost use Rattle.chess_clock.specs.Clock.{IsTime};
-ghost use Rattle.pgn_book.specs.Parse.{is_break as is_break_lem, words, words_behind, is_move as is_move_lem, is_comment as is_comment_lem, digit_at, clock_at};
+ghost use Rattle.pgn_book.specs.Inside.Parse.{is_break as is_break_lem, words, words_behind, is_move as is_move_lem, is_comment as is_comment_lem, digit_at, clock_at};
 
 use chess_clock::Hms;
 

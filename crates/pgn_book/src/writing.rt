@@ -11,7 +11,7 @@ ghost use Rattle.pgn_book.specs.Movetext.{ShownMove, AreShown, IsShown, clock_te
 ghost use Rattle.pgn_book.specs.Pgn.{Pgn, IsSetUp, escape, escaped, roster, tag_line, tag_lines};
 ghost use Rattle.chess_game.specs.TagNames.{all_tags};
 ghost use Rattle.pgn_book.specs.Written.{AppendsFront};
-ghost use Rattle.pgn_book.specs.Flow.{Adds, Writes, flow};
+ghost use Rattle.pgn_book.specs.Inside.Flow.{Adds, Writes, flow};
 
 use crate::appending::add;
 use crate::parts::same_parts;

@@ -7,8 +7,8 @@ use Rattle.watched_streams.specs.Output.{AppendsPart}
 use Rattle.recovery.specs.declared.keeper.Keeper.{Keeper}
 use Rattle.recovery.specs.declared.refusal.RecoverError.{RecoverError}
 use Rattle.recovery.specs.declared.refusal.RecoverError.TheVariants.{Read, Write, Lines, TooLong, Memory}
-use Rattle.recovery.specs.Passing.{Passes}
-use Rattle.recovery.specs.Progress.{BreaksOff, Concludes, PassesOn, IsPutIn, PutsPart, RefusesAmong}
+use Rattle.recovery.specs.Inside.Passing.{PassesBytes}
+use Rattle.recovery.specs.Inside.Progress.{BreaksOff, Concludes, PassesOn, IsPutIn, PutsPart, RefusesAmong}
 use Rattle.recovery.proofs.GiveLemmas.{breaks_memory, breaks_pair, breaks_write, gives_more, gives_pair, gives_sent}
 
 -- the bytes of the chunk that were taken and not sent
@@ -34,12 +34,12 @@ offset_of start taken chunk inside = ap (λ n. start + n) (sym (length-take-le t
 
 -- an event came, and nothing was put in
 pub event_passed : (old now new : Decoder) (keeper k k' : Keeper) (start taken more sent : ℕ) (chunk frames line : List ℕ) (written written' said said' : Option (List ℕ))
-    → sent ≤ taken → taken ≤ length chunk → length line ≡ 0 → IsPutIn frames line → Passes now k (start + taken) (take more (drop taken chunk)) new k' frames line
+    → sent ≤ taken → taken ≤ length chunk → length line ≡ 0 → IsPutIn frames line → PassesBytes now k (start + taken) (take more (drop taken chunk)) new k' frames line
     → PassesOn old keeper start (take taken chunk) now k (waiting sent taken chunk) written written' said said'
     → PassesOn old keeper start (take (taken + more) chunk) new k' (waiting sent (taken + more) chunk) written written' said said'
 event_passed old now new keeper k k' start taken more sent chunk frames line written written' said said' low inside empty put passes part =
     let none = none_put_in frames line put empty in
-    let P : List ℕ → List ℕ → Type 0 = λ fs l. Passes now k (start + taken) (take more (drop taken chunk)) new k' fs l in
+    let P : List ℕ → List ℕ → Type 0 = λ fs l. PassesBytes now k (start + taken) (take more (drop taken chunk)) new k' fs l in
     let passes' : P [] [] = subst (P []) none.1 (subst (λ fs. P fs line) none.0 passes) in
     let G : List ℕ → List ℕ → Type 0 = λ bs ws. PassesOn old keeper start bs new k' ws written written' said said' in
     let here = gives_more old now new keeper k k' start (start + taken) (take taken chunk) (take more (drop taken chunk)) (waiting sent taken chunk) written written' said said'
@@ -48,7 +48,7 @@ event_passed old now new keeper k k' start taken more sent chunk frames line wri
 
 -- an event came, and a pair was put in
 pub event_put : (old now new : Decoder) (keeper k k' : Keeper) (start taken more sent : ℕ) (chunk frames line : List ℕ) (written written' after said said' told : Option (List ℕ))
-    → sent ≤ taken → taken ≤ length chunk → Passes now k (start + taken) (take more (drop taken chunk)) new k' frames line
+    → sent ≤ taken → taken ≤ length chunk → PassesBytes now k (start + taken) (take more (drop taken chunk)) new k' frames line
     → Appends written' after (waiting sent (taken + more) chunk ++ frames) → Appends said' told line
     → PassesOn old keeper start (take taken chunk) now k (waiting sent taken chunk) written written' said said'
     → PassesOn old keeper start (take (taken + more) chunk) new k' (waiting (taken + more) (taken + more) chunk) written after said told
@@ -62,7 +62,7 @@ event_put old now new keeper k k' start taken more sent chunk frames line writte
 
 -- no event came any more
 whole_waits : (old now new : Decoder) (keeper k k' : Keeper) (start taken sent : ℕ) (chunk : List ℕ) (written written' said said' : Option (List ℕ))
-    → sent ≤ taken → taken ≤ length chunk → Passes now k (start + taken) (drop taken chunk) new k' [] []
+    → sent ≤ taken → taken ≤ length chunk → PassesBytes now k (start + taken) (drop taken chunk) new k' [] []
     → PassesOn old keeper start (take taken chunk) now k (waiting sent taken chunk) written written' said said'
     → PassesOn old keeper start chunk new k' (drop sent chunk) written written' said said'
 whole_waits old now new keeper k k' start taken sent chunk written written' said said' low inside passes part =
@@ -77,7 +77,7 @@ whole_waits old now new keeper k k' start taken sent chunk written written' said
     subst (λ bs. G bs (drop sent chunk)) (take-append-drop taken chunk) (subst (G (take taken chunk ++ drop taken chunk)) rest here)
 
 pub chunk_sent : (old now new : Decoder) (keeper k k' : Keeper) (start taken sent : ℕ) (chunk : List ℕ) (written written' after said said' : Option (List ℕ))
-    → sent ≤ taken → taken ≤ length chunk → Passes now k (start + taken) (drop taken chunk) new k' [] [] → Appends written' after (drop sent chunk)
+    → sent ≤ taken → taken ≤ length chunk → PassesBytes now k (start + taken) (drop taken chunk) new k' [] [] → Appends written' after (drop sent chunk)
     → PassesOn old keeper start (take taken chunk) now k (waiting sent taken chunk) written written' said said'
     → PassesOn old keeper start chunk new k' [] written after said said'
 chunk_sent old now new keeper k k' start taken sent chunk written written' after said said' low inside passes sends part =
@@ -85,7 +85,7 @@ chunk_sent old now new keeper k k' start taken sent chunk written written' after
     (whole_waits old now new keeper k k' start taken sent chunk written written' said said' low inside passes part)
 
 pub chunk_broken : (old now new : Decoder) (keeper k k' : Keeper) (start taken sent : ℕ) (chunk : List ℕ) (written written' after said said' : Option (List ℕ))
-    → sent ≤ taken → taken ≤ length chunk → Passes now k (start + taken) (drop taken chunk) new k' [] [] → Concludes new k' → AppendsPart written' after (drop sent chunk)
+    → sent ≤ taken → taken ≤ length chunk → PassesBytes now k (start + taken) (drop taken chunk) new k' [] [] → Concludes new k' → AppendsPart written' after (drop sent chunk)
     → PassesOn old keeper start (take taken chunk) now k (waiting sent taken chunk) written written' said said'
     → BreaksOff Write old keeper start chunk written after said said'
 chunk_broken old now new keeper k k' start taken sent chunk written written' after said said' low inside passes concludes part_sent part =
@@ -107,7 +107,7 @@ both_broken old now keeper k start taken sent chunk written written' after said 
 
 -- A pair could not be put in.
 pub pair_broken : (error : RecoverError) (old now new : Decoder) (keeper k k' : Keeper) (start taken more sent : ℕ) (chunk frames line : List ℕ) (written written' after said said' told : Option (List ℕ))
-    → sent ≤ taken → taken ≤ length chunk → 0 < length line → IsPutIn frames line → Concludes now k → Concludes new k' → Passes now k (start + taken) (take more (drop taken chunk)) new k' frames line
+    → sent ≤ taken → taken ≤ length chunk → 0 < length line → IsPutIn frames line → Concludes now k → Concludes new k' → PassesBytes now k (start + taken) (take more (drop taken chunk)) new k' frames line
     → PutsPart error (waiting sent (taken + more) chunk ++ frames) line written' after said' told
     → PassesOn old keeper start (take taken chunk) now k (waiting sent taken chunk) written written' said said'
     → BreaksOff error old keeper start chunk written after said told

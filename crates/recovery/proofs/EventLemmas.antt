@@ -18,8 +18,8 @@ use Rattle.board_events.proofs.PictureLemmas.{updated_picture}
 use Rattle.pair_frames.specs.Laws.{EndsWhole, IsReadBehind}
 use Rattle.pair_frames.specs.PutIn.{dump_of, put_in, time_put_in}
 use Rattle.recovery.specs.declared.keeper.Keeper.{Keeper}
-use Rattle.recovery.specs.Keeping.{Keeps, KeepsNext, entries_with}
-use Rattle.recovery.specs.Passing.{Alike, Carries}
+use Rattle.recovery.specs.Inside.Keeping.{Keeps, KeepsNext, entries_with}
+use Rattle.recovery.specs.Inside.Passing.{Alike, KeepsWithPutIn}
 
 picture_kept : (rotated : Bool) (event : Event) (past written : List Event) → IsInRange event
     → picture_of rotated written ≡ picture_of rotated past → picture_of rotated (event ∷ written) ≡ picture_of rotated (event ∷ past)
@@ -81,7 +81,7 @@ entries_alike setting event past written range a =
 
 -- Nothing is put in.
 pub carries_none : (keeper : Keeper) (setting : Setting) (event : Event) (past written : List Event) → IsInRange event → Alike setting past written
-    → KeepsNext keeper setting past event None (entries_in setting written) → Carries keeper setting (event ∷ past) (event ∷ written)
+    → KeepsNext keeper setting past event None (entries_in setting written) → KeepsWithPutIn keeper setting (event ∷ past) (event ∷ written)
 carries_none keeper setting event past written range a next =
     let K : List Entry → Type 0 = λ es. Keeps keeper setting (event ∷ past) es in record {
       keeps = subst K (entries_alike setting event past written range a) next.keeps;
@@ -100,7 +100,7 @@ trusted_here (Fault kind) past entered = absurd (let n : ⊥ = cc in n)
 pub carries_put : (keeper : Keeper) (setting : Setting) (event : Event) (past written : List Event) (r : Recovery) → IsInRange event → Alike setting past written
     → KeepsNext keeper setting past event (Some r) (entries_in setting written)
     → IsReadBehind setting.first setting.rotated (event ∷ written) (entry_at setting.first setting.rotated (event ∷ past)) r
-    → Carries keeper setting (event ∷ past) (reverse (put_in setting.first setting.rotated (entry_at setting.first setting.rotated (event ∷ past)) r) ++ event ∷ written)
+    → KeepsWithPutIn keeper setting (event ∷ past) (reverse (put_in setting.first setting.rotated (entry_at setting.first setting.rotated (event ∷ past)) r) ++ event ∷ written)
 carries_put keeper setting event past written r range a next behind =
     let K : List Entry → Type 0 = λ es. Keeps keeper setting (event ∷ past) es in
     let entered : is_entry event written ≡ true = entry_kept event past written a.trust ∙ (next.finds).0 in

@@ -9,7 +9,7 @@ use Rattle.dgt_frame.specs.Streams.{Opens, Shows, ShowsFrom, Timed}
 use Rattle.board_events.specs.Commands.{past_of}
 use Rattle.pair_frames.specs.Laws.{EndsWhole, FramesArePutIn}
 use Rattle.pair_frames.proofs.Joining.{moved_twice}
-use Rattle.recovery.specs.Passing.{EndsAt, Follows, IsMessage}
+use Rattle.recovery.specs.Inside.Passing.{EndsAt, Follows, IsMessage}
 
 pub ends_at : (events : List Timed) (x : Timed) (end : ℕ) → IsMessage x.event → x.offset + 1 ≡ end → EndsAt (events ++ x ∷ []) end
 ends_at [] x end m at = (m, at)

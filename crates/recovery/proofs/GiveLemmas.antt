@@ -11,15 +11,15 @@ use Rattle.board_events.specs.Settings.{Setting}
 use Rattle.recovery.specs.declared.keeper.Keeper.{Keeper}
 use Rattle.recovery.specs.declared.refusal.RecoverError.{RecoverError}
 use Rattle.recovery.specs.declared.refusal.RecoverError.TheVariants.{Read, Write, Lines, TooLong, Memory}
-use Rattle.recovery.specs.Passing.{Adds, Passes, Stands}
-use Rattle.recovery.specs.Progress.{BreaksOff, Concludes, PassesOn, HasBegun, IsPutIn, PutsPart, RefusesAmong}
+use Rattle.recovery.specs.Inside.Passing.{Adds, PassesBytes, StandsForStream}
+use Rattle.recovery.specs.Inside.Progress.{BreaksOff, Concludes, PassesOn, HasBegun, IsPutIn, PutsPart, RefusesAmong}
 use Rattle.recovery.specs.Streams.{IsLine}
 use Rattle.recovery.specs.Weaving.{Recovers}
 
 stands_as : (decoder : Decoder) (keeper : Keeper) (setting : Setting) (bytes bytes' woven woven' text text' : List ℕ) → bytes ≡ bytes' → woven ≡ woven' → text ≡ text'
-    → Stands decoder keeper setting bytes woven text → Stands decoder keeper setting bytes' woven' text'
+    → StandsForStream decoder keeper setting bytes woven text → StandsForStream decoder keeper setting bytes' woven' text'
 stands_as decoder keeper setting bytes bytes' woven woven' text text' b w t stands =
-    subst (λ bs. Stands decoder keeper setting bs woven' text') b (subst (λ ws. Stands decoder keeper setting bytes ws text') w (subst (Stands decoder keeper setting bytes woven) t stands))
+    subst (λ bs. StandsForStream decoder keeper setting bs woven' text') b (subst (λ ws. StandsForStream decoder keeper setting bytes ws text') w (subst (StandsForStream decoder keeper setting bytes woven) t stands))
 
 recovers_as : (setting : Setting) (bytes woven woven' text text' : List ℕ) → woven ≡ woven' → text ≡ text'
     → Recovers setting bytes woven text → Recovers setting bytes woven' text'
@@ -48,7 +48,7 @@ passed decoder keeper setting start offset bytes chunk offset_is at = omega (ari
 
 -- more bytes, behind which nothing was put in
 pub gives_more : (old now new : Decoder) (keeper k k' : Keeper) (start offset : ℕ) (chunk more waiting : List ℕ) (written written' said said' : Option (List ℕ))
-    → offset ≡ start + length chunk → Passes now k offset more new k' [] [] → PassesOn old keeper start chunk now k waiting written written' said said'
+    → offset ≡ start + length chunk → PassesBytes now k offset more new k' [] [] → PassesOn old keeper start chunk now k waiting written written' said said'
     → PassesOn old keeper start (chunk ++ more) new k' (waiting ++ more) written written' said said'
 gives_more old now new keeper k k' start offset chunk more waiting written written' said said' offset_is passes part setting bytes woven text at stands =
     let before = part setting bytes woven text at stands in
@@ -65,7 +65,7 @@ gives_more old now new keeper k k' start offset chunk more waiting written writt
 
 -- a pair was put in behind them
 pub gives_pair : (old now new : Decoder) (keeper k k' : Keeper) (start offset : ℕ) (chunk more waiting frames line : List ℕ) (written written' after said said' told : Option (List ℕ))
-    → offset ≡ start + length chunk → Passes now k offset more new k' frames line → Appends written' after ((waiting ++ more) ++ frames) → Appends said' told line
+    → offset ≡ start + length chunk → PassesBytes now k offset more new k' frames line → Appends written' after ((waiting ++ more) ++ frames) → Appends said' told line
     → PassesOn old keeper start chunk now k waiting written written' said said' → PassesOn old keeper start (chunk ++ more) new k' [] written after said told
 gives_pair old now new keeper k k' start offset chunk more waiting frames line written written' after said said' told offset_is passes sent tells part setting bytes woven text at stands =
     let before = part setting bytes woven text at stands in
@@ -146,7 +146,7 @@ line_of frames line some (inr is) = is.1
 
 -- A pair was recovered, and its line or its frames were written in part.
 pub breaks_pair : (error : RecoverError) (old now new : Decoder) (keeper k k' : Keeper) (start offset : ℕ) (chunk whole more after waiting frames line : List ℕ) (written written' written'' said said' said'' : Option (List ℕ))
-    → chunk ≡ (whole ++ more) ++ after → offset ≡ start + length whole → 0 < length line → IsPutIn frames line → Concludes now k → Concludes new k' → Passes now k offset more new k' frames line
+    → chunk ≡ (whole ++ more) ++ after → offset ≡ start + length whole → 0 < length line → IsPutIn frames line → Concludes now k → Concludes new k' → PassesBytes now k offset more new k' frames line
     → PutsPart error ((waiting ++ more) ++ frames) line written' written'' said' said'' → PassesOn old keeper start whole now k waiting written written' said said'
     → BreaksOff error old keeper start chunk written written'' said said''
 breaks_pair Lines old now new keeper k k' start offset chunk whole more after waiting frames line written written' written'' said said' said'' parts offset_is some put concluded concludes passes puts part setting bytes woven text at stands =
@@ -169,8 +169,8 @@ breaks_pair Write old now new keeper k k' start offset chunk whole more after wa
     let before = part setting bytes woven text at stands in
     let all = (waiting ++ more) ++ frames in
     let here = passes setting (bytes ++ whole) ((woven ++ before.0) ++ waiting) (text ++ before.1) (passed now k setting start offset bytes whole offset_is at) before.2 in
-    let there : Stands new k' setting (bytes ++ (whole ++ more)) ((((woven ++ before.0) ++ waiting) ++ more) ++ frames) ((text ++ before.1) ++ line) =
-    subst (λ bs. Stands new k' setting bs ((((woven ++ before.0) ++ waiting) ++ more) ++ frames) ((text ++ before.1) ++ line)) (append_assoc bytes whole more) here in
+    let there : StandsForStream new k' setting (bytes ++ (whole ++ more)) ((((woven ++ before.0) ++ waiting) ++ more) ++ frames) ((text ++ before.1) ++ line) =
+    subst (λ bs. StandsForStream new k' setting bs ((((woven ++ before.0) ++ waiting) ++ more) ++ frames) ((text ++ before.1) ++ line)) (append_assoc bytes whole more) here in
     let woven_is : ((((woven ++ before.0) ++ waiting) ++ more) ++ frames) ≡ (woven ++ (before.0 ++ all)) = simp append_assoc in (
       whole ++ more,
       after,

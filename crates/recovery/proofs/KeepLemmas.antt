@@ -24,8 +24,9 @@ use Rattle.board_events.specs.Session.{entries_in}
 use Rattle.board_events.specs.View.{Views}
 use Rattle.board_events.proofs.ViewLemmas.{last_alike, pictures_more, pictures_none, pictures_same, repeats_alike}
 use Rattle.recovery.specs.declared.keeper.Keeper.{Keeper}
-use Rattle.recovery.specs.Keeping.{KeepsNext, RecoversAt, ShowsAnother}
-use Rattle.recovery.specs.Seeing.{Sees}
+use Rattle.recovery.specs.Keeping.{RecoversAt, ShowsAnother}
+use Rattle.recovery.specs.Inside.Keeping.{KeepsNext}
+use Rattle.recovery.specs.Inside.Seeing.{Sees}
 
 no_longer : {A : Type 0} (xs : List A) (x : A) → xs ≡ x ∷ xs → ⊥
 no_longer xs x same = omega (arith, ap length same)

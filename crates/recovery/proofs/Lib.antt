@@ -8,3 +8,4 @@ pub mod GiveLemmas
 pub mod ChunkLemmas
 pub mod StreamLemmas
 pub mod LawLemmas
+pub mod InventedLemmas

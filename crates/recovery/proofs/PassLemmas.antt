@@ -16,17 +16,18 @@ use Rattle.board_events.proofs.CommandLemmas.{past_both, past_moved}
 use Rattle.pair_frames.specs.Laws.{EndsWhole, FramesArePutIn}
 use Rattle.pair_frames.specs.PutIn.{put_in}
 use Rattle.recovery.specs.declared.keeper.Keeper.{Keeper}
-use Rattle.recovery.specs.Keeping.{Keeps, RecoversAt, ShowsAnother}
+use Rattle.recovery.specs.Keeping.{RecoversAt, ShowsAnother}
+use Rattle.recovery.specs.Inside.Keeping.{Keeps}
 use Rattle.recovery.specs.Weaving.{Put, Puts, PutsAll, Recovers, TellsPuts, TellsRecovered, Weaves}
 use Rattle.recovery.specs.Streams.{RefusesNext}
-use Rattle.recovery.specs.Passing.{Adds, Carries, EndsAt, Follows, Hears, IsMessage, Stands, added}
+use Rattle.recovery.specs.Inside.Passing.{Adds, KeepsWithPutIn, EndsAt, Follows, TakesEvent, IsMessage, StandsForStream, added}
 use Rattle.recovery.proofs.EventLemmas.{ends_whole}
 use Rattle.recovery.proofs.FollowLemmas.{ends_at, follows_event, follows_none, follows_put, follows_start, whole_leaves_none}
 use Rattle.recovery.proofs.WeaveLemmas.{weaves_more, weaves_put}
 
 -- more bytes, at none of which an event came
 pub stands_none : (old new : Decoder) (keeper : Keeper) (setting : Setting) (bytes woven text more : List ℕ) → TakesAll old more new
-    → Stands old keeper setting bytes woven text → Stands new keeper setting (bytes ++ more) (woven ++ more) text
+    → StandsForStream old keeper setting bytes woven text → StandsForStream new keeper setting (bytes ++ more) (woven ++ more) text
 stands_none old new keeper setting bytes woven text more takes s = record {
   events = s.events;
   written = s.written;
@@ -64,9 +65,9 @@ ends_message (Fault kind) past m = absurd m
 stands_unchanged : (new : Decoder) (keeper : Keeper) (setting : Setting) (bytes woven text : List ℕ) (x : Timed) (events written : List Timed) (puts : List Put)
     → Decoded new bytes (events ++ x ∷ []) → (f : Follows bytes events woven written) → PutsAll setting (reverse events) puts
     → Weaves bytes puts woven → TellsPuts puts text → RecoversAt setting (past_of events) x.event None
-    → Carries keeper setting (x.event ∷ past_of events) (x.event ∷ past_of written) → Stands new keeper setting bytes woven text
+    → KeepsWithPutIn keeper setting (x.event ∷ past_of events) (x.event ∷ past_of written) → StandsForStream new keeper setting bytes woven text
 stands_unchanged new keeper setting bytes woven text x events written puts decoded f puts_are weaves told finds carries =
-    let C : List Event → List Event → Type 0 = λ a b. Carries keeper setting a b in
+    let C : List Event → List Event → Type 0 = λ a b. KeepsWithPutIn keeper setting a b in
     let written' = written ++ moved_on f.ahead (x ∷ []) in
     record {
       events = events ++ x ∷ [];
@@ -86,11 +87,11 @@ stands_put : FramesArePutIn → (new : Decoder) (keeper : Keeper) (setting : Set
     → Decoded new bytes (events ++ x ∷ []) → Shows bytes (events ++ x ∷ []) rest → x.offset + 1 ≡ length bytes
     → (f : Follows bytes events woven written) → PutsAll setting (reverse events) puts
     → Weaves bytes puts woven → TellsPuts puts text → RecoversAt setting (past_of events) x.event (Some r)
-    → Carries keeper setting (x.event ∷ past_of events) (added setting (past_of events) x.event (Some r) (past_of written))
+    → KeepsWithPutIn keeper setting (x.event ∷ past_of events) (added setting (past_of events) x.event (Some r) (past_of written))
     → Adds setting (x.event ∷ past_of events) x.offset (Some r) frames line
-    → Stands new keeper setting bytes (woven ++ frames) (text ++ line)
+    → StandsForStream new keeper setting bytes (woven ++ frames) (text ++ line)
 stands_put between new keeper setting bytes woven text frames line x r events written puts rest decoded shown at f puts_are weaves told finds carries adds =
-    let C : List Event → List Event → Type 0 = λ a b. Carries keeper setting a b in
+    let C : List Event → List Event → Type 0 = λ a b. KeepsWithPutIn keeper setting a b in
     let middle : List Timed = (adds.0).0 in
     let entry = entry_at setting.first setting.rotated (x.event ∷ past_of events) in
     let put : Put = record { offset = x.offset; recovery = r; frames = frames } in
@@ -125,11 +126,11 @@ stands_heard : FramesArePutIn → (new : Decoder) (keeper : Keeper) (setting : S
     → Decoded new bytes (events ++ x ∷ []) → Shows bytes (events ++ x ∷ []) rest → x.offset + 1 ≡ length bytes
     → (f : Follows bytes events woven written) → PutsAll setting (reverse events) puts
     → Weaves bytes puts woven → TellsPuts puts text → RecoversAt setting (past_of events) x.event found
-    → Carries keeper setting (x.event ∷ past_of events) (added setting (past_of events) x.event found (past_of written))
+    → KeepsWithPutIn keeper setting (x.event ∷ past_of events) (added setting (past_of events) x.event found (past_of written))
     → Adds setting (x.event ∷ past_of events) x.offset found frames line
-    → Stands new keeper setting bytes (woven ++ frames) (text ++ line)
+    → StandsForStream new keeper setting bytes (woven ++ frames) (text ++ line)
 stands_heard between new keeper setting bytes woven text frames line x events written puts rest None decoded shown at f puts_are weaves told finds carries adds =
-    let S : List ℕ → List ℕ → Type 0 = λ a b. Stands new keeper setting bytes (woven ++ a) (text ++ b) in
+    let S : List ℕ → List ℕ → Type 0 = λ a b. StandsForStream new keeper setting bytes (woven ++ a) (text ++ b) in
     let here : S [] [] = rw (append-nil woven, append-nil text) (stands_unchanged new keeper setting bytes woven text x events written puts decoded f puts_are weaves told finds carries) in
     subst (λ a. S a line) (sym adds.0) (subst (S []) (sym adds.1) here)
 stands_heard between new keeper setting bytes woven text frames line x events written puts rest (Some r) decoded shown at f puts_are weaves told finds carries adds =
@@ -141,9 +142,9 @@ pub stands_event : FramesArePutIn → (old new : Decoder) (keeper keeper' : Keep
     → 0 < count → count ≤ length chunk → offset ≡ start + (count - 1) → length bytes ≡ start
     → TakesUpTo old chunk count event new
     → ((bs : List ℕ) (es : List Timed) → Decoded new bs es → Shows bs es rest)
-    → ((past written : List Event) → Carries keeper setting past written → Hears keeper' setting past written offset event frames line)
-    → Stands old keeper setting bytes woven text
-    → Stands new keeper' setting (bytes ++ take count chunk) (woven ++ take count chunk ++ frames) (text ++ line)
+    → ((past written : List Event) → KeepsWithPutIn keeper setting past written → TakesEvent keeper' setting past written offset event frames line)
+    → StandsForStream old keeper setting bytes woven text
+    → StandsForStream new keeper' setting (bytes ++ take count chunk) (woven ++ take count chunk ++ frames) (text ++ line)
 stands_event between old new keeper keeper' setting start offset count rest event bytes woven text chunk frames line some low offset_is at takes concludes hears s =
     let more = take count chunk in
     let x : Timed = record { offset = offset; event = event } in
@@ -161,8 +162,8 @@ pub refuses_event : (old new : Decoder) (keeper : Keeper) (setting : Setting) (c
     → 0 < count → count ≤ length chunk → TakesUpTo old chunk count event new
     → ((bs : List ℕ) (es : List Timed) → Decoded old bs es → Shows bs es rest)
     → ((bs : List ℕ) (es : List Timed) → Decoded new bs es → Shows bs es rest_then)
-    → ((past written : List Event) → Carries keeper setting past written → ShowsAnother setting past event)
-    → Stands old keeper setting bytes woven text → RefusesNext setting bytes chunk
+    → ((past written : List Event) → KeepsWithPutIn keeper setting past written → ShowsAnother setting past event)
+    → StandsForStream old keeper setting bytes woven text → RefusesNext setting bytes chunk
 refuses_event old new keeper setting count rest rest_then event bytes woven text chunk some low takes before concludes another s =
     let next = take count chunk in
     let x : Timed = record { offset = length bytes + (count - 1); event = event } in
@@ -188,7 +189,7 @@ told_alone offset r before lines none told =
 
 -- nothing was given
 pub stands_start : (decoder : Decoder) (keeper : Keeper) (setting : Setting) → Decoded decoder [] [] → Keeps keeper setting [] []
-    → Stands decoder keeper setting [] [] []
+    → StandsForStream decoder keeper setting [] [] []
 stands_start decoder keeper setting decoded keeps = record {
   events = [];
   written = [];
@@ -204,7 +205,7 @@ stands_start decoder keeper setting decoded keeps = record {
 -- What the bytes given so far and the woven ones show.
 pub recovers : (decoder : Decoder) (keeper : Keeper) (setting : Setting) (bytes woven text : List ℕ) (rest : ℕ)
     → ((bs : List ℕ) (es : List Timed) → Decoded decoder bs es → Shows bs es rest)
-    → Stands decoder keeper setting bytes woven text → Recovers setting bytes woven text
+    → StandsForStream decoder keeper setting bytes woven text → Recovers setting bytes woven text
 recovers decoder keeper setting bytes woven text rest concludes s =
     let shown : Shows bytes s.events rest = concludes bytes s.events s.decoded in
     let recoverer = s.carries.keeps.recoverer in

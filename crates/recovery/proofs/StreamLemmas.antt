@@ -14,13 +14,13 @@ use Rattle.watched_streams.proofs.InputLemmas.{cut_bytes}
 use Rattle.recovery.specs.declared.keeper.Keeper.{Keeper}
 use Rattle.recovery.specs.declared.refusal.RecoverError.{RecoverError}
 use Rattle.recovery.specs.declared.refusal.RecoverError.TheVariants.{Read, Write, Lines, TooLong, Memory}
-use Rattle.recovery.specs.Passing.{Stands}
-use Rattle.recovery.specs.Progress.{BreaksOff, Concludes, PassesOn, HasBegun, HasGiven, Stops}
+use Rattle.recovery.specs.Inside.Passing.{StandsForStream}
+use Rattle.recovery.specs.Inside.Progress.{BreaksOff, Concludes, PassesOn, HasBegun, HasGiven, StopsAfter}
 use Rattle.recovery.specs.Streams.{RecoversAll, RecoversFirst, RecoversFront, RecoversRead, RecoversSome, RefusesNext}
 use Rattle.recovery.specs.Weaving.{Recovers}
 
 -- Nothing was read.
-pub given_none : (decoder : Decoder) (keeper : Keeper) (setting : Setting) (input written said : Option (List ℕ)) → Stands decoder keeper setting [] [] []
+pub given_none : (decoder : Decoder) (keeper : Keeper) (setting : Setting) (input written said : Option (List ℕ)) → StandsForStream decoder keeper setting [] [] []
     → HasGiven decoder keeper setting 0 input input written written said said
 given_none decoder keeper setting input written said stands = ([], [], [], refl, Consumes-nil input, stands, Appends-nil written, Appends-nil said)
 
@@ -32,7 +32,7 @@ has_begun decoder keeper setting count input now written so_far said told done =
 record Given (decoder : Decoder) (keeper : Keeper) (setting : Setting) (bytes : List ℕ) (written written' said said' : Option (List ℕ)) : Type 0 where
   woven : List ℕ
   text : List ℕ
-  stands : Stands decoder keeper setting bytes woven text
+  stands : StandsForStream decoder keeper setting bytes woven text
   writes : Appends written written' woven
   says : Appends said said' text
 
@@ -44,7 +44,7 @@ with_chunk old new keeper k setting count chunk input now written so_far after s
     record {
       woven = done.1 ++ given.0;
       text = done.2 ++ given.1;
-      stands = subst (λ ws. Stands new k setting (done.0 ++ chunk) ws (done.2 ++ given.1)) (append-nil (done.1 ++ given.0)) given.2;
+      stands = subst (λ ws. StandsForStream new k setting (done.0 ++ chunk) ws (done.2 ++ given.1)) (append-nil (done.1 ++ given.0)) given.2;
       writes = Appends-trans written so_far after done.1 given.0 done.6 given.3;
       says = Appends-trans said told told' done.2 given.1 done.7 given.4;
     }
@@ -238,7 +238,7 @@ pub no_other : (error : RecoverError) (old : Decoder) (keeper : Keeper) (setting
     → HasGiven old keeper setting count input now written so_far said told → BreaksOff error old keeper count chunk so_far after told told' → (error ≡ Read) ⊎ (error ≡ TooLong) → ⊥
 no_other error old keeper setting count chunk input now written so_far after said told told' done breaks is =
     let cut = breaks setting done.0 done.1 done.2 done.3 done.5 in
-    let S : RecoverError → Type 0 = λ e. Stops e cut.2 cut.3 so_far after told told' in
+    let S : RecoverError → Type 0 = λ e. StopsAfter e cut.2 cut.3 so_far after told told' in
     elim is [ inl read ↦ (let s : S Read = subst S read cut.6 in s) | inr long ↦ (let s : S TooLong = subst S long cut.6 in s) ]
 
 -- How many bytes were read.

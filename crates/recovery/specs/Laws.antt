@@ -1,7 +1,6 @@
 -- What holds of streams in which pairs are recovered.
 use Rattle.std.specs.Prelude.{◌≡◌, ℕ, List, [], ◌++◌, reverse}
 use Rattle.chess_rules.specs.declared.chess_move.Move.{Move}
-use Rattle.chess_rules.specs.Picture.{picture}
 use Rattle.chess_rules.specs.Valid.{Valid}
 use Rattle.dgt_frame.specs.Streams.{Shows, Timed}
 use Rattle.settle_core.specs.Entries.{Entry, deduplicated}
@@ -29,7 +28,7 @@ HonestHandsKeepTheirBytes =
     → Valid setting.start
     → Line setting.start moves
     → EachTurnShows setting.start moves turns
-    → AreAtRest (position_after setting.start moves) (picture (position_after setting.start moves)) rested
+    → AreAtRest (position_after setting.start moves) rested
     → turned_in turns ++ rested ≡ first ++ rest
     → Shows bytes events left
     → entries_in setting (past_of events) ≡ reverse first

@@ -8,7 +8,7 @@ ghost use Rattle.settle_core.specs.Settler.{has_seen};
 ghost use Rattle.unseen_pairs.specs.Recoverer.{StandsForRecovered};
 ghost use Rattle.board_events.specs.Settings.{Setting};
 ghost use Rattle.board_events.specs.History.{IsInRange, reading_at};
-ghost use Rattle.recovery.specs.Seeing.{Sees};
+ghost use Rattle.recovery.specs.Inside.Seeing.{Sees};
 
 use arrayvec::ArrayVec;
 use board_events::{Change, View};
@@ -88,7 +88,8 @@ impl Keeper {
     ghost use Rattle.board_events.specs.Entries.{entry_at};
     ghost use Rattle.pair_frames.specs.Laws.{IsReadBehind};
     ghost use Rattle.pair_frames.specs.PutIn.{ShowsWhole, put_in as frames_for};
-    ghost use Rattle.recovery.specs.Keeping.{Keeps, KeepsNext, RecoversAt, ShowsAnother};
+    ghost use Rattle.recovery.specs.Keeping.{RecoversAt, ShowsAnother};
+    ghost use Rattle.recovery.specs.Inside.Keeping.{Keeps, KeepsNext};
 
     /// A keeper that was given no event. Takes no memory.
     ///

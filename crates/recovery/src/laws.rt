@@ -1,8 +1,9 @@
 //! What holds of streams in which pairs are recovered, each law as the contract of a function.
+ghost use Rattle.recovery.specs.Invented.{PliesAreShownOrTold};
 ghost use Rattle.recovery.specs.Laws.{HonestHandsKeepTheirBytes, LeavesAlone};
 
 use dgt_frame::laws::shows_once;
-use unseen_pairs::laws::hands_at_rest_are_left_alone;
+use unseen_pairs::laws::{hands_at_rest_are_left_alone, nothing_is_invented, recovers_once};
 
 /// Bytes in which no picture confirms a pair are given on as they are, and no line is told.
 pub fn honest_streams_stay()
@@ -21,4 +22,15 @@ pub fn honest_hands_keep_their_bytes()
     shows_once();
     // For its clause: no entry confirms a pair.
     hands_at_rest_are_left_alone();
+}
+
+/// Nothing is invented: each ply that the bytes give with their pairs was shown by them, or it is one of a pair whose
+/// line was written.
+pub fn plies_are_shown_or_told()
+    ensures { PliesAreShownOrTold }
+{
+    // For its clause: the entries give one score.
+    recovers_once();
+    // For its clause: each ply was shown, or is one of a pair.
+    nothing_is_invented();
 }

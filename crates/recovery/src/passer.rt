@@ -6,9 +6,10 @@ ghost use Rattle.settle_core.specs.Entries.{Entry};
 ghost use Rattle.board_events.specs.Settings.{Setting};
 ghost use Rattle.board_events.specs.Session.{entries_in};
 ghost use Rattle.board_events.specs.History.{IsInRange};
-ghost use Rattle.recovery.specs.Keeping.{Keeps, KeepsNext, ShowsAnother};
-ghost use Rattle.recovery.specs.Passing.{Alike, Carries, Hears, Passes, Stands};
-ghost use Rattle.recovery.specs.Progress.{Concludes, HasBegun, IsPutIn, RefusesAmong};
+ghost use Rattle.recovery.specs.Keeping.{ShowsAnother};
+ghost use Rattle.recovery.specs.Inside.Keeping.{Keeps, KeepsNext};
+ghost use Rattle.recovery.specs.Inside.Passing.{Alike, KeepsWithPutIn, TakesEvent, PassesBytes, StandsForStream};
+ghost use Rattle.recovery.specs.Inside.Progress.{Concludes, HasBegun, IsPutIn, RefusesAmong};
 
 use crate::keeper::Keeper;
 use crate::lines::add_recovered;
@@ -31,7 +32,7 @@ fn tell(keeper: &Keeper, offset: u32, frames: &mut Frames, line: &mut Lines)
     requires line { line.old.items ≡ [] }
     ensures { (setting : Setting) (past written : List EventOf) (event : EventOf) → IsInRange event → Alike setting past written
         → KeepsNext keeper.now setting past event keeper.now.found (entries_in setting written)
-        → Hears keeper.now setting past written offset event frames.new.items line.new.items }
+        → TakesEvent keeper.now setting past written offset event frames.new.items line.new.items }
 {
     let Some(found) = keeper.found() else {
         return;
@@ -53,9 +54,9 @@ pub fn hear(
 ) -> Result<(), AllocError>
     requires range { IsInRange event.now }
     requires begun { (setting : Setting) × (past : List EventOf) × (written : List Entry) × Keeps keeper.old setting past written }
-    ensures heard { (setting : Setting) (past written : List EventOf) → Carries keeper.old setting past written
-        → OnOk result (Hears keeper.new setting past written offset event.now frames.new.items line.new.items) }
-    ensures refused { (setting : Setting) (past written : List EventOf) → Carries keeper.old setting past written
+    ensures heard { (setting : Setting) (past written : List EventOf) → KeepsWithPutIn keeper.old setting past written
+        → OnOk result (TakesEvent keeper.new setting past written offset event.now frames.new.items line.new.items) }
+    ensures refused { (setting : Setting) (past written : List EventOf) → KeepsWithPutIn keeper.old setting past written
         → OnErr result (ShowsAnother setting past event.now) }
 {
     frames.clear();
@@ -92,9 +93,9 @@ pub fn pass(
     requires begun { HasBegun decoder.old keeper.old start }
     ensures before { Concludes decoder.old keeper.old }
     ensures refused { OnErr result (RefusesAmong decoder.old keeper.old bytes.now) }
-    ensures none { IfOk result (λ taken. IfNone taken (Passes decoder.old keeper.old start bytes.now decoder.new keeper.new [] [])) }
+    ensures none { IfOk result (λ taken. IfNone taken (PassesBytes decoder.old keeper.old start bytes.now decoder.new keeper.new [] [])) }
     ensures some { IfOk result (λ taken. IfSome taken (λ count.
-        Passes decoder.old keeper.old start (take count bytes.now) decoder.new keeper.new frames.new.items line.new.items)) }
+        PassesBytes decoder.old keeper.old start (take count bytes.now) decoder.new keeper.new frames.new.items line.new.items)) }
     ensures put_in { IfOk result (λ taken. IfSome taken (λ _. IsPutIn frames.new.items line.new.items)) }
     ensures taken { IfOk result (λ taken. IfSome taken (λ count. (0 < count) × (count ≤ length bytes.now))) }
 {
@@ -127,5 +128,5 @@ pub fn conclude(decoder: &Decoder, keeper: &Keeper)
 /// What stands before the first byte.
 pub fn begin(decoder: &Decoder, keeper: &Keeper)
     ensures { (setting : Setting) → Decoded decoder.now [] [] → Keeps keeper.now setting [] []
-        → Stands decoder.now keeper.now setting [] [] [] }
+        → StandsForStream decoder.now keeper.now setting [] [] [] }
 {}

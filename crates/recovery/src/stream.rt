@@ -5,7 +5,7 @@ ghost use Rattle.watched_streams.specs.Watch.{IsFlushed, inner_of, has_failed};
 ghost use Rattle.watched_streams.specs.Input.{ReadsWithin};
 ghost use Rattle.watched_streams.specs.Output.{AppendsPart};
 ghost use Rattle.board_events.specs.Settings.{Setting};
-ghost use Rattle.recovery.specs.Progress.{BreaksOff, PassesOn, HasBegun, IsPutIn, PutsPart};
+ghost use Rattle.recovery.specs.Inside.Progress.{BreaksOff, PassesOn, HasBegun, IsPutIn, PutsPart};
 ghost use Rattle.recovery.specs.Streams.{RecoversAll, RecoversFirst, RecoversFront, RecoversRead, RecoversSome};
 
 use crate::keeper::Keeper;

@@ -10,7 +10,10 @@ use Rattle.clap.specs.Matches.{first_value, one_text}
 use Rattle.clap.specs.Simple.{App, HasMatchesOf, is_simple, subcommand_of, subcommand_rows_of}
 use Rattle.clap.specs.Takes.{takes}
 use Rattle.clap.specs.declared.parser.matches.ArgMatches.{ArgMatches}
+use Rattle.clap.specs.declared.builder.value_parser.Reading.TheVariants.{AsWritten}
 use Rattle.clap.specs.declared.parser.matches.Found.{Found}
+use Rattle.clap.specs.declared.parser.matches.ValueSource.{ValueSource}
+use Rattle.clap.specs.declared.parser.matches.ValueSource.TheVariants.{CommandLine, DefaultValue}
 use Rattle.clap.proofs.OnLiterals.{clap_on_literals}
 use Rattle.clap.proofs.WalkLemmas.{first_value-rows, one_text-rows}
 use Rattle.chess_rules.specs.Initial.{initial}
@@ -72,225 +75,163 @@ named_once {A} {name} {a} {b} is other differ =
     let same : bytes_eq a b ≡ true = (bytes_eq-Decides a b).1 (sym is ∙ other) in
     let bad : true ≡ false = sym same ∙ differ in cc
 
--- ---- fixed arguments
+-- ---- fixed arguments: each parse is computed once
 
-show_found : (name : Text) → (subcommand_of replay (name ∷ codes "show" ∷ []) ≡ Some (codes "show", [])) × (takes replay (name ∷ codes "show" ∷ []) ≡ true)
+-- what a parse finds of a flag that is given, or not
+abbrev flag_source : Bool → ValueSource
+flag_source true = CommandLine
+flag_source false = DefaultValue
+
+abbrev flag_row : Bool → Row
+flag_row rotated = record { id = codes "rotated"; values = flag_text rotated ∷ []; count = None; source = Some (flag_source rotated); reading = AsWritten }
+
+-- A parse takes these arguments, and finds this subcommand with these rows.
+abbrev Finds : List Text → Text → List Row → Type 0
+Finds arguments name rows = (subcommand_of replay arguments ≡ Some (name, rows)) × (takes replay arguments ≡ true)
+
+abbrev FindsFlag : List Text → Text → Bool → Type 0
+FindsFlag arguments name rotated = Finds arguments name (flag_row rotated ∷ [])
+
+flag_found : (rotated : Bool) → one_of (codes "rotated") (flag_row rotated ∷ []) ≡ Some (flag_text rotated)
+flag_found true = refl
+flag_found false = refl
+
+show_found : (name : Text) → Finds (name ∷ codes "show" ∷ []) (codes "show") []
 unfolding clap_on_literals
 show_found name = (refl, refl)
 
--- the rows of a subcommand that was found, and none where it wasn't
-abbrev rows_in : Option (Text × List Row) → List Row
-rows_in None = []
-rows_in (Some found) = found.1
-
-abbrev name_in : Option (Text × List Row) → Option Text
-name_in = option_map (λ found. found.0)
-
-pictures_found : (name : Text) → (name_in (subcommand_of replay (name ∷ codes "pictures" ∷ [])) ≡ Some (codes "pictures"))
-    × (one_of (codes "rotated") (rows_in (subcommand_of replay (name ∷ codes "pictures" ∷ []))) ≡ Some (codes "false"))
-    × (takes replay (name ∷ codes "pictures" ∷ []) ≡ true)
-unfolding clap_on_literals
-pictures_found name = (refl, refl, refl)
-
-rotated_found : (name : Text) → (name_in (subcommand_of replay (name ∷ codes "pictures" ∷ codes "--rotated" ∷ [])) ≡ Some (codes "pictures"))
-    × (one_of (codes "rotated") (rows_in (subcommand_of replay (name ∷ codes "pictures" ∷ codes "--rotated" ∷ []))) ≡ Some (codes "true"))
-    × (takes replay (name ∷ codes "pictures" ∷ codes "--rotated" ∷ []) ≡ true)
-unfolding clap_on_literals
-rotated_found name = (refl, refl, refl)
-
-record_found : (name : Text) → (name_in (subcommand_of replay (name ∷ codes "record" ∷ [])) ≡ Some (codes "record")) × (takes replay (name ∷ codes "record" ∷ []) ≡ true)
-unfolding clap_on_literals
-record_found name = (refl, refl)
-
-check_found : (name : Text) → (name_in (subcommand_of replay (name ∷ codes "check" ∷ [])) ≡ Some (codes "check")) × (takes replay (name ∷ codes "check" ∷ []) ≡ true)
+check_found : (name : Text) → Finds (name ∷ codes "check" ∷ []) (codes "check") []
 unfolding clap_on_literals
 check_found name = (refl, refl)
 
-found_with : (found : Option (Text × List Row)) (name : Text) → name_in found ≡ Some name → found ≡ Some (name, rows_in found)
-found_with None name is = absurd (cc)
-found_with (Some found) name is = let same : found.0 ≡ name = cc in ap (λ n. Some (n, found.1)) same
+moves_found : (name : Text) → Finds (name ∷ codes "moves" ∷ []) (codes "moves") []
+unfolding clap_on_literals
+moves_found name = (refl, refl)
 
--- the rows that a parse of the arguments finds
-abbrev rows_for : List Text → List Row
-rows_for arguments = rows_in (subcommand_of replay arguments)
+positions_found : (name : Text) → Finds (name ∷ codes "positions" ∷ []) (codes "positions") []
+unfolding clap_on_literals
+positions_found name = (refl, refl)
 
-asks_by : (arguments : List Text) (name : Text) → takes replay arguments ≡ true → name_in (subcommand_of replay arguments) ≡ Some name → is_subcommand name (rows_for arguments) ≡ true → Asks arguments name (rows_for arguments)
-asks_by arguments name taken is known = record { taken = taken; found = found_with (subcommand_of replay arguments) name is; known = known }
+plain_pictures : (name : Text) → FindsFlag (name ∷ codes "pictures" ∷ []) (codes "pictures") false
+unfolding clap_on_literals
+plain_pictures name = (refl, refl)
+
+turned_pictures : (name : Text) → FindsFlag (name ∷ codes "pictures" ∷ codes "--rotated" ∷ []) (codes "pictures") true
+unfolding clap_on_literals
+turned_pictures name = (refl, refl)
+
+plain_record : (name : Text) → FindsFlag (name ∷ codes "record" ∷ []) (codes "record") false
+unfolding clap_on_literals
+plain_record name = (refl, refl)
+
+turned_record : (name : Text) → FindsFlag (name ∷ codes "record" ∷ codes "--rotated" ∷ []) (codes "record") true
+unfolding clap_on_literals
+turned_record name = (refl, refl)
+
+plain_follow : (name : Text) → FindsFlag (name ∷ codes "follow" ∷ []) (codes "follow") false
+unfolding clap_on_literals
+plain_follow name = (refl, refl)
+
+turned_follow : (name : Text) → FindsFlag (name ∷ codes "follow" ∷ codes "--rotated" ∷ []) (codes "follow") true
+unfolding clap_on_literals
+turned_follow name = (refl, refl)
+
+plain_watch : (name : Text) → FindsFlag (name ∷ codes "watch" ∷ []) (codes "watch") false
+unfolding clap_on_literals
+plain_watch name = (refl, refl)
+
+turned_watch : (name : Text) → FindsFlag (name ∷ codes "watch" ∷ codes "--rotated" ∷ []) (codes "watch") true
+unfolding clap_on_literals
+turned_watch name = (refl, refl)
+
+plain_recover : (name : Text) → FindsFlag (name ∷ codes "recover" ∷ []) (codes "recover") false
+unfolding clap_on_literals
+plain_recover name = (refl, refl)
+
+turned_recover : (name : Text) → FindsFlag (name ∷ codes "recover" ∷ codes "--rotated" ∷ []) (codes "recover") true
+unfolding clap_on_literals
+turned_recover name = (refl, refl)
+
+-- ---- what they ask for
+
+asks_by : (arguments : List Text) (name : Text) (rows : List Row) → Finds arguments name rows → is_subcommand name rows ≡ true → Asks arguments name rows
+asks_by arguments name rows (found, taken) known = record { taken = taken; found = found; known = known }
 
 pub show_asks : (arguments : List Text) → IsShow arguments → AsksToShow arguments
-show_asks arguments (name, is) =
-    let f = show_found name in
-    subst AsksToShow (sym is) (rows_for (name ∷ codes "show" ∷ []), asks_by (name ∷ codes "show" ∷ []) (codes "show") f.1 (ap name_in f.0) refl)
-
-pub pictures_asks : (rotated : Bool) (arguments : List Text) → IsPictures rotated arguments → AsksForPictures rotated arguments
-pictures_asks true arguments (name, is) =
-    let f = rotated_found name in
-    subst (AsksForPictures true) (sym is) (rows_for (name ∷ codes "pictures" ∷ codes "--rotated" ∷ []), asks_by (name ∷ codes "pictures" ∷ codes "--rotated" ∷ []) (codes "pictures") f.2 f.0 refl, f.1)
-pictures_asks false arguments (name, is) =
-    let f = pictures_found name in
-    subst (AsksForPictures false) (sym is) (rows_for (name ∷ codes "pictures" ∷ []), asks_by (name ∷ codes "pictures" ∷ []) (codes "pictures") f.2 f.0 refl, f.1)
+show_asks arguments (name, is) = subst AsksToShow (sym is) ([], asks_by (name ∷ codes "show" ∷ []) (codes "show") [] (show_found name) refl)
 
 pub check_asks : (arguments : List Text) → IsCheck arguments → AsksToCheck arguments
-check_asks arguments (name, is) =
-    let f = check_found name in
-    subst AsksToCheck (sym is) (rows_for (name ∷ codes "check" ∷ []), asks_by (name ∷ codes "check" ∷ []) (codes "check") f.1 f.0 refl)
-
--- ---- arguments without options
-
-turned_found : (name : Text) → (name_in (subcommand_of replay (name ∷ codes "record" ∷ codes "--rotated" ∷ [])) ≡ Some (codes "record"))
-    × (takes replay (name ∷ codes "record" ∷ codes "--rotated" ∷ []) ≡ true)
-unfolding clap_on_literals
-turned_found name = (refl, refl)
-
-plain_tags : (name : Text) (tag : Tag) → first_of (option_of tag) (rows_for (name ∷ codes "record" ∷ [])) ≡ None
-unfolding clap_on_literals
-plain_tags name Event = refl
-plain_tags name Site = refl
-plain_tags name Date = refl
-plain_tags name Round = refl
-plain_tags name White = refl
-plain_tags name Black = refl
-
-turned_tags : (name : Text) (tag : Tag) → first_of (option_of tag) (rows_for (name ∷ codes "record" ∷ codes "--rotated" ∷ [])) ≡ None
-unfolding clap_on_literals
-turned_tags name Event = refl
-turned_tags name Site = refl
-turned_tags name Date = refl
-turned_tags name Round = refl
-turned_tags name White = refl
-turned_tags name Black = refl
-
-plain_others : (name : Text) → (one_of (codes "rotated") (rows_for (name ∷ codes "record" ∷ [])) ≡ Some (codes "false"))
-    × (first_of (codes "first") (rows_for (name ∷ codes "record" ∷ [])) ≡ None) × (first_of (codes "fen") (rows_for (name ∷ codes "record" ∷ [])) ≡ None)
-unfolding clap_on_literals
-plain_others name = (refl, refl, refl)
-
-turned_others : (name : Text) → (one_of (codes "rotated") (rows_for (name ∷ codes "record" ∷ codes "--rotated" ∷ [])) ≡ Some (codes "true"))
-    × (first_of (codes "first") (rows_for (name ∷ codes "record" ∷ codes "--rotated" ∷ [])) ≡ None)
-    × (first_of (codes "fen") (rows_for (name ∷ codes "record" ∷ codes "--rotated" ∷ [])) ≡ None)
-unfolding clap_on_literals
-turned_others name = (refl, refl, refl)
-
-asks_to_record : (arguments : List Text) (rotated : Bool) → takes replay arguments ≡ true → name_in (subcommand_of replay arguments) ≡ Some (codes "record")
-    → (one_of (codes "rotated") (rows_for arguments) ≡ Some (flag_text rotated)) × (first_of (codes "first") (rows_for arguments) ≡ None) × (first_of (codes "fen") (rows_for arguments) ≡ None)
-    → ((tag : Tag) → first_of (option_of tag) (rows_for arguments) ≡ None) → AsksToRecord arguments (plain_setup rotated)
-asks_to_record arguments rotated taken is (turned, first, fen) none =
-    (rows_for arguments, asks_by arguments (codes "record") taken is (rw first refl), sets_up_plainly (rows_for arguments) rotated turned first fen none)
-
-pub record_asks : (rotated : Bool) (arguments : List Text) → IsRecord rotated arguments → AsksToRecord arguments (plain_setup rotated)
-record_asks true arguments (name, is) =
-    let f = turned_found name in
-    let P : List Text → Type 0 = λ w. AsksToRecord w (plain_setup true) in
-    subst P (sym is) (asks_to_record (name ∷ codes "record" ∷ codes "--rotated" ∷ []) true f.1 f.0 (turned_others name) (turned_tags name))
-record_asks false arguments (name, is) =
-    let f = record_found name in
-    let P : List Text → Type 0 = λ w. AsksToRecord w (plain_setup false) in
-    subst P (sym is) (asks_to_record (name ∷ codes "record" ∷ []) false f.1 f.0 (plain_others name) (plain_tags name))
-
--- a subcommand of this name that has the options of a board, without them
-asks_of_a_board : (word : Text) (arguments : List Text) (rotated : Bool) → name_in (subcommand_of replay arguments) ≡ Some word → one_of (codes "rotated") (rows_for arguments) ≡ Some (flag_text rotated)
-    → first_of (codes "first") (rows_for arguments) ≡ None → first_of (codes "fen") (rows_for arguments) ≡ None → takes replay arguments ≡ true → is_subcommand word (rows_for arguments) ≡ true
-    → (rows : List Row) × Asks arguments word rows × SetsBoardUp rows (setting_of (plain_setup rotated))
-asks_of_a_board word arguments rotated is turned first fen taken known =
-    (rows_for arguments, asks_by arguments word taken is known, sets_board_up_plainly (rows_for arguments) rotated turned first fen)
-
-follow_found : (name : Text) → (name_in (subcommand_of replay (name ∷ codes "follow" ∷ [])) ≡ Some (codes "follow"))
-    × (one_of (codes "rotated") (rows_for (name ∷ codes "follow" ∷ [])) ≡ Some (codes "false"))
-    × (first_of (codes "first") (rows_for (name ∷ codes "follow" ∷ [])) ≡ None) × (first_of (codes "fen") (rows_for (name ∷ codes "follow" ∷ [])) ≡ None)
-    × (takes replay (name ∷ codes "follow" ∷ []) ≡ true)
-unfolding clap_on_literals
-follow_found name = (refl, refl, refl, refl, refl)
-
-turned_follow_found : (name : Text) → (name_in (subcommand_of replay (name ∷ codes "follow" ∷ codes "--rotated" ∷ [])) ≡ Some (codes "follow"))
-    × (one_of (codes "rotated") (rows_for (name ∷ codes "follow" ∷ codes "--rotated" ∷ [])) ≡ Some (codes "true"))
-    × (first_of (codes "first") (rows_for (name ∷ codes "follow" ∷ codes "--rotated" ∷ [])) ≡ None)
-    × (first_of (codes "fen") (rows_for (name ∷ codes "follow" ∷ codes "--rotated" ∷ [])) ≡ None)
-    × (takes replay (name ∷ codes "follow" ∷ codes "--rotated" ∷ []) ≡ true)
-unfolding clap_on_literals
-turned_follow_found name = (refl, refl, refl, refl, refl)
-
-pub follow_asks : (rotated : Bool) (arguments : List Text) → IsFollow rotated arguments → AsksToFollow arguments (setting_of (plain_setup rotated))
-follow_asks true arguments (name, is) =
-    let f = turned_follow_found name in
-    let P : List Text → Type 0 = λ w. AsksToFollow w (setting_of (plain_setup true)) in
-    subst P (sym is) (asks_of_a_board (codes "follow") (name ∷ codes "follow" ∷ codes "--rotated" ∷ []) true f.0 f.1 f.2 f.3 f.4 (rw f.2 refl))
-follow_asks false arguments (name, is) =
-    let f = follow_found name in
-    let P : List Text → Type 0 = λ w. AsksToFollow w (setting_of (plain_setup false)) in
-    subst P (sym is) (asks_of_a_board (codes "follow") (name ∷ codes "follow" ∷ []) false f.0 f.1 f.2 f.3 f.4 (rw f.2 refl))
-
-watch_found : (name : Text) → (name_in (subcommand_of replay (name ∷ codes "watch" ∷ [])) ≡ Some (codes "watch"))
-    × (one_of (codes "rotated") (rows_for (name ∷ codes "watch" ∷ [])) ≡ Some (codes "false"))
-    × (first_of (codes "first") (rows_for (name ∷ codes "watch" ∷ [])) ≡ None) × (first_of (codes "fen") (rows_for (name ∷ codes "watch" ∷ [])) ≡ None)
-    × (takes replay (name ∷ codes "watch" ∷ []) ≡ true)
-unfolding clap_on_literals
-watch_found name = (refl, refl, refl, refl, refl)
-
-turned_watch_found : (name : Text) → (name_in (subcommand_of replay (name ∷ codes "watch" ∷ codes "--rotated" ∷ [])) ≡ Some (codes "watch"))
-    × (one_of (codes "rotated") (rows_for (name ∷ codes "watch" ∷ codes "--rotated" ∷ [])) ≡ Some (codes "true"))
-    × (first_of (codes "first") (rows_for (name ∷ codes "watch" ∷ codes "--rotated" ∷ [])) ≡ None)
-    × (first_of (codes "fen") (rows_for (name ∷ codes "watch" ∷ codes "--rotated" ∷ [])) ≡ None)
-    × (takes replay (name ∷ codes "watch" ∷ codes "--rotated" ∷ []) ≡ true)
-unfolding clap_on_literals
-turned_watch_found name = (refl, refl, refl, refl, refl)
-
-pub watch_asks : (rotated : Bool) (arguments : List Text) → IsWatch rotated arguments → AsksToWatch arguments (setting_of (plain_setup rotated))
-watch_asks true arguments (name, is) =
-    let f = turned_watch_found name in
-    let P : List Text → Type 0 = λ w. AsksToWatch w (setting_of (plain_setup true)) in
-    subst P (sym is) (asks_of_a_board (codes "watch") (name ∷ codes "watch" ∷ codes "--rotated" ∷ []) true f.0 f.1 f.2 f.3 f.4 (rw f.2 refl))
-watch_asks false arguments (name, is) =
-    let f = watch_found name in
-    let P : List Text → Type 0 = λ w. AsksToWatch w (setting_of (plain_setup false)) in
-    subst P (sym is) (asks_of_a_board (codes "watch") (name ∷ codes "watch" ∷ []) false f.0 f.1 f.2 f.3 f.4 (rw f.2 refl))
-
-recover_found : (name : Text) → (name_in (subcommand_of replay (name ∷ codes "recover" ∷ [])) ≡ Some (codes "recover"))
-    × (one_of (codes "rotated") (rows_for (name ∷ codes "recover" ∷ [])) ≡ Some (codes "false"))
-    × (first_of (codes "first") (rows_for (name ∷ codes "recover" ∷ [])) ≡ None) × (first_of (codes "fen") (rows_for (name ∷ codes "recover" ∷ [])) ≡ None)
-    × (takes replay (name ∷ codes "recover" ∷ []) ≡ true)
-unfolding clap_on_literals
-recover_found name = (refl, refl, refl, refl, refl)
-
-turned_recover_found : (name : Text) → (name_in (subcommand_of replay (name ∷ codes "recover" ∷ codes "--rotated" ∷ [])) ≡ Some (codes "recover"))
-    × (one_of (codes "rotated") (rows_for (name ∷ codes "recover" ∷ codes "--rotated" ∷ [])) ≡ Some (codes "true"))
-    × (first_of (codes "first") (rows_for (name ∷ codes "recover" ∷ codes "--rotated" ∷ [])) ≡ None)
-    × (first_of (codes "fen") (rows_for (name ∷ codes "recover" ∷ codes "--rotated" ∷ [])) ≡ None)
-    × (takes replay (name ∷ codes "recover" ∷ codes "--rotated" ∷ []) ≡ true)
-unfolding clap_on_literals
-turned_recover_found name = (refl, refl, refl, refl, refl)
-
-pub recover_asks : (rotated : Bool) (arguments : List Text) → IsRecover rotated arguments → AsksToRecover arguments (setting_of (plain_setup rotated))
-recover_asks true arguments (name, is) =
-    let f = turned_recover_found name in
-    let P : List Text → Type 0 = λ w. AsksToRecover w (setting_of (plain_setup true)) in
-    subst P (sym is) (asks_of_a_board (codes "recover") (name ∷ codes "recover" ∷ codes "--rotated" ∷ []) true f.0 f.1 f.2 f.3 f.4 (rw f.2 refl))
-recover_asks false arguments (name, is) =
-    let f = recover_found name in
-    let P : List Text → Type 0 = λ w. AsksToRecover w (setting_of (plain_setup false)) in
-    subst P (sym is) (asks_of_a_board (codes "recover") (name ∷ codes "recover" ∷ []) false f.0 f.1 f.2 f.3 f.4 (rw f.2 refl))
-
-moves_found : (name : Text) → (name_in (subcommand_of replay (name ∷ codes "moves" ∷ [])) ≡ Some (codes "moves"))
-    × (first_of (codes "fen") (rows_for (name ∷ codes "moves" ∷ [])) ≡ None)
-    × (takes replay (name ∷ codes "moves" ∷ []) ≡ true)
-unfolding clap_on_literals
-moves_found name = (refl, refl, refl)
+check_asks arguments (name, is) = subst AsksToCheck (sym is) ([], asks_by (name ∷ codes "check" ∷ []) (codes "check") [] (check_found name) refl)
 
 pub moves_asks : (arguments : List Text) → IsMoves arguments → AsksForMoves arguments initial
 moves_asks arguments (name, is) =
-    let f = moves_found name in
-    let these = name ∷ codes "moves" ∷ [] in
     let P : List Text → Type 0 = λ w. AsksForMoves w initial in
-    subst P (sym is) (rows_for these, asks_by these (codes "moves") f.2 f.0 refl, rw f.1 refl)
-
-positions_found : (name : Text) → (name_in (subcommand_of replay (name ∷ codes "positions" ∷ [])) ≡ Some (codes "positions"))
-    × (first_of (codes "fen") (rows_for (name ∷ codes "positions" ∷ [])) ≡ None)
-    × (takes replay (name ∷ codes "positions" ∷ []) ≡ true)
-unfolding clap_on_literals
-positions_found name = (refl, refl, refl)
+    subst P (sym is) ([], asks_by (name ∷ codes "moves" ∷ []) (codes "moves") [] (moves_found name) refl, refl)
 
 pub positions_asks : (arguments : List Text) → IsPositions arguments → AsksForPositions arguments initial
 positions_asks arguments (name, is) =
-    let f = positions_found name in
-    let these = name ∷ codes "positions" ∷ [] in
     let P : List Text → Type 0 = λ w. AsksForPositions w initial in
-    subst P (sym is) (rows_for these, asks_by these (codes "positions") f.2 f.0 refl, rw f.1 refl)
+    subst P (sym is) ([], asks_by (name ∷ codes "positions" ∷ []) (codes "positions") [] (positions_found name) refl, refl)
+
+pictures_by : (rotated : Bool) (arguments : List Text) → FindsFlag arguments (codes "pictures") rotated → AsksForPictures rotated arguments
+pictures_by rotated arguments finds = (flag_row rotated ∷ [], asks_by arguments (codes "pictures") (flag_row rotated ∷ []) finds refl, flag_found rotated)
+
+pub pictures_asks : (rotated : Bool) (arguments : List Text) → IsPictures rotated arguments → AsksForPictures rotated arguments
+pictures_asks true arguments (name, is) = subst (AsksForPictures true) (sym is) (pictures_by true (name ∷ codes "pictures" ∷ codes "--rotated" ∷ []) (turned_pictures name))
+pictures_asks false arguments (name, is) = subst (AsksForPictures false) (sym is) (pictures_by false (name ∷ codes "pictures" ∷ []) (plain_pictures name))
+
+no_tag : (rotated : Bool) (tag : Tag) → first_of (option_of tag) (flag_row rotated ∷ []) ≡ None
+no_tag rotated Event = refl
+no_tag rotated Site = refl
+no_tag rotated Date = refl
+no_tag rotated Round = refl
+no_tag rotated White = refl
+no_tag rotated Black = refl
+
+record_by : (rotated : Bool) (arguments : List Text) → FindsFlag arguments (codes "record") rotated → AsksToRecord arguments (plain_setup rotated)
+record_by rotated arguments finds = (
+  flag_row rotated ∷ [],
+  asks_by arguments (codes "record") (flag_row rotated ∷ []) finds refl,
+  sets_up_plainly (flag_row rotated ∷ []) rotated (flag_found rotated) refl refl (no_tag rotated),
+)
+
+pub record_asks : (rotated : Bool) (arguments : List Text) → IsRecord rotated arguments → AsksToRecord arguments (plain_setup rotated)
+record_asks true arguments (name, is) =
+    let P : List Text → Type 0 = λ w. AsksToRecord w (plain_setup true) in
+    subst P (sym is) (record_by true (name ∷ codes "record" ∷ codes "--rotated" ∷ []) (turned_record name))
+record_asks false arguments (name, is) =
+    let P : List Text → Type 0 = λ w. AsksToRecord w (plain_setup false) in
+    subst P (sym is) (record_by false (name ∷ codes "record" ∷ []) (plain_record name))
+
+-- a subcommand of this name that has the options of a board, without them
+asks_of_a_board : (word : Text) (rotated : Bool) (arguments : List Text) → FindsFlag arguments word rotated → is_subcommand word (flag_row rotated ∷ []) ≡ true
+    → (rows : List Row) × Asks arguments word rows × SetsBoardUp rows (setting_of (plain_setup rotated))
+asks_of_a_board word rotated arguments finds known = (
+  flag_row rotated ∷ [],
+  asks_by arguments word (flag_row rotated ∷ []) finds known,
+  sets_board_up_plainly (flag_row rotated ∷ []) rotated (flag_found rotated) refl refl,
+)
+
+pub follow_asks : (rotated : Bool) (arguments : List Text) → IsFollow rotated arguments → AsksToFollow arguments (setting_of (plain_setup rotated))
+follow_asks true arguments (name, is) =
+    let P : List Text → Type 0 = λ w. AsksToFollow w (setting_of (plain_setup true)) in
+    subst P (sym is) (asks_of_a_board (codes "follow") true (name ∷ codes "follow" ∷ codes "--rotated" ∷ []) (turned_follow name) refl)
+follow_asks false arguments (name, is) =
+    let P : List Text → Type 0 = λ w. AsksToFollow w (setting_of (plain_setup false)) in
+    subst P (sym is) (asks_of_a_board (codes "follow") false (name ∷ codes "follow" ∷ []) (plain_follow name) refl)
+
+pub watch_asks : (rotated : Bool) (arguments : List Text) → IsWatch rotated arguments → AsksToWatch arguments (setting_of (plain_setup rotated))
+watch_asks true arguments (name, is) =
+    let P : List Text → Type 0 = λ w. AsksToWatch w (setting_of (plain_setup true)) in
+    subst P (sym is) (asks_of_a_board (codes "watch") true (name ∷ codes "watch" ∷ codes "--rotated" ∷ []) (turned_watch name) refl)
+watch_asks false arguments (name, is) =
+    let P : List Text → Type 0 = λ w. AsksToWatch w (setting_of (plain_setup false)) in
+    subst P (sym is) (asks_of_a_board (codes "watch") false (name ∷ codes "watch" ∷ []) (plain_watch name) refl)
+
+pub recover_asks : (rotated : Bool) (arguments : List Text) → IsRecover rotated arguments → AsksToRecover arguments (setting_of (plain_setup rotated))
+recover_asks true arguments (name, is) =
+    let P : List Text → Type 0 = λ w. AsksToRecover w (setting_of (plain_setup true)) in
+    subst P (sym is) (asks_of_a_board (codes "recover") true (name ∷ codes "recover" ∷ codes "--rotated" ∷ []) (turned_recover name) refl)
+recover_asks false arguments (name, is) =
+    let P : List Text → Type 0 = λ w. AsksToRecover w (setting_of (plain_setup false)) in
+    subst P (sym is) (asks_of_a_board (codes "recover") false (name ∷ codes "recover" ∷ []) (plain_recover name) refl)

@@ -21,7 +21,7 @@ use dgt_frame::First;
 use std::alloc::Global;
 
 /// What the arguments ask for.
-#[derive(Clone, Copy, Debug)]
+#[derive(Clone, Copy)]
 pub enum Subcommand<'a> {
     /// The messages and faults of a stream.
     Show,
@@ -44,7 +44,7 @@ pub enum Subcommand<'a> {
 }
 
 /// How a board stands, and where its game starts.
-#[derive(Clone, Copy, Debug)]
+#[derive(Clone, Copy)]
 pub struct BoardArguments<'a> {
     /// Whether field n means square 63 - n.
     pub rotated: bool,
@@ -55,7 +55,7 @@ pub struct BoardArguments<'a> {
 }
 
 /// How a game is to be recorded.
-#[derive(Clone, Copy, Debug)]
+#[derive(Clone, Copy)]
 pub struct RecordArguments<'a> {
     /// How its board stands, and where it starts.
     pub board: BoardArguments<'a>,

@@ -1,5 +1,5 @@
 -- Pieces on a board, and what a legal move does with them.
-use Rattle.std.proofs.Common.{◌≡◌, ◌≢◌, ℕ, ◌<◌, inl, inr, None, sym, ap, ◌∙◌}
+use Rattle.std.proofs.Common.{◌≡◌, ◌≢◌, ℕ, inl, inr, None, sym, ap, ◌∙◌}
 use Rattle.chess_rules.specs.declared.pieces.Side.{Side}
 use Rattle.chess_rules.specs.declared.pieces.Kind.{Kind}
 use Rattle.chess_rules.specs.declared.pieces.Kind.TheVariants.{Rook, King}

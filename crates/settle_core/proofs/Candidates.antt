@@ -18,7 +18,8 @@ use Rattle.chess_rules.proofs.Shifts.{on_board}
 use Rattle.chess_rules.proofs.Tells.{same_move}
 use Rattle.settle_core.specs.Settling.{Settles}
 use Rattle.settle_core.specs.Masks.{IsDiff, IsNoMove}
-use Rattle.settle_core.specs.Candidate.{lands, leaves, is_king_code, side_number, promotion_between}
+use Rattle.settle_core.specs.Candidate.{lands, is_king_code, side_number}
+use Rattle.settle_core.specs.Inside.Reading.{leaves, promotion_between}
 use Rattle.settle_core.proofs.Pieces.{at_picture, squares_after}
 use Rattle.settle_core.proofs.Masking.{diffs, at_diffs, differ, length-diffs}
 use Rattle.settle_core.proofs.Counting.{mask_is, ones_trues, few_trues, three_trues, trues}

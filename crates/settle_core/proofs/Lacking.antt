@@ -12,7 +12,7 @@ use Rattle.chess_rules.specs.Picture.{code_of_piece, picture}
 use Rattle.settle_core.specs.declared.plies.Outcome.{Outcome}
 use Rattle.settle_core.specs.declared.plies.Seen.TheVariants.{Waits}
 use Rattle.settle_core.specs.Folding.{SeenAs}
-use Rattle.settle_core.specs.Kept.{OnlyLacks}
+use Rattle.settle_core.specs.Inside.Kept.{OnlyLacks}
 use Rattle.settle_core.specs.Settling.{Settles, reached, Played}
 use Rattle.settle_core.specs.Sign.{IsSign}
 use Rattle.settle_core.proofs.Apart.{BothKings, both_kings, kings_apart, apart, centre_low}

@@ -16,7 +16,6 @@ pub mod Repeats
 pub mod Steps
 pub mod Growing
 pub mod Once
-pub mod Tipping
 pub mod Fronts
 pub mod Waiting
 pub mod Pawns

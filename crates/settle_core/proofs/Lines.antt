@@ -11,9 +11,9 @@ use Rattle.chess_rules.specs.Valid.{Valid}
 use Rattle.settle_core.specs.declared.plies.Ply.{Ply}
 use Rattle.settle_core.specs.Entries.{Entry, repeats, deduplicated}
 use Rattle.settle_core.specs.Settling.{reached, Line}
-use Rattle.settle_core.specs.Folding.{Score, Folds, moves_of, played, time_of}
+use Rattle.settle_core.specs.Folding.{Score, Folds, moves_of, played, score_of, time_of}
 use Rattle.settle_core.specs.HonestPlay.{Shown, ShownEach, last_reading, shown_plies}
-use Rattle.settle_core.specs.Laws.{joined, HonestPlayFolds, HonestPlayIsKept, HonestPlayKeepsClocks}
+use Rattle.settle_core.specs.Laws.{joined, GivesScore, HonestPlayFolds}
 use Rattle.settle_core.proofs.Stages.{IsSound, IsOpen, NotYet, Opens, Gives, Ends, now, differ_false, not_repeated, entry_open, entry_end, opens}
 
 pub map-reverse : {X A : Type 0} (f : X → A) (xs : List X) → map f (reverse xs) ≡ reverse (map f xs)
@@ -125,7 +125,10 @@ moves_shown p [] lists h = refl
 moves_shown p (m ∷ moves) [] h = absurd h
 moves_shown p (m ∷ moves) (list ∷ lists) h = ap (λ (ms : List Move). m ∷ ms) (moves_shown (after p m) moves lists h.1)
 
-pub honest_clocks : HonestPlayKeepsClocks
+pub honest_clocks :
+    (start : Parts) (moves : List Move) (lists : List (List Entry)) (score : Score)
+    → Valid start → Line start moves → ShownEach start moves lists → GivesScore start (joined lists) score
+    → score ≡ score_of (shown_plies start moves lists) None
 honest_clocks start moves lists score v l h f = (line_ends start moves lists v l h).ends.score score f
 
 pub honest_play : HonestPlayFolds
@@ -139,12 +142,3 @@ honest_play start moves lists v l h =
           let none : HasNoSign start [] = λ s g. ap (λ (x : Score). x.sign) g in
           first_parts start first rest [] none (subst P e made.never) score f,
     )
-
-all_of : (entries : List Entry) → entries ≡ entries ++ []
-all_of [] = refl
-all_of (entry ∷ entries) = ap (λ (es : List Entry). entry ∷ es) (all_of entries)
-
-pub honest_play_kept : HonestPlayIsKept
-honest_play_kept sheet start moves lists v l h st =
-    let both = honest_play start moves lists v l h in
-    (both.0 sheet.score st.folds, both.1 (joined lists) [] sheet.score (all_of (joined lists)) st.folds)

@@ -1,5 +1,5 @@
 -- Lists from the end.
-use Rattle.std.proofs.Common.{◌≡◌, ◌+◌, ◌-◌, List, [], ◌∷◌, ◌++◌, set, length, reverse, refl, sym, ap, subst, ◌∙◌, arith, length-append}
+use Rattle.std.proofs.Common.{◌≡◌, ◌+◌, ◌-◌, List, [], ◌∷◌, ◌++◌, drop, set, length, reverse, refl, sym, ap, subst, ◌∙◌, arith, length-append}
 use mathlib.Core.List.{reverse_aux}
 use Rattle.std.proofs.lemmas.List.{reverse-reverse, reverse-append}
 use Rattle.chess_rules.specs.declared.chess_move.Move.{Move}
@@ -7,7 +7,7 @@ use Rattle.chess_rules.specs.declared.parts.Parts.{Parts}
 use Rattle.settle_core.specs.declared.plies.Ply.{Ply}
 use Rattle.settle_core.specs.Settling.{reached, position_after, Played, Line}
 use Rattle.settle_core.specs.Folding.{moves_of}
-use Rattle.settle_core.specs.Kept.{IsLastSet}
+use Rattle.settle_core.specs.Inside.Kept.{IsLastSet}
 use Rattle.settle_core.proofs.Lines.{moves-reverse_aux}
 
 pub set_at_end : {X : Type 0} (xs : List X) (x y : X) → set (xs ++ x ∷ []) (length xs) y ≡ xs ++ y ∷ []
@@ -43,3 +43,7 @@ position_onto start (m ∷ earlier) rest = position_onto start earlier (m ∷ re
 -- moves in their order lead where they lead with the latest first
 pub position_in_order : (start : Parts) (plies : List Ply) → position_after start (moves_of (reverse plies)) ≡ reached start (moves_of plies)
 position_in_order start plies = ap (position_after start) (moves-reverse_aux plies []) ∙ position_onto start (moves_of plies) []
+
+pub moves_of_drop : (plies : List Ply) → moves_of (drop 1 plies) ≡ drop 1 (moves_of plies)
+moves_of_drop [] = refl
+moves_of_drop (ply ∷ plies) = refl

@@ -9,11 +9,11 @@ use Rattle.settle_core.specs.declared.plies.Outcome.TheVariants.{WhiteWins, Blac
 use Rattle.settle_core.specs.declared.plies.Ply.{Ply}
 use Rattle.settle_core.specs.declared.plies.Seen.{Seen}
 use Rattle.settle_core.specs.declared.plies.Seen.TheVariants.{Same, Moved, Sign, Replaced, Waits}
-use Rattle.settle_core.specs.Entries.{Entry, deduplicated}
+use Rattle.settle_core.specs.Entries.{Entry}
 use Rattle.settle_core.specs.Settling.{Settles, reached, Played}
 use Rattle.settle_core.specs.Sign.{IsSign, IsLight, IsDark, Means}
 use Rattle.settle_core.specs.Folding.{Score, Folds, Replaces, SeenAs, moves_of, score_after}
-use Rattle.settle_core.specs.Laws.{FoldsOnce, SettlersTellTheScore, NoEntryGivesTwo, SignsSettleNothing, RepliesReplaceNothing}
+use Rattle.settle_core.specs.Laws.{FoldsOnce, NoEntryGivesTwo, SignsSettleNothing}
 use Rattle.settle_core.proofs.Apart.{no_sign_valid}
 use Rattle.settle_core.proofs.Growing.{one_more}
 use Rattle.settle_core.proofs.Stages.{valid_reached, no_replace}
@@ -63,7 +63,9 @@ signs_settle_nothing p over seen m outcome v g = no_sign_valid (after p m) seen 
 not_both : (p : Parts) (seen : List ℕ) (m : Move) (outcome : Outcome) → Valid p → Settles p seen m → IsSign p seen outcome → ⊥
 not_both p seen m outcome v g h = signs_settle_nothing p p seen m outcome v g h
 
-pub replies_replace_nothing : RepliesReplaceNothing
+pub replies_replace_nothing :
+    (start : Parts) (moves : List Move) (seen : List ℕ) (reply m : Move)
+    → Valid start → Played start moves → Settles (reached start moves) seen reply → ¬ Replaces start moves seen m
 replies_replace_nothing start moves seen reply m v played h =
     no_replace start moves m seen v played (no_new_after (reached start moves) reply seen (valid_reached start moves v played) h.legal h.shows)
 
@@ -127,9 +129,6 @@ folds_once start (entry ∷ past) a b v g h =
     let valid : Valid (reached start (moves_of (h.0).plies)) = valid_reached start (moves_of (h.0).plies) v (folds_played start past h.0 h.2) in
     let seen : g.1 ≡ h.1 = shows_once start (moves_of (h.0).plies) entry.picture g.1 h.1 valid (subst S before g.3) h.3 in
     g.4 ∙ ap (λ (s : Score). score_after start s entry.reading g.1) before ∙ ap (λ (x : Seen). score_after start h.0 entry.reading x) seen ∙ sym h.4
-
-pub tells_the_score : SettlersTellTheScore
-tells_the_score sheet start past score v st h = folds_once start (deduplicated past) score sheet.score v h st.folds
 
 pub no_entry_gives_two : NoEntryGivesTwo
 no_entry_gives_two start entry past before score v g h =

@@ -13,7 +13,7 @@ use Rattle.chess_rules.specs.Valid.{Valid}
 use Rattle.chess_rules.specs.Picture.{code, code_of_piece, picture}
 use Rattle.chess_rules.proofs.Staying.{own_or_other}
 use Rattle.settle_core.specs.Candidate.{is_owned_code, lands}
-use Rattle.settle_core.specs.Kept.{OnlyLacks}
+use Rattle.settle_core.specs.Inside.Kept.{OnlyLacks}
 use Rattle.settle_core.specs.Settling.{Settles}
 use Rattle.settle_core.proofs.Candidates.{IsBetween, between, lands_at, no_land}
 use Rattle.settle_core.proofs.Pieces.{theirs_stood}

@@ -23,7 +23,7 @@ use Rattle.settle_core.specs.Settling.{Settles, reached, Played}
 use Rattle.settle_core.specs.Folding.{Score, Folds, SeenAs, Replaces, moves_of, score_after}
 use Rattle.settle_core.specs.Settler.{Sheet, StandsFor, ReturnsSeen, GivesMove}
 use Rattle.settle_core.proofs.Changing.{set_differs}
-use Rattle.settle_core.specs.Kept.{IsLastSet, CanReplace, before_last, last_of, position_in}
+use Rattle.settle_core.specs.Inside.Kept.{IsLastSet, CanReplace, before_last, last_of, position_in}
 
 -- a legal move whose picture this is settles
 pub settled_from :

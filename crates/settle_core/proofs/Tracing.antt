@@ -19,7 +19,8 @@ use Rattle.chess_rules.proofs.Shifts.{same_unless}
 use Rattle.chess_rules.proofs.Replacing.{king_no_pawn, none_piece}
 use Rattle.chess_rules.proofs.Staying.{own_or_other}
 use Rattle.settle_core.proofs.Boards.{one_kept}
-use Rattle.settle_core.specs.Candidate.{is_king_code, is_pawn_code, side_number, lands, leaves, officer_of, promotion_between}
+use Rattle.settle_core.specs.Candidate.{is_king_code, side_number, lands}
+use Rattle.settle_core.specs.Inside.Reading.{is_pawn_code, leaves, officer_of, promotion_between}
 use Rattle.settle_core.proofs.Pieces.{same_code, theirs_stood, code_no_zero}
 
 -- the tests on codes

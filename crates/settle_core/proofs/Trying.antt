@@ -16,7 +16,6 @@ use Rattle.chess_rules.proofs.LawLemmas.{moves_move_pieces, castling_moves}
 use Rattle.chess_rules.proofs.Shifts.{kind_of, on_board}
 use Rattle.chess_rules.proofs.Replacing.{none_piece}
 use Rattle.settle_core.specs.HonestPlay.{LiftsAnother, ShowsMoved, AreKingAndRook, HoldsOne}
-use Rattle.settle_core.specs.Laws.{OneHandTriesItsPiece}
 use Rattle.settle_core.proofs.Boards.{king_no_rook, one_kept}
 use Rattle.settle_core.proofs.Pieces.{at_picture, shown_on, squares_after}
 
@@ -157,6 +156,8 @@ try_one p m x seen o v l one e =
           ]
     ]
 
-pub one_hand_tries : OneHandTriesItsPiece
+pub one_hand_tries :
+    (p : Parts) (m x : Move) (seen : List ℕ)
+    → Valid p → Legal p m → Legal p x → HoldsOne p m seen → seen ≡ picture (after p x) → IsOfHand p m x
 one_hand_tries p m x seen v lm l one e =
     elim (moves_move_pieces p m v lm) [ inl o ↦ try_one p m x seen o v l one e | inr c ↦ try_castling p m x seen c v l one e ]

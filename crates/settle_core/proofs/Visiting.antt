@@ -7,7 +7,8 @@ use Rattle.std.proofs.lemmas.Nat.{and_le_l}
 use Rattle.std.proofs.lemmas.List.{get_or-replicate}
 use Rattle.std.proofs.lemmas.Nat.Bits.{bit_at-lt, bit_at_and, bit_at_clear_same}
 use Rattle.settle_core.specs.Masks.{IsDiff, IsLanded, IsShown}
-use Rattle.settle_core.specs.Candidate.{lands, leaves, is_king_code, side_number}
+use Rattle.settle_core.specs.Candidate.{lands, is_king_code, side_number}
+use Rattle.settle_core.specs.Inside.Reading.{leaves}
 use Rattle.settle_core.proofs.Masking.{zero_one}
 use Rattle.settle_core.proofs.Tracing.{Lands, Leaves, lands_from, lands_parts, leaves_parts}
 

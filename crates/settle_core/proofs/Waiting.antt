@@ -17,11 +17,11 @@ use Rattle.settle_core.specs.declared.plies.Ply.{Ply}
 use Rattle.settle_core.specs.declared.plies.Seen.{Seen}
 use Rattle.settle_core.specs.declared.plies.Seen.TheVariants.{Sign, Waits}
 use Rattle.settle_core.specs.Entries.{Entry, repeats, deduplicated}
-use Rattle.settle_core.specs.Settling.{Settles, reached, position_after}
+use Rattle.settle_core.specs.Settling.{Line, Settles, reached, position_after}
 use Rattle.settle_core.specs.Sign.{IsSign}
-use Rattle.settle_core.specs.Folding.{Score, Folds, SeenAs, moves_of, score_after}
-use Rattle.settle_core.specs.HonestPlay.{ShowsNoMore, MayRest, AllRest, shown_plies}
-use Rattle.settle_core.specs.Laws.{joined, NoMoreIsInHand, RestingWaits, KingsEndHonestPlay}
+use Rattle.settle_core.specs.Folding.{Score, Folds, SeenAs, moves_of, score_after, score_of}
+use Rattle.settle_core.specs.HonestPlay.{ShowsNoMore, MayRest, AllRest, ShownEach, shown_plies}
+use Rattle.settle_core.specs.Laws.{joined, GivesScore, NoMoreIsInHand, RestingWaits}
 use Rattle.settle_core.proofs.Pieces.{same_code, code_no_zero, shown_on, ShowsNoNew, Arrives, arrives, settles_end}
 use Rattle.settle_core.proofs.Apart.{BothKings, apart_unless, both_kings, kings_apart, apart, centre_low}
 use Rattle.settle_core.proofs.Hands.{lacking_settles, lacking_no_sign}
@@ -155,7 +155,16 @@ pub ends_no_sign : (p : Parts) (past : List Entry) → Valid p → EndsAt p past
 ends_no_sign p [] v h = tt
 ends_no_sign p (entry ∷ past) v h = Rattle.settle_core.proofs.Apart.no_sign_valid p entry.picture v h p
 
-pub kings_end : KingsEndHonestPlay
+-- the kings' sign stands among pictures on which pieces are taken off or set up
+pub kings_end :
+    (start : Parts) (moves : List Move) (lists : List (List Entry)) (clearing later : List Entry) (kings : Entry) (outcome : Outcome)
+    (score : Score)
+    → Valid start → Line start moves → ShownEach start moves lists
+    → AllRest (position_after start moves) clearing
+    → IsSign (position_after start moves) kings.picture outcome
+    → AllRest (position_after start moves) later
+    → GivesScore start (joined lists ++ (clearing ++ kings ∷ later)) score
+    → score ≡ score_of (shown_plies start moves lists) (Some outcome)
 kings_end start moves lists clearing later kings outcome score v l h a k b f =
     let plies : List Ply = reverse (shown_plies start moves lists) in
     let made : MakesMove start plies (joined lists) [] = line_ends start moves lists v l h in

@@ -7,7 +7,8 @@ ghost use Rattle.chess_rules.specs.Valid.{Valid};
 ghost use Rattle.chess_rules.specs.Picture.{picture};
 ghost use Rattle.settle_core.specs.Settling.{Settles};
 ghost use Rattle.settle_core.specs.Masks.{IsDiff, IsNoMove, IsOwned, IsShown};
-ghost use Rattle.settle_core.specs.Candidate.{is_king_code, lands as lands_test, leaves as leaves_test, officer_of, promotion_between};
+ghost use Rattle.settle_core.specs.Candidate.{is_king_code, lands as lands_test};
+ghost use Rattle.settle_core.specs.Inside.Reading.{leaves as leaves_test, officer_of, promotion_between};
 
 use crate::codes::{BLACK_KING, BLACK_PAWN, EMPTY, WHITE_KING, WHITE_PAWN, is_owned, side_of};
 use crate::masks::{first_square, landed, shown_in, with, without};

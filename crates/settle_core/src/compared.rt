@@ -3,7 +3,7 @@ ghost use Rattle.std.specs.Prelude.{◌≡◌, ◌≢◌, ◌<◌, ◌↔◌, �
 ghost use Rattle.chess_rules.specs.declared.chess_move.Move.{Move as MoveOf};
 ghost use Rattle.settle_core.specs.Settling.{Settles};
 ghost use Rattle.settle_core.specs.Masks.{IsDiff, IsShown};
-ghost use Rattle.settle_core.specs.Kept.{HasLanded, IsCompared, OnlyLacks};
+ghost use Rattle.settle_core.specs.Inside.Kept.{HasLanded, IsCompared, OnlyLacks};
 ghost use Rattle.chess_rules.specs.Board.{other as other_side};
 ghost use Rattle.settle_core.specs.Lost.{Bares, Loses, MayHideTwo};
 

@@ -3,27 +3,14 @@
 ghost use Rattle.settle_core.specs.AnyHands.{MadeAgainStops, OneHandStops, TakenBackAndMadeAgain, WholeMoveIsInHand};
 ghost use Rattle.settle_core.specs.AnyPlay.{HonestPlayResumes, KingsEndResumedPlay, KingsInCentreKeepThePlies, KingsInCentreMakeNoMove, NothingIsInvented, OnlyTheLastPlyMayChange, ResumedPlayStops};
 ghost use Rattle.settle_core.specs.Endings.{HonestPlayEnds, HonestPlayStopsAnywhere};
-ghost use Rattle.settle_core.specs.Laws.{FoldsOnce, FoldsSome, FrontsOfHonestPlay, GivesSome, HonestPlayFolds, HonestPlayIsKept, HonestPlayKeepsClocks, HonestPlayStops, KingsEndHonestPlay, NoEntryGivesTwo, NoMoreIsInHand, OneHandTriesItsPiece, RepeatsCountOnce, RepliesReplaceNothing, RestingWaits, SettlersTellTheScore, SignsSettleNothing, ThreeUnseenAddNothing, ThreeUnseenSettleNothing, TwoUnseenChangeNothing, TwoUnseenWait, UnderWayIsInHand};
+ghost use Rattle.settle_core.specs.Laws.{FoldsOnce, FrontsOfHonestPlay, HonestPlayFolds, HonestPlayStops, NoEntryGivesTwo, NoMoreIsInHand, RepeatsCountOnce, RestingWaits, SignsSettleNothing, ThreeUnseenAddNothing, ThreeUnseenSettleNothing, TwoUnseenChangeNothing, TwoUnseenWait, UnderWayIsInHand};
 
 pub use crate::candidate::candidate;
 pub use crate::masks::diff_mask;
-use crate::tips::{Tip, repeats_at};
-use chess_rules::Position;
 
 /// Honest play folds to its moves: the pictures that show a line of moves, one after the other, give this line.
 pub fn honest_play_folds()
     ensures { HonestPlayFolds }
-{}
-
-/// A settler that was given such pictures has exactly the moves of the line, and no sign.
-pub fn honest_play_is_kept()
-    ensures { HonestPlayIsKept }
-{}
-
-/// In honest play the ply of each move has its mover's time in the reading of the first entry that shows the whole
-/// move.
-pub fn honest_play_keeps_clocks()
-    ensures { HonestPlayKeepsClocks }
 {}
 
 /// Where honest play stops between two moves, the plies are those of the moves that were shown whole. There may be one
@@ -55,18 +42,6 @@ pub fn three_unseen_settle_nothing()
     ensures score { ThreeUnseenAddNothing }
 {}
 
-/// A move that is tried with one piece in hand is a move of that piece, or the rook's where the move to be made
-/// castles.
-pub fn one_hand_tries_its_piece()
-    ensures { OneHandTriesItsPiece }
-{}
-
-/// After honest play, pieces are taken off, the kings are put into the centre, and pieces are set up again: the line
-/// and the sign stand.
-pub fn kings_end_honest_play()
-    ensures { KingsEndHonestPlay }
-{}
-
 /// A picture on the way to a move, or a try of its piece, has pieces in hand.
 pub fn under_way_is_in_hand()
     ensures { UnderWayIsInHand }
@@ -87,27 +62,6 @@ pub fn folds_once()
     ensures { FoldsOnce }
 {}
 
-/// From any start, entries with whatever pictures and readings fold to some score: all of them, and also those that are
-/// left where repeated pictures are taken out. Takes no memory.
-pub fn folds_some(start: Position, pictures: &[[u8; 64]])
-    ensures all { FoldsSome start pictures.now }
-    ensures without_repeats { GivesSome start pictures.now }
-{
-    let mut all = Tip::new(start);
-    let mut changes = Tip::new(start);
-    for i in 0..pictures.len() {
-        all = all.with(&pictures[i]);
-        if !repeats_at(pictures, i) {
-            changes = changes.with(&pictures[i]);
-        }
-    }
-}
-
-/// The score of a settler is the one to which its entries fold.
-pub fn settlers_tell_the_score()
-    ensures { SettlersTellTheScore }
-{}
-
 /// No entry gives more than one ply.
 pub fn no_entry_gives_two()
     ensures { NoEntryGivesTwo }
@@ -116,12 +70,6 @@ pub fn no_entry_gives_two()
 /// A picture that settles a move of a valid position is no sign.
 pub fn signs_settle_nothing()
     ensures { SignsSettleNothing }
-{}
-
-/// A picture that settles a move of the position reached settles none in the place of the last one: it does not matter
-/// which of the two is tested first.
-pub fn replies_replace_nothing()
-    ensures { RepliesReplaceNothing }
 {}
 
 /// Nothing is invented: whatever a board shows, each ply was shown whole, in its turn, with its clock.

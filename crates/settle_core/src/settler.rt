@@ -12,7 +12,7 @@ ghost use Rattle.settle_core.specs.Masks.{IsDiff};
 ghost use Rattle.settle_core.specs.Settling.{Settles, Line, position_after, reached};
 ghost use Rattle.settle_core.specs.Folding.{Folds, Replaces, SeenAs, moves_of, played, score_after, score_of, time_of as time_in};
 ghost use Rattle.settle_core.specs.Settler.{StandsFor, ReturnsSeen, GivesMove, has_seen, plies_of, position_of};
-ghost use Rattle.settle_core.specs.Kept.{CanReplace, IsComparedIn, IsLastSet, last_of, position_in};
+ghost use Rattle.settle_core.specs.Inside.Kept.{CanReplace, IsComparedIn, IsLastSet, last_of, position_in};
 
 use crate::compared::{Compared, shown_after};
 use crate::masks::shown_in;
@@ -40,7 +40,7 @@ pub struct Settler {
 
 impl Model for Settler {
     ghost use Rattle.settle_core.specs.Settler.{Sheet};
-    ghost use Rattle.settle_core.specs.Kept.{IsKept, sheet_of};
+    ghost use Rattle.settle_core.specs.Inside.Kept.{IsKept, sheet_of};
     ghost use Rattle.settle_core.specs.Folding.{moves_of};
     ghost use Rattle.std.specs.Prelude.{reverse};
 

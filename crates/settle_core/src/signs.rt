@@ -4,8 +4,9 @@ ghost use Rattle.chess_rules.specs.declared.pieces.Kind.TheVariants.{King};
 ghost use Rattle.chess_rules.specs.Board.{on};
 ghost use Rattle.chess_rules.specs.Picture.{code, code_of_piece};
 ghost use Rattle.settle_core.specs.declared.plies.Outcome.{Outcome as OutcomeOf};
-ghost use Rattle.settle_core.specs.Kept.{IsCompared};
-ghost use Rattle.settle_core.specs.Sign.{IsSign, InCentre, IsLight, HasKingOn, IsElseAs, IsAs, Means};
+ghost use Rattle.settle_core.specs.Inside.Kept.{IsCompared};
+ghost use Rattle.settle_core.specs.Sign.{IsSign, InCentre, IsLight, HasKingOn, IsElseAs, Means};
+ghost use Rattle.settle_core.specs.Inside.Signs.{IsAs};
 
 use crate::codes::{BLACK_KING, EMPTY, WHITE_KING};
 use crate::compared::Compared;

@@ -1,7 +1,6 @@
 -- The words of a text.
-use Rattle.std.specs.Prelude.{ℕ, ◌+◌, ◌==◌, ◌||◌, not, Bool, List, [], filter, length, Option, None, Some}
+use Rattle.std.specs.Prelude.{ℕ, ◌==◌, ◌||◌, not, Bool, List, filter, length}
 use Rattle.std.specs.List.{slice_split}
-use denote.Ref.{Bor}
 
 -- a space, a tab, or a byte of an end of line
 abbrev pub is_blank : ℕ → Bool
@@ -18,12 +17,3 @@ filled = filter (λ part. not (length part == 0))
 -- the words: what stands between the blanks, where that isn't empty
 abbrev pub words : List ℕ → List (List ℕ)
 words text = filled (parts text)
-
--- the parts behind a blank, if there is one, and how many bytes the blank and they have
-abbrev pub parts_behind : Option (Bor (List ℕ)) → List (List ℕ)
-parts_behind None = []
-parts_behind (Some behind) = parts behind.now
-
-abbrev pub len_behind : Option (Bor (List ℕ)) → ℕ
-len_behind None = 0
-len_behind (Some behind) = length behind.now + 1

@@ -6,7 +6,7 @@ ghost use Rattle.watched_streams.specs.Watch.{IsFlushed, inner_of, has_failed};
 ghost use Rattle.text_subcommands.specs.Checked.{ChecksGame, ChecksPart, RefusesPgn, summary_line};
 ghost use Rattle.watched_streams.specs.Input.{ReadsWithin};
 ghost use Rattle.pgn_book.specs.Pgn.{Pgn};
-ghost use Rattle.text_subcommands.specs.Unread.{message_of, status_of};
+ghost use Rattle.text_subcommands.specs.Inside.Unread.{message_of, status_of};
 ghost use Rattle.text_subcommands.specs.Messages.{Says, Tells};
 ghost use Rattle.watched_streams.specs.Output.{AppendsPart};
 

@@ -14,7 +14,8 @@ ghost use Rattle.text_subcommands.specs.Played.{Plays, NamesMoves, NamesNoMove, 
 ghost use Rattle.text_subcommands.specs.Refusals.{Refuses, RefusesStart};
 ghost use Rattle.text_subcommands.specs.Messages.{Says, Tells};
 ghost use Rattle.text_subcommands.specs.Streams.{streams};
-ghost use Rattle.text_subcommands.specs.Words.{is_blank as is_blank_lem, len_behind, parts, parts_behind, words};
+ghost use Rattle.text_subcommands.specs.Words.{is_blank as is_blank_lem, parts, words};
+ghost use Rattle.text_subcommands.specs.Inside.Parts.{len_behind, parts_behind};
 
 use crate::input::{TextError, read_text};
 use crate::messages::{put_answer, refused, refused_fen, refused_run};

@@ -1,12 +1,14 @@
 -- Pairs are listed.
-use Rattle.std.proofs.Common.{◌≡◌, ◌↔◌, ◌⊎◌, ℕ, ◌<◌, ◌+◌, inl, inr, List, [], ◌∷◌, ◌++◌, Contains, None, slice_index_or, length, sym, ap, subst, ◌∙◌, arith}
+use Rattle.std.proofs.Common.{◌≡◌, ◌↔◌, ◌⊎◌, ℕ, ◌<◌, ◌+◌, inl, inr, List, [], ◌∷◌, ◌++◌, Contains, Option, None, Some, Result, Ok, Err, OnOk, slice_index_or, length, refl, sym, ap, subst, ◌∙◌, arith}
 use Rattle.std.proofs.lemmas.Bool.{cases_eq}
 use Rattle.std.proofs.lemmas.List.{get_or_default}
 use Rattle.std.proofs.lemmas.List.Elements.{Contains-append_left, Contains-push, Contains-push_cases}
+use Rattle.chess_rules.specs.declared.pieces.Kind.{Kind}
+use Rattle.chess_rules.specs.declared.pieces.Kind.TheVariants.{Pawn, Rook, Knight, Bishop, King, Queen}
 use Rattle.chess_rules.specs.declared.chess_move.Move.{Move}
 use Rattle.chess_rules.specs.declared.parts.Parts.{Parts}
 use Rattle.chess_rules.specs.After.{after}
-use Rattle.chess_rules.specs.Legal.{Legal}
+use Rattle.chess_rules.specs.Legal.{IsOfficer, Legal}
 use Rattle.chess_rules.specs.Moves.{ListsLegal}
 use Rattle.chess_rules.specs.Valid.{Valid}
 use Rattle.chess_rules.proofs.LawLemmas.{moves_stay_valid}
@@ -14,8 +16,8 @@ use Rattle.chess_rules.proofs.Tells.{same_move}
 use Rattle.settle_core.specs.Settling.{Settles}
 use Rattle.unseen_pairs.specs.declared.pair.TwoPlies.{TwoPlies}
 use Rattle.unseen_pairs.specs.Pairs.{IsAfterTwo}
-use Rattle.unseen_pairs.specs.Beginning.{AddsMoves, ListsFirst}
-use Rattle.unseen_pairs.specs.Explaining.{AddsPairs, ListsPairs}
+use Rattle.unseen_pairs.specs.Inside.Beginning.{AddsMoves, IsBetween, ListsFirst}
+use Rattle.unseen_pairs.specs.Inside.Explaining.{AddsPairs, ListsPairs}
 use Rattle.unseen_pairs.proofs.Putting.{settles_own}
 
 same_two : (x y : TwoPlies) → x.first ≡ y.first → x.second ≡ y.second → y ≡ x
@@ -125,22 +127,70 @@ adds_no_move p These old never = record { legal = λ m c. inl c; keeps = λ m c.
 
 -- first some, and then others
 pub adds_both : (p : Parts) (These Those All : Move → Type 0) (a b c : List Move) → AddsMoves p These a b → AddsMoves p Those b c
-    → ((m : Move) → All m → These m ⊎ Those m) → AddsMoves p All a c
+    → ((m : Move) → Legal p m → All m → These m ⊎ Those m) → AddsMoves p All a c
 adds_both p These Those All a b c first second each = record {
   legal = λ m k. elim (second.legal m k) [ inl h ↦ first.legal m h | inr l ↦ inr l ];
   keeps = λ m k. second.keeps m (first.keeps m k);
-  whole = λ m k l. elim (each m k) [ inl h ↦ second.keeps m (first.whole m h l) | inr h ↦ second.whole m h l ];
+  whole = λ m k l. elim (each m l k) [ inl h ↦ second.keeps m (first.whole m h l) | inr h ↦ second.whole m h l ];
 }
 
+pub adds_fewer : (p : Parts) (These Fewer : Move → Type 0) (old new : List Move) → AddsMoves p These old new
+    → ((m : Move) → Legal p m → Fewer m → These m) → AddsMoves p Fewer old new
+adds_fewer p These Fewer old new adds each = record { legal = adds.legal; keeps = adds.keeps; whole = λ m k l. adds.whole m (each m l k) l }
+
+pub on_ok : {X E : Type 0} (r : Result X E) (P Q : Type 0) → (P → Q) → OnOk r P → OnOk r Q
+on_ok (Ok x) P Q f h = f h
+on_ok (Err e) P Q f h = tt
+
 -- one more move, between these squares
-pub adds_between : (p : Parts) (from to : ℕ) (tried added : Move) (old new : List Move) → new ≡ old ++ added ∷ []
-    → (tried.from ≡ from) × (tried.to ≡ to) × (tried.promotion ≡ None) → (added.from ≡ from) × (added.to ≡ to) × (added.promotion ≡ None)
-    → Legal p tried → AddsMoves p (λ m. (m.promotion ≡ None) × (m.from ≡ from) × (m.to ≡ to)) old new
-adds_between p from to tried added old new is t a l =
-    let same : added ≡ tried = same_move added tried (a.0 ∙ sym t.0) (a.1 ∙ sym t.1) (a.2 ∙ sym t.2) in
+pub adds_between : (p : Parts) (from to : ℕ) (promotion : Option Kind) (tried added : Move) (old new : List Move) → new ≡ old ++ added ∷ []
+    → IsBetween from to promotion tried → IsBetween from to promotion added
+    → Legal p tried → AddsMoves p (IsBetween from to promotion) old new
+adds_between p from to promotion tried added old new is t a l =
+    let same : added ≡ tried = same_move added tried (a.1 ∙ sym t.1) (a.2 ∙ sym t.2) (a.0 ∙ sym t.0) in
     let one = adds_move p added old new is (subst (λ (z : Move). Legal p z) (sym same) l) in
     record {
       legal = one.legal;
       keeps = one.keeps;
-      whole = λ m these legal. one.whole m (same_move m added (these.1 ∙ sym a.0) (these.2 ∙ sym a.1) (these.0 ∙ sym a.2)) legal;
+      whole = λ m these legal. one.whole m (same_move m added (these.1 ∙ sym a.1) (these.2 ∙ sym a.2) (these.0 ∙ sym a.0)) legal;
     }
+
+officer : (o : Option Kind) → IsOfficer o → (o ≡ Some Queen) ⊎ (o ≡ Some Rook) ⊎ (o ≡ Some Bishop) ⊎ (o ≡ Some Knight)
+officer (Some Queen) h = inl refl
+officer (Some Rook) h = inr (inl refl)
+officer (Some Bishop) h = inr (inr (inl refl))
+officer (Some Knight) h = inr (inr (inr refl))
+officer (Some Pawn) h = absurd h
+officer (Some King) h = absurd h
+officer None h = absurd h
+
+abbrev pub Promotes : ℕ → ℕ → Move → Type 0
+Promotes from to m = (m.from ≡ from) × (m.to ≡ to) × IsOfficer m.promotion
+
+-- all promotions between two squares
+pub adds_promotions : (p : Parts) (from to : ℕ) (a b c d e : List Move)
+    → AddsMoves p (IsBetween from to (Some Queen)) a b → AddsMoves p (IsBetween from to (Some Rook)) b c
+    → AddsMoves p (IsBetween from to (Some Bishop)) c d → AddsMoves p (IsBetween from to (Some Knight)) d e
+    → AddsMoves p (Promotes from to) a e
+adds_promotions p from to a b c d e queen rook bishop knight = record {
+  legal = λ m k.
+      elim (knight.legal m k) [
+        | inr l ↦ inr l
+        | inl h ↦ elim (bishop.legal m h) [
+          | inr l ↦ inr l
+          | inl i ↦ elim (rook.legal m i) [ inr l ↦ inr l | inl j ↦ queen.legal m j ]
+        ]
+      ];
+  keeps = λ m k. knight.keeps m (bishop.keeps m (rook.keeps m (queen.keeps m k)));
+  whole = λ m these l.
+      elim (officer m.promotion these.2) [
+        | inl is ↦ knight.keeps m (bishop.keeps m (rook.keeps m (queen.whole m (is, these.0, these.1) l)))
+        | inr other ↦ elim other [
+          | inl is ↦ knight.keeps m (bishop.keeps m (rook.whole m (is, these.0, these.1) l))
+          | inr last ↦ elim last [
+            | inl is ↦ knight.keeps m (bishop.whole m (is, these.0, these.1) l)
+            | inr is ↦ knight.whole m (is, these.0, these.1) l
+          ]
+        ]
+      ];
+}

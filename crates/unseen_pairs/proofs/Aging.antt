@@ -1,7 +1,7 @@
 -- The candidates after one more entry.
-use Rattle.std.proofs.Common.{◌≡◌, ◌≢◌, ◌↔◌, ℕ, zero, suc, ◌<◌, ◌≤◌, ◌+◌, ◌^◌, Bool, true, false, inl, inr, List, [], ◌∷◌, ◌++◌, Option, Some, Result, Ok, Err, OnOk, Contains, length, slice_get, slice_index_or, refl, sym, ap, subst, ◌∙◌, arith, add-one}
+use Rattle.std.proofs.Common.{◌≡◌, ◌≢◌, ◌↔◌, ℕ, zero, suc, ◌<◌, ◌≤◌, ◌+◌, ◌-◌, ◌^◌, Bool, true, false, inl, inr, List, [], ◌∷◌, ◌++◌, Option, Some, Result, Ok, Err, OnOk, Contains, length, slice_get, slice_index_or, slice_set, swap_remove, refl, sym, ap, subst, ◌∙◌, arith, add-one}
 use Rattle.std.proofs.lemmas.Bool.{cases_Bool, cases_eq}
-use Rattle.std.proofs.lemmas.List.{get_or_default}
+use Rattle.std.proofs.lemmas.List.{get_or-set_other, get_or-set_same, get_or-take, get_or_default, length-set, length-take-le}
 use Rattle.std.proofs.lemmas.List.Elements.{Contains-append_left, Contains-push, Contains-push_cases}
 use Rattle.std.proofs.lemmas.Option.{same_Some}
 use Rattle.chess_clock.specs.declared.times.Reading.{Reading}
@@ -21,7 +21,8 @@ use Rattle.unseen_pairs.specs.declared.pair.Pair.{Pair}
 use Rattle.unseen_pairs.specs.declared.pair.TwoPlies.{TwoPlies}
 use Rattle.unseen_pairs.specs.declared.confirming.Candidate.{Candidate}
 use Rattle.unseen_pairs.specs.Pairs.{Explains, ExplainsAt, IsAfterTwo, IsBack, IsInstead, IsMissedIn, begins, ends, root}
-use Rattle.unseen_pairs.specs.Candidates.{AddedBelow, AreAdded, AreAllAdded, AreKept, IsCandidate, IsKept, IsNew, KeptBelow, ListsCandidates, aged}
+use Rattle.unseen_pairs.specs.Candidates.{IsCandidate, ListsCandidates}
+use Rattle.unseen_pairs.specs.Inside.Waiting.{AddedBelow, AreAdded, AreAllAdded, AreKept, IsKept, IsKeptAt, IsNew, KeptFrom, aged}
 use Rattle.std.specs.Int.RustNames.{count_ones}
 use Rattle.settle_core.specs.Masks.{IsDiff}
 use Rattle.unseen_pairs.proofs.Counting.{two_change, two_correct}
@@ -32,61 +33,123 @@ use Rattle.chess_rules.specs.Board.{other as other_side}
 use Rattle.chess_rules.proofs.Replacing.{other-other}
 use Rattle.settle_core.specs.Lost.{Loses, MayHideTwo}
 
--- the first candidates, and one more
-pub kept_none : (p : Parts) (seen : List ℕ) (old : List Candidate) → KeptBelow p seen old 0 []
+-- All candidates, before any was looked at.
+pub kept_none : (p : Parts) (seen : List ℕ) (old : List Candidate) → KeptFrom p seen old (length old) old
 kept_none p seen old = record {
-  sound = λ c h. absurd (let low : h.0 < 0 = h.1 in let n : ⊥ = omega arith in n);
-  whole = λ b k low. absurd (let n : ⊥ = omega arith in n);
+  fits = omega arith;
+  within = omega arith;
+  below = λ k c low. refl;
+  sound = λ c k high low at. absurd (let n : ⊥ = omega arith in n);
+  whole = λ b k high low at kept. absurd (let n : ⊥ = omega arith in n);
 }
 
-pub kept_more :
-    (p : Parts) (seen : List ℕ) (old : List Candidate) (n : ℕ) (now new : List Candidate) (c : Candidate)
-    → n < length old
-    → c ≡ slice_index_or old n c
+-- One more, which is kept.
+kept_one_more :
+    (p : Parts) (seen : List ℕ) (old now new : List Candidate) (n : ℕ) (c : Candidate)
+    → KeptFrom p seen old (n + 1) now
+    → c ≡ slice_index_or now n c
     → IsKept p seen c
-    → new ≡ now ++ aged c ∷ []
-    → KeptBelow p seen old n now
-    → KeptBelow p seen old (n + 1) new
-kept_more p seen old n now new c low is kept add h =
-    let In : Candidate → List Candidate → Type 0 = λ x xs. Contains xs x in
+    → new ≡ slice_set now n (aged c)
+    → KeptFrom p seen old n new
+kept_one_more p seen old now new n c h is kept put =
+    let fits : n + 1 ≤ length now = h.fits in
+    let within : n + 1 ≤ length old = h.within in
+    let long : length new ≡ length now = ap length put ∙ length-set now n (aged c) in
+    let other : (k : ℕ) (d : Candidate) → k ≢ n → slice_index_or new k d ≡ slice_index_or now k d = λ k d ne.
+    ap (λ (xs : List Candidate). slice_index_or xs k d) put ∙ get_or-set_other now n k (aged c) d ne in
+    let same : (d : Candidate) → slice_index_or new n d ≡ aged c = λ d.
+    ap (λ (xs : List Candidate). slice_index_or xs n d) put ∙ get_or-set_same now n (aged c) d (omega arith) in
+    let stood : slice_index_or old n c ≡ c = sym (h.below n c (omega arith)) ∙ sym is in
     record {
-      sound = λ x k.
-          elim (Contains-push_cases now (aged c) x (subst (In x) add k)) [
-            | inl before ↦ h.sound x before
-            | inr e ↦ (c, (n, low, sym is), kept, sym e)
-          ];
-      whole = λ b k below at stays.
+      fits = omega arith;
+      within = omega arith;
+      below = λ k d low. other k d (λ e. absurd (let bad : ⊥ = omega arith in bad)) ∙ h.below k d (omega arith);
+      sound = λ x k high low at.
           elim (cases_eq k n) [
-            | inr ne ↦ subst (In (aged b)) (sym add) (Contains-append_left now (aged c ∷ []) (aged b) (h.whole b k (omega arith) at stays))
+            | inl e ↦ (c, (n, (let l : n < length old = omega arith in l), stood), kept, sym at ∙ ap (λ j. slice_index_or new j x) e ∙ same x)
+            | inr ne ↦ h.sound x k (omega arith) (omega arith) (sym (other k x ne) ∙ at)
+          ];
+      whole = λ b k high low at stays.
+          elim (cases_eq k n) [
             | inl e ↦
-                let q : b ≡ c = sym at ∙ ap (λ j. slice_index_or old j b) e ∙ get_or_default old n b c low ∙ sym is in
-                subst (In (aged b)) (sym add) (subst (λ (z : Candidate). Contains (now ++ aged c ∷ []) (aged z)) (sym q) (Contains-push now (aged c)))
+                let q : b ≡ c = sym at ∙ ap (λ j. slice_index_or old j b) e ∙ get_or_default old n b c (omega arith) ∙ stood in
+                (n, omega arith, omega arith, same (aged b) ∙ ap aged (sym q))
+            | inr ne ↦
+                let j = h.whole b k (omega arith) low at stays in (
+                  j.0,
+                  (let j1 : n + 1 ≤ j.0 = j.1 in omega arith),
+                  (let j2 : j.0 < length now = j.2 in omega arith),
+                  other j.0 (aged b) (λ e. absurd (let j1 : n + 1 ≤ j.0 = j.1 in let bad : ⊥ = omega arith in bad)) ∙ j.3,
+                )
           ];
     }
 
-pub kept_skip :
-    (p : Parts) (seen : List ℕ) (old : List Candidate) (n : ℕ) (now : List Candidate) (c : Candidate)
-    → n < length old
-    → c ≡ slice_index_or old n c
+-- One more, which is not.
+kept_one_fewer :
+    (p : Parts) (seen : List ℕ) (old now new : List Candidate) (n : ℕ) (c : Candidate)
+    → KeptFrom p seen old (n + 1) now
+    → c ≡ slice_index_or now n c
     → ¬ IsKept p seen c
-    → KeptBelow p seen old n now
-    → KeptBelow p seen old (n + 1) now
-kept_skip p seen old n now c low is none h = record {
-  sound = h.sound;
-  whole = λ b k below at stays.
-      elim (cases_eq k n) [
-        | inr ne ↦ h.whole b k (omega arith) at stays
-        | inl e ↦
-            let q : b ≡ c = sym at ∙ ap (λ j. slice_index_or old j b) e ∙ get_or_default old n b c low ∙ sym is in
-            absurd (none (subst (λ (z : Candidate). IsKept p seen z) q stays))
-      ];
-}
+    → new ≡ swap_remove now n c
+    → KeptFrom p seen old n new
+kept_one_fewer p seen old now new n c h is gone put =
+    let fits : n + 1 ≤ length now = h.fits in
+    let within : n + 1 ≤ length old = h.within in
+    let last : Candidate = slice_index_or now (length now - 1) c in
+    let long : length new ≡ length now - 1 =
+    ap length put ∙ length-take-le (length now - 1) (slice_set now n last) (let l : length (slice_set now n last) ≡ length now = length-set now n last in omega arith) in
+    let at_set : (k : ℕ) (d : Candidate) → k < length now - 1 → slice_index_or new k d ≡ slice_index_or (slice_set now n last) k d = λ k d low.
+    ap (λ (xs : List Candidate). slice_index_or xs k d) put ∙ get_or-take (length now - 1) (slice_set now n last) k d low in
+    let other : (k : ℕ) (d : Candidate) → k ≢ n → k < length now - 1 → slice_index_or new k d ≡ slice_index_or now k d = λ k d ne low.
+    at_set k d low ∙ get_or-set_other now n k last d ne in
+    let same : (d : Candidate) → n < length now - 1 → slice_index_or new n d ≡ slice_index_or now (length now - 1) d = λ d low.
+    at_set n d low ∙ get_or-set_same now n last d (omega arith) ∙ get_or_default now (length now - 1) c d (omega arith) in
+    let stood : slice_index_or old n c ≡ c = sym (h.below n c (omega arith)) ∙ sym is in
+    record {
+      fits = omega arith;
+      within = omega arith;
+      below = λ k d low. other k d (λ e. absurd (let bad : ⊥ = omega arith in bad)) (omega arith) ∙ h.below k d (omega arith);
+      sound = λ x k high low at.
+          elim (cases_eq k n) [
+            | inl e ↦
+                h.sound x (length now - 1) (omega arith) (omega arith)
+                (sym (same x (omega arith)) ∙ ap (λ j. slice_index_or new j x) (sym e) ∙ at)
+            | inr ne ↦ h.sound x k (omega arith) (omega arith) (sym (other k x ne (omega arith)) ∙ at)
+          ];
+      whole = λ b k high low at stays.
+          elim (cases_eq k n) [
+            | inl e ↦
+                let q : b ≡ c = sym at ∙ ap (λ j. slice_index_or old j b) e ∙ get_or_default old n b c (omega arith) ∙ stood in
+                absurd (gone (subst (λ (z : Candidate). IsKept p seen z) q stays))
+            | inr ne ↦
+                let j = h.whole b k (omega arith) low at stays in
+                let j1 : n + 1 ≤ j.0 = j.1 in
+                let j2 : j.0 < length now = j.2 in
+                elim (cases_eq j.0 (length now - 1)) [
+                  | inl e ↦ (n, omega arith, omega arith, same (aged b) (omega arith) ∙ ap (λ i. slice_index_or now i (aged b)) (sym e) ∙ j.3)
+                  | inr ne' ↦ (
+                    j.0,
+                    (let l : n ≤ j.0 = omega arith in l),
+                    (let l : j.0 < length new = omega arith in l),
+                    other j.0 (aged b) (λ e. absurd (let bad : ⊥ = omega arith in bad)) (omega arith) ∙ j.3,
+                  )
+                ]
+          ];
+    }
+
+pub kept_more :
+    (p : Parts) (seen : List ℕ) (old now new : List Candidate) (n : ℕ) → KeptFrom p seen old (n + 1) now → IsKeptAt p seen n now new → KeptFrom p seen old n new
+kept_more p seen old now new n h at =
+    elim at.2 [
+      | inl kept ↦ kept_one_more p seen old now new n at.0 h at.1 kept.0 kept.1
+      | inr gone ↦ kept_one_fewer p seen old now new n at.0 h at.1 gone.0 gone.1
+    ]
 
 pub kept_all :
-    (p : Parts) (seen : List ℕ) (old : List Candidate) (n : ℕ) (new : List Candidate) → n ≡ length old → KeptBelow p seen old n new → AreKept p seen old new
+    (p : Parts) (seen : List ℕ) (old : List Candidate) (n : ℕ) (new : List Candidate) → n ≡ 0 → KeptFrom p seen old n new → AreKept p seen old new
 kept_all p seen old n new end h = record {
-  sound = h.sound;
-  whole = λ b k stays. h.whole b k.0 (rw end k.1) k.2 stays;
+  sound = λ c k. h.sound c k.0 (omega arith) k.1 k.2;
+  whole = λ b k stays. let j = h.whole b k.0 (omega arith) k.1 k.2 stays in (j.0, j.2, j.3);
 }
 
 -- the first pairs, and one more

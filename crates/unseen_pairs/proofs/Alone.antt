@@ -1,5 +1,5 @@
 -- Honest hands are left alone: over a line of moves no pair is confirmed.
-use Rattle.std.proofs.Common.{◌≡◌, ◌⊎◌, ℕ, zero, suc, Bool, true, false, inl, inr, List, [], ◌∷◌, Some, cond, drop, slice_get, reverse, refl, sym, ap, subst, ◌∙◌}
+use Rattle.std.proofs.Common.{◌≡◌, ◌⊎◌, ℕ, Bool, true, false, inl, inr, List, [], ◌∷◌, cond, drop, reverse, refl, sym, ap, subst, ◌∙◌}
 use mathlib.Core.List.{reverse_aux}
 use Rattle.std.specs.Str.{bytes_eq}
 use Rattle.std.proofs.lemmas.Slice.Eq.{bytes_eq-Decides}
@@ -18,22 +18,25 @@ use Rattle.settle_core.specs.declared.plies.Seen.TheVariants.{Same, Moved, Sign,
 use Rattle.settle_core.specs.Entries.{Entry, deduplicated, repeats}
 use Rattle.settle_core.specs.Settling.{Line, Played, Settles, reached}
 use Rattle.settle_core.specs.Folding.{Replaces, Score, SeenAs, moves_of}
+use Rattle.settle_core.specs.HonestPlay.{ShowsNoMore}
 use Rattle.settle_core.specs.Laws.{joined}
 use Rattle.settle_core.proofs.Apart.{apart_unless, apart_valid, kings_apart_under_way, no_sign_valid}
 use Rattle.settle_core.proofs.Hands.{lacking_no_picture, lacking_no_sign, no_sign_apart}
 use Rattle.settle_core.proofs.Lines.{reverse_aux-append}
-use Rattle.settle_core.proofs.Pieces.{no_new_after, no_new_partial, picture_moves, settles_end, shown_on, shown_still}
+use Rattle.settle_core.proofs.Pieces.{no_new_after, no_new_partial, settles_end, shown_on, shown_still}
 use Rattle.settle_core.proofs.Stages.{EndsAt, lacking_replaces, no_replace, valid_reached}
-use Rattle.settle_core.proofs.Tipping.{moves_of_drop}
+use Rattle.settle_core.proofs.Lists.{moves_of_drop}
 use Rattle.unseen_pairs.specs.declared.pair.Recovery.{Recovery}
 use Rattle.unseen_pairs.specs.declared.pair.Told.{Told}
 use Rattle.unseen_pairs.specs.declared.pair.Told.TheVariants.{Shown, Recovered}
-use Rattle.unseen_pairs.specs.Pairs.{Confirms, Explains, GoesOn, IsAfterTwo, IsInstead, ends, root}
+use Rattle.unseen_pairs.specs.Pairs.{BringsNew, Confirms, Explains, GoesOn, IsAfterTwo, IsInstead, ends, root}
 use Rattle.unseen_pairs.specs.Recovering.{FoldsRecovering, TellsAs, score_told, waiting_after}
 use Rattle.unseen_pairs.specs.Laws.{ConfirmNone}
 use Rattle.unseen_pairs.specs.HonestHands.{EachShownByHand, HonestHandsAreLeftAlone, HonestHandsConfirmNone, IsOnTheWay, MayCome, PlainHandsAreOnTheWay, ShownByHand}
-use Rattle.unseen_pairs.proofs.OnTheWay.{no_correction, no_own_pair, no_reply_pair, no_reply_settles}
+use Rattle.unseen_pairs.specs.HandsAtRest.{MayStay}
+use Rattle.unseen_pairs.proofs.OnTheWay.{no_correction, no_own_pair, no_reply_pair, no_reply_settles, own_shows_no_more, reply_shows_no_more}
 use Rattle.unseen_pairs.proofs.Recovered.{nothing_put_in}
+use Rattle.unseen_pairs.proofs.Resting.{AllAre, IsResting, LastStays, Rests, are_unless, last_stays, none_are, none_new, shows_no_more, stay_settles}
 
 -- the picture of a position does not lack a king
 on_the_way : (p : Parts) (m : Move) (q : Parts) (seen : List ℕ) → Valid q → seen ≡ picture q → MayCome p m seen → IsOnTheWay p m seen
@@ -65,9 +68,10 @@ plain p m seen v l q =
       ];
     }
 
--- what goes on is a move
-goes_by_move : (now p : Parts) (m : Move) (q : Parts) (seen : List ℕ) (a : Seen) → MayCome p m seen → GoesOn now q seen a → (x : Move) × Settles q seen x
-goes_by_move now p m q seen (Moved x) c h = (x, h)
+-- what goes on is a move, with a piece on a new square
+goes_by_move :
+    (now p : Parts) (m : Move) (q : Parts) (seen : List ℕ) (a : Seen) → MayCome p m seen → GoesOn now q seen a → (x : Move) × Settles q seen x × BringsNew now q seen
+goes_by_move now p m q seen (Moved x) c h = (x, h.0, h.1)
 goes_by_move now p m q seen (Sign o) (inl way) h = absurd (no_sign_apart seen way.kings q o h.0)
 goes_by_move now p m q seen (Sign o) (inr lacks) h = absurd (lacking_no_sign q seen o lacks h.0)
 goes_by_move now p m q seen (Replaced x) c h = absurd h
@@ -105,6 +109,49 @@ pair_first start (last ∷ before) m true k n x seen now v h l two instead next 
     (on_the_way p m (after (after g k) n) seen u two.shows a) two.shows
     (on_the_way p m (after (after (after g k) n) x) now (moves_stay_valid (after (after g k) n) x u next.legal) next.shows b) next.shows)
 
+-- and where hands were at rest before
+rest_first :
+    (start : Parts) (earlier : List Move) (m : Move) (corrects : Bool) (k n x : Move) (seen now : List ℕ)
+    → Valid start → Played start earlier → Legal (reached start earlier) m
+    → IsAfterTwo (reached start (root corrects earlier)) seen k n
+    → (corrects ≡ true → IsInstead earlier k)
+    → Settles (after (after (reached start (root corrects earlier)) k) n) now x
+    → MayStay (reached start earlier) seen
+    → MayCome (reached start earlier) m now
+    → ¬ BringsNew (reached start earlier) (after (after (reached start (root corrects earlier)) k) n) now
+rest_first start earlier m false k n x seen now v h l two instead next stay came new =
+    let p : Parts = reached start earlier in
+    let w : Valid p = valid_reached start earlier v h in
+    let u : Valid (after (after p k) n) = valid_two p seen k n w two in
+    let N : List ℕ → Type 0 = λ xs. ShowsNoMore p xs in
+    let less : ShowsNoMore p (picture (after (after p k) n)) =
+    subst N two.shows (shows_no_more p (after p k) n seen (moves_stay_valid p k w two.first) two.second two.shows stay) in
+    elim new [
+      | inl put ↦ none_new p (picture (after (after p k) n)) w less put
+      | inr here ↦
+          none_new p now w
+          (own_shows_no_more p m k n x now w l two.first two.second next.legal less
+          (on_the_way p m (after (after (after p k) n) x) now (moves_stay_valid (after (after p k) n) x u next.legal) next.shows came) next.shows) here
+    ]
+rest_first start [] m true k n x seen now v h l two instead next stay came new = absurd (instead refl)
+rest_first start (last ∷ before) m true k n x seen now v h l two instead next stay came new =
+    let g : Parts = reached start before in
+    let p : Parts = after g last in
+    let w : Valid g = valid_reached start before v h.1 in
+    let wp : Valid p = moves_stay_valid g last w h.0 in
+    let q : Parts = after (after g k) n in
+    let u : Valid q = valid_two g seen k n w two in
+    let N : List ℕ → Type 0 = λ xs. ShowsNoMore p xs in
+    let less : ShowsNoMore p (picture q) =
+    subst N two.shows (shows_no_more p (after g k) n seen (moves_stay_valid g k w two.first) two.second two.shows stay) in
+    elim new [
+      | inl put ↦ none_new p (picture q) wp less put
+      | inr here ↦
+          none_new p now wp
+          (reply_shows_no_more p m q x now u next.legal refl less
+          (on_the_way p m (after q x) now (moves_stay_valid q x u next.legal) next.shows came) next.shows) here
+    ]
+
 -- and where one does
 pair_again :
     (start : Parts) (earlier : List Move) (m tried : Move) (corrects : Bool) (k n x : Move) (seen now : List ℕ)
@@ -132,14 +179,14 @@ record IsTried (p : Parts) (m : Move) (earlier now : List Move) : Type 0 where
   pub legal : Legal p tried
   pub came : IsOnTheWay p m (picture (after p tried))
 
--- the entries that wait came on the way to the move
-abbrev AllCame : Parts → Move → List Entry → Type 0
-AllCame p m waiting = (place : ℕ) (entry : Entry) → slice_get waiting place ≡ Some entry → MayCome p m entry.picture
+-- what may wait before the move: what may be seen up to it, or while no move is made
+abbrev MayWait : Parts → Move → List ℕ → Type 0
+MayWait p m seen = MayCome p m seen ⊎ MayStay p seen
 
 -- the moves that were told, and what waits, on the way to the move
-record IsUpTo (start : Parts) (earlier : List Move) (m : Move) (now : List Move) (waiting : List Entry) : Type 0 where
-  pub moves : (now ≡ earlier) ⊎ IsTried (reached start earlier) m earlier now
-  pub waits : AllCame (reached start earlier) m waiting
+abbrev IsUpTo : Parts → List Move → Move → List Move → List Entry → Type 0
+IsUpTo start earlier m now waiting = ((now ≡ earlier) × AllAre (λ xs. MayWait (reached start earlier) m xs) waiting)
+    ⊎ (IsTried (reached start earlier) m earlier now × AllAre (λ xs. MayCome (reached start earlier) m xs) waiting)
 
 -- what is known of the line so far, and of its next move
 pub record IsNext (start : Parts) (earlier : List Move) (m : Move) : Type 0 where
@@ -159,19 +206,26 @@ confirms_none :
     → ¬ Confirms start now waiting seen r
 confirms_none start earlier m now waiting seen r s up came c =
     let p : Parts = reached start earlier in
-    let next : (x : Move) × Settles (ends start now r.pair) seen x = goes_by_move (reached start now) p m (ends start now r.pair) seen r.sequel came c.goes_on in
-    let before : MayCome p m (c.entry).picture = up.waits c.place c.entry (c.explains).waits in
+    let next : (x : Move) × Settles (ends start now r.pair) seen x × BringsNew (reached start now) (ends start now r.pair) seen =
+    goes_by_move (reached start now) p m (ends start now r.pair) seen r.sequel came c.goes_on in
     let E : List Move → Type 0 = λ ms. Explains start ms (c.entry).picture r.pair in
     let S : List Move → Type 0 = λ ms. Settles (ends start ms r.pair) seen next.0 in
-    elim up.moves [
+    let N : List Move → Type 0 = λ ms. BringsNew (reached start ms) (ends start ms r.pair) seen in
+    elim up [
       | inl e ↦
-          let x : Explains start earlier (c.entry).picture r.pair = subst E e (c.explains).explains in
-          pair_first start earlier m r.pair.corrects r.pair.first r.pair.second next.0 (c.entry).picture seen s.valid s.played s.legal
-          x.after_two x.instead (subst S e next.1) before came
+          let x : Explains start earlier (c.entry).picture r.pair = subst E e.0 (c.explains).explains in
+          elim (e.1 c.place c.entry (c.explains).waits) [
+            | inl before ↦
+                pair_first start earlier m r.pair.corrects r.pair.first r.pair.second next.0 (c.entry).picture seen s.valid s.played s.legal
+                x.after_two x.instead (subst S e.0 next.1) before came
+            | inr stay ↦
+                rest_first start earlier m r.pair.corrects r.pair.first r.pair.second next.0 (c.entry).picture seen s.valid s.played s.legal
+                x.after_two x.instead (subst S e.0 next.1) stay came (subst N e.0 next.2)
+          ]
       | inr t ↦
-          let x : Explains start (t.tried ∷ earlier) (c.entry).picture r.pair = subst E t.is (c.explains).explains in
-          pair_again start earlier m t.tried r.pair.corrects r.pair.first r.pair.second next.0 (c.entry).picture seen s.valid s.played s.legal t.legal
-          x.after_two (subst S t.is next.1) before came
+          let x : Explains start ((t.0).tried ∷ earlier) (c.entry).picture r.pair = subst E (t.0).is (c.explains).explains in
+          pair_again start earlier m (t.0).tried r.pair.corrects r.pair.first r.pair.second next.0 (c.entry).picture seen s.valid s.played s.legal (t.0).legal
+          x.after_two (subst S (t.0).is next.1) (t.1 c.place c.entry (c.explains).waits) came
     ]
 
 -- no move of the position is settled where another one was tried
@@ -195,22 +249,6 @@ none_instead :
     → IsNext start earlier m → MayCome (reached start earlier) m seen → ¬ Replaces start earlier seen n
 none_instead start earlier m seen n s (inl way) h = no_replace start earlier n seen s.valid s.played way.nowhere_else h
 none_instead start earlier m seen n s (inr lacks) h = lacking_replaces start earlier seen n s.valid s.played lacks h
-
-none_came : (p : Parts) (m : Move) → AllCame p m []
-none_came p m place entry e = absurd (let never : ⊥ = cc in never)
-
-came_more : (p : Parts) (m : Move) (waiting : List Entry) (entry : Entry) → AllCame p m waiting → MayCome p m entry.picture → AllCame p m (entry ∷ waiting)
-came_more p m waiting entry all came zero other e =
-    let same : entry ≡ other = cc in
-    let C : Entry → Type 0 = λ x. MayCome p m x.picture in
-    subst C same came
-came_more p m waiting entry all came (suc place) other e = all place other e
-
-came_unless :
-    (p : Parts) (m : Move) (own : Bool) (waiting : List Entry) (entry : Entry)
-    → AllCame p m waiting → MayCome p m entry.picture → AllCame p m (cond own [] (entry ∷ waiting))
-came_unless p m true waiting entry all came = none_came p m
-came_unless p m false waiting entry all came = came_more p m waiting entry all came
 
 tried_now :
     (start : Parts) (earlier : List Move) (m : Move) (now : List Move) (seen : List ℕ) (n : Move)
@@ -237,30 +275,39 @@ told_more start earlier m score waiting entry (Recovered r) s up came h =
     absurd (confirms_none start earlier m (moves_of score.plies) waiting entry.picture r s up came h.1)
 told_more start earlier m score waiting entry (Shown Same) s up came h = absurd h.0
 told_more start earlier m score waiting entry (Shown Waits) s up came h =
-    record { moves = up.moves; waits = came_unless (reached start earlier) m (bytes_eq entry.picture (picture (reached start (moves_of score.plies)))) waiting entry up.waits came }
+    let p : Parts = reached start earlier in
+    let own : Bool = bytes_eq entry.picture (picture (reached start (moves_of score.plies))) in
+    elim up [
+      | inl e ↦ inl (e.0, are_unless (λ xs. MayWait p m xs) own waiting entry e.1 (inl came))
+      | inr t ↦ inr (t.0, are_unless (λ xs. MayCome p m xs) own waiting entry t.1 came)
+    ]
 told_more start earlier m score waiting entry (Shown (Sign o)) s up came h =
-    record { moves = up.moves; waits = none_came (reached start earlier) m }
+    let p : Parts = reached start earlier in
+    elim up [ inl e ↦ inl (e.0, none_are (λ xs. MayWait p m xs)) | inr t ↦ inr (t.0, none_are (λ xs. MayCome p m xs)) ]
 told_more start earlier m score waiting entry (Shown (Moved n)) s up came h =
+    let p : Parts = reached start earlier in
     let S : List Move → Type 0 = λ ms. Settles (reached start ms) entry.picture n in
-    record {
-      moves = elim up.moves [
-        | inl e ↦ inr (tried_now start earlier m (n ∷ moves_of score.plies) entry.picture n s came (subst S e h.0) (ap (λ (ms : List Move). n ∷ ms) e))
-        | inr t ↦ absurd (none_again start earlier m (moves_of score.plies) entry.picture n s t came h.0)
-      ];
-      waits = none_came (reached start earlier) m;
-    }
+    elim up [
+      | inl e ↦
+          inr (
+            tried_now start earlier m (n ∷ moves_of score.plies) entry.picture n s came (subst S e.0 h.0) (ap (λ (ms : List Move). n ∷ ms) e.0),
+            none_are (λ xs. MayCome p m xs),
+          )
+      | inr t ↦ absurd (none_again start earlier m (moves_of score.plies) entry.picture n s t.0 came h.0)
+    ]
 told_more start earlier m score waiting entry (Shown (Replaced n)) s up came h =
+    let p : Parts = reached start earlier in
     let R : List Move → Type 0 = λ ms. Replaces start ms entry.picture n in
-    record {
-      moves = elim up.moves [
-        | inl e ↦ absurd (none_instead start earlier m entry.picture n s came (subst R e (h.0).2))
-        | inr t ↦
-            let k : Replaces start (t.tried ∷ earlier) entry.picture n = subst R t.is (h.0).2 in
-            inr (tried_now start earlier m (n ∷ moves_of (drop 1 score.plies)) entry.picture n s came k.0
-            (ap (λ (ms : List Move). n ∷ ms) (moves_of_drop score.plies ∙ ap (λ (ms : List Move). drop 1 ms) t.is)))
-      ];
-      waits = none_came (reached start earlier) m;
-    }
+    elim up [
+      | inl e ↦ absurd (none_instead start earlier m entry.picture n s came (subst R e.0 (h.0).2))
+      | inr t ↦
+          let k : Replaces start ((t.0).tried ∷ earlier) entry.picture n = subst R (t.0).is (h.0).2 in
+          inr (
+            tried_now start earlier m (n ∷ moves_of (drop 1 score.plies)) entry.picture n s came k.0
+                (ap (λ (ms : List Move). n ∷ ms) (moves_of_drop score.plies ∙ ap (λ (ms : List Move). drop 1 ms) (t.0).is)),
+            none_are (λ xs. MayCome p m xs),
+          )
+    ]
 
 -- exactly the move was told, and nothing waits
 abbrev pub IsMade : List Move → List Move → List Entry → Type 0
@@ -307,26 +354,26 @@ told_end start earlier m score waiting entry (Shown (Sign o)) s up came e h =
     absurd (no_sign_valid (after p m) entry.picture (moves_stay_valid p m (now_valid start earlier m s) s.legal) e _ o h.0)
 told_end start earlier m score waiting entry (Shown (Moved n)) s up came e h =
     let S : List Move → Type 0 = λ ms. Settles (reached start ms) entry.picture n in
-    elim up.moves [
+    elim up [
       | inl is ↦
-          let k : Settles (reached start earlier) entry.picture n = subst S is h.0 in
-          (ap (λ (ms : List Move). n ∷ ms) is ∙ ap (λ (x : Move). x ∷ earlier) (sym (k.alone m s.legal e)), refl)
-      | inr t ↦ absurd (none_again start earlier m (moves_of score.plies) entry.picture n s t came h.0)
+          let k : Settles (reached start earlier) entry.picture n = subst S is.0 h.0 in
+          (ap (λ (ms : List Move). n ∷ ms) is.0 ∙ ap (λ (x : Move). x ∷ earlier) (sym (k.alone m s.legal e)), refl)
+      | inr t ↦ absurd (none_again start earlier m (moves_of score.plies) entry.picture n s t.0 came h.0)
     ]
 told_end start earlier m score waiting entry (Shown (Replaced n)) s up came e h =
     let R : List Move → Type 0 = λ ms. Replaces start ms entry.picture n in
-    elim up.moves [
-      | inl is ↦ absurd (none_instead start earlier m entry.picture n s came (subst R is (h.0).2))
+    elim up [
+      | inl is ↦ absurd (none_instead start earlier m entry.picture n s came (subst R is.0 (h.0).2))
       | inr t ↦
-          let k : Replaces start (t.tried ∷ earlier) entry.picture n = subst R t.is (h.0).2 in
-          let rest : moves_of (drop 1 score.plies) ≡ earlier = moves_of_drop score.plies ∙ ap (λ (ms : List Move). drop 1 ms) t.is in
+          let k : Replaces start ((t.0).tried ∷ earlier) entry.picture n = subst R (t.0).is (h.0).2 in
+          let rest : moves_of (drop 1 score.plies) ≡ earlier = moves_of_drop score.plies ∙ ap (λ (ms : List Move). drop 1 ms) (t.0).is in
           (ap (λ (ms : List Move). n ∷ ms) rest ∙ ap (λ (x : Move). x ∷ earlier) (sym ((k.0).alone m s.legal e)), refl)
     ]
 told_end start earlier m score waiting entry (Shown Waits) s up came e h =
     let N : List Move → Type 0 = λ ms. ¬ Settles (reached start ms) entry.picture m in
-    elim up.moves [
-      | inl is ↦ absurd (subst N is ((h.0).0 m) (settles_end (reached start earlier) m entry.picture (now_valid start earlier m s) s.legal e))
-      | inr t ↦ end_waits start earlier m (moves_of score.plies) waiting entry s t e h.0 _ refl
+    elim up [
+      | inl is ↦ absurd (subst N is.0 ((h.0).0 m) (settles_end (reached start earlier) m entry.picture (now_valid start earlier m s) s.legal e))
+      | inr t ↦ end_waits start earlier m (moves_of score.plies) waiting entry s t.0 e h.0 _ refl
     ]
 
 -- the last entry has this picture
@@ -402,20 +449,34 @@ pub record Stands (start : Parts) (moves : List Move) (past : List Entry) : Type
   pub made : (score : Score) (waiting : List Entry) → FoldsRecovering start (deduplicated past) score waiting → IsMade moves (moves_of score.plies) waiting
   pub last : EndsAt (reached start moves) past
 
-not_yet : (p : Parts) (m : Move) (past : List Entry) → Valid p → Legal p m → EndsAt p past → ¬ ShowsLast (picture (after p m)) past
-not_yet p m [] v l e h = h
-not_yet p m (entry ∷ past) v l e h = picture_moves p m v l (sym h ∙ e)
-
-comes_first : (start : Parts) (earlier : List Move) (m : Move) (past : List Entry) → IsNext start earlier m → Stands start earlier past → Comes start earlier m past
-comes_first start earlier m past s h =
-    let W : List Entry → Type 0 = λ ws. AllCame (reached start earlier) m ws in
+-- while no move is made
+pub resting : (start : Parts) (moves : List Move) (past : List Entry) → Valid start → Played start moves → Stands start moves past → Rests start moves past
+resting start moves past v played s =
+    let p : Parts = reached start moves in
     record {
-      none = h.none;
-      up_to = λ score waiting f.
-          let made = h.made score waiting f in
-          record { moves = inl made.0; waits = subst W (sym made.1) (none_came (reached start earlier) m) };
-      ends = λ score waiting f e. absurd (not_yet (reached start earlier) m past (now_valid start earlier m s) s.legal h.last e);
+      none = s.none;
+      kept = λ score waiting f.
+          let made = s.made score waiting f in
+          let R : List Entry → Type 0 = λ ws. IsResting start moves (moves_of score.plies) ws in
+          subst R (sym made.1) (record { moves_are = made.0; stays = none_are (λ xs. MayStay p xs) });
+      last = last_stays p past (valid_reached start moves v played) s.last;
     }
+
+not_yet : (start : Parts) (earlier : List Move) (m : Move) (past : List Entry) → IsNext start earlier m → LastStays (reached start earlier) past
+    → ¬ ShowsLast (picture (after (reached start earlier) m)) past
+not_yet start earlier m [] s stay h = h
+not_yet start earlier m (entry ∷ past) s stay h =
+    stay_settles start earlier entry.picture m s.valid s.played stay
+    (settles_end (reached start earlier) m entry.picture (now_valid start earlier m s) s.legal h)
+
+comes_first : (start : Parts) (earlier : List Move) (m : Move) (past : List Entry) → IsNext start earlier m → Rests start earlier past → Comes start earlier m past
+comes_first start earlier m past s h = record {
+  none = h.none;
+  up_to = λ score waiting f.
+      let k : IsResting start earlier (moves_of score.plies) waiting = h.kept score waiting f in
+      inl (k.moves_are, λ place entry e. inr (k.stays place entry e));
+  ends = λ score waiting f e. absurd (not_yet start earlier m past s h.last e);
+}
 
 shown_stands :
     (start : Parts) (earlier : List Move) (m : Move) (entries past : List Entry)
@@ -435,7 +496,7 @@ shown_stands start earlier m (entry ∷ next ∷ more) past s c h =
 pub stands_after :
     (start : Parts) (earlier : List Move) (m : Move) (entries past : List Entry)
     → IsNext start earlier m
-    → Stands start earlier past
+    → Rests start earlier past
     → ShownByHand (reached start earlier) m entries
     → Stands start (m ∷ earlier) (reverse_aux entries past)
 stands_after start earlier m entries past s h shown = shown_stands start earlier m entries past s (comes_first start earlier m past s h) shown
@@ -454,7 +515,7 @@ line_none start earlier past (m ∷ moves) [] v played s l h = absurd h
 line_none start earlier past (m ∷ moves) (list ∷ lists) v played s l h =
     let next : IsNext start earlier m = record { valid = v; played = played; legal = l.0 } in
     let N : List Entry → Type 0 = λ es. ConfirmNone start (deduplicated es) in
-    let one : Stands start (m ∷ earlier) (reverse_aux list past) = stands_after start earlier m list past next s h.0 in
+    let one : Stands start (m ∷ earlier) (reverse_aux list past) = stands_after start earlier m list past next (resting start earlier past v played s) h.0 in
     subst N (sym (reverse_aux-append list (joined lists) past))
     (line_none start (m ∷ earlier) (reverse_aux list past) moves lists v (l.0, played) one l.1 h.1)
 

@@ -11,7 +11,8 @@ use Rattle.unseen_pairs.specs.declared.pair.Recovery.{Recovery}
 use Rattle.unseen_pairs.specs.declared.confirming.Candidate.{Candidate}
 use Rattle.unseen_pairs.specs.declared.confirming.Confirmed.{Confirmed}
 use Rattle.unseen_pairs.specs.Pairs.{Confirms, ExplainsAt, GoesOn, ends}
-use Rattle.unseen_pairs.specs.Candidates.{Follows, IsCandidate, IsOnlyOne, ListsCandidates}
+use Rattle.unseen_pairs.specs.Candidates.{IsCandidate, ListsCandidates}
+use Rattle.unseen_pairs.specs.Inside.Waiting.{Follows, IsOnlyOne}
 
 abbrev pub recovery_of : Confirmed → Recovery
 recovery_of one = record {

@@ -75,7 +75,7 @@ sequel_come :
     → AllComeFrom start score.plies (entry ∷ past)
     → AllComeFrom start (score_after start score entry.reading a).plies (entry ∷ past)
 sequel_come now start score (Moved m) entry past g h =
-    (inl (record { later = []; entry = entry; before = past; among = refl; shows = g.shows; clock_is = refl }), h)
+    (inl (record { later = []; entry = entry; before = past; among = refl; shows = (g.0).shows; clock_is = refl }), h)
 sequel_come now start score (Sign outcome) entry past g h = h
 sequel_come now start score (Replaced m) entry past g h = absurd g
 sequel_come now start score Waits entry past g h = absurd g

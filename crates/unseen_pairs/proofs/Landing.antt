@@ -1,5 +1,7 @@
 -- The first ply of a pair goes to a square where a piece landed.
-use Rattle.std.proofs.Common.{◌≡◌, ◌≢◌, ℕ, ◌+◌, ◌/◌, ◌<◌, inl, inr, List, [], Option, None, Some, unwrap_or, true, false, get_or, refl, sym, ap, subst, arith, ◌∙◌}
+use Rattle.std.proofs.Common.{◌≡◌, ◌≢◌, ℕ, ◌+◌, ◌/◌, ◌<◌, ◌≤◌, ◌⊎◌, inl, inr, List, [], Option, None, Some, unwrap_or, true, false, get_or, refl, sym, ap, subst, arith, ◌∙◌}
+use Rattle.std.specs.Int.{bit_at}
+use Rattle.std.proofs.lemmas.List.{get_or-replicate}
 use Rattle.std.proofs.lemmas.Bool.{both_ways, cases_Bool, cases_eq, cond-false, cond-true}
 use Rattle.chess_rules.specs.declared.pieces.Side.{Side}
 use Rattle.chess_rules.specs.declared.pieces.Side.TheVariants.{White, Black}
@@ -12,7 +14,7 @@ use Rattle.chess_rules.specs.Board.{Ahead, forward, last_row, on, other, piece_o
 use Rattle.chess_rules.specs.After.{after, is_double_step}
 use Rattle.chess_rules.specs.Attack.{AttacksFrom}
 use Rattle.chess_rules.specs.Laws.{MovesOnePiece}
-use Rattle.chess_rules.specs.Legal.{Goes as Moving, step, pawn_step, capture, double_step, en_passant, castling, DoubleSteps, Legal, NamesPromotion, TakesEnPassant}
+use Rattle.chess_rules.specs.Legal.{Goes as Moving, step, pawn_step, capture, double_step, en_passant, castling, DoubleSteps, IsOfficer, Legal, NamesPromotion, TakesEnPassant}
 use Rattle.chess_rules.specs.Valid.{IsAtHome, Valid}
 use Rattle.chess_rules.specs.Picture.{code, code_of_piece, picture}
 use Rattle.chess_rules.proofs.LawLemmas.{moves_move_pieces, moves_stay_valid}
@@ -20,14 +22,16 @@ use Rattle.chess_rules.proofs.Staying.{passed, ways_after}
 use Rattle.chess_rules.proofs.Shifts.{kind_of, on_board, side_of}
 use Rattle.chess_rules.proofs.Replacing.{king_no_pawn, none_piece, other-other, sides_differ}
 use Rattle.chess_rules.proofs.Moving.{double_row}
-use Rattle.settle_core.specs.Candidate.{is_owned_code}
+use Rattle.settle_core.specs.Candidate.{is_owned_code, lands}
+use Rattle.settle_core.specs.Masks.{IsDiff, IsLanded, IsShown}
 use Rattle.settle_core.specs.Lost.{LosesAt}
-use Rattle.unseen_pairs.specs.Beginning.{AddsMoves, BeginsPlainly, IsPlainPawn, LandsAt, ListsFirst, TheirsLand}
+use Rattle.unseen_pairs.specs.Inside.Beginning.{AddsMoves, Begins, EndsAmong, IsBetween, IsPlainPawn, LandsAt, ListsFirst, TheirsLand}
 use Rattle.settle_core.proofs.Pawns.{NextRow, pawn_attack_row, pawn_stood}
 use Rattle.settle_core.proofs.Pieces.{at_picture, code_no_zero, same_code, theirs_stood}
 use Rattle.settle_core.proofs.Tracing.{own_code}
 use Rattle.settle_core.proofs.Gone.{number_owned}
 use Rattle.unseen_pairs.specs.Pairs.{IsAfterTwo}
+use Rattle.unseen_pairs.proofs.Adding.{Promotes, adds_both, adds_fewer}
 use Rattle.unseen_pairs.proofs.Losing.{mover_loses_at}
 
 -- A piece of the first mover that went to a square.
@@ -170,19 +174,20 @@ taken_passing p m n seen o v two plain passant =
     plain.unpassed n.to low (passed_over p m n.to v two.first passant.target)
     (ap (λ xs. get_or xs n.to 0) two.shows ∙ at_picture (after q n) n.to (rw u.squares low) ∙ ap code came)
 
--- The first ply of a pair goes to a square where a piece landed.
-first_ply : (p : Parts) (m n : Move) (seen : List ℕ) → Valid p → TheirsLand p seen → (on p.board m.from ≡ piece_of p.side Pawn → IsPlainPawn p seen m.from)
-    → IsAfterTwo p seen m n → LandsAt p seen m.to × (m.promotion ≡ None)
-first_ply p m n seen v b plain two =
+-- The first ply of a pair goes to a square where its own piece is seen, or it was taken there.
+first_end : (p : Parts) (m n : Move) (seen : List ℕ) (At : Type 0) → (LandsAt p seen m.to → At) → ((o : MovesOnePiece (after p m) n) → m.to < 64 → m.to ≡ n.to → At)
+    → Valid p → (on p.board m.from ≡ piece_of p.side Pawn → IsPlainPawn p seen m.from)
+    → IsAfterTwo p seen m n → (m.to < 64) × At × (m.promotion ≡ None)
+first_end p m n seen At own taken v plain two =
     let q : Parts = after p m in
     let w : Valid q = moves_stay_valid p m v two.first in
     let g : Goes p m = goes p m v two.first in
     let low : m.to < 64 = rw (← w.squares) (on_board q.board m.to p.side g.kind g.came) in
-    let lands : LandsAt p seen m.to =
+    let ends : At =
     elim (moves_move_pieces q n w two.second) [
       | inl o ↦
           elim (cases_eq m.to n.to) [
-            | inl e ↦ taker_seen p m n seen o b v two low e
+            | inl e ↦ taken o low e
             | inr ne ↦
                 elim (cases_eq m.to o.taken) [
                   | inl e ↦
@@ -193,35 +198,99 @@ first_ply p m n seen v b plain two =
                             absurd (taken_passing p m n seen o v two (plain (pawn_stood p m v two.first pawn)) passant.0)
                       ]
                   | inr ne' ↦
-                      own_seen p m n seen g v two low
-                      (o.others m.to (λ e. both_sides p.side g.kind o.kind (on q.board m.to) g.came (ap (on q.board) e ∙ o.stands)) ne ne')
+                      own (own_seen p m n seen g v two low
+                      (o.others m.to (λ e. both_sides p.side g.kind o.kind (on q.board m.to) g.came (ap (on q.board) e ∙ o.stands)) ne ne'))
                 ]
           ]
       | inr c ↦
-          own_seen p m n seen g v two low
+          own (own_seen p m n seen g v two low
           (c.others m.to
           (λ e. both_sides p.side g.kind King (on q.board m.to) g.came (ap (on q.board) e ∙ c.king))
           (λ e. none_piece (sym (ap (on q.board) e ∙ c.target_empty) ∙ g.came))
           (λ e. both_sides p.side g.kind Rook (on q.board m.to) g.came (ap (on q.board) e ∙ c.rook))
-          (λ e. none_piece (sym (ap (on q.board) e ∙ c.crossed_empty) ∙ g.came)))
+          (λ e. none_piece (sym (ap (on q.board) e ∙ c.crossed_empty) ∙ g.came))))
     ] in (
-      lands,
+      low,
+      ends,
       plain_move p m v two.first (λ pawn e. (plain pawn).far (from_before p m v pawn (two.first).goes e)),
     )
 
+-- the piece that took it is seen there
+taker_shown : (p : Parts) (m n : Move) (seen : List ℕ) (o : MovesOnePiece (after p m) n) → Valid p → IsAfterTwo p seen m n → m.to < 64
+    → m.to ≡ n.to → get_or seen m.to 0 ≢ 0
+taker_shown p m n seen o v two low e none =
+    let q : Parts = after p m in
+    let u : Valid (after q n) = moves_stay_valid q n (moves_stay_valid p m v two.first) two.second in
+    let j : Kind = unwrap_or n.promotion o.kind in
+    let stands : on (after q n).board m.to ≡ piece_of (other p.side) j = ap (on (after q n).board) e ∙ o.came in
+    code_no_zero (other p.side) j
+    (sym (ap (λ xs. get_or xs m.to 0) two.shows ∙ at_picture (after q n) m.to (rw u.squares low) ∙ ap code stands) ∙ none)
+
+is_landed : (a b : ℕ) → a ≢ b → b ≢ 0 → lands false a b ≡ true
+is_landed a b differs some = grind arith
+
+-- so it goes to a square on which a piece is seen
+pub ends_shown : (p : Parts) (seen : List ℕ) (shown : ℕ) → Valid p → IsShown shown seen → EndsAmong p seen shown
+ends_shown p seen shown v is m n two plain =
+    let end = first_end p m n seen (get_or seen m.to 0 ≢ 0) (λ l. l.some) (λ o low e. taker_shown p m n seen o v two low e) v plain two in
+    let bit = is m.to end.0 in
+    (end.2, end.0, bit.1 (λ e. end.1 (sym e ∙ get_or-replicate 64 m.to 0 0 end.0)))
+
+-- or landed, where one of the other side did
+pub ends_landed : (p : Parts) (seen : List ℕ) (landed : ℕ) → Valid p → IsLanded landed (picture p) seen → TheirsLand p seen → EndsAmong p seen landed
+ends_landed p seen landed v is theirs m n two plain =
+    let end = first_end p m n seen (LandsAt p seen m.to) (λ l. l) (λ o low e. taker_seen p m n seen o theirs v two low e) v plain two in
+    let bit = is m.to end.0 in
+    (end.2, end.0, bit.1 (is_landed (get_or (picture p) m.to 0) (get_or seen m.to 0) (end.1).differs (end.1).some))
+
 -- It leaves its square.
-first_differs : (p : Parts) (m n : Move) (seen : List ℕ) → Valid p → IsAfterTwo p seen m n → (m.from < 64) × (get_or (picture p) m.from 0 ≢ get_or seen m.from 0)
+pub first_differs : (p : Parts) (m n : Move) (seen : List ℕ) → Valid p → IsAfterTwo p seen m n → (m.from < 64) × (get_or (picture p) m.from 0 ≢ get_or seen m.from 0)
 first_differs p m n seen v two =
     let lost : LosesAt p seen p.side m.from = mover_loses_at p m n seen v two in
     (lost.low, λ e. lost.gone (sym e ∙ at_picture p m.from (rw v.squares lost.low) ∙ ap code lost.stands))
 
 -- All pairs begin with these moves.
-pub all_listed : (p : Parts) (seen : List ℕ) (moves : List Move) → Valid p → BeginsPlainly p seen
-    → AddsMoves p (λ m. (m.promotion ≡ None) × LandsAt p seen m.to × (m.from < 64) × (get_or (picture p) m.from 0 ≢ get_or seen m.from 0)) [] moves → ListsFirst p seen moves
-all_listed p seen moves v b adds = record {
+pub all_listed : (p : Parts) (seen : List ℕ) (mask : ℕ) (moves : List Move) → Valid p → IsDiff mask (picture p) seen
+    → AddsMoves p (λ m. Begins p seen m × (bit_at mask m.from ≡ 1)) [] moves → ListsFirst p seen moves
+all_listed p seen mask moves v diff adds = record {
   legal = λ m c. elim (adds.legal m c) [ inl before ↦ absurd (let low : before.0 < 0 = before.1 in let bad : ⊥ = omega arith in bad) | inr l ↦ l ];
   whole = λ m n two.
       let d = first_differs p m n seen v two in
-      let ply = first_ply p m n seen v b.theirs (b.pawns m.from d.0 d.1) two in
-      adds.whole m (ply.1, ply.0, d.0, d.1) two.first;
+      let bit = diff m.from d.0 in
+      adds.whole m ((n, two), bit.1 d.1) two.first;
 }
+
+-- A move that promotes ends on the last row.
+names_last : (side : Side) (k : Kind) (m : Move) → NamesPromotion side k m → (m.promotion ≡ None) ⊎ (IsOfficer m.promotion × (row m.to ≡ last_row side))
+names_last side Pawn m names = elim (cases_eq (row m.to) (last_row side)) [ inl e ↦ inr (names.last e, e) | inr ne ↦ inl (names.before ne) ]
+names_last side Rook m names = inl names
+names_last side Knight m names = inl names
+names_last side Bishop m names = inl names
+names_last side King m names = inl names
+names_last side Queen m names = inl names
+
+promotes_last : (p : Parts) (m : Move) → Valid p → Legal p m → (m.promotion ≡ None) ⊎ (IsOfficer m.promotion × (row m.to ≡ last_row p.side))
+promotes_last p m v l = elim (moves_move_pieces p m v l) [
+  | inl o ↦ names_last p.side o.kind m o.names
+  | inr c ↦ inl c.promotion
+]
+
+last_rows : (side : Side) (to : ℕ) → row to ≡ last_row side → 8 ≤ to → to < 56 → ⊥
+last_rows White to e low high = omega arith
+last_rows Black to e low high = omega arith
+
+-- all moves between two squares
+pub adds_near : (p : Parts) (from to : ℕ) (a b c : List Move) → Valid p
+    → AddsMoves p (IsBetween from to None) a b → AddsMoves p (Promotes from to) b c → AddsMoves p (λ m. (m.from ≡ from) × (m.to ≡ to)) a c
+adds_near p from to a b c v first second =
+    adds_both p (IsBetween from to None) (Promotes from to) (λ m. (m.from ≡ from) × (m.to ≡ to)) a b c first second
+    (λ m l these. elim (promotes_last p m v l) [ inl none ↦ inl (none, these.0, these.1) | inr some ↦ inr (these.0, these.1, some.0) ])
+
+pub adds_far : (p : Parts) (from to : ℕ) (a b : List Move) → Valid p → 8 ≤ to → to < 56
+    → AddsMoves p (IsBetween from to None) a b → AddsMoves p (λ m. (m.from ≡ from) × (m.to ≡ to)) a b
+adds_far p from to a b v low high adds =
+    adds_fewer p (IsBetween from to None) (λ m. (m.from ≡ from) × (m.to ≡ to)) a b adds
+    (λ m l these. elim (promotes_last p m v l) [
+      | inl none ↦ (none, these.0, these.1)
+      | inr some ↦ absurd (last_rows p.side to (ap row (sym these.1) ∙ some.1) low high)
+    ])

@@ -11,6 +11,6 @@ pub mod Telling
 pub mod Recovered
 pub mod Coming
 pub mod OnTheWay
+pub mod Resting
 pub mod Alone
-pub mod Hurried
 pub mod AtRest

@@ -1,23 +1,27 @@
 -- Pictures on the way to a move: no move goes on from a pair that explains one of them.
-use Rattle.std.proofs.Common.{◌≡◌, ◌≢◌, ℕ, ◌<◌, inl, inr, List, None, refl, sym, ap, subst, ◌∙◌}
+use Rattle.std.proofs.Common.{◌≡◌, ◌≢◌, ◌⊎◌, ℕ, ◌<◌, inl, inr, List, Option, None, get_or, refl, sym, ap, subst, ◌∙◌}
+use Rattle.std.proofs.lemmas.Bool.{cases_eq}
+use Rattle.chess_rules.specs.declared.pieces.Piece.{Piece}
 use Rattle.chess_rules.specs.declared.pieces.Side.{Side}
 use Rattle.chess_rules.specs.declared.pieces.Kind.{Kind}
-use Rattle.chess_rules.specs.declared.pieces.Kind.TheVariants.{Pawn, King}
+use Rattle.chess_rules.specs.declared.pieces.Kind.TheVariants.{Pawn, Rook, King}
 use Rattle.chess_rules.specs.declared.chess_move.Move.{Move}
 use Rattle.chess_rules.specs.declared.parts.Parts.{Parts}
 use Rattle.chess_rules.specs.Board.{Board, on, piece_of, other, Ahead, forward}
-use Rattle.chess_rules.specs.After.{after}
+use Rattle.chess_rules.specs.After.{after, crossed, rook_home}
 use Rattle.chess_rules.specs.Legal.{Goes, step, pawn_step, capture, double_step, en_passant, castling, Legal, TakesEnPassant}
 use Rattle.chess_rules.specs.Valid.{Valid, IsAtHome, IsTarget}
-use Rattle.chess_rules.specs.Picture.{picture}
+use Rattle.chess_rules.specs.Picture.{code, code_of_piece, picture}
 use Rattle.chess_rules.specs.Laws.{KeepsPieces, MovesOnePiece}
 use Rattle.chess_rules.proofs.LawLemmas.{moves_move_pieces, moves_stay_valid, pieces_tell_moves}
 use Rattle.chess_rules.proofs.Shifts.{kind_of, on_board, same_unless, side_of}
 use Rattle.chess_rules.proofs.Replacing.{king_no_pawn, none_piece, other-other, sides_differ}
 use Rattle.settle_core.proofs.Boards.{one_kept, castled_quiet}
 use Rattle.settle_core.proofs.Pawns.{one_back, passed, no_target, pawn_stood}
-use Rattle.settle_core.proofs.Pieces.{on_shown, shown_on, piece_or_not, theirs_stood}
+use Rattle.settle_core.specs.HonestPlay.{ShowsNoMore}
+use Rattle.settle_core.proofs.Pieces.{at_picture, on_shown, shown_on, piece_or_not, theirs_stood}
 use Rattle.settle_core.proofs.Unseen.{as_side, one_only, taken_on}
+use Rattle.settle_core.proofs.Waiting.{no_more_piece}
 use Rattle.unseen_pairs.specs.HonestHands.{IsOff, IsOnTheWay}
 
 -- this side's move takes a piece of it from one square to another, on which none of it stood
@@ -237,6 +241,156 @@ no_correction g last m k n r seen now v ll lm lk ln lr h is h' is' =
     let in_q : on (after a n).board s ≡ piece_of (other (other g.side)) kind =
     stand s kind (as_side p.board s kind g.side (other (other g.side)) (sym same) here) in
     as_side a.board s kind (other (other g.side)) g.side same (stood_before a n (other (other g.side)) s kind refl va ln in_q)))
+
+king_no_rook : King ≢ Rook
+king_no_rook e = let never : ⊥ = cc in never
+
+-- what a move leaves on a square: what stood there, nothing, or a piece of its side
+left_on :
+    (q : Parts) (r : Move) (s : ℕ)
+    → Valid q → Legal q r
+    → (on (after q r).board s ≡ on q.board s) ⊎ (on (after q r).board s ≡ None) ⊎ ((k : Kind) × (on (after q r).board s ≡ piece_of q.side k))
+left_on q r s v l =
+    elim (moves_move_pieces q r v l) [
+      | inl o ↦
+          elim (cases_eq s r.from) [
+            | inl e ↦ inr (inl (ap (on (after q r).board) e ∙ o.left))
+            | inr nf ↦
+                elim (cases_eq s r.to) [
+                  | inl e ↦ inr (inr (_, ap (on (after q r).board) e ∙ o.came))
+                  | inr nt ↦
+                      elim (cases_eq s o.taken) [
+                        | inl e ↦ inr (inl (ap (on (after q r).board) e ∙ o.gone))
+                        | inr nx ↦ inl (o.others s nf nt nx)
+                      ]
+                ]
+          ]
+      | inr c ↦
+          elim (cases_eq s r.from) [
+            | inl e ↦ inr (inl (ap (on (after q r).board) e ∙ c.king_left))
+            | inr nf ↦
+                elim (cases_eq s r.to) [
+                  | inl e ↦ inr (inr (King, ap (on (after q r).board) e ∙ c.king_came))
+                  | inr nt ↦
+                      elim (cases_eq s (rook_home q.side c.wing)) [
+                        | inl e ↦ inr (inl (ap (on (after q r).board) e ∙ c.rook_left))
+                        | inr nr ↦
+                            elim (cases_eq s (crossed q.side c.wing)) [
+                              | inl e ↦ inr (inr (Rook, ap (on (after q r).board) e ∙ c.rook_came))
+                              | inr nc ↦ inl (c.others s nf nt nr nc)
+                            ]
+                      ]
+                ]
+          ]
+    ]
+
+-- a picture at a square where the board is as another one, that shows no more than stands
+no_more_same :
+    (p q w : Parts) (now : List ℕ) (s : ℕ)
+    → Valid q → Valid w → s < 64
+    → ShowsNoMore p (picture q) → now ≡ picture w → on w.board s ≡ on q.board s
+    → (get_or now s 0 ≡ code (on p.board s)) ⊎ (get_or now s 0 ≡ 0)
+no_more_same p q w now s vq vw low less is same =
+    let e : get_or now s 0 ≡ get_or (picture q) s 0 =
+    ap (λ (xs : List ℕ). get_or xs s 0) is ∙ at_picture w s (rw vw.squares low) ∙ ap code same ∙ sym (at_picture q s (rw vq.squares low)) in
+    elim (less s low) [ inl stands ↦ inl (e ∙ stands) | inr none ↦ inr (e ∙ none) ]
+
+-- where the board has this
+shows_on : (w : Parts) (now : List ℕ) (s : ℕ) (x : Option Piece) → Valid w → s < 64 → now ≡ picture w → on w.board s ≡ x → get_or now s 0 ≡ code x
+shows_on w now s x v low is e = ap (λ (xs : List ℕ). get_or xs s 0) is ∙ at_picture w s (rw v.squares low) ∙ ap code e
+
+-- Where a pair leads to no more than stands, and the other side moves then, a picture on the way shows no more either.
+pub reply_shows_no_more :
+    (p : Parts) (m : Move) (q : Parts) (r : Move) (now : List ℕ)
+    → Valid q → Legal q r
+    → q.side ≡ other p.side
+    → ShowsNoMore p (picture q)
+    → IsOnTheWay p m now → now ≡ picture (after q r)
+    → ShowsNoMore p now
+reply_shows_no_more p m q r now v l e less h is s low =
+    let w : Valid (after q r) = moves_stay_valid q r v l in
+    elim (left_on q r s v l) [
+      | inl same ↦ no_more_same p q (after q r) now s v w low less is same
+      | inr (inl none) ↦ inr (shows_on (after q r) now s None w low is none)
+      | inr (inr own) ↦
+          let there : on (after q r).board s ≡ piece_of (other p.side) own.0 = own.1 ∙ ap (λ (side : Side). piece_of side own.0) e in
+          inl (shows_on (after q r) now s (piece_of (other p.side) own.0) w low is there
+          ∙ ap code (sym (h.nowhere_else s own.0 low (shown_on (after q r) now s (other p.side) own.0 is there))))
+    ]
+
+-- So it is where the mover makes the first ply of the pair, and the one behind it.
+pub own_shows_no_more :
+    (p : Parts) (m k n r : Move) (now : List ℕ)
+    → Valid p → Legal p m
+    → Legal p k → Legal (after p k) n → Legal (after (after p k) n) r
+    → ShowsNoMore p (picture (after (after p k) n))
+    → IsOnTheWay p m now → now ≡ picture (after (after (after p k) n) r)
+    → ShowsNoMore p now
+own_shows_no_more p m k n r now v l lk ln lr less h is s low =
+    let side : Side = p.side in
+    let their : Side = other p.side in
+    let a : Parts = after p k in
+    let q : Parts = after a n in
+    let va : Valid a = moves_stay_valid p k v lk in
+    let vq : Valid q = moves_stay_valid a n va ln in
+    let w : Valid (after q r) = moves_stay_valid q r vq lr in
+    let x : Carries side k p.board a.board = carries p k side refl v lk in
+    let y : Carries their n a.board q.board = carries a n their refl va ln in
+    let left : on p.board n.from ≡ piece_of their y.was = stood_before p k their n.from y.was refl v lk y.stood in
+    let low_n : n.from < 64 = rw (← v.squares) (on_board p.board n.from their y.was left) in
+    let off : IsOff p now = record {
+      square = n.from;
+      kind = y.was;
+      stands = left;
+      off = λ c.
+          none_piece (sym y.left
+          ∙ stood_before q r their n.from y.was (other-other their) vq lr (on_shown (after q r) now n.from their y.was (rw w.squares low_n) is c));
+    } in
+    let taken : on (after p m).board n.from ≢ piece_of their y.was = λ stays. off.off (h.theirs n.from y.was (left, stays)) in
+    let low_k : k.from < 64 = rw (← v.squares) (on_board p.board k.from side x.was x.stood) in
+    let gone : (j : Kind) → on q.board k.from ≢ piece_of side j = λ j e. none_piece (sym x.left ∙ stood_before a n side k.from j (other-other side) va ln e) in
+    elim (moves_move_pieces p m v l) [
+      | inr c ↦ absurd (taken (castled_quiet p m c n.from y.was left))
+      | inl one ↦
+          let moved : (t : ℕ) (j : Kind) → on q.board t ≡ piece_of side j → on (after q r).board t ≡ None → t ≡ m.from =
+          λ t j stood none.
+          let low_t : t < 64 = rw (← vq.squares) (on_board q.board t side j stood) in
+          let in_p : on p.board t ≡ piece_of side j = no_more_piece p (picture q) t side j less low_t (shown_on q (picture q) t side j refl stood) in
+          same_unless t m.from (λ d.
+          none_piece (sym none ∙ on_shown (after q r) now t side j (rw w.squares low_t) is (h.own off t j (in_p, one_kept p m one t j d in_p)))) in
+          elim (moves_move_pieces q r vq lr) [
+            | inr c ↦
+                let king : on q.board r.from ≡ piece_of side King = as_side q.board r.from King q.side side (other-other side) c.king in
+                let rook : on q.board (rook_home q.side c.wing) ≡ piece_of side Rook = as_side q.board (rook_home q.side c.wing) Rook q.side side (other-other side) c.rook in
+                let same : r.from ≡ rook_home q.side c.wing =
+                moved r.from King king c.king_left ∙ sym (moved (rook_home q.side c.wing) Rook rook c.rook_left) in
+                absurd (king_no_rook (ap kind_of (sym king ∙ ap (on q.board) same ∙ rook)))
+            | inl o ↦
+                let from : on q.board r.from ≡ piece_of side o.kind = as_side q.board r.from o.kind q.side side (other-other side) o.stands in
+                let at : r.from ≡ m.from = moved r.from o.kind from o.left in
+                let ne : k.from ≢ m.from = λ d. gone o.kind (ap (on q.board) (d ∙ sym at) ∙ from) in
+                let stays : get_or now k.from 0 ≡ code_of_piece side x.was = h.own off k.from x.was (x.stood, one_kept p m one k.from x.was ne x.stood) in
+                let back : on (after q r).board k.from ≡ piece_of side x.was = on_shown (after q r) now k.from side x.was (rw w.squares low_k) is stays in
+                let to : k.from ≡ r.to =
+                same_unless k.from r.to (λ d.
+                gone x.was (as_side q.board k.from x.was q.side side (other-other side)
+                (one_only q r o k.from x.was d (as_side (after q r).board k.from x.was side q.side (sym (other-other side)) back)))) in
+                elim (cases_eq s r.to) [
+                  | inl e ↦
+                      inl (shows_on (after q r) now s (piece_of side x.was) w low is (ap (on (after q r).board) (e ∙ sym to) ∙ back)
+                      ∙ ap code (sym (ap (on p.board) (e ∙ sym to) ∙ x.stood)))
+                  | inr nt ↦
+                      elim (cases_eq s r.from) [
+                        | inl e ↦ inr (shows_on (after q r) now s None w low is (ap (on (after q r).board) e ∙ o.left))
+                        | inr nf ↦
+                            elim (cases_eq s o.taken) [
+                              | inl e ↦ inr (shows_on (after q r) now s None w low is (ap (on (after q r).board) e ∙ o.gone))
+                              | inr nx ↦ no_more_same p q (after q r) now s vq w low less is (o.others s nf nt nx)
+                            ]
+                      ]
+                ]
+          ]
+    ]
 
 -- After a move that was tried, no reply to it is settled.
 pub no_reply_settles :

@@ -94,7 +94,7 @@ pair_folds start past before reading corrects m n v f l i k =
 
 -- what goes on from a position is seen over moves that lead to it
 pub goes_seen : (now start : Parts) (moves : List Move) (seen : List ℕ) (a : Seen) → GoesOn now (reached start moves) seen a → SeenAs start moves seen a
-goes_seen now start moves seen (Moved m) h = h
+goes_seen now start moves seen (Moved m) h = h.0
 goes_seen now start moves seen (Sign outcome) h = h.0
 goes_seen now start moves seen (Replaced m) h = absurd h
 goes_seen now start moves seen Waits h = absurd h

@@ -194,7 +194,7 @@ told_once start moves waiting seen (Recovered r) (Shown b) v played g h =
 told_once start moves waiting seen (Recovered r) (Recovered s) v played g h =
     ap (λ (x : Recovery). Recovered x) (confirms_once start moves waiting seen r s v played g.1 h.1)
 
-told_same :
+pub told_same :
     (start : Parts) (past : List Entry) (entry : Entry) (a b : Score) (v w : List Entry) (t u : Told)
     → Valid start
     → FoldsRecovering start past b w

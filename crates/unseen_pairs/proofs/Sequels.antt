@@ -1,8 +1,10 @@
 -- What goes on from a position.
-use Rattle.std.proofs.Common.{◌≡◌, ℕ, ◌<◌, ◌≤◌, ◌+◌, inl, inr, List, [], Option, Some, None, Contains, get_or, length, slice_index_or, Result, Ok, Err, IfOk, IfNone, sym, ap, subst, ◌∙◌, arith}
+use Rattle.std.proofs.Common.{◌≡◌, ◌↔◌, ℕ, ◌<◌, ◌≤◌, ◌+◌, inl, inr, List, [], Option, Some, None, Contains, get_or, length, replicate, slice_index_or, Result, Ok, Err, IfOk, IfNone, sym, ap, subst, ◌∙◌, arith}
 use Rattle.std.proofs.lemmas.Bool.{cases_eq}
 use Rattle.std.specs.declared.alloc.AllocError.{AllocError}
-use Rattle.std.proofs.lemmas.List.{get_or_default}
+use Rattle.std.proofs.lemmas.List.{get_or-replicate, get_or_default}
+use Rattle.std.specs.Int.{bit_at}
+use Rattle.settle_core.specs.Masks.{IsDiff, IsShown}
 use Rattle.chess_rules.specs.declared.parts.Parts.{Parts}
 use Rattle.settle_core.specs.declared.plies.Seen.{Seen}
 use Rattle.settle_core.specs.declared.plies.Seen.TheVariants.{Same, Moved, Sign, Replaced, Waits}
@@ -17,13 +19,35 @@ use Rattle.settle_core.specs.Folding.{Score, SeenAs, moves_of}
 use Rattle.settle_core.specs.Settler.{ReturnsSeen, ReturnsNewSeen}
 use Rattle.unseen_pairs.specs.declared.confirming.Candidate.{Candidate}
 use Rattle.unseen_pairs.specs.declared.confirming.Confirmed.{Confirmed}
-use Rattle.unseen_pairs.specs.Pairs.{GoesOn, PutsPiece}
-use Rattle.unseen_pairs.specs.Candidates.{AreShown, Follows, FoundBelow, IsOlder, IsOnlyOne, ShowsKing}
+use Rattle.unseen_pairs.specs.Pairs.{BringsNew, GoesOn, ShowsNew}
+use Rattle.unseen_pairs.specs.Inside.Waiting.{AreShown, Follows, FoundBelow, IsOlder, IsOnlyOne, ShowsKing}
 
 new_alone : (p : Parts) (seen : List ℕ) (a : Seen) → ReturnsNewSeen p [] seen a → SeenAs p [] seen a
 new_alone p seen a h =
     let S : Score → Type 0 = λ s. SeenAs p (moves_of s.plies) seen a in
     subst S (h.1).1 (h.1).2
+
+-- where pieces landed, the picture shows new ones
+pub new_meets :
+    (now : Parts) (before seen : List ℕ) (diff shown : ℕ)
+    → before ≡ picture now → IsDiff diff before seen → IsShown shown seen
+    → ((s : ℕ) × (s < 64) × (bit_at diff s ≡ 1) × (bit_at shown s ≡ 1)) ↔ ShowsNew now seen
+new_meets now before seen diff shown b d t =
+    let zero : (s : ℕ) → s < 64 → get_or (replicate 64 0) s 0 ≡ 0 = λ s low. get_or-replicate 64 s 0 0 low in
+    let at : (s : ℕ) → get_or before s 0 ≡ get_or (picture now) s 0 = λ s. ap (λ (xs : List ℕ). get_or xs s 0) b in (
+      λ h. record {
+        square = h.0;
+        low = h.1;
+        some = λ e. (t h.0 h.1).0 h.3 (zero h.0 h.1 ∙ sym e);
+        new = λ e. (d h.0 h.1).0 h.2 (at h.0 ∙ sym e);
+      },
+      λ h. (
+        h.square,
+        h.low,
+        (d h.square h.low).1 (λ e. h.new (sym e ∙ at h.square)),
+        (t h.square h.low).1 (λ e. h.some (sym e ∙ zero h.square h.low)),
+      ),
+    )
 
 -- what a settler that has seen nothing returns
 pub alone : (p : Parts) (seen : List ℕ) (a : Seen) → ReturnsSeen p [] seen a → SeenAs p [] seen a
@@ -39,15 +63,15 @@ alone_result p seen (Ok a) h = alone p seen a h
 alone_result p seen (Err e) h = tt
 
 pub waits_none : (now p : Parts) (seen : List ℕ) → SeenAs p [] seen Waits → (a : Seen) → ¬ GoesOn now p seen a
-waits_none now p seen h (Moved m) g = h.0 m g
+waits_none now p seen h (Moved m) g = h.0 m g.0
 waits_none now p seen h (Sign outcome) g = h.1 outcome g.0
 waits_none now p seen h (Replaced m) g = g
 waits_none now p seen h Waits g = g
 waits_none now p seen h Same g = g
 
 -- Nor does anything go on where the picture is a sign, and the pair put no piece down.
-pub sign_none : (now p : Parts) (seen : List ℕ) (outcome : Outcome) → Valid p → ¬ PutsPiece now p → SeenAs p [] seen (Sign outcome) → (a : Seen) → ¬ GoesOn now p seen a
-sign_none now p seen outcome v none h (Moved m) g = let never : ⊥ = cc (shows_once p [] seen (Moved m) (Sign outcome) v g h) in never
+pub sign_none : (now p : Parts) (seen : List ℕ) (outcome : Outcome) → Valid p → ¬ ShowsNew now (picture p) → SeenAs p [] seen (Sign outcome) → (a : Seen) → ¬ GoesOn now p seen a
+sign_none now p seen outcome v none h (Moved m) g = let never : ⊥ = cc (shows_once p [] seen (Moved m) (Sign outcome) v g.0 h) in never
 sign_none now p seen outcome v none h (Sign other) g = none g.1
 sign_none now p seen outcome v none h (Replaced m) g = g
 sign_none now p seen outcome v none h Waits g = g
@@ -60,8 +84,26 @@ no_king seen s none (inl (inr e)) h = none (inl (ap (λ n. get_or seen n 0) (sym
 no_king seen s none (inr (inl e)) h = none (inr (inr (inl (ap (λ n. get_or seen n 0) (sym e) ∙ h))))
 no_king seen s none (inr (inr e)) h = none (inr (inl (ap (λ n. get_or seen n 0) (sym e) ∙ h)))
 
+-- Nor does a move go on where neither the pair nor this put a piece on a new square.
+pub moved_none : (now p : Parts) (seen : List ℕ) (m : Move) → Valid p → ¬ BringsNew now p seen → SeenAs p [] seen (Moved m) → (a : Seen) → ¬ GoesOn now p seen a
+moved_none now p seen m v none h (Moved n) g = none g.1
+moved_none now p seen m v none h (Sign other) g = let never : ⊥ = cc (shows_once p [] seen (Moved m) (Sign other) v h g.0) in never
+moved_none now p seen m v none h (Replaced n) g = g
+moved_none now p seen m v none h Waits g = g
+moved_none now p seen m v none h Same g = g
+
+pub settled_none :
+    (now : Parts) (c : Candidate) (seen : List ℕ) → ¬ ShowsKing seen → ¬ BringsNew now c.after seen
+    → (a : Seen) → ¬ Follows now c seen a
+settled_none now c seen none old (Moved n) f = old (f.goes).1
+settled_none now c seen none old (Sign outcome) f =
+    let i : IsSign c.after seen outcome = (f.goes).0 in no_king seen i.white_king none (i.white).centre (i.white).stands
+settled_none now c seen none old (Replaced n) f = f.goes
+settled_none now c seen none old Waits f = f.goes
+settled_none now c seen none old Same f = f.goes
+
 pub nothing_goes : (now p : Parts) (seen : List ℕ) → ¬ ShowsKing seen → ((m : Move) → ¬ Settles p seen m) → (a : Seen) → ¬ GoesOn now p seen a
-nothing_goes now p seen none never (Moved m) g = never m g
+nothing_goes now p seen none never (Moved m) g = never m g.0
 nothing_goes now p seen none never (Sign outcome) g = let i : IsSign p seen outcome = g.0 in no_king seen i.white_king none (i.white).centre (i.white).stands
 nothing_goes now p seen none never (Replaced m) g = g
 nothing_goes now p seen none never Waits g = g

@@ -30,8 +30,10 @@ use Rattle.unseen_pairs.specs.declared.confirming.Candidate.{Candidate}
 use Rattle.unseen_pairs.specs.declared.confirming.Confirmed.{Confirmed}
 use Rattle.unseen_pairs.specs.Pairs.{Confirms, Explains, GoesOn, IsInstead, begins, ends, root}
 use Rattle.unseen_pairs.specs.Recovering.{FoldsRecovering, TellsAs, score_told, waiting_after}
-use Rattle.unseen_pairs.specs.Recoverer.{Desk, HasTold, HoldsOf, IsWaiting, StandsForRecovered, TellsNew}
-use Rattle.unseen_pairs.specs.Candidates.{AreKept, AreAllAdded, HidesNone, IsOnlyOne, ListsCandidates}
+use Rattle.unseen_pairs.specs.Recoverer.{Desk, HoldsOf, StandsForRecovered, TellsNew}
+use Rattle.unseen_pairs.specs.Inside.Telling.{HasTold, IsWaiting}
+use Rattle.unseen_pairs.specs.Candidates.{ListsCandidates}
+use Rattle.unseen_pairs.specs.Inside.Waiting.{AreKept, AreAllAdded, HidesNone, IsOnlyOne}
 use Rattle.unseen_pairs.proofs.Aging.{lists_next}
 use Rattle.unseen_pairs.proofs.Choosing.{recovery_of, one_confirmed, confirmed_one}
 use Rattle.unseen_pairs.proofs.Putting.{put_in_folds, settles_own}
@@ -304,7 +306,7 @@ middle_new true start (last ∷ earlier) seen m v h waits l instead e =
     waits.2 m (record { legal = l; shows = sym e; alone = λ k a b. own.alone k a (e ∙ b) }, instead refl)
 
 goes_elsewhere : (now p : Parts) (seen : List ℕ) (a : Seen) → Valid p → GoesOn now p seen a → seen ≢ picture p
-goes_elsewhere now p seen (Moved m) v h e = picture_moves p m v h.legal (sym h.shows ∙ e)
+goes_elsewhere now p seen (Moved m) v h e = picture_moves p m v (h.0).legal (sym (h.0).shows ∙ e)
 goes_elsewhere now p seen (Sign outcome) v h e = no_sign_valid p seen v e p outcome h.0
 goes_elsewhere now p seen (Replaced m) v h e = h
 goes_elsewhere now p seen Waits v h e = h

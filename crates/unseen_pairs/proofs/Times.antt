@@ -4,7 +4,7 @@ use Rattle.std.proofs.lemmas.Bool.{cases_eq, cases_lt, eq-eqb}
 use Rattle.std.proofs.lemmas.Bool.Decides.{eqb_tells}
 use Rattle.std.proofs.lemmas.List.{get_or_past}
 use Rattle.std.proofs.lemmas.List.Sums.{sum_by-cons}
-use Rattle.unseen_pairs.specs.Candidates.{IsBackOn}
+use Rattle.unseen_pairs.specs.Inside.Waiting.{IsBackOn}
 use Rattle.unseen_pairs.specs.Pairs.{IsMissedIn, times_shown}
 
 -- how often a code shows on one square

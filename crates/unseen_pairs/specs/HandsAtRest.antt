@@ -1,20 +1,15 @@
--- Hands of both sides between two moves and after the last one: they lift pieces and put them back, clear the board,
--- set up the kings. No pair is recovered there.
-use Rattle.std.specs.Prelude.{◌≡◌, ◌≢◌, ◌⊎◌, ℕ, List, [], ◌∷◌, ◌++◌, reverse, slice_index}
-use Rattle.chess_rules.specs.declared.pieces.Side.{Side}
-use Rattle.chess_rules.specs.declared.pieces.Kind.{Kind}
-use Rattle.chess_rules.specs.declared.pieces.Kind.TheVariants.{Pawn}
+-- Hands of both sides between two moves and after the last one: they lift pieces and put them back, in any order, clear
+-- the board, set up the kings. No pair is recovered there.
+use Rattle.std.specs.Prelude.{◌≡◌, ◌⊎◌, ℕ, List, [], ◌∷◌, ◌++◌, reverse}
 use Rattle.chess_rules.specs.declared.chess_move.Move.{Move}
 use Rattle.chess_rules.specs.declared.parts.Parts.{Parts}
-use Rattle.chess_rules.specs.Board.{on, piece_of}
 use Rattle.chess_rules.specs.After.{after}
-use Rattle.chess_rules.specs.Picture.{code_of_piece, picture}
 use Rattle.chess_rules.specs.Valid.{Valid}
 use Rattle.settle_core.specs.AnyPlay.{ShowsBothKings}
 use Rattle.settle_core.specs.Entries.{Entry, deduplicated}
-use Rattle.settle_core.specs.Folding.{Score}
+use Rattle.settle_core.specs.Folding.{Score, moves_of}
 use Rattle.settle_core.specs.HonestPlay.{MayRest}
-use Rattle.settle_core.specs.Settling.{Line, position_after}
+use Rattle.settle_core.specs.Settling.{Line, position_after, reached}
 use Rattle.unseen_pairs.specs.HonestHands.{ShownByHand}
 use Rattle.unseen_pairs.specs.Laws.{ConfirmNone, Writes}
 
@@ -23,24 +18,21 @@ use Rattle.unseen_pairs.specs.Laws.{ConfirmNone, Writes}
 abbrev pub MayStay : Parts → List ℕ → Type 0
 MayStay p seen = MayRest p seen ⊎ ShowsBothKings seen
 
--- A piece that comes back to its square in the second picture comes back while the others of its kind and all pawns of
--- its side stand on theirs.
-abbrev pub PutsBack : Parts → List ℕ → List ℕ → Type 0
-PutsBack p before seen = (s t : ℕ) (side : Side) (k j : Kind)
-    → on p.board s ≡ piece_of side k → on p.board t ≡ piece_of side j → (j ≡ k) ⊎ (j ≡ Pawn)
-    → slice_index before s ≢ code_of_piece side k → slice_index seen s ≡ code_of_piece side k
-    → slice_index seen t ≡ code_of_piece side j
+-- such entries
+abbrev pub AreAtRest : Parts → List Entry → Type 0
+AreAtRest p [] = Unit {0}
+AreAtRest p (entry ∷ more) = MayStay p entry.picture × AreAtRest p more
 
--- Behind this picture these entries come, in their order, while no move is made.
-abbrev pub AreAtRest : Parts → List ℕ → List Entry → Type 0
-AreAtRest p before [] = Unit {0}
-AreAtRest p before (entry ∷ more) = MayStay p entry.picture × PutsBack p before entry.picture × AreAtRest p entry.picture more
-
--- The last of the entries, if there are any, has the position's picture: all stands again.
-abbrev pub EndWhole : Parts → List Entry → Type 0
-EndWhole p [] = Unit {0}
-EndWhole p (entry ∷ []) = entry.picture ≡ picture p
-EndWhole p (entry ∷ next ∷ more) = EndWhole p (next ∷ more)
+-- Whatever came before: from where nothing waits, entries with such pictures, in any order, add no pair, and the plies
+-- stay. All have the latest first.
+abbrev pub RestAddsNothing : Type 0
+RestAddsNothing =
+    (start : Parts) (later past written all : List Entry) (before score : Score) (waiting : List Entry)
+    → Valid start
+    → Writes start past written before []
+    → AreAtRest (reached start (moves_of before.plies)) later
+    → Writes start (later ++ past) all score waiting
+    → (all ≡ later ++ written) × (score.plies ≡ before.plies)
 
 -- what comes from one whole move to the next: entries while no move is made, and those of the move
 pub record Turn : Type 0 where
@@ -53,7 +45,7 @@ EachTurnShows p [] [] = Unit {0}
 EachTurnShows p [] (turn ∷ turns) = ⊥
 EachTurnShows p (m ∷ moves) [] = ⊥
 EachTurnShows p (m ∷ moves) (turn ∷ turns) =
-    (AreAtRest p (picture p) turn.rested × EndWhole p turn.rested × ShownByHand p m turn.shown) × EachTurnShows (after p m) moves turns
+    (AreAtRest p turn.rested × ShownByHand p m turn.shown) × EachTurnShows (after p m) moves turns
 
 -- all entries of the turns
 abbrev pub turned_in : List Turn → List Entry
@@ -68,7 +60,7 @@ HandsAtRestConfirmNone =
     → Valid start
     → Line start moves
     → EachTurnShows start moves turns
-    → AreAtRest (position_after start moves) (picture (position_after start moves)) rested
+    → AreAtRest (position_after start moves) rested
     → turned_in turns ++ rested ≡ first ++ rest
     → ConfirmNone start (deduplicated (reverse first))
 
@@ -79,7 +71,7 @@ HandsAtRestAreLeftAlone =
     → Valid start
     → Line start moves
     → EachTurnShows start moves turns
-    → AreAtRest (position_after start moves) (picture (position_after start moves)) rested
+    → AreAtRest (position_after start moves) rested
     → turned_in turns ++ rested ≡ first ++ rest
     → Writes start (deduplicated (reverse first)) written score waiting
     → written ≡ deduplicated (reverse first)

@@ -1,10 +1,8 @@
-pub mod Pairs
-pub mod Recovering
-pub mod Beginning
-pub mod Explaining
 pub mod Candidates
-pub mod Recoverer
-pub mod Laws
-pub mod HonestHands
-pub mod HurriedHands
 pub mod HandsAtRest
+pub mod HonestHands
+pub mod Inside
+pub mod Laws
+pub mod Pairs
+pub mod Recoverer
+pub mod Recovering

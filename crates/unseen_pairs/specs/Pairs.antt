@@ -1,5 +1,5 @@
 -- Two plies of which no picture was whole.
-use Rattle.std.specs.Prelude.{◌≡◌, ◌≢◌, ◌<◌, ◌==◌, ℕ, Bool, true, List, [], ◌∷◌, Some, count_by, drop, slice_get, slice_index, if◌then◌else◌}
+use Rattle.std.specs.Prelude.{◌≡◌, ◌≢◌, ◌⊎◌, ◌<◌, ◌==◌, ℕ, Bool, true, List, [], ◌∷◌, Some, count_by, drop, slice_get, slice_index, if◌then◌else◌}
 use Rattle.chess_rules.specs.declared.chess_move.Move.{Move}
 use Rattle.chess_rules.specs.declared.parts.Parts.{Parts}
 use Rattle.chess_rules.specs.After.{after}
@@ -66,20 +66,23 @@ pub record ExplainsAt (start : Parts) (moves : List Move) (waiting : List Entry)
   pub gone : (k : ℕ) (later : Entry) → k < place → slice_get waiting k ≡ Some later
       → ¬ IsBack (reached start moves) (ends start moves pair) later.picture
 
--- A piece was put down between these two positions: the second has one on a square where the first has none, or
--- another.
-pub record PutsPiece (now after : Parts) : Type 0 where
+-- The picture shows a piece on a square where the position has none, or another.
+pub record ShowsNew (now : Parts) (seen : List ℕ) : Type 0 where
   pub square : ℕ
   pub low : square < 64
-  pub some : slice_index (picture after) square ≢ 0
-  pub new : slice_index (picture after) square ≢ slice_index (picture now) square
+  pub some : slice_index seen square ≢ 0
+  pub new : slice_index seen square ≢ slice_index (picture now) square
 
--- The picture goes on from the second of these positions, to which a pair leads from the first: by a move; or by a
--- sign, where the pair put a piece down. Else pieces may just have been taken off the board before the kings were set
--- up.
+-- The position after a pair, or this picture, shows such a piece.
+abbrev pub BringsNew : Parts → Parts → List ℕ → Type 0
+BringsNew now after seen = ShowsNew now (picture after) ⊎ ShowsNew now seen
+
+-- The picture goes on from the second of these positions, to which a pair leads from the first. By a move: then the
+-- pair, or this move, put a piece where none, or another one, stood; else pieces may just have been lifted and put
+-- back. Or by a sign: then the pair did; else pieces may just have been taken off before the kings were set up.
 abbrev pub GoesOn : Parts → Parts → List ℕ → Seen → Type 0
-GoesOn now after seen (Moved m) = Settles after seen m
-GoesOn now after seen (Sign outcome) = IsSign after seen outcome × PutsPiece now after
+GoesOn now after seen (Moved m) = Settles after seen m × BringsNew now after seen
+GoesOn now after seen (Sign outcome) = IsSign after seen outcome × ShowsNew now (picture after)
 GoesOn now after seen _ = ⊥
 
 -- The picture confirms this pair, and no other: the pair explains an entry that waits, of which the first in time has

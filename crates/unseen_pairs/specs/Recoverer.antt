@@ -4,7 +4,7 @@ use Rattle.chess_rules.specs.declared.parts.Parts.{Parts}
 use Rattle.chess_rules.specs.Picture.{picture}
 use Rattle.settle_core.specs.Entries.{Entry, entry_of, last_picture, repeats, deduplicated}
 use Rattle.settle_core.specs.Settler.{Sheet, StandsFor}
-use Rattle.settle_core.specs.Folding.{Score, Folds, SeenAs, moves_of}
+use Rattle.settle_core.specs.Folding.{Score, moves_of}
 use Rattle.settle_core.specs.declared.plies.Seen.TheVariants.{Same, Moved, Sign, Replaced, Waits}
 use Rattle.unseen_pairs.specs.declared.confirming.Candidate.{Candidate}
 use Rattle.unseen_pairs.specs.declared.pair.Heard.{Heard}
@@ -57,20 +57,3 @@ ReturnsTold start past seen (Shown (Sign outcome)) = TellsNew start past seen (S
 ReturnsTold start past seen (Shown (Replaced m)) = TellsNew start past seen (Shown (Replaced m))
 ReturnsTold start past seen (Shown Waits) = TellsNew start past seen (Shown Waits)
 ReturnsTold start past seen (Recovered r) = TellsNew start past seen (Recovered r)
-
--- After these entries, and those with what was put in, this new one shows nothing by itself, and the settler has seen
--- it (private).
-pub record IsWaiting (desk : Desk) (start : Parts) (past written : List Entry) (entry : Entry) : Type 0 where
-  pub settles : StandsFor desk.settler start (entry ∷ written)
-  pub folded : Folds start (deduplicated written) desk.settler.score
-  pub new : repeats entry.picture past ≡ false
-  pub same : repeats entry.picture written ≡ false
-  pub waits : SeenAs start (moves_of desk.settler.score.plies) entry.picture Waits
-  pub waiting : List Entry
-  pub folds : FoldsRecovering start (deduplicated past) desk.settler.score waiting
-  pub candidates : ListsCandidates start (moves_of desk.settler.score.plies) waiting desk.candidates
-
--- the recoverer after it, with what it told (private)
-pub record HasTold (desk : Desk) (start : Parts) (past written : List Entry) (entry : Entry) (told : Told) : Type 0 where
-  pub stands : StandsForRecovered desk start (entry ∷ past) (written_after entry told written)
-  pub answer : ReturnsTold start past entry.picture told

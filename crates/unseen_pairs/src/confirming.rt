@@ -2,13 +2,14 @@
 ghost use Rattle.std.specs.Prelude.{◌≡◌, ◌<◌, ◌↔◌, [], ℕ, List, All, IfOk, IfSome, IfNone, IsTrue};
 ghost use Rattle.chess_rules.specs.declared.parts.Parts.{Parts as PartsOf};
 ghost use Rattle.settle_core.specs.declared.plies.Seen.{Seen as SeenOf};
+ghost use Rattle.chess_rules.specs.Picture.{picture as picture_of};
 ghost use Rattle.chess_rules.specs.Valid.{Valid};
 ghost use Rattle.settle_core.specs.Folding.{SeenAs};
-ghost use Rattle.unseen_pairs.specs.Pairs.{GoesOn, PutsPiece};
+ghost use Rattle.unseen_pairs.specs.Pairs.{BringsNew, GoesOn, ShowsNew};
 ghost use Rattle.unseen_pairs.specs.declared.confirming.Confirmed.{Confirmed as ConfirmedOf};
-ghost use Rattle.unseen_pairs.specs.Candidates.{AreShown, Follows, IsOlder, IsOnlyOne, ShowsKing};
+ghost use Rattle.unseen_pairs.specs.Inside.Waiting.{AreShown, Follows, IsOlder, IsOnlyOne, ShowsKing};
 
-use crate::evidence::puts_piece;
+use crate::evidence::shows_new;
 use crate::pair::Pair;
 use crate::settled::settled_in;
 use chess_clock::Reading;
@@ -30,7 +31,7 @@ const D4: usize = 35;
 const E4: usize = 36;
 
 /// A pair that explains a picture that waits.
-#[derive(Clone, Copy, Debug)]
+#[derive(Clone, Copy)]
 pub struct Candidate {
     pub pair: Pair,
     /// The position in which the pair begins.
@@ -48,7 +49,7 @@ pub struct Candidate {
 }
 
 /// The one candidate that a picture confirms, and what goes on from it.
-#[derive(Clone, Copy, Debug)]
+#[derive(Clone, Copy)]
 pub struct Confirmed {
     pub candidate: Candidate,
     pub sequel: Seen,
@@ -63,15 +64,25 @@ fn shown_alone(alloc: Global, p: &Position, picture: &[u8; 64]) -> Result<Seen, 
     settler.see(picture, None)
 }
 
-/// What of this goes on from the position, to which a pair leads that put a piece down or didn't.
-fn going_on(seen: Seen, puts: bool) -> Option<Seen>
-    ensures some { (now p : PartsOf) (picture : List ℕ) → IsTrue puts ↔ PutsPiece now p → SeenAs p [] picture seen
-        → IfSome result (GoesOn now p picture) }
-    ensures none { (now p : PartsOf) (picture : List ℕ) → Valid p → IsTrue puts ↔ PutsPiece now p → SeenAs p [] picture seen
+/// Whether the position after a pair, or this picture, shows a piece where none, or another one, stood.
+fn brings_new(now: &Position, after: &Position, picture: &[u8; 64]) -> bool
+    ensures { IsTrue result ↔ BringsNew now.now after.now picture.now }
+{
+    shows_new(now, &after.picture()) || shows_new(now, picture)
+}
+
+/// What of this goes on from the position, to which a pair leads: a move, where the pair or this put a piece on a new
+/// square, or a sign, where the pair did.
+fn going_on(seen: Seen, brings: bool, puts: bool) -> Option<Seen>
+    ensures some { (now p : PartsOf) (picture : List ℕ) → IsTrue brings ↔ BringsNew now p picture
+        → IsTrue puts ↔ ShowsNew now (picture_of p) → SeenAs p [] picture seen → IfSome result (GoesOn now p picture) }
+    ensures none { (now p : PartsOf) (picture : List ℕ) → Valid p → IsTrue brings ↔ BringsNew now p picture
+        → IsTrue puts ↔ ShowsNew now (picture_of p) → SeenAs p [] picture seen
         → IfNone result ((a : SeenOf) → ¬ GoesOn now p picture a) }
 {
     match seen {
-        Seen::Moved(m) => Some(Seen::Moved(m)),
+        Seen::Moved(m) if brings => Some(Seen::Moved(m)),
+        Seen::Moved(_) => None,
         Seen::Sign(outcome) if puts => Some(Seen::Sign(outcome)),
         Seen::Sign(_) => None,
         Seen::Replaced(_) => None,
@@ -90,8 +101,8 @@ fn shows_king(picture: &[u8; 64]) -> bool
         || picture[E4] == WHITE_KING
 }
 
-/// What goes on from the candidate, if anything: the move that the picture settles behind its pair, or the sign over
-/// that position, where the pair put a piece down.
+/// What goes on from the candidate, if anything: the move that the picture settles behind its pair, where either put a
+/// piece on a new square, or the sign over that position, where the pair did.
 fn sequel(
     alloc: Global,
     now: &Position,
@@ -107,11 +118,16 @@ fn sequel(
     after.parts();
     if shows_king(picture) {
         let seen = shown_alone(alloc, after, picture)?;
-        return Ok(going_on(seen, puts_piece(now, after)));
+        let puts = shows_new(now, &after.picture());
+        return Ok(going_on(seen, brings_new(now, after, picture), puts));
     }
-    match settled_in(after, &candidate.shown, picture) {
-        Some(m) => Ok(Some(Seen::Moved(m))),
-        None => Ok(None),
+    let Some(m) = settled_in(after, &candidate.shown, picture) else {
+        return Ok(None);
+    };
+    if brings_new(now, after, picture) {
+        Ok(Some(Seen::Moved(m)))
+    } else {
+        Ok(None)
     }
 }
 

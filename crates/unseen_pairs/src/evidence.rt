@@ -1,11 +1,11 @@
 //! What speaks for a pair on the board, and what against it.
 ghost use Rattle.std.specs.Prelude.{◌≡◌, ◌≢◌, ◌<◌, ◌==◌, ◌↔◌, IsTrue, count_by, slice_index};
 ghost use Rattle.chess_rules.specs.Picture.{picture};
-ghost use Rattle.unseen_pairs.specs.Candidates.{IsBackOn};
-ghost use Rattle.unseen_pairs.specs.Pairs.{IsMissedIn, PutsPiece, times_shown};
+ghost use Rattle.unseen_pairs.specs.Inside.Waiting.{IsBackOn};
+ghost use Rattle.unseen_pairs.specs.Pairs.{IsMissedIn, ShowsNew, times_shown};
 
 use chess_rules::Position;
-use settle_core::masks::{diff_mask, first_square, without};
+use settle_core::masks::{diff_mask, first_square, meets, shown_in, without};
 
 /// How many squares show this code.
 fn count(picture: &[u8; 64], code: u8) -> usize
@@ -56,16 +56,9 @@ pub fn is_back(before: &[u8; 64], left: &[u8; 64], seen: &[u8; 64]) -> bool
     false
 }
 
-/// Whether a piece was put down between the two positions.
-pub fn puts_piece(now: &Position, after: &Position) -> bool
-    ensures { IsTrue result ↔ PutsPiece now.now after.now }
+/// Whether the picture shows a piece on a square where the position has none, or another.
+pub fn shows_new(now: &Position, seen: &[u8; 64]) -> bool
+    ensures { IsTrue result ↔ ShowsNew now.now seen.now }
 {
-    let before = now.picture();
-    let shown = after.picture();
-    for square in 0..64usize {
-        if is_put_on(&before, &shown, square) {
-            return true;
-        }
-    }
-    false
+    meets(diff_mask(&now.picture(), seen), shown_in(seen))
 }

@@ -8,7 +8,7 @@ ghost use Rattle.chess_rules.specs.Legal.{Legal};
 ghost use Rattle.unseen_pairs.specs.declared.pair.TwoPlies.{TwoPlies as TwoPliesOf};
 ghost use Rattle.unseen_pairs.specs.Pairs.{IsAfterTwo};
 ghost use Rattle.settle_core.specs.Lost.{Loses, LosesAt};
-ghost use Rattle.unseen_pairs.specs.Explaining.{AddsPairs};
+ghost use Rattle.unseen_pairs.specs.Inside.Explaining.{AddsPairs};
 
 use crate::beginning::first_plies;
 use crate::pair::TwoPlies;

@@ -1,7 +1,6 @@
 //! What holds of all games in which unseen pairs are recovered, each law as the contract of a function.
 ghost use Rattle.unseen_pairs.specs.HonestHands.{HonestHandsAreLeftAlone, HonestHandsConfirmNone, PlainHandsAreOnTheWay};
-ghost use Rattle.unseen_pairs.specs.HandsAtRest.{HandsAtRestAreLeftAlone, HandsAtRestConfirmNone};
-ghost use Rattle.unseen_pairs.specs.HurriedHands.{HurriedHands, HurriedHandsKeepClocks, KingsEndHurriedHands};
+ghost use Rattle.unseen_pairs.specs.HandsAtRest.{HandsAtRestAreLeftAlone, HandsAtRestConfirmNone, RestAddsNothing};
 ghost use Rattle.unseen_pairs.specs.Laws.{IsWritten, NothingConfirmed, NothingIsInvented, NothingPutIn, PliesAreLegal, RecoversOnce, WritesOnce, WrittenFolds};
 
 /// Where no pair is confirmed, entries give what they fold to without recovering, and nothing is put in.
@@ -42,19 +41,16 @@ pub fn honest_hands_are_left_alone()
     ensures plain { PlainHandsAreOnTheWay }
 {}
 
-/// So are hands at rest: where each move is shown by such hands, and between two of them and after the last one both
-/// sides lift pieces and put them back, no pair is confirmed. A piece comes back only while the others of its kind and
-/// all pawns of its side stand; before the next move all stand again. After the last one the board may be cleared and
-/// the kings set up, in any order.
+/// Whatever came before, from where nothing waits: while each square shows what the position reached has or nothing, or
+/// a king is off the board, or both are in the centre, no pair is put in.
+pub fn rest_adds_nothing()
+    ensures { RestAddsNothing }
+{}
+
+/// Hands at rest are left alone: where each move is shown by honest hands, and between two of them and after the last
+/// one both sides lift pieces and put them back in any order, no pair is confirmed. Pieces of the mover may still be in
+/// hand when his move begins. After the last one the board may be cleared and the kings set up, in any order.
 pub fn hands_at_rest_are_left_alone()
     ensures confirms { HandsAtRestConfirmNone }
     ensures written { HandsAtRestAreLeftAlone }
-{}
-
-/// Hurried hands: where some pairs of a line are not seen ply by ply, and the next moves or the kings go on from them
-/// alone, the entries give the line, with its clocks.
-pub fn hurried_hands_give_their_line()
-    ensures moves { HurriedHands }
-    ensures score { HurriedHandsKeepClocks }
-    ensures kings { KingsEndHurriedHands }
 {}

@@ -4,7 +4,7 @@ use chess_rules::{Move, Position};
 use settle_core::Seen;
 
 /// Two plies.
-#[derive(Clone, Copy, PartialEq, Eq, Debug)]
+#[derive(Clone, Copy)]
 pub struct TwoPlies {
     pub first: Move,
     pub second: Move,

@@ -6,12 +6,13 @@ ghost use Rattle.settle_core.specs.Entries.{Entry, entry_of};
 ghost use Rattle.settle_core.specs.Settler.{has_seen, position_of};
 ghost use Rattle.unseen_pairs.specs.declared.confirming.Confirmed.{Confirmed as ConfirmedOf};
 ghost use Rattle.unseen_pairs.specs.declared.pair.Told.{Told as ToldOf};
-ghost use Rattle.unseen_pairs.specs.Candidates.{IsOnlyOne};
-ghost use Rattle.unseen_pairs.specs.Recoverer.{HasTold, HoldsOf, IsWaiting, ReturnsTold, StandsForRecovered, written_after};
+ghost use Rattle.unseen_pairs.specs.Inside.Waiting.{IsOnlyOne};
+ghost use Rattle.unseen_pairs.specs.Recoverer.{HoldsOf, ReturnsTold, StandsForRecovered, written_after};
+ghost use Rattle.unseen_pairs.specs.Inside.Telling.{HasTold, IsWaiting};
 
 use crate::confirming::{Candidate, Confirmed, only_one};
 use crate::pair::{Heard, Recovery, Told};
-use crate::waiting::{add_all, all_kept, copy, hides_none};
+use crate::waiting::{add_all, copy, hides_none, keep_all};
 use chess_clock::Reading;
 use chess_rules::{Position, Square};
 use settle_core::{Seen, Settler};
@@ -19,7 +20,7 @@ use std::alloc::{AllocError, Global};
 use std::marker::Model;
 
 /// Settles pictures as a settler does, and recovers pairs of plies of which no picture was whole.
-#[derive(Debug, Drop)]
+#[derive(Drop)]
 pub struct Recoverer {
     settler: Settler,
     candidates: Vec<Candidate>,
@@ -251,9 +252,8 @@ impl Recoverer {
             self.candidates.clear();
             return Ok(());
         }
-        let mut candidates = all_kept(alloc, self.settler.position(), picture, &self.candidates)?;
-        add_all(alloc, &mut candidates, &self.settler, picture, clock)?;
-        self.candidates = candidates;
+        keep_all(&mut self.candidates, self.settler.position(), picture);
+        add_all(alloc, &mut self.candidates, &self.settler, picture, clock)?;
         Ok(())
     }
 

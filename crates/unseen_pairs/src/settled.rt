@@ -1,7 +1,8 @@
 //! The move that a picture settles in a position.
-ghost use Rattle.std.specs.Prelude.{◌≡◌, ◌↔◌, IfSome, IfNone, IsTrue, Some};
+ghost use Rattle.std.specs.Prelude.{◌≡◌, ◌<◌, ◌^◌, ◌↔◌, IfSome, IfNone, IsTrue, Some};
 ghost use Rattle.chess_rules.specs.declared.chess_move.Move.{Move as MoveOf};
 ghost use Rattle.chess_rules.specs.Picture.{picture};
+ghost use Rattle.settle_core.specs.Masks.{IsNoMove};
 ghost use Rattle.settle_core.specs.Settling.{Settles};
 
 use chess_rules::laws::pictures_tell_moves;
@@ -19,13 +20,26 @@ fn settles(p: &Position, seen: &[u8; 64], m: &Move) -> bool
     p.is_legal(m.copy()) && p.play(m.copy()).picture() == *seen
 }
 
+/// Whether no move changes as many squares as the mask has.
+fn is_no_move(mask: u64) -> bool
+    ensures no_move { IsTrue result → IsNoMove mask }
+    ensures fits { mask < 2 ^ 64 }
+{
+    let bits = mask.count_ones();
+    bits < 2 || bits > 4
+}
+
 /// The one move that the squares may show on which the picture differs from the position's, if any.
 fn candidate_in(p: &Position, before: &[u8; 64], seen: &[u8; 64]) -> Option<Move>
     ensures { before.now ≡ picture p.now → (m : MoveOf) → Settles p.now seen.now m → result ≡ Some m }
 {
     // For its clause: the position is valid.
     p.parts();
-    candidate(before, seen, diff_mask(before, seen))
+    let mask = diff_mask(before, seen);
+    if is_no_move(mask) {
+        return None;
+    }
+    candidate(before, seen, mask)
 }
 
 /// The move that the picture settles in the position, if any: the one candidate is tested. The first picture is that of

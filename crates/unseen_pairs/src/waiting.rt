@@ -1,5 +1,5 @@
 //! The candidates of the entries that wait.
-ghost use Rattle.std.specs.Prelude.{◌≡◌, ◌<◌, ◌↔◌, ◌∷◌, [], true, false, List, Some, IfOk, IsTrue, OnOk};
+ghost use Rattle.std.specs.Prelude.{◌≡◌, ◌<◌, ◌↔◌, ◌∷◌, [], true, false, List, Some, IsTrue, OnOk, length};
 ghost use Rattle.chess_rules.specs.declared.parts.Parts.{Parts as PartsOf};
 ghost use Rattle.chess_rules.specs.After.{after};
 ghost use Rattle.chess_rules.specs.Legal.{Legal};
@@ -10,7 +10,7 @@ ghost use Rattle.settle_core.specs.declared.plies.Seen.{Seen as SeenOf};
 ghost use Rattle.settle_core.specs.Folding.{SeenAs, moves_of};
 ghost use Rattle.settle_core.specs.Settler.{position_of};
 ghost use Rattle.settle_core.specs.Settling.{Played, reached};
-ghost use Rattle.unseen_pairs.specs.Candidates.{AreAdded, AreAllAdded, AreKept, HidesNone, IsKept, IsNew};
+ghost use Rattle.unseen_pairs.specs.Inside.Waiting.{AreAdded, AreAllAdded, AreKept, HidesNone, IsKept, IsKeptAt, IsNew};
 
 use crate::confirming::Candidate;
 use crate::evidence::is_back;
@@ -30,48 +30,48 @@ pub fn copy(reading: &Option<Reading>) -> Option<Reading>
 
 /// Whether the candidate is not as old as can be, and no piece is back that its pair took.
 fn is_kept(before: &[u8; 64], picture: &[u8; 64], candidate: &Candidate) -> bool
-    ensures { (now : PartsOf) → before.now ≡ picture_of now → IsTrue result ↔ IsKept now picture.now candidate.now }
+    ensures kept { (now : PartsOf) → before.now ≡ picture_of now → IsTrue result ↔ IsKept now picture.now candidate.now }
+    ensures young { IsTrue result → candidate.now.age < 255 }
 {
     candidate.age < 255 && !is_back(before, &candidate.shown, picture)
 }
 
-/// What `all_kept` returns, however many candidates there are: apart, since a picture seldom meets any.
-#[inline(never)]
-fn kept_each(
-    alloc: Global,
-    now: &Position,
-    picture: &[u8; 64],
-    candidates: &[Candidate],
-) -> Result<Vec<Candidate>, AllocError>
-    ensures { IfOk result (λ kept. AreKept now.now picture.now candidates.now kept.items) }
+/// What becomes of the candidate at this place with one more entry: it is one entry older, or the last one takes its
+/// place.
+fn keep_at(candidates: &mut Vec<Candidate>, before: &[u8; 64], picture: &[u8; 64], place: usize)
+    requires { place < length candidates.old.items }
+    ensures { (now : PartsOf) → before.now ≡ picture_of now → IsKeptAt now picture.now place candidates.old.items candidates.new.items }
 {
-    let before = now.picture();
-    let mut kept = Vec::new(alloc);
-    for candidate in candidates {
-        if is_kept(&before, picture, candidate) {
-            kept.push(Candidate {
-                age: candidate.age + 1,
-                ..*candidate
-            })?;
-        }
+    if is_kept(before, picture, &candidates[place]) {
+        let candidate = &mut candidates[place];
+        candidate.age += 1;
+    } else {
+        candidates.swap_remove(place);
     }
-    Ok(kept)
 }
 
-/// The candidates after one more entry: those are left out that are as old as can be, and those whose pair took a piece
-/// that is back in it.
-pub fn all_kept(
-    alloc: Global,
-    now: &Position,
-    picture: &[u8; 64],
-    candidates: &[Candidate],
-) -> Result<Vec<Candidate>, AllocError>
-    ensures { IfOk result (λ kept. AreKept now.now picture.now candidates.now kept.items) }
+/// What `keep_all` does, however many candidates there are: apart, since a picture seldom meets any.
+#[inline(never)]
+fn keep_each(candidates: &mut Vec<Candidate>, now: &Position, picture: &[u8; 64])
+    ensures { AreKept now.now picture.now candidates.old.items candidates.new.items }
+{
+    let before = now.picture();
+    let mut rest = candidates.len();
+    'places: while rest > 0 {
+        rest -= 1;
+        keep_at(candidates, &before, picture, rest);
+    }
+}
+
+/// Makes the candidates one entry older, and leaves those out that are as old as can be, and those whose pair took a
+/// piece that is back in this picture.
+pub fn keep_all(candidates: &mut Vec<Candidate>, now: &Position, picture: &[u8; 64])
+    ensures { AreKept now.now picture.now candidates.old.items candidates.new.items }
 {
     if candidates.is_empty() {
-        return Ok(Vec::new(alloc));
+        return;
     }
-    kept_each(alloc, now, picture, candidates)
+    keep_each(candidates, now, picture);
 }
 
 /// The candidate of two plies from a position.

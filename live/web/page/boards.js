@@ -1,7 +1,7 @@
 // All boards in a grid, and one of them large if the page's address names it: `#3`. Each page adds what only it
 // shows.
 
-import { numbered, printedResult, spoken } from './chess.js';
+import { numbered, outcomeOf, spoken } from './chess.js';
 import { drawPieces, say } from './diagram.js';
 import { fit, placeAfter } from './grid.js';
 import { Stream } from './stream.js';
@@ -68,7 +68,7 @@ export class Boards {
       return;
     }
     const board = this.stream.boards.get(number);
-    if (!this.cards.has(number)) this.arrange();
+    if (this.cards.has(number) !== this.listed.includes(number)) this.arrange();
     const card = this.cards.get(number);
     if (card) card.show(board);
     if (this.open === number) this.large.show(board);
@@ -78,20 +78,27 @@ export class Boards {
     this.route();
   }
 
-  /** Gives each board its card, in the order of the round. */
+  /** The numbers of the boards that are shown, in their order. */
+  get listed() {
+    return this.stream.numbers;
+  }
+
+  /** Gives each board its card, in the order in which they are shown. */
   arrange() {
     const { numbers } = this.stream;
+    const { listed } = this;
     for (const [number, card] of this.cards) {
-      if (!numbers.includes(number)) {
+      if (!listed.includes(number)) {
         card.root.remove();
         this.cards.delete(number);
       }
     }
-    numbers.forEach((number, index) => {
+    listed.forEach((number, index) => {
       if (!this.cards.has(number)) this.cards.set(number, this.cardOf(number, () => this.stream.now()));
       const { root } = this.cards.get(number);
       const place = at('boards').children[index] || null;
       if (place !== root) at('boards').insertBefore(root, place);
+      if (this.stream.boards.has(number)) this.cards.get(number).show(this.stream.boards.get(number));
     });
     say(at('event'), this.name);
     at('none').hidden = numbers.length > 0;
@@ -116,7 +123,8 @@ export class Boards {
       const { number, side } = numbered(board.positions[0], count - 1);
       words.push(`${number}, ${side === 'w' ? 'White' : 'Black'}: ${spoken(san)}${clock ? `, clock ${clock}` : ''}`);
     }
-    if (board.result !== before.result && board.result !== '*') words.push(`result ${printedResult(board.result)}`);
+    const outcome = outcomeOf(board);
+    if (outcome && outcome !== outcomeOf(before)) words.push(`result ${outcome}`);
     words.push(...this.troubles(board, before));
     if (words.length > 0) say(at('said'), `Board ${board.number}: ${words.join('. ')}`);
   }
@@ -204,7 +212,7 @@ export class Boards {
 
   pressOnGrid(key) {
     if (at('boards').hidden) return false;
-    const links = this.stream.numbers.map((number) => this.cards.get(number).link);
+    const links = this.listed.map((number) => this.cards.get(number).link);
     const next = placeAfter(key, links.indexOf(document.activeElement), links.length, this.columns);
     if (next === undefined) return false;
     if (links[next]) links[next].focus();
@@ -213,7 +221,7 @@ export class Boards {
 
   size() {
     const list = at('boards');
-    const { length } = this.stream.numbers;
+    const { length } = this.listed;
     if (length > 0 && !list.hidden) this.columns = fit(list, length);
   }
 }

@@ -1,9 +1,9 @@
 // One board among others: players, clocks, a diagram, the last move. Names and moves are set as text, never as markup.
 
-import { printedResult, toMove, withNumber } from './chess.js';
+import { aheadOf, outcomeOf, toMove, withNumber } from './chess.js';
 import { clockAt } from './clock.js';
 import { Picture, element, positionOf, say } from './diagram.js';
-import { showPlayer, wordsOf } from './names.js';
+import { aboutOf, nameOf } from './names.js';
 
 export class Card {
   constructor(number, now) {
@@ -19,31 +19,37 @@ export class Card {
     this.white = this.seat('White');
     const foot = this.link.appendChild(element('span', 'foot'));
     this.last = foot.appendChild(element('span', 'last'));
+    this.ahead = foot.appendChild(element('span', 'ahead'));
     this.result = foot.appendChild(element('span', 'result'));
   }
 
   seat(name) {
     const root = this.link.appendChild(element('span', 'seat'));
     root.appendChild(element('span', 'unseen', `, ${name}: `));
-    const player = root.appendChild(element('span', name === 'White' ? 'player w' : 'player b'));
+    const player = root.appendChild(element('bdi', name === 'White' ? 'player w' : 'player b'));
+    const about = root.appendChild(element('bdi', 'about'));
     const clock = root.appendChild(element('span', 'clock'));
-    return { root, player, clock };
+    return { root, player, about, clock };
   }
 
   show(board) {
     const ply = board.moves.length;
     const position = positionOf(board, ply, true);
-    const mover = board.result === '*' ? toMove(position.fen) : '';
+    const outcome = outcomeOf(board);
+    const mover = outcome ? '' : toMove(position.fen);
     for (const [seat, side, index] of [[this.white, 'w', 0], [this.black, 'b', 1]]) {
-      showPlayer(seat.player, board, index);
-      seat.player.title = wordsOf(board, index);
+      say(seat.player, nameOf(board, index));
+      say(seat.about, aboutOf(board, index));
+      seat.player.title = [nameOf(board, index), aboutOf(board, index)].filter((part) => part).join(', ');
       seat.root.classList.toggle('moves', mover === side);
     }
     this.showClocks(board);
     this.picture.show(position);
     say(this.last, ply > 0 ? withNumber(board.positions[0], ply - 1, board.moves[ply - 1].san) : '');
-    say(this.result, printedResult(board.result));
-    this.root.classList.toggle('over', board.result !== '*');
+    const ahead = aheadOf(position.fen);
+    say(this.ahead, ahead === 0 ? '' : `${ahead > 0 ? 'White' : 'Black'} +${Math.abs(ahead)}`);
+    say(this.result, outcome);
+    this.root.classList.toggle('over', outcome !== '');
   }
 
   showClocks(board) {

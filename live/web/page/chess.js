@@ -17,6 +17,35 @@ export function squaresOf(fen) {
   return squares.slice(0, 64);
 }
 
+const VALUES = { P: 1, N: 3, B: 3, R: 5, Q: 9, K: 0 };
+
+function countOf(fen, side) {
+  const counts = { Q: 0, R: 0, B: 0, N: 0, P: 0 };
+  for (const piece of squaresOf(fen)) {
+    if (piece[0] === side && piece[1] !== 'K') counts[piece[1]] += 1;
+  }
+  return counts;
+}
+
+/** By how many points of material White is ahead; a negative number if it is Black. */
+export function aheadOf(fen) {
+  const points = (side) => Object.entries(countOf(fen || '', side)).reduce((sum, [piece, count]) => sum + count * VALUES[piece], 0);
+  return points('w') - points('b');
+}
+
+/** The pieces of a side that were taken since the start, queens first: 'QRNPP'. A pawn that was promoted was not taken. */
+export function takenOf(start, fen, side) {
+  const before = countOf(start, side);
+  const now = countOf(fen, side);
+  let taken = '';
+  let promoted = 0;
+  for (const piece of ['Q', 'R', 'B', 'N']) {
+    promoted += Math.max(0, now[piece] - before[piece]);
+    taken += piece.repeat(Math.max(0, before[piece] - now[piece]));
+  }
+  return taken + 'P'.repeat(Math.max(0, before.P - now.P - promoted));
+}
+
 /** The name of a square by its number: a8 is 0, h1 is 63. */
 export function squareName(number) {
   return FILES[number % 8] + (8 - Math.floor(number / 8));
@@ -80,6 +109,11 @@ export function pieceName(piece) {
 /** A result as it is printed: '1–0', '½–½'. Empty if the game goes on. */
 export function printedResult(result) {
   return result === '*' ? '' : result.replace(/1\/2/g, '½').replace('-', '–');
+}
+
+/** What became of a game, as it is printed: '1–0', '0–0 forfeit'. Empty if it goes on. */
+export function outcomeOf({ result, forfeit }) {
+  return forfeit ? `${printedResult(forfeit)} forfeit` : printedResult(result);
 }
 
 /** A duration in words. */

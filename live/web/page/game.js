@@ -1,9 +1,9 @@
 // One game, large, with its moves. A reader can step through them while it goes on.
 
-import { numbered, printedResult, spoken, toMove, withNumber } from './chess.js';
+import { aheadOf, numbered, outcomeOf, pieceName, spoken, takenOf, toMove, withNumber } from './chess.js';
 import { clockAt } from './clock.js';
 import { Table, element, positionOf, say } from './diagram.js';
-import { showPlayer } from './names.js';
+import { showPlayer, whereFrom } from './names.js';
 
 const at = (name) => document.getElementById(name);
 
@@ -92,6 +92,9 @@ export class GameView {
     const ply = live ? count : this.ply;
     const position = positionOf(board, ply, live);
     say(at('title'), `Board ${board.number}`);
+    const result = outcomeOf(board);
+    if (result) this.root.dataset.result = result; // for its score sheet
+    else delete this.root.dataset.result;
     this.showSeats(position.fen, live);
     const last = ply > 0 ? withNumber(board.positions[0], ply - 1, board.moves[ply - 1].san) : 'the start';
     this.table.show(position, `Board ${board.number}, ${live ? 'now' : 'after'}: ${last}`);
@@ -105,7 +108,7 @@ export class GameView {
 
   showSeats(fen, live) {
     const { board } = this;
-    const mover = board.result === '*' && live ? toMove(fen) : '';
+    const mover = !outcomeOf(board) && live ? toMove(fen) : '';
     this.clocks = [];
     for (const [side, index, name] of [['w', 0, 'White'], ['b', 1, 'Black']]) {
       const place = at((side === 'w') === this.turned ? 'upper' : 'lower');
@@ -114,10 +117,25 @@ export class GameView {
       showPlayer(who, board, index);
       player.append(element('span', 'unseen', `${name}: `), who);
       this.clocks[index] = element('span', 'clock');
-      place.replaceChildren(player, this.clocks[index]);
+      const below = element('span', 'below');
+      below.append(element('bdi', 'about', whereFrom(board, index)), this.takenBy(side, fen));
+      place.replaceChildren(player, this.clocks[index], below);
       place.classList.toggle('moves', mover === side);
     }
     this.showClocks();
+  }
+
+  /** The pieces that a side has taken, and by how much it is ahead. */
+  takenBy(side, fen) {
+    const other = side === 'w' ? 'b' : 'w';
+    const taken = fen ? takenOf(this.board.positions[0] || fen, fen, other) : '';
+    const points = fen ? aheadOf(fen) * (side === 'w' ? 1 : -1) : 0;
+    const root = element('span', 'taken');
+    const names = [...taken].map((piece) => pieceName(other + piece).split(' ')[1]);
+    root.append(element('span', 'unseen', names.length > 0 ? `, has taken ${names.join(', ')}` : ''));
+    for (const piece of taken) root.append(element('i', `piece ${other}${piece}`));
+    if (points > 0) root.append(element('span', 'points', `+${points}`));
+    return root;
   }
 
   /** Clocks run while the game is followed. */
@@ -138,7 +156,7 @@ export class GameView {
   }
 
   showPlace(last, live, behind) {
-    const result = live ? printedResult(this.board.result) : '';
+    const result = live ? outcomeOf(this.board) : '';
     const where = live ? '' : ` (${behind} ${behind === 1 ? 'move' : 'moves'} back)`;
     say(at('at'), [last + where, result].filter((part) => part).join('   '));
   }

@@ -1,29 +1,29 @@
 // How large the cards are: as large as possible with all of them in sight, or of a size that can be read.
 
 const LEAST = 13; // pixels of a letter: smaller ones can't be read on a laptop
+const LEAST_TILE = 200; // pixels of a card: a smaller one has no room for a name
 
 /** Sizes this many cards in their list, and returns the number of columns. */
 export function fit(list, count) {
   const gap = window.innerWidth < 700 ? 8 : 12;
   const width = document.documentElement.clientWidth - 2 * gap;
   const height = window.innerHeight - list.offsetTop - gap;
-  const least = window.innerWidth < 700 ? 150 : 116;
   const letters = (wide) => Math.min(24, Math.max(LEAST, wide / 18));
-  const high = (wide) => 6 * letters(wide) + 3; // four lines, besides the diagram
+  const high = (wide) => 8.6 * letters(wide) + 3; // a head, two lines for each player, a foot
   let best = 0;
   let columns = 1;
   for (let number = 1; number <= count; number += 1) {
     const rows = Math.ceil(count / number);
     const room = height / rows - gap;
     let wide = Math.min((width + gap) / number - gap, 720);
-    while (wide > least && wide + high(wide) > room) wide -= 1;
+    while (wide > LEAST_TILE && wide + high(wide) > room) wide -= 1;
     if (wide > best + 2 && wide + high(wide) <= room) {
       best = wide;
       columns = number;
     }
   }
-  if (best < least) {
-    columns = Math.max(1, Math.floor((width + gap) / (least * 1.15 + gap)));
+  if (best < LEAST_TILE) {
+    columns = Math.max(1, Math.floor((width + gap) / (LEAST_TILE + gap)));
     best = (width + gap) / columns - gap;
   }
   list.style.setProperty('--tile', `${Math.floor(best)}px`);

@@ -1,4 +1,4 @@
-// Players: a title before the name and a rating after it, if known.
+// Players: a title before the name and a rating after it, if known; in a card the name alone, and a line about him.
 
 import { element } from './diagram.js';
 
@@ -7,6 +7,22 @@ const SIDES = ['white', 'black'];
 function partsOf(board, index) {
   const name = board[SIDES[index]] || (index === 0 ? 'White' : 'Black');
   return [board.titles ? board.titles[index] : '', name, board.ratings ? board.ratings[index] : ''];
+}
+
+/** The name alone. */
+export function nameOf(board, index) {
+  return partsOf(board, index)[1];
+}
+
+/** What is known about a player besides his name: 'GM 2401 SUI SC Turm'. */
+export function aboutOf(board, index) {
+  const [title, , rating] = partsOf(board, index);
+  return [title, rating, whereFrom(board, index)].filter((part) => part).join(' ');
+}
+
+/** A player's federation and team. */
+export function whereFrom(board, index) {
+  return ['federations', 'teams'].map((what) => (board[what] ? board[what][index] : '')).filter((part) => part).join(', ');
 }
 
 /** A player in a line: 'GM Anna Kern 2401'. */

@@ -10,7 +10,8 @@ const AGAIN = 2000; // milliseconds until the next try, if the browser has given
 const ANSWER = 1500; // milliseconds that the leading tab has to answer
 const KINDS = ['beat', 'round', 'board'];
 
-export const SHARES = Boolean(window.BroadcastChannel && navigator.locks);
+// In another site's frame a browser may refuse both.
+export const SHARES = Boolean(window.BroadcastChannel && navigator.locks && window.top === window.self);
 
 export class Source {
   /** `hear(kind, data)` is called for each word, `told()` after some; `known()` is all that was heard, as a list of words. */

@@ -2,13 +2,15 @@
 
 import { Boards } from './boards.js';
 import { Card } from './card.js';
-import { printedResult } from './chess.js';
+import { outcomeOf } from './chess.js';
 import { element, say } from './diagram.js';
 import { GameView } from './game.js';
 import { showPlayer } from './names.js';
 
 const at = (name) => document.getElementById(name);
 const RESULTS = '#results';
+const PINNED = '\u2605';
+const UNPINNED = '\u2606';
 const LINES = {
   connecting: 'Connecting',
   live: 'Live',
@@ -18,16 +20,106 @@ const LINES = {
   hidden: 'In the background',
 };
 
+/** What this browser remembers of a round; nothing where it may not. */
+class Kept {
+  constructor(name) {
+    this.name = name;
+  }
+
+  read() {
+    try {
+      return JSON.parse(window.localStorage.getItem(this.name)) || {};
+    } catch {
+      return {};
+    }
+  }
+
+  write(value) {
+    try {
+      window.localStorage.setItem(this.name, JSON.stringify(value));
+    } catch {
+      // it holds until the page is left
+    }
+  }
+}
+
+/** A card with a button that puts it in front. */
+class PinnedCard extends Card {
+  constructor(number, now, pin) {
+    super(number, now);
+    this.pin = this.root.appendChild(element('button', 'pin', UNPINNED));
+    this.pin.type = 'button';
+    this.pin.tabIndex = -1;
+    this.pin.setAttribute('aria-label', `Put board ${number} in front`);
+    this.pin.addEventListener('click', () => pin(number));
+  }
+
+  showPinned(is) {
+    say(this.pin, is ? PINNED : UNPINNED);
+    this.pin.setAttribute('aria-pressed', String(is));
+  }
+}
+
 class Spectators extends Boards {
+  pinned = []; // the numbers of the boards in front
+
+  hides = false; // whether finished games are left out
+
   constructor() {
     super();
     this.rows = new Map(); // of the result list
+    at('hide').addEventListener('click', () => this.hide(!this.hides));
+    if (window.top !== window.self || new URLSearchParams(window.location.search).has('compact')) document.body.classList.add('compact');
     this.large.keys.n = () => this.go(1);
     this.large.keys.p = () => this.go(-1);
   }
 
   cardOf(number, now) {
-    return new Card(number, now);
+    const card = new PinnedCard(number, now, (which) => this.pin(which));
+    card.showPinned(this.pinned.includes(number));
+    return card;
+  }
+
+  // Boards in front, and finished games.
+
+  get listed() {
+    const { numbers, boards } = this.stream;
+    const pinned = numbers.filter((number) => this.pinned.includes(number));
+    const others = numbers.filter((number) => !pinned.includes(number));
+    const goes = (number) => !boards.has(number) || !outcomeOf(boards.get(number));
+    return [...pinned, ...(this.hides ? others.filter(goes) : others)];
+  }
+
+  /** What was chosen for this round before. */
+  recall() {
+    if (this.kept && this.kept.name === this.name) return;
+    this.kept = new Kept(this.name);
+    const { pinned, hides } = this.kept.read();
+    this.pinned = Array.isArray(pinned) ? pinned : [];
+    this.hides = hides === true;
+    at('hide').setAttribute('aria-pressed', String(this.hides));
+  }
+
+  pin(number) {
+    this.pinned = this.pinned.includes(number) ? this.pinned.filter((one) => one !== number) : [...this.pinned, number];
+    this.cards.get(number).showPinned(this.pinned.includes(number));
+    this.chosen();
+  }
+
+  hide(hides) {
+    this.hides = hides;
+    at('hide').setAttribute('aria-pressed', String(hides));
+    this.chosen();
+  }
+
+  chosen() {
+    this.kept.write({ pinned: this.pinned, hides: this.hides });
+    this.arrange();
+  }
+
+  arrange() {
+    this.recall();
+    super.arrange();
   }
 
   largeOf(now, stepped) {
@@ -100,7 +192,7 @@ class Spectators extends Boards {
       showPlayer(row.white, board, 0);
       showPlayer(row.black, board, 1);
       const going = board.moves.length > 0 ? 'playing' : '';
-      say(row.result, printedResult(board.result) || going);
+      say(row.result, outcomeOf(board) || going);
       if (body.children[index] !== row.root) body.insertBefore(row.root, body.children[index] || null);
     });
     for (const [number, row] of this.rows) {

@@ -1,8 +1,10 @@
 // The round as the recorder sends it, through lost connections and sleeping computers.
 
+import { Files } from './files.js';
 import { SHARES, Source } from './source.js';
 
-const SILENT = 4000; // milliseconds without a word, after which the page says so: a beat comes every two or three seconds
+const FILES = 'files' in document.documentElement.dataset; // whether there is no recorder behind the page
+const SILENT = FILES ? 20000 : 4000; // milliseconds without a word, after which the page says so: a beat comes every two or three seconds
 const LOOK = 500;
 const HIDDEN = SHARES ? 30000 : 0; // a page that nobody sees lets its connection go
 
@@ -21,7 +23,7 @@ export class Stream {
     this.said = {}; // what else is said of the round
     this.offset = 0;
     this.sleeps = 0;
-    this.source = new Source((kind, data) => this.hear(kind, data), () => this.say(), () => this.known());
+    this.source = new (FILES ? Files : Source)((kind, data) => this.hear(kind, data), () => this.say(), () => this.known());
     document.addEventListener('visibilitychange', () => this.seen(!document.hidden));
     window.addEventListener('pageshow', () => this.seen(!document.hidden));
     window.addEventListener('pagehide', () => this.source.end());

@@ -2,7 +2,7 @@ use Rattle.std.proofs.Common.{◌≡◌, ◌++◌, List, ℕ, length, take, ◌�
 use Rattle.std.specs.Io.KnownBytes.{Appends}
 use Rattle.watched_streams.specs.Watch.{inner_of}
 use Rattle.board_listing.specs.Listings.{last_line}
-use Rattle.board_listing.specs.Progress.{FinishBreaksOff, Finishes}
+use Rattle.board_listing.specs.Inside.Progress.{FinishBreaksOff, Finishes}
 use Rattle.watched_streams.proofs.ResultLemmas.{on_ok}
 use Rattle.board_listing.proofs.GatherLemmas.{front_of, on_fault}
 use Rattle.board_listing.proofs.stream.finish.Goals as goal

@@ -1,7 +1,7 @@
 use Rattle.std.proofs.Common.{◌≡◌, sym, ◌∙◌}
 use Rattle.dgt_frame.specs.Streams.{Timed}
 use Rattle.watched_streams.specs.Watch.{inner_of}
-use Rattle.board_listing.specs.Printers.{AddsLines}
+use Rattle.board_listing.specs.Inside.Printers.{AddsLines}
 use Rattle.watched_streams.proofs.ResultLemmas.{at_err, at_ok}
 use Rattle.board_listing.proofs.GatherLemmas.{at_fault, broken_both, broken_memory, broken_write, gathers_event, gathers_none}
 use Rattle.board_listing.proofs.stream.gather.Goals as goal

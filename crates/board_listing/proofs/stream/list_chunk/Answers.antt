@@ -2,7 +2,7 @@ use Rattle.std.proofs.Common.{◌≡◌, ◌+◌, ◌-◌, ◌<◌, ◌≤◌, �
 use Rattle.std.proofs.lemmas.List.{length-take-le, take-append-drop}
 use Rattle.dgt_frame.specs.Decoder.{TakesAll, TakesUpTo}
 use Rattle.watched_streams.specs.Watch.{inner_of}
-use Rattle.board_listing.specs.Progress.{BreaksOff, ListsChunk}
+use Rattle.board_listing.specs.Inside.Progress.{BreaksOff, ListsChunk}
 use Rattle.board_listing.proofs.ChunkLemmas.{breaks_end, breaks_event, lists_end, lists_event, lists_none, lists_start, taken_more}
 use Rattle.board_listing.proofs.stream.list_chunk.Goals as goal
 

@@ -1,8 +1,8 @@
 use Rattle.std.proofs.Common.{◌≡◌, ◌+◌, ◌-◌, ◌≤◌, length, take, false}
 use Rattle.watched_streams.specs.Watch.{inner_of, has_failed}
 use Rattle.arrayvec.specs.ArrayVec.{array_vec_len}
-use Rattle.board_listing.specs.Printers.{HasBegun}
-use Rattle.board_listing.specs.Progress.{HasTaken, ListsChunk}
+use Rattle.board_listing.specs.Inside.Printers.{HasBegun}
+use Rattle.board_listing.specs.Inside.Progress.{HasTaken, ListsChunk}
 use Rattle.board_listing.proofs.stream.list_chunk.Given as goal
 
 abbrev pub invariant-events : goal.invariant-events

@@ -4,7 +4,7 @@ use Rattle.watched_streams.proofs.ResultLemmas.{at_err, at_ok}
 use Rattle.std.specs.Io.KnownBytes.{Consumes, IsAtEnd}
 use Rattle.watched_streams.specs.Input.{GivesChunk}
 use Rattle.watched_streams.specs.Watch.{inner_of}
-use Rattle.board_listing.specs.Progress.{BreaksOff, Finishes}
+use Rattle.board_listing.specs.Inside.Progress.{BreaksOff, Finishes}
 use Rattle.board_listing.proofs.StreamLemmas.{all_at_end, first_at_limit, front_at_begin, front_at_end, front_at_chunk, front_of_read, front_past_limit, has_begun, listed_more, listed_none, no_other, read_so_far, reads_no_more, reads_none, reads_within, refused_at_chunk}
 use Rattle.board_listing.proofs.GatherLemmas.{ok_through}
 use Rattle.board_listing.specs.Listings.{ListsAll}

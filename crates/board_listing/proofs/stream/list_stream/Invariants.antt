@@ -1,6 +1,6 @@
 use Rattle.std.proofs.Common.{◌≡◌, ◌-◌, ◌≤◌, false}
 use Rattle.watched_streams.specs.Watch.{inner_of, has_failed}
-use Rattle.board_listing.specs.Progress.{HasListed}
+use Rattle.board_listing.specs.Inside.Progress.{HasListed}
 use Rattle.board_listing.proofs.stream.list_stream.Given as goal
 
 abbrev pub invariant-chunks : goal.invariant-chunks

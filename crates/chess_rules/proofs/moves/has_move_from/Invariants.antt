@@ -1,4 +1,4 @@
-use Rattle.chess_rules.specs.Places.{first_place, HasNone}
+use Rattle.chess_rules.specs.Inside.Places.{first_place, HasNone}
 use Rattle.chess_rules.proofs.moves.has_move_from.Given as goal
 
 abbrev pub invariant-loop-to : goal.invariant-loop-to

@@ -1,5 +1,5 @@
 use Rattle.std.proofs.Common.{◌+◌, arith}
-use Rattle.chess_rules.specs.Places.{first_place}
+use Rattle.chess_rules.specs.Inside.Places.{first_place}
 use Rattle.chess_rules.proofs.Listing.{lists_at, lists_pass}
 use Rattle.chess_rules.proofs.Passing.{none_from}
 use Rattle.chess_rules.proofs.moves.push_moves_from.Goals as goal

@@ -1,6 +1,6 @@
 use Rattle.std.proofs.Common.{◌+◌, arith}
 use Rattle.std.proofs.lemmas.Bool.{both_ways}
-use Rattle.chess_rules.specs.Places.{first_place, ListsBelow}
+use Rattle.chess_rules.specs.Inside.Places.{first_place, ListsBelow}
 use Rattle.chess_rules.proofs.Listing.{lists_at, lists_pass}
 use Rattle.chess_rules.proofs.moves.push_moves_to.Goals as goal
 

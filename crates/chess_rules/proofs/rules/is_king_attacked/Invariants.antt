@@ -1,7 +1,7 @@
 use Rattle.std.proofs.Common.{◌≢◌, ◌<◌, ℕ}
 use Rattle.chess_rules.specs.declared.pieces.Kind.TheVariants.{King}
 use Rattle.chess_rules.specs.Board.{on, piece_of}
-use Rattle.chess_rules.specs.Walk.{square_from_home}
+use Rattle.chess_rules.specs.Inside.Walk.{square_from_home}
 use Rattle.chess_rules.proofs.rules.is_king_attacked.Given as goal
 
 abbrev pub invariant-loop-i : goal.invariant-loop-i

@@ -1,4 +1,4 @@
-use Rattle.chess_text.specs.FieldReading.{fields_in}
+use Rattle.chess_text.specs.Inside.FieldReading.{fields_in}
 use Rattle.chess_text.proofs.FenTexts.{reads_parts, never_started}
 use Rattle.std.proofs.Common.{arith}
 use Rattle.chess_text.proofs.fen.read_parts.Goals as goal

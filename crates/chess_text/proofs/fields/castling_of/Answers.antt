@@ -1,7 +1,7 @@
 use Rattle.std.proofs.Common.{◌≡◌, ◌∙◌, sym, ap, arith, length}
 use Rattle.std.proofs.lemmas.Bool.{false≢true}
 use Rattle.chess_text.specs.Fen.{castling_text}
-use Rattle.chess_text.specs.FieldReading.{rights_at}
+use Rattle.chess_text.specs.Inside.FieldReading.{rights_at}
 use Rattle.chess_text.proofs.FenTexts.{rights_back}
 use Rattle.chess_text.proofs.FenPlain.{castling_plain}
 use Rattle.chess_text.proofs.fields.castling_of.Goals as goal

@@ -3,7 +3,7 @@ use Rattle.std.proofs.lemmas.List.{take_rest, take_all, take-append-drop}
 use Rattle.std.proofs.lemmas.List.Splits.{slice_split_at, slice_split_none}
 use Rattle.std.proofs.lemmas.List.Elements.{All-more}
 use Rattle.std.proofs.Common.{add-one, drop-cons}
-use Rattle.chess_text.specs.FieldReading.{is_space, split}
+use Rattle.chess_text.specs.Inside.FieldReading.{is_space, split}
 use Rattle.chess_text.proofs.fields.first_field.Goals as goal
 
 cut_at : (bs : List ℕ) (i : ℕ) → i < length bs → bs ≡ take i bs ++ get_or bs i 0 ∷ drop (i + 1) bs

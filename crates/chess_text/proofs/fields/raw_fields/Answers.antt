@@ -2,7 +2,7 @@ use Prim.{search}
 use Rattle.std.proofs.Common.{◌≡◌, ◌∙◌, ◌∷◌, ◌+◌, ◌<◌, arith, ap, length, rules, List, ℕ, Option, Some}
 use Rattle.std.proofs.lemmas.List.Splits.{length-slice_split}
 use denote.Ref.{Bor}
-use Rattle.chess_text.specs.FieldReading.{is_space, split, split_behind}
+use Rattle.chess_text.specs.Inside.FieldReading.{is_space, split, split_behind}
 use Rattle.chess_text.proofs.fields.raw_fields.Goals as goal
 
 step : (bs w : List ℕ) (o : Option (Bor (List ℕ))) (rest : Bor (List ℕ)) → split bs ≡ w ∷ split_behind o → o ≡ Some rest → length (split bs) ≡ 1 + length (split rest.now)

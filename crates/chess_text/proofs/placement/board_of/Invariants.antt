@@ -1,5 +1,5 @@
 use Rattle.std.proofs.Common.{◌≡◌, take, map, length}
-use Rattle.chess_text.specs.PlacementReading.{decode}
+use Rattle.chess_text.specs.Inside.PlacementReading.{decode}
 use Rattle.chess_text.proofs.placement.board_of.Given as goal
 
 abbrev pub invariant-loop-square : goal.invariant-loop-square

@@ -1,7 +1,7 @@
 use Prim.{search}
 use Rattle.std.proofs.Common.{rules, ℕ, subst}
 use Rattle.chess_rules.specs.Legal.{Legal}
-use Rattle.chess_text.specs.Rivals.{from_square}
+use Rattle.chess_text.specs.Inside.Rivals.{from_square}
 use Rattle.chess_text.proofs.san.is_rival_at.Goals as goal
 
 pub returns : goal.returns

@@ -1,7 +1,7 @@
 use Rattle.std.proofs.Common.{◌≡◌, ◌≤◌, None, Some, sym, ap, ◌∙◌, arith}
 use borrow.Author.Count.{below_more}
 use Rattle.chess_rules.specs.declared.parts.Parts.{Parts}
-use Rattle.chess_text.specs.Aim.{aim_at}
+use Rattle.chess_text.specs.Inside.Aim.{aim_at}
 use Rattle.chess_text.proofs.Answering.{aims_none, none_from, ok_is, err_is}
 use Rattle.chess_text.proofs.Plain.{texts_plain}
 use Rattle.chess_text.proofs.san_reading.read_san.Goals as goal

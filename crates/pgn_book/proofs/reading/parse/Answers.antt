@@ -5,7 +5,7 @@ use Rattle.settle_core.specs.declared.plies.Ply.{Ply}
 use Rattle.settle_core.specs.Folding.{moves_of}
 use Rattle.settle_core.specs.Settling.{position_after}
 use Rattle.settle_core.specs.GameResult.{IsResult}
-use Rattle.pgn_book.specs.Parse.{AreTurns, HasStart, Turn, fen_at, moves_part, next_line, result_at, turns_at, value_part, words}
+use Rattle.pgn_book.specs.Inside.Parse.{AreTurns, HasStart, Turn, fen_at, moves_part, next_line, result_at, turns_at, value_part, words}
 use Rattle.pgn_book.proofs.OneText.{same_game, own_sign}
 use Rattle.pgn_book.proofs.reading.parse.Goals as goal
 

@@ -3,7 +3,7 @@ use Rattle.std.proofs.lemmas.List.{append-nil}
 use Rattle.settle_core.specs.declared.plies.Ply.{Ply}
 use Rattle.settle_core.specs.Settling.{Line}
 use Rattle.settle_core.specs.Folding.{moves_of}
-use Rattle.pgn_book.specs.Parse.{Turn, AreTurns, turns_at, words_behind, clock_at}
+use Rattle.pgn_book.specs.Inside.Parse.{Turn, AreTurns, turns_at, words_behind, clock_at}
 use Rattle.pgn_book.proofs.ReadingValues.{turns_step}
 use Rattle.pgn_book.proofs.Turns.{first_turn, no_turns, line_more, only_more}
 use Rattle.pgn_book.proofs.reading.read_plies.Goals as goal

@@ -2,7 +2,7 @@ use Rattle.std.proofs.Common.{◌≡◌, ◌++◌, List, length}
 use Rattle.settle_core.specs.declared.plies.Ply.{Ply}
 use Rattle.settle_core.specs.Settling.{Line}
 use Rattle.settle_core.specs.Folding.{moves_of}
-use Rattle.pgn_book.specs.Parse.{words, words_behind, turns_at, AreTurns}
+use Rattle.pgn_book.specs.Inside.Parse.{words, words_behind, turns_at, AreTurns}
 use Rattle.pgn_book.proofs.reading.read_plies.Given as goal
 
 abbrev pub invariant-loop-rest : goal.invariant-loop-rest

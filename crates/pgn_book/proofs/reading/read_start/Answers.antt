@@ -1,5 +1,5 @@
 use Rattle.std.proofs.Common.{ap, ◌∙◌, false, rules}
-use Rattle.pgn_book.specs.Parse.{value_at}
+use Rattle.pgn_book.specs.Inside.Parse.{value_at}
 use Rattle.pgn_book.proofs.Starts.{fen_is, fen_kept}
 use Rattle.pgn_book.proofs.reading.read_start.Goals as goal
 

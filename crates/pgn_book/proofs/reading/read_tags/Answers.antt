@@ -4,7 +4,7 @@ use Rattle.chess_game.specs.declared.values.Tag.{Tag}
 use Rattle.chess_game.specs.declared.values.Tag.TheVariants.{Event}
 use Rattle.chess_game.specs.TagNames.{all_tags}
 use Rattle.chess_game.specs.Values.{IsValue, with_value}
-use Rattle.pgn_book.specs.Parse.{next_line, value_at, value_part}
+use Rattle.pgn_book.specs.Inside.Parse.{next_line, value_at, value_part}
 use Rattle.pgn_book.proofs.TagsRead.{Reads, fit_next, reads_next}
 use Rattle.pgn_book.proofs.reading.read_tags.Goals as goal
 

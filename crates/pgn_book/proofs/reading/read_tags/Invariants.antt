@@ -1,7 +1,7 @@
 use Rattle.std.proofs.Common.{drop}
 use Rattle.chess_game.specs.TagNames.{all_tags}
 use Rattle.chess_game.specs.Values.{TagValues, AreValues}
-use Rattle.pgn_book.specs.Parse.{HaveValues}
+use Rattle.pgn_book.specs.Inside.Parse.{HaveValues}
 use Rattle.pgn_book.proofs.TagsRead.{Reads}
 use Rattle.pgn_book.proofs.reading.read_tags.Given as goal
 

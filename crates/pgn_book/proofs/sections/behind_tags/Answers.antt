@@ -3,7 +3,7 @@ use Rattle.std.proofs.lemmas.List.{at_drop_more}
 use Rattle.chess_game.specs.declared.values.Tag.{Tag}
 use Rattle.chess_game.specs.declared.values.Tag.TheVariants.{Event}
 use Rattle.chess_game.specs.TagNames.{all_tags}
-use Rattle.pgn_book.specs.Parse.{behind_lines, next_line, value_part}
+use Rattle.pgn_book.specs.Inside.Parse.{behind_lines, next_line, value_part}
 use Rattle.pgn_book.proofs.sections.behind_tags.Goals as goal
 
 pub loop-tag-preserved : goal.loop-tag-preserved

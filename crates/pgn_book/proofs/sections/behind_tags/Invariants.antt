@@ -1,6 +1,6 @@
 use Rattle.std.proofs.Common.{◌≡◌, drop}
 use Rattle.chess_game.specs.TagNames.{all_tags}
-use Rattle.pgn_book.specs.Parse.{behind_lines}
+use Rattle.pgn_book.specs.Inside.Parse.{behind_lines}
 use Rattle.pgn_book.proofs.sections.behind_tags.Given as goal
 
 abbrev pub invariant-loop-tag : goal.invariant-loop-tag

@@ -1,5 +1,5 @@
 use Rattle.std.proofs.Common.{◌≡◌, drop, false}
-use Rattle.pgn_book.specs.Parse.{after_value}
+use Rattle.pgn_book.specs.Inside.Parse.{after_value}
 use Rattle.pgn_book.proofs.sections.behind_value.Given as goal
 
 abbrev pub invariant-loop-i : goal.invariant-loop-i

@@ -1,7 +1,7 @@
 use Rattle.std.proofs.Common.{◌+◌, ◌++◌, ℕ, List, false, get_or, drop, sym, ◌∙◌, ap, subst, arith}
 use Rattle.std.proofs.lemmas.List.{drop_more}
 use Rattle.chess_game.specs.Values.{IsText, IsShort}
-use Rattle.pgn_book.specs.Parse.{value_at}
+use Rattle.pgn_book.specs.Inside.Parse.{value_at}
 use Rattle.pgn_book.proofs.ReadingValues.{plain_step, kept_more, quoted_more, refused_value}
 use Rattle.pgn_book.proofs.sections.read_value.Goals as goal
 use Rattle.pgn_book.proofs.sections.read_value.Goals.{then-is_plain+else-not-keep, else-is_plain+else-byte-eq34}

@@ -1,6 +1,6 @@
 use Rattle.std.proofs.Common.{◌+◌, ◌∙◌, ◌∷◌, sym, arith, List, ℕ, ap, take}
 use Rattle.std.proofs.lemmas.List.{take_rest, take_all}
-use Rattle.pgn_book.specs.Parse.{words}
+use Rattle.pgn_book.specs.Inside.Parse.{words}
 use Rattle.pgn_book.proofs.WordLemmas.{NoBreak-more, words-at, words-one}
 use Rattle.pgn_book.proofs.words.first_word.Goals as goal
 

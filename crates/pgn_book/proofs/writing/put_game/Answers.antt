@@ -1,6 +1,6 @@
 use Rattle.std.proofs.Common.{◌++◌, ◌∷◌, [], subst}
 use Rattle.chess_rules.specs.declared.parts.Parts.{Parts}
-use Rattle.pgn_book.specs.Flow.{flow}
+use Rattle.pgn_book.specs.Inside.Flow.{flow}
 use Rattle.pgn_book.specs.Movetext.{result_text, game_tokens}
 use Rattle.pgn_book.specs.Pgn.{IsSetUp, roster}
 use Rattle.pgn_book.proofs.Export.{pieces, pieces_are_pgn}

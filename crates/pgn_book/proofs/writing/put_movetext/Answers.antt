@@ -3,7 +3,7 @@ use Rattle.settle_core.specs.declared.plies.Ply.{Ply}
 use Rattle.chess_rules.specs.declared.parts.Parts.{Parts}
 use Rattle.watched_streams.specs.Watch.{inner_of, has_failed}
 use Rattle.pgn_book.specs.Movetext.{AreShown, tokens_of, result_text}
-use Rattle.pgn_book.specs.Flow.{flow, Adds}
+use Rattle.pgn_book.specs.Inside.Flow.{flow, Adds}
 use Rattle.pgn_book.proofs.Standing.{Adds-then, Writes-then, Writes-same}
 use Rattle.pgn_book.proofs.writing.put_movetext.Goals as goal
 

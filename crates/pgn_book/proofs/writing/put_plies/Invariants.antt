@@ -2,7 +2,7 @@ use Rattle.std.proofs.Common.{List, ℕ, drop}
 use Rattle.watched_streams.specs.Watch.{inner_of, has_failed}
 use Rattle.settle_core.specs.Settling.{Line}
 use Rattle.settle_core.specs.Folding.{moves_of}
-use Rattle.pgn_book.specs.Flow.{Writes}
+use Rattle.pgn_book.specs.Inside.Flow.{Writes}
 use Rattle.pgn_book.proofs.Moves.{Continues}
 use Rattle.pgn_book.proofs.writing.put_plies.Given as goal
 

@@ -1,6 +1,6 @@
 use Rattle.std.proofs.Common.{◌≡◌, take}
 use Rattle.watched_streams.specs.Watch.{inner_of, has_failed}
-use Rattle.pgn_book.specs.Flow.{Adds}
+use Rattle.pgn_book.specs.Inside.Flow.{Adds}
 use Rattle.chess_game.specs.TagNames.{all_tags}
 use Rattle.pgn_book.specs.Pgn.{tag_lines}
 use Rattle.pgn_book.proofs.writing.put_tags.Given as goal

@@ -1,7 +1,7 @@
 use Prim.{search}
 use Rattle.std.proofs.Common.{[], ◌∷◌, arith, sym, ◌∙◌, rules}
 use Rattle.std.proofs.lemmas.List.{append-nil}
-use Rattle.pgn_book.specs.Flow.{piece}
+use Rattle.pgn_book.specs.Inside.Flow.{piece}
 use Rattle.pgn_book.proofs.Flowing.{piece-fits, piece-over}
 use Rattle.pgn_book.proofs.Standing.{Adds-then, Adds-same}
 use Rattle.pgn_book.proofs.writing.put_token.Goals as goal

@@ -1,6 +1,6 @@
 use Rattle.std.proofs.Common.{Ok, None, ap, ◌∙◌, true, false, if◌then◌else◌}
 use Rattle.board_events.specs.Session.{entries_in}
-use Rattle.recovery.specs.Keeping.{KeepsNext}
+use Rattle.recovery.specs.Inside.Keeping.{KeepsNext}
 use Rattle.recovery.proofs.EventLemmas.{carries_none}
 use Rattle.recovery.proofs.KeepLemmas.{at_some}
 use Rattle.recovery.proofs.passer.hear.Goals as goal

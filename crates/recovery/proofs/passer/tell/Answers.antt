@@ -1,6 +1,6 @@
 use Rattle.std.proofs.Common.{◌∷◌, Some, None, subst, sym, ◌∙◌}
 use Rattle.board_events.specs.Session.{entries_in}
-use Rattle.recovery.specs.Keeping.{KeepsNext}
+use Rattle.recovery.specs.Inside.Keeping.{KeepsNext}
 use Rattle.recovery.proofs.EventLemmas.{alike_event, carries_none, carries_put}
 use Rattle.recovery.proofs.KeepLemmas.{legal_found}
 use Rattle.recovery.proofs.PassLemmas.{told_alone}

@@ -6,8 +6,8 @@ use Rattle.std.specs.Io.KnownBytes.{Appends}
 use Rattle.watched_streams.specs.Watch.{inner_of}
 use Rattle.watched_streams.specs.Output.{AppendsPart}
 use Rattle.recovery.specs.declared.refusal.RecoverError.{RecoverError}
-use Rattle.recovery.specs.Passing.{Passes}
-use Rattle.recovery.specs.Progress.{BreaksOff, PassesOn, HasBegun, IsPutIn, RefusesAmong}
+use Rattle.recovery.specs.Inside.Passing.{PassesBytes}
+use Rattle.recovery.specs.Inside.Progress.{BreaksOff, PassesOn, HasBegun, IsPutIn, RefusesAmong}
 use Rattle.recovery.proofs.ChunkLemmas.{both_broken, chunk_broken, chunk_sent, event_passed, event_put, memory_broken, pair_broken, pair_unwritten, write_broken}
 use Rattle.recovery.proofs.GiveLemmas.{begun_on, gives_start}
 use Rattle.recovery.proofs.stream.give_chunk.Goals as goal
@@ -33,8 +33,8 @@ events-preserved-then-is_empty g c =
     let counts : (0 < c.in-Some.more) × (c.in-Some.more ≤ length (take (length chunk - c.events.taken) rest)) =
     subst (λ (found : Option ℕ). IfSome found (λ count. (0 < count) × (count ≤ length (take (length chunk - c.events.taken) rest)))) c.in-Some.is c.in-Ok.ensures.taken in
     let inside : c.in-Some.more ≤ length rest = rw all at counts.1 in
-    let passes : Passes c.events.decoder c.events.keeper (c.args.start + c.events.taken) (take c.in-Some.more (take (length chunk - c.events.taken) rest)) c.pass.new.decoder c.pass.new.keeper c.pass.new.frames.items c.pass.new.line.items =
-    subst (λ (found : Option ℕ). IfSome found (λ count. Passes c.events.decoder c.events.keeper (c.args.start + c.events.taken) (take count (take (length chunk - c.events.taken) rest)) c.pass.new.decoder c.pass.new.keeper c.pass.new.frames.items c.pass.new.line.items)) c.in-Some.is c.in-Ok.ensures.some in
+    let passes : PassesBytes c.events.decoder c.events.keeper (c.args.start + c.events.taken) (take c.in-Some.more (take (length chunk - c.events.taken) rest)) c.pass.new.decoder c.pass.new.keeper c.pass.new.frames.items c.pass.new.line.items =
+    subst (λ (found : Option ℕ). IfSome found (λ count. PassesBytes c.events.decoder c.events.keeper (c.args.start + c.events.taken) (take count (take (length chunk - c.events.taken) rest)) c.pass.new.decoder c.pass.new.keeper c.pass.new.frames.items c.pass.new.line.items)) c.in-Some.is c.in-Ok.ensures.some in
     let put : IsPutIn c.pass.new.frames.items c.pass.new.line.items = subst (λ (found : Option ℕ). IfSome found (λ _. IsPutIn c.pass.new.frames.items c.pass.new.line.items)) c.in-Some.is c.in-Ok.ensures.put_in in
     let empty : length c.pass.new.line.items ≡ 0 = grind (arith, nat_tests) in
     let given = event_passed c.args.decoder.now c.events.decoder c.pass.new.decoder c.args.keeper.now c.events.keeper c.pass.new.keeper c.args.start c.events.taken c.in-Some.more c.events.sent chunk
@@ -58,8 +58,8 @@ events-preserved g c =
     let counts : (0 < c.in-Some.more) × (c.in-Some.more ≤ length (take (length chunk - c.events.taken) rest)) =
     subst (λ (found : Option ℕ). IfSome found (λ count. (0 < count) × (count ≤ length (take (length chunk - c.events.taken) rest)))) c.in-Some.is c.in-Ok.ensures.taken in
     let inside : c.in-Some.more ≤ length rest = rw all at counts.1 in
-    let passes : Passes c.events.decoder c.events.keeper (c.args.start + c.events.taken) (take c.in-Some.more (take (length chunk - c.events.taken) rest)) c.pass.new.decoder c.pass.new.keeper c.pass.new.frames.items c.pass.new.line.items =
-    subst (λ (found : Option ℕ). IfSome found (λ count. Passes c.events.decoder c.events.keeper (c.args.start + c.events.taken) (take count (take (length chunk - c.events.taken) rest)) c.pass.new.decoder c.pass.new.keeper c.pass.new.frames.items c.pass.new.line.items)) c.in-Some.is c.in-Ok.ensures.some in
+    let passes : PassesBytes c.events.decoder c.events.keeper (c.args.start + c.events.taken) (take c.in-Some.more (take (length chunk - c.events.taken) rest)) c.pass.new.decoder c.pass.new.keeper c.pass.new.frames.items c.pass.new.line.items =
+    subst (λ (found : Option ℕ). IfSome found (λ count. PassesBytes c.events.decoder c.events.keeper (c.args.start + c.events.taken) (take count (take (length chunk - c.events.taken) rest)) c.pass.new.decoder c.pass.new.keeper c.pass.new.frames.items c.pass.new.line.items)) c.in-Some.is c.in-Ok.ensures.some in
     let given = event_put c.args.decoder.now c.events.decoder c.pass.new.decoder c.args.keeper.now c.events.keeper c.pass.new.keeper c.args.start c.events.taken c.in-Some.more c.events.sent chunk
     c.pass.new.frames.items c.pass.new.line.items _ _ _ _ _ _ c.events.invariant.behind c.events.invariant.inside (rw all at passes) c.in_default-put_pair.ensures.written c.in_default-put_pair.ensures.said c.events.invariant.given in
     let long : length (take (c.events.taken + c.in-Some.more) chunk) ≡ c.events.taken + c.in-Some.more = length-take-le (c.events.taken + c.in-Some.more) chunk (omega (arith, inside, length-drop c.events.taken chunk, c.events.invariant.inside)) in
@@ -96,8 +96,8 @@ returns-in_default-passed-clause-ok g c =
     let rest = drop c.events.taken chunk in
     let all : take (length chunk - c.events.taken) rest ≡ rest = take_all (length chunk - c.events.taken) rest (omega (arith, length-drop c.events.taken chunk)) in
     let unsent : take (length chunk - c.events.sent) (drop c.events.sent chunk) ≡ drop c.events.sent chunk = take_all (length chunk - c.events.sent) (drop c.events.sent chunk) (omega (arith, length-drop c.events.sent chunk)) in
-    let passes : Passes c.events.decoder c.events.keeper (c.args.start + c.events.taken) (take (length chunk - c.events.taken) rest) c.pass.new.decoder c.pass.new.keeper [] [] =
-    subst (λ (found : Option ℕ). IfNone found (Passes c.events.decoder c.events.keeper (c.args.start + c.events.taken) (take (length chunk - c.events.taken) rest) c.pass.new.decoder c.pass.new.keeper [] [])) c.in_default-passed.is c.in-Ok.ensures.none in
+    let passes : PassesBytes c.events.decoder c.events.keeper (c.args.start + c.events.taken) (take (length chunk - c.events.taken) rest) c.pass.new.decoder c.pass.new.keeper [] [] =
+    subst (λ (found : Option ℕ). IfNone found (PassesBytes c.events.decoder c.events.keeper (c.args.start + c.events.taken) (take (length chunk - c.events.taken) rest) c.pass.new.decoder c.pass.new.keeper [] [])) c.in_default-passed.is c.in-Ok.ensures.none in
     on_ok (Appends (g.O.Write.contents (inner_of c.events.out)) (g.O.Write.contents (inner_of c.send-in_default-passed.new.out)) (take (length chunk - c.events.sent) (drop c.events.sent chunk)))
     (PassesOn c.args.decoder.now c.args.keeper.now c.args.start chunk c.pass.new.decoder c.pass.new.keeper [] (g.O.Write.contents (inner_of c.args.out.now)) (g.O.Write.contents (inner_of c.send-in_default-passed.new.out))
     (g.E.Write.contents (inner_of c.args.err.now)) (g.E.Write.contents (inner_of c.events.err))) c.send-in_default-passed.result c.send-in_default-passed.ensures.ok
@@ -110,8 +110,8 @@ returns-in_default-passed-clause-broken g c =
     let rest = drop c.events.taken chunk in
     let all : take (length chunk - c.events.taken) rest ≡ rest = take_all (length chunk - c.events.taken) rest (omega (arith, length-drop c.events.taken chunk)) in
     let unsent : take (length chunk - c.events.sent) (drop c.events.sent chunk) ≡ drop c.events.sent chunk = take_all (length chunk - c.events.sent) (drop c.events.sent chunk) (omega (arith, length-drop c.events.sent chunk)) in
-    let passes : Passes c.events.decoder c.events.keeper (c.args.start + c.events.taken) (take (length chunk - c.events.taken) rest) c.pass.new.decoder c.pass.new.keeper [] [] =
-    subst (λ (found : Option ℕ). IfNone found (Passes c.events.decoder c.events.keeper (c.args.start + c.events.taken) (take (length chunk - c.events.taken) rest) c.pass.new.decoder c.pass.new.keeper [] [])) c.in_default-passed.is c.in-Ok.ensures.none in
+    let passes : PassesBytes c.events.decoder c.events.keeper (c.args.start + c.events.taken) (take (length chunk - c.events.taken) rest) c.pass.new.decoder c.pass.new.keeper [] [] =
+    subst (λ (found : Option ℕ). IfNone found (PassesBytes c.events.decoder c.events.keeper (c.args.start + c.events.taken) (take (length chunk - c.events.taken) rest) c.pass.new.decoder c.pass.new.keeper [] [])) c.in_default-passed.is c.in-Ok.ensures.none in
     write_broken (λ error. BreaksOff error c.args.decoder.now c.args.keeper.now c.args.start chunk (g.O.Write.contents (inner_of c.args.out.now)) (g.O.Write.contents (inner_of c.send-in_default-passed.new.out))
     (g.E.Write.contents (inner_of c.args.err.now)) (g.E.Write.contents (inner_of c.events.err)))
     (AppendsPart (g.O.Write.contents (inner_of c.events.out)) (g.O.Write.contents (inner_of c.send-in_default-passed.new.out)) (take (length chunk - c.events.sent) (drop c.events.sent chunk)))
@@ -124,8 +124,8 @@ returns-in-Err-put_pair-clause-broken g c =
     let chunk = c.args.chunk.now in
     let rest = drop c.events.taken chunk in
     let all : take (length chunk - c.events.taken) rest ≡ rest = take_all (length chunk - c.events.taken) rest (omega (arith, length-drop c.events.taken chunk)) in
-    let passes : Passes c.events.decoder c.events.keeper (c.args.start + c.events.taken) (take c.in-Some.more (take (length chunk - c.events.taken) rest)) c.pass.new.decoder c.pass.new.keeper c.pass.new.frames.items c.pass.new.line.items =
-    subst (λ (found : Option ℕ). IfSome found (λ count. Passes c.events.decoder c.events.keeper (c.args.start + c.events.taken) (take count (take (length chunk - c.events.taken) rest)) c.pass.new.decoder c.pass.new.keeper c.pass.new.frames.items c.pass.new.line.items)) c.in-Some.is c.in-Ok.ensures.some in
+    let passes : PassesBytes c.events.decoder c.events.keeper (c.args.start + c.events.taken) (take c.in-Some.more (take (length chunk - c.events.taken) rest)) c.pass.new.decoder c.pass.new.keeper c.pass.new.frames.items c.pass.new.line.items =
+    subst (λ (found : Option ℕ). IfSome found (λ count. PassesBytes c.events.decoder c.events.keeper (c.args.start + c.events.taken) (take count (take (length chunk - c.events.taken) rest)) c.pass.new.decoder c.pass.new.keeper c.pass.new.frames.items c.pass.new.line.items)) c.in-Some.is c.in-Ok.ensures.some in
     let put : IsPutIn c.pass.new.frames.items c.pass.new.line.items = subst (λ (found : Option ℕ). IfSome found (λ _. IsPutIn c.pass.new.frames.items c.pass.new.line.items)) c.in-Some.is c.in-Ok.ensures.put_in in
     let some : 0 < length c.pass.new.line.items = grind (arith, nat_tests) in
     pair_broken c.in-Err-put_pair.error c.args.decoder.now c.events.decoder c.pass.new.decoder c.args.keeper.now c.events.keeper c.pass.new.keeper c.args.start c.events.taken c.in-Some.more c.events.sent chunk

@@ -1,6 +1,6 @@
 use Rattle.std.proofs.Common.{◌≡◌, ◌+◌, ◌-◌, ◌≤◌, length, take, drop, false}
 use Rattle.watched_streams.specs.Watch.{IsFlushed, inner_of, has_failed}
-use Rattle.recovery.specs.Progress.{PassesOn, HasBegun}
+use Rattle.recovery.specs.Inside.Progress.{PassesOn, HasBegun}
 use Rattle.recovery.proofs.stream.give_chunk.Given as goal
 
 abbrev pub invariant-events : goal.invariant-events

@@ -5,7 +5,7 @@ use Rattle.watched_streams.specs.Watch.{inner_of, has_failed}
 use Rattle.board_events.specs.Settings.{Setting}
 use Rattle.recovery.specs.declared.refusal.RecoverError.{RecoverError}
 use Rattle.recovery.specs.declared.refusal.RecoverError.TheVariants.{Read, TooLong, Memory}
-use Rattle.recovery.specs.Progress.{BreaksOff}
+use Rattle.recovery.specs.Inside.Progress.{BreaksOff}
 use Rattle.recovery.proofs.StreamLemmas.{all_given, ended_given, first_given, front_broken, front_of_read, front_past, given_more, given_none, line_fails, no_other, read_given, reads_no_more, reads_none, reads_within, some_broken, write_fails}
 use Rattle.recovery.proofs.stream.recover_stream.Goals as goal
 

@@ -1,6 +1,6 @@
 use Rattle.std.proofs.Common.{◌≡◌, ◌-◌, ◌≤◌, false}
 use Rattle.watched_streams.specs.Watch.{IsFlushed, inner_of, has_failed}
-use Rattle.recovery.specs.Progress.{HasGiven}
+use Rattle.recovery.specs.Inside.Progress.{HasGiven}
 use Rattle.recovery.proofs.stream.recover_stream.Given as goal
 
 abbrev pub invariant-chunks : goal.invariant-chunks

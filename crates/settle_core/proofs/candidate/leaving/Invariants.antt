@@ -1,6 +1,6 @@
 use Rattle.std.proofs.Common.{◌≡◌, ◌<◌, ℕ, false, get_or}
 use Rattle.std.specs.Int.{bit_at}
-use Rattle.settle_core.specs.Candidate.{leaves}
+use Rattle.settle_core.specs.Inside.Reading.{leaves}
 use Rattle.settle_core.proofs.candidate.leaving.Given as goal
 
 abbrev pub invariant-loop-rest : goal.invariant-loop-rest

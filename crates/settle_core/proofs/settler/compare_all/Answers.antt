@@ -1,6 +1,6 @@
 use Rattle.std.proofs.Common.{Option, subst}
 use Rattle.settle_core.specs.declared.compared.Compared.{Compared}
-use Rattle.settle_core.specs.Kept.{IsComparedIn}
+use Rattle.settle_core.specs.Inside.Kept.{IsComparedIn}
 use Rattle.settle_core.proofs.settler.compare_all.Goals as goal
 
 pub returns-in-Some-clause-compared : goal.returns-in-Some-clause-compared

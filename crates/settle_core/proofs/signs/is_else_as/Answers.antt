@@ -1,7 +1,8 @@
 use borrow.Author.Count.{below_more}
 use Rattle.settle_core.proofs.signs.is_else_as.Goals.{else-not-in_centre-via-then-not-in_centre+else-not-is_as, else-not-in_centre-via-else-not-in_centre}
 use Rattle.std.proofs.Common.{ℕ, ◌≡◌, List, get_or, true, false, refl, subst, sym, arith}
-use Rattle.settle_core.specs.Sign.{InCentre, IsAs}
+use Rattle.settle_core.specs.Sign.{InCentre}
+use Rattle.settle_core.specs.Inside.Signs.{IsAs}
 use Rattle.settle_core.proofs.Signing.{else_as_from, as_from_else}
 use Rattle.settle_core.proofs.signs.is_else_as.Goals as goal
 

@@ -1,5 +1,6 @@
 use Rattle.std.proofs.Common.{◌<◌, ℕ, get_or}
-use Rattle.settle_core.specs.Sign.{InCentre, IsAs}
+use Rattle.settle_core.specs.Sign.{InCentre}
+use Rattle.settle_core.specs.Inside.Signs.{IsAs}
 use Rattle.settle_core.proofs.signs.is_else_as.Given as goal
 
 abbrev pub invariant-loop-square : goal.invariant-loop-square

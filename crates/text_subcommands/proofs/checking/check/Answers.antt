@@ -25,3 +25,12 @@ returns-in-Err-clause-unread g c = search rules
 
 pub returns-in-Err-clause-silent : goal.returns-in-Err-clause-silent
 returns-in-Err-clause-silent g c = search rules
+
+pub returns-in-Err-clause-out_blamed : goal.returns-in-Err-clause-out_blamed
+returns-in-Err-clause-out_blamed g c = search rules
+
+pub returns-in-Err-clause-flushed : goal.returns-in-Err-clause-flushed
+returns-in-Err-clause-flushed g c = search rules
+
+pub returns-in-Err-clause-tells : goal.returns-in-Err-clause-tells
+returns-in-Err-clause-tells g c = search rules

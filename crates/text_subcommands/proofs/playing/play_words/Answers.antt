@@ -1,5 +1,6 @@
 use Rattle.std.proofs.Common.{◌≡◌, ◌∷◌, ◌+◌, ◌≤◌, ◌∙◌, sym, length, arith, rules}
-use Rattle.text_subcommands.specs.Words.{filled, parts_behind, words}
+use Rattle.text_subcommands.specs.Words.{filled, words}
+use Rattle.text_subcommands.specs.Inside.Parts.{parts_behind}
 use Rattle.text_subcommands.proofs.PlayedLemmas.{PlaysSoFar, none_first, plays_more, plays_none, plays_to_end, plays_to_word, word_first}
 use Rattle.text_subcommands.proofs.playing.play_words.Goals as goal
 use Rattle.text_subcommands.proofs.playing.play_words.Goals.{then-not-is_empty+in-Some+in_ok-add_position-2, else-not-is_empty}

@@ -3,7 +3,5 @@ use Rattle.unseen_pairs.proofs.beginning.push_move.Goals as goal
 
 pub returns-in_ok-push : goal.returns-in_ok-push
 returns-in_ok-push c =
-    let tried = c.plain_move.ensures in
-    let added = c.plain_move-then-is_legal.ensures in
-    adds_between c.args.p.now c.args.from c.args.to c.plain_move.result c.plain_move-then-is_legal.result c.args.moves.now.items c.push.new.self.items c.in_ok-push.ensures.items
-    (tried.from, tried.to, tried.promotion) (added.from, added.to, added.promotion) (c.is_legal.ensures.0 c.if-is_legal.true)
+    adds_between c.args.p.now c.args.from c.args.to c.args.promotion c.move_between.result c.move_between-then-is_legal.result c.args.moves.now.items c.push.new.self.items
+    c.in_ok-push.ensures.items c.move_between.ensures c.move_between-then-is_legal.ensures (c.is_legal.ensures.0 c.if-is_legal.true)

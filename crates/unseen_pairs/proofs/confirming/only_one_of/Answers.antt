@@ -3,7 +3,7 @@ use Rattle.std.proofs.Common.{◌+◌, Option, IfSome, sym, subst, rules}
 use Rattle.settle_core.specs.declared.plies.Seen.{Seen}
 use Rattle.unseen_pairs.specs.declared.confirming.Confirmed.{Confirmed}
 use Rattle.unseen_pairs.specs.Pairs.{GoesOn}
-use Rattle.unseen_pairs.specs.Candidates.{FoundBelow}
+use Rattle.unseen_pairs.specs.Inside.Waiting.{FoundBelow}
 use Rattle.std.proofs.lemmas.Bool.{both_ways}
 use Rattle.unseen_pairs.proofs.Sequels.{found_all, found_first, found_again, found_two}
 use Rattle.unseen_pairs.proofs.confirming.only_one_of.Goals.{in-None, in-Some-found+else-not-is_same}

@@ -1,4 +1,4 @@
-use Rattle.unseen_pairs.specs.Candidates.{FoundBelow}
+use Rattle.unseen_pairs.specs.Inside.Waiting.{FoundBelow}
 use Rattle.unseen_pairs.proofs.confirming.only_one_of.Given as goal
 
 abbrev pub invariant-loop-candidate : goal.invariant-loop-candidate

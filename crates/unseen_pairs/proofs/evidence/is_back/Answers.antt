@@ -3,7 +3,7 @@ use Rattle.std.specs.Int.{bit_at}
 use Rattle.std.proofs.lemmas.Bool.{cases_eq}
 use Rattle.std.proofs.lemmas.Nat.Bits.{bit_at-zero}
 use Rattle.settle_core.proofs.Masking.{zero_one}
-use Rattle.unseen_pairs.specs.Candidates.{IsBackOn}
+use Rattle.unseen_pairs.specs.Inside.Waiting.{IsBackOn}
 use Rattle.unseen_pairs.proofs.Times.{back_on, no_back}
 use Rattle.unseen_pairs.proofs.evidence.is_back.Goals as goal
 

@@ -1,6 +1,6 @@
 use Rattle.std.proofs.Common.{◌≡◌, ◌<◌, ℕ}
 use Rattle.std.specs.Int.{bit_at}
-use Rattle.unseen_pairs.specs.Candidates.{IsBackOn}
+use Rattle.unseen_pairs.specs.Inside.Waiting.{IsBackOn}
 use Rattle.unseen_pairs.proofs.evidence.is_back.Given as goal
 
 abbrev pub invariant-squares : goal.invariant-squares

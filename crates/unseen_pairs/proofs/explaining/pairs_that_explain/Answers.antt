@@ -1,6 +1,6 @@
 use Rattle.std.proofs.Common.{sym, subst, ◌≡◌, ◌≤◌, arith, List, ℕ}
 use Rattle.chess_rules.specs.declared.chess_move.Move.{Move}
-use Rattle.unseen_pairs.specs.Beginning.{ListsFirst}
+use Rattle.unseen_pairs.specs.Inside.Beginning.{ListsFirst}
 use Rattle.unseen_pairs.proofs.Adding.{lists_more, lists_all, legal_at}
 use Rattle.unseen_pairs.proofs.explaining.pairs_that_explain.Goals as goal
 

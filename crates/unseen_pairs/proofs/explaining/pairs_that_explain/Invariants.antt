@@ -1,4 +1,4 @@
-use Rattle.unseen_pairs.specs.Explaining.{ListsPairs}
+use Rattle.unseen_pairs.specs.Inside.Explaining.{ListsPairs}
 use Rattle.unseen_pairs.proofs.explaining.pairs_that_explain.Given as goal
 
 abbrev pub invariant-loop-first : goal.invariant-loop-first

@@ -1,4 +1,4 @@
-use Rattle.unseen_pairs.specs.Candidates.{AddedBelow}
+use Rattle.unseen_pairs.specs.Inside.Waiting.{AddedBelow}
 use Rattle.unseen_pairs.proofs.waiting.add_explaining.Given as goal
 
 abbrev pub invariant-loop-two : goal.invariant-loop-two

@@ -2,7 +2,7 @@ use Rattle.std.proofs.Common.{false, OnOk, subst}
 use Rattle.std.proofs.lemmas.Bool.{both_ways}
 use Rattle.chess_rules.specs.declared.parts.Parts.{Parts}
 use Rattle.chess_rules.specs.Valid.{Valid}
-use Rattle.unseen_pairs.specs.Candidates.{AreAdded}
+use Rattle.unseen_pairs.specs.Inside.Waiting.{AreAdded}
 use Rattle.unseen_pairs.proofs.Aging.{none_between, none_within}
 use Rattle.unseen_pairs.proofs.waiting.add_next.Goals as goal
 

@@ -2,7 +2,7 @@ use Rattle.std.proofs.Common.{◌≡◌, ◌∙◌, Some, ap, subst, sym}
 use Rattle.chess_text.specs.declared.placement_text.PlacementText.{PlacementText}
 use Rattle.chess_text.specs.KeptRanks.{picture_in}
 use Rattle.settle_core.specs.declared.plies.Seen.{Seen}
-use Rattle.board_listing.specs.Watchers.{AddsShown}
+use Rattle.board_listing.specs.Inside.Watchers.{AddsShown}
 use Rattle.board_listing.proofs.watcher.Watcher.tell.Goals as goal
 
 pub returns-then-is_news-clause-told : goal.returns-then-is_news-clause-told

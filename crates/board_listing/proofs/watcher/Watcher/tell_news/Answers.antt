@@ -3,7 +3,7 @@ use Rattle.settle_core.specs.Settler.{Sheet}
 use Rattle.chess_text.specs.KeptRanks.{picture_in}
 use Rattle.watched_streams.specs.Lines.{line}
 use Rattle.board_listing.specs.GameText.{reached_by}
-use Rattle.board_listing.specs.Positions.{TellsResultAndPosition, TellsSeenAndPosition}
+use Rattle.board_listing.specs.Inside.Positions.{TellsResultAndPosition, TellsSeenAndPosition}
 use Rattle.board_listing.specs.WatchLines.{picture_words}
 use Rattle.board_listing.proofs.watcher.Watcher.tell_news.Goals as goal
 

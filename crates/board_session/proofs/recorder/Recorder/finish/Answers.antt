@@ -1,4 +1,5 @@
-use Rattle.std.proofs.Common.{◌≤◌, length, arith}
+use Prim.{search}
+use Rattle.std.proofs.Common.{◌≤◌, length, arith, rules}
 use Rattle.std.proofs.lemmas.Result.{err_from_is_err_and}
 use Rattle.board_events.specs.Commands.{past_of}
 use Rattle.board_session.proofs.CountLemmas.{few_moves}
@@ -23,3 +24,6 @@ returns-in_err-ending-clause-finished g c = let p = err_from_is_err_and c.from_r
     ended c.in_err-ending.field-0.0 c.args.ending setting c.args.tags front events taken _ _ c.pending-rest.result c.into_game-game.result
     c.in_err-ending.was (c.pending-rest.ensures front events decoded) (c.into_game-game.ensures.game setting (past_of taken) kept.session)
     c.in_ok-write_game.ensures.text)
+
+pub returns-in_err-ending-clause-flushed : goal.returns-in_err-ending-clause-flushed
+returns-in_err-ending-clause-flushed g c = search rules

@@ -1,6 +1,6 @@
 use Rattle.std.proofs.Common.{◌≡◌, ◌-◌, ◌≤◌, false}
 use Rattle.watched_streams.specs.Watch.{IsFlushed, inner_of, has_failed}
-use Rattle.board_session.specs.Recorder.{IsFed, Reads, event_count}
+use Rattle.board_session.specs.Inside.Recorder.{IsFed, Reads, event_count}
 use Rattle.board_session.proofs.recorder.Recorder.read_all.Given as goal
 
 abbrev pub invariant-chunks : goal.invariant-chunks

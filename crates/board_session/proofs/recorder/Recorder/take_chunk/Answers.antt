@@ -2,7 +2,7 @@ use Rattle.std.proofs.Common.{◌≡◌, ℕ, ◌+◌, ◌-◌, ◌<◌, ◌≤�
 use Rattle.std.proofs.lemmas.Result.{err_from_is_err_and}
 use Rattle.dgt_frame.specs.Decoder.{TakesAll, TakesUpTo}
 use Rattle.watched_streams.specs.Watch.{inner_of}
-use Rattle.board_session.specs.Recorder.{Kept, Stopped}
+use Rattle.board_session.specs.Inside.Recorder.{Kept, Stopped}
 use Rattle.board_session.proofs.HearLemmas.{event_heard, live_at, chunk_more, chunk_whole, stopped_more}
 use Rattle.board_session.proofs.recorder.Recorder.take_chunk.Goals as goal
 

@@ -1,6 +1,6 @@
 use Rattle.std.proofs.Common.{◌≡◌, ◌+◌, ◌-◌, ◌≤◌, length, take, false, Ok}
 use Rattle.watched_streams.specs.Watch.{IsFlushed, inner_of, has_failed}
-use Rattle.board_session.specs.Recorder.{Hears, IsFed, event_count}
+use Rattle.board_session.specs.Inside.Recorder.{Hears, IsFed, event_count}
 use Rattle.board_session.proofs.recorder.Recorder.take_chunk.Given as goal
 
 abbrev pub invariant-events : goal.invariant-events

@@ -2,7 +2,7 @@ use Rattle.std.proofs.Common.{arith}
 use Rattle.dgt_frame.specs.Decoder.{DecodedBy}
 use Rattle.dgt_frame.proofs.decode.Decoder.fill.Goals as goal
 use Rattle.dgt_frame.specs.declared.decode.State.TheVariants.{Filling}
-use Rattle.dgt_frame.specs.Stored.{message_stored}
+use Rattle.dgt_frame.specs.Inside.Stored.{message_stored}
 use Rattle.dgt_frame.proofs.StoredLemmas.{frame_stored}
 use Rattle.dgt_frame.proofs.StateLemmas.{misfits_data, fills_on, ends_whole}
 

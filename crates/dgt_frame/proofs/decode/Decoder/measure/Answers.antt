@@ -3,7 +3,7 @@ use Rattle.dgt_frame.specs.Decoder.{DecodedBy}
 use Rattle.dgt_frame.proofs.decode.Decoder.measure.Goals as goal
 use Rattle.dgt_frame.specs.declared.decode.State.TheVariants.{Measured}
 use Rattle.dgt_frame.specs.Layout.{FitsSize}
-use Rattle.dgt_frame.specs.Stored.{message_stored}
+use Rattle.dgt_frame.specs.Inside.Stored.{message_stored}
 use Rattle.dgt_frame.proofs.StoredLemmas.{frame_stored}
 use Rattle.dgt_frame.proofs.StateLemmas.{missizes_high, ends_empty, fills_high}
 

@@ -2,7 +2,7 @@ use Prim.{search}
 use Rattle.std.proofs.Common.{rules}
 use Rattle.std.proofs.Common.{◌++◌, ◌∷◌, [], length, Some}
 use Rattle.dgt_frame.specs.declared.events.Event.TheVariants.{Message as MessageEvent}
-use Rattle.dgt_frame.specs.Stored.{message_stored}
+use Rattle.dgt_frame.specs.Inside.Stored.{message_stored}
 use Rattle.dgt_frame.proofs.StateLemmas.{answer_has_frame}
 use Rattle.dgt_frame.proofs.decode.Decoder.push.Goals as goal
 

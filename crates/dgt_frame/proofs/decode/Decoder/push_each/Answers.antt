@@ -2,7 +2,7 @@ use Prim.{grind}
 use Rattle.std.proofs.Common.{◌++◌, ◌∷◌, [], length, take, get_or, Some, arith}
 use Rattle.std.proofs.lemmas.Grind.{common_steps}
 use Rattle.dgt_frame.specs.declared.events.Event.TheVariants.{Message as MessageEvent}
-use Rattle.dgt_frame.specs.Stored.{message_stored}
+use Rattle.dgt_frame.specs.Inside.Stored.{message_stored}
 use Rattle.dgt_frame.proofs.StateLemmas.{answer_has_frame}
 use Rattle.dgt_frame.proofs.decode.Decoder.push_each.Goals as goal
 

@@ -10,8 +10,8 @@ use Rattle.board_events.specs.Pictures.{ChangesPictures, IsLast, IsOnBoard, pict
 use Rattle.board_events.specs.Session.{entries_in}
 use Rattle.board_events.specs.View.{Views}
 use Rattle.recovery.specs.declared.keeper.Keeper.{Keeper}
-use Rattle.recovery.specs.Keeping.{KeepsNext}
-use Rattle.recovery.specs.Seeing.{Sees}
+use Rattle.recovery.specs.Inside.Keeping.{KeepsNext}
+use Rattle.recovery.specs.Inside.Seeing.{Sees}
 use Rattle.recovery.proofs.KeepLemmas.{another_here, entry_before, kept_same, kept_seen, on_any_err, seen_before, shown_there}
 use Rattle.recovery.proofs.keeper.Keeper.take.Goals as goal
 

@@ -7,7 +7,7 @@ use Rattle.chess_rules.specs.Legal.{Legal}
 use Rattle.settle_core.specs.declared.plies.Ply.{Ply}
 use Rattle.settle_core.specs.Settling.{reached}
 use Rattle.settle_core.specs.Folding.{moves_of, played, time_of}
-use Rattle.settle_core.specs.Kept.{last_of}
+use Rattle.settle_core.specs.Inside.Kept.{last_of}
 use Rattle.settle_core.specs.Settler.{Sheet, position_of}
 use Rattle.settle_core.proofs.settler.Settler.add.Goals as goal
 

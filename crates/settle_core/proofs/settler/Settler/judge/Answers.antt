@@ -7,7 +7,7 @@ use Rattle.settle_core.specs.declared.plies.Seen.TheVariants.{Waits}
 use Rattle.settle_core.specs.Settling.{Settles, reached}
 use Rattle.settle_core.specs.Sign.{IsSign}
 use Rattle.settle_core.specs.Folding.{SeenAs, moves_of, played}
-use Rattle.settle_core.specs.Kept.{OnlyLacks}
+use Rattle.settle_core.specs.Inside.Kept.{OnlyLacks}
 use Rattle.settle_core.specs.Settler.{Sheet, position_of}
 use Rattle.settle_core.proofs.Steps.{elsewhere, last_is}
 use Rattle.settle_core.proofs.Lacking.{waits_lacking}

@@ -6,7 +6,7 @@ use Rattle.settle_core.specs.declared.plies.Ply.{Ply}
 use Rattle.settle_core.specs.Settling.{reached}
 use Rattle.settle_core.specs.Folding.{moves_of}
 use Rattle.settle_core.specs.Settler.{Sheet}
-use Rattle.settle_core.specs.Kept.{before_last, position_in}
+use Rattle.settle_core.specs.Inside.Kept.{before_last, position_in}
 use Rattle.settle_core.proofs.Steps.{last_from}
 use Rattle.settle_core.proofs.settler.Settler.last_ply.Goals as goal
 

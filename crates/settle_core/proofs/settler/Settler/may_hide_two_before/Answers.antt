@@ -3,7 +3,7 @@ use Rattle.std.proofs.lemmas.Option.{same_Some}
 use Rattle.chess_rules.specs.declared.parts.Parts.{Parts}
 use Rattle.settle_core.specs.declared.plies.Ply.{Ply}
 use Rattle.settle_core.specs.Folding.{moves_of}
-use Rattle.settle_core.specs.Kept.{before_last, position_in}
+use Rattle.settle_core.specs.Inside.Kept.{before_last, position_in}
 use Rattle.settle_core.specs.Lost.{MayHideTwo}
 use Rattle.settle_core.specs.Settler.{Sheet}
 use Rattle.settle_core.specs.Settling.{reached}

@@ -8,7 +8,7 @@ use Rattle.chess_rules.specs.Legal.{Legal}
 use Rattle.settle_core.specs.declared.plies.Ply.{Ply}
 use Rattle.settle_core.specs.Settling.{reached}
 use Rattle.settle_core.specs.Folding.{moves_of, played, time_of}
-use Rattle.settle_core.specs.Kept.{CanReplace, IsLastSet, last_of}
+use Rattle.settle_core.specs.Inside.Kept.{CanReplace, IsLastSet, last_of}
 use Rattle.settle_core.specs.Settler.{Sheet}
 use Rattle.settle_core.proofs.Steps.{before_of, can_replace, line_replaced}
 use Rattle.settle_core.proofs.settler.Settler.replace.Goals as goal

@@ -3,7 +3,8 @@ use Rattle.std.proofs.lemmas.Bool.Decides.{nat_tests}
 use Rattle.chess_rules.specs.Valid.{Valid}
 use Rattle.unseen_pairs.specs.declared.pair.Told.TheVariants.{Shown}
 use Rattle.settle_core.specs.declared.plies.Seen.TheVariants.{Waits}
-use Rattle.unseen_pairs.specs.Recoverer.{Desk, HasTold, IsWaiting}
+use Rattle.unseen_pairs.specs.Recoverer.{Desk}
+use Rattle.unseen_pairs.specs.Inside.Telling.{HasTold, IsWaiting}
 use Rattle.unseen_pairs.proofs.Telling.{idle_told, none_long}
 use Rattle.unseen_pairs.proofs.recoverer.Recoverer.idles.Goals as goal
 

@@ -12,9 +12,10 @@ use Rattle.settle_core.specs.Settling.{Played, reached}
 use Rattle.settle_core.specs.Folding.{SeenAs, moves_of}
 use Rattle.unseen_pairs.specs.declared.confirming.Candidate.{Candidate}
 use Rattle.unseen_pairs.specs.declared.confirming.Confirmed.{Confirmed}
-use Rattle.unseen_pairs.specs.Candidates.{AreAllAdded, AreKept, IsOnlyOne}
+use Rattle.unseen_pairs.specs.Inside.Waiting.{AreAllAdded, AreKept, IsOnlyOne}
 use Rattle.settle_core.specs.Settler.{position_of}
-use Rattle.unseen_pairs.specs.Recoverer.{Desk, IsWaiting}
+use Rattle.unseen_pairs.specs.Recoverer.{Desk}
+use Rattle.unseen_pairs.specs.Inside.Telling.{IsWaiting}
 use Rattle.unseen_pairs.proofs.Aging.{lists_next}
 use Rattle.unseen_pairs.proofs.Counting.{none_differ, one_picture, squares}
 use Rattle.unseen_pairs.proofs.Telling.{own_told, other_told}
@@ -57,17 +58,16 @@ returns c = λ start past written w none.
     let agrees = c.agrees.ensures.none in
     let other : seen ≢ picture (reached start (moves_of plies)) = λ e.
     both_ways _ c.if-agrees.false (agrees.1 (one_picture c.differs.result (picture (reached start (moves_of plies))) seen c.agrees.ensures.fits diff e)) in
-    let new : List Candidate = c.in_ok-candidates.candidates.items in
+    let new : List Candidate = c.keep_all.new.candidates.items in
     let at : c.position.result.now ≡ reached start (moves_of plies) = c.position.ensures.reached ∙ ap (λ (q : Parts). reached q (moves_of plies)) start_is in
-    let kept : AreKept (reached start (moves_of plies)) seen old.candidates new =
-    subst (λ (q : Parts). AreKept q seen old.candidates new) at (subst (λ (cs : List Candidate). AreKept c.position.result.now seen cs new) c.deref.ensures.value c.in_ok-candidates.ensures) in
+    let kept : AreKept (reached start (moves_of plies)) seen old.candidates new = subst (λ (q : Parts). AreKept q seen old.candidates new) at c.keep_all.ensures in
     let N : Parts → Type 0 = λ (q : Parts). (one : Confirmed) → ¬ IsOnlyOne (reached q (moves_of plies)) old.candidates seen one in
     let played = folds_played start (deduplicated written) old.settler.score here.folded in
     let P : Parts → Type 0 = λ (p : Parts). Played p (moves_of plies) in
     let S : Parts → Type 0 = λ (p : Parts). SeenAs p (moves_of plies) seen Waits in
-    let A : Parts → Type 0 = λ (p : Parts). AreAllAdded p plies seen c.args.clock.now c.in_ok-candidates.candidates.items c.add_all.new.candidates.items in
-    let all : AreAllAdded start plies seen c.args.clock.now c.in_ok-candidates.candidates.items c.add_all.new.candidates.items =
+    let A : Parts → Type 0 = λ (p : Parts). AreAllAdded p plies seen c.args.clock.now new c.add_all.new.candidates.items in
+    let all : AreAllAdded start plies seen c.args.clock.now new c.add_all.new.candidates.items =
     subst A start_is (c.in_ok-add_all.ensures (here.settles).last (subst P (sym start_is) played) (subst S (sym start_is) here.waits)) in
     other_told old c.add_all.new.candidates.items start past written entry here (subst N start_is both.1) other
-    (lists_next start plies here.waiting entry old.candidates c.in_ok-candidates.candidates.items all.one c.add_all.new.candidates.items
+    (lists_next start plies here.waiting entry old.candidates new all.one c.add_all.new.candidates.items
     valid played here.waits here.candidates kept all.next all.more all.none)

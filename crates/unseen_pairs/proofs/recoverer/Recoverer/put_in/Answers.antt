@@ -8,8 +8,9 @@ use Rattle.settle_core.specs.Folding.{moves_of}
 use Rattle.settle_core.specs.Settling.{reached}
 use Rattle.settle_core.specs.Settler.{StandsFor, position_of}
 use Rattle.unseen_pairs.specs.declared.pair.Told.TheVariants.{Recovered}
-use Rattle.unseen_pairs.specs.Candidates.{IsOnlyOne}
-use Rattle.unseen_pairs.specs.Recoverer.{Desk, HasTold, IsWaiting}
+use Rattle.unseen_pairs.specs.Inside.Waiting.{IsOnlyOne}
+use Rattle.unseen_pairs.specs.Recoverer.{Desk}
+use Rattle.unseen_pairs.specs.Inside.Telling.{HasTold, IsWaiting}
 use Rattle.unseen_pairs.proofs.Choosing.{recovery_of}
 use Rattle.unseen_pairs.proofs.Telling.{put_in_told}
 use Rattle.unseen_pairs.proofs.recoverer.Recoverer.put_in.Goals as goal

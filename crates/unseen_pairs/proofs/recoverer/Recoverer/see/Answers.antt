@@ -5,7 +5,8 @@ use Rattle.chess_rules.specs.Valid.{Valid}
 use Rattle.settle_core.specs.Entries.{Entry, entry_of}
 use Rattle.settle_core.specs.Settler.{ReturnsSeen, StandsFor}
 use Rattle.unseen_pairs.specs.declared.pair.Told.{Told}
-use Rattle.unseen_pairs.specs.Recoverer.{Desk, HasTold, IsWaiting, ReturnsTold, StandsForRecovered, written_after}
+use Rattle.unseen_pairs.specs.Recoverer.{Desk, ReturnsTold, StandsForRecovered, written_after}
+use Rattle.unseen_pairs.specs.Inside.Telling.{HasTold, IsWaiting}
 use Rattle.unseen_pairs.proofs.Telling.{shown_told, to_wait}
 use Rattle.unseen_pairs.proofs.recoverer.Recoverer.see.Goals as goal
 

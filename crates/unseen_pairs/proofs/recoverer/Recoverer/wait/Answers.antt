@@ -3,7 +3,7 @@ use Rattle.chess_rules.specs.declared.parts.Parts.{Parts}
 use Rattle.settle_core.specs.Settler.{position_of}
 use Rattle.unseen_pairs.specs.declared.confirming.Candidate.{Candidate}
 use Rattle.unseen_pairs.specs.declared.confirming.Confirmed.{Confirmed}
-use Rattle.unseen_pairs.specs.Candidates.{AreShown, IsOnlyOne}
+use Rattle.unseen_pairs.specs.Inside.Waiting.{AreShown, IsOnlyOne}
 use Rattle.unseen_pairs.specs.Recoverer.{Desk}
 use Rattle.unseen_pairs.proofs.recoverer.Recoverer.wait.Goals as goal
 

@@ -1,6 +1,6 @@
 use Rattle.settle_core.specs.Entries.{entry_of}
 use Rattle.std.proofs.Common.{subst}
-use Rattle.unseen_pairs.specs.Recoverer.{HasTold}
+use Rattle.unseen_pairs.specs.Inside.Telling.{HasTold}
 use Rattle.unseen_pairs.proofs.recoverer.Recoverer.wait_among.Goals as goal
 
 pub returns-in-Shown : goal.returns-in-Shown

@@ -1,0 +1,35 @@
+# Completion of dgt_live, dgt_round and dgt_replay for bash: their options, subcommands, sides, and files. The Debian package has
+# it in its place. Elsewhere, in a shell or in ~/.bashrc:  . completion.bash
+
+_dgt() {
+    local command=${1##*/} word=${COMP_WORDS[COMP_CWORD]} before=${COMP_WORDS[COMP_CWORD - 1]} words=
+    local game='--rotated --first --fen' tags='--event --site --date --round --white --black'
+    local shown='--linger --page --page-host --arbiter-page --delay --publish --tag --recover --strict --help --version'
+    COMPREPLY=()
+    case $command,$before in
+        *,--first) words='white black' ;;
+        *,--fen | *,--event | *,--site | *,--date | *,--round | *,--white | *,--black | *,--tag | *,--add | *,--back) return ;;
+        *,--linger | *,--page | *,--page-host | *,--arbiter-page | *,--delay | *,--publish | *,--encoding | *,--embed) return ;;
+        dgt_live,*) words="--series --once --add --back --devices $game $tags $shown" ;;
+        dgt_round,*) words="--new --encoding --embed --web --event --site --date --round $shown" ;;
+        dgt_replay,*)
+            if [ "$COMP_CWORD" -eq 1 ]; then
+                words='record follow watch recover show pictures check moves positions help --help --version'
+            else
+                case ${COMP_WORDS[1]} in
+                    record) words="$game $tags --help" ;;
+                    follow | watch | recover) words="$game --help" ;;
+                    pictures) words='--rotated --help' ;;
+                    moves | positions) words='--fen --help' ;;
+                    *) words='--help' ;;
+                esac
+            fi
+            ;;
+    esac
+    if [ "$command" = dgt_replay ] || [ "${word#-}" != "$word" ] || [ "$before" = --first ]; then
+        # shellcheck disable=SC2207  # no word has a blank
+        COMPREPLY=($(compgen -W "$words" -- "$word"))
+    fi
+}
+
+complete -o default -F _dgt dgt_live dgt_round dgt_replay

@@ -1,0 +1,5 @@
+-- What this crate alone knows of: no public contract cites it.
+pub mod Keeping
+pub mod Passing
+pub mod Progress
+pub mod Seeing

@@ -1,0 +1,51 @@
+"""The line of a board: of a device here, or of a serial server in the network. The latter's module is loaded only if it is needed."""
+
+from __future__ import annotations
+
+import os
+from typing import TYPE_CHECKING, Union
+
+from live.device import serial_line
+from live.device.network_address import HOW, is_network, read_address
+from live.device.serial_line import Busy, SerialLine
+from live.refused import ANOTHER_CALL, FAILED, Refused
+
+if TYPE_CHECKING:
+    from live.device.network_line import NetworkLine
+
+Line = Union[SerialLine, "NetworkLine"]
+
+
+def line_of(device: str) -> Line:
+    """The line of this device, which isn't open yet."""
+    if not is_network(device):
+        return SerialLine(device)
+    from live.device.network_line import NetworkLine
+
+    return NetworkLine(device)
+
+
+def check(device: str, may_wait: bool) -> None:
+    """Refused if it can't be the line of a board. A missing device may be waited for; a serial server always may."""
+    if not is_network(device):
+        serial_line.check(device, may_wait)
+    elif read_address(device) is None:
+        raise Refused(FAILED, f"{device} is no address of a serial server: {HOW}")
+
+
+def check_free(device: str) -> None:
+    """Refused if another process keeps recording it; one that can't be opened may be waited for."""
+    if not is_network(device):
+        serial_line.check_free(device)
+        return
+    from live.device import network_line
+
+    try:
+        network_line.check_free(device)
+    except Busy:
+        raise Refused(FAILED, f"{device} {ANOTHER_CALL}") from None
+
+
+def same_line(device: str) -> str:
+    """The same text for each name of a device, or of an address."""
+    return str(read_address(device) or device) if is_network(device) else os.path.realpath(device)

@@ -1,0 +1,38 @@
+"""The address of a board behind a serial server: `tcp://HOST:PORT`. Pure."""
+
+from __future__ import annotations
+
+import re
+from dataclasses import dataclass
+from typing import Optional
+
+SCHEME = "tcp://"
+HOW = "type tcp://HOST:PORT, as tcp://192.168.1.20:2001"
+HIGHEST_PORT = 65535
+LONGEST_HOST = 253
+_FORM = re.compile(r"(?i:tcp)://(?:\[([0-9A-Fa-f:.%\w-]+)\]|([^\[\]:/?#@\s]+)):([0-9]{1,5})/?")
+
+
+@dataclass(frozen=True)
+class Address:
+    """Where a serial server listens for one of its boards."""
+
+    host: str
+    port: int
+
+    def __str__(self) -> str:
+        return f"{SCHEME}{f'[{self.host}]' if ':' in self.host else self.host}:{self.port}"
+
+
+def is_network(device: str) -> bool:
+    """Whether a device is the address of a serial server, well written or not."""
+    return device[: len(SCHEME)].lower() == SCHEME
+
+
+def read_address(device: str) -> Optional[Address]:
+    """The address; None if it is malformed. Hosts are the same in small and capital letters."""
+    found = _FORM.fullmatch(device)
+    if not found:
+        return None
+    host, port = (found.group(1) or found.group(2)).lower(), int(found.group(3))
+    return Address(host, port) if 0 < port <= HIGHEST_PORT and len(host) <= LONGEST_HOST else None

@@ -1,0 +1,37 @@
+"""The names that a game's files may have."""
+
+from __future__ import annotations
+
+import os
+import stat
+
+from live.game.files import OF_A_GAME, OF_A_ROUND, ROUND, Paths, plain, size_of
+from live.refused import ARGUMENTS, REFUSED, Refused
+
+# A shell completes to the last one.
+ENDINGS = (
+    ".before.dgt", ".dgt", ".edited.pgn", ".broadcast.pgn", ".pgn", ".options", ".log", ".look", ".back", ".serial", ".end",
+    ".forfeit", ".delayed", ".delay", ".pages", ".cable", ".",
+)  # fmt: skip
+
+
+def check_name(name: str) -> None:
+    """Refuses a name of a device, or of one of a game's files: a shell completes to those. An existing game of that name goes on."""
+    try:
+        is_device = "\0" not in name and stat.S_ISCHR(os.stat(name).st_mode)
+    except OSError:
+        is_device = False
+    if is_device:
+        raise Refused(ARGUMENTS, f"{name} is a device: type the DEVICE first, and then the NAME")
+    if size_of(Paths(name).capture):
+        return
+    for ending in ENDINGS:
+        game = name[: -len(ending)]
+        if name.endswith(ending) and game.strip("./"):
+            raise Refused(REFUSED, f"{name} would be a file of the game: type its NAME alone, {game}")
+    game = OF_A_GAME.sub("", name)
+    if game != name and game.strip("./"):
+        raise Refused(REFUSED, f"{name} may be a file of the game {game}: choose another name")
+    folder, _, last = plain(name).rpartition("/")
+    if last.lower() in OF_A_ROUND and os.path.lexists(f"{folder or '.'}/{ROUND}.log"):
+        raise Refused(REFUSED, f"{name} may be a file of the round in {folder or 'this folder'}: choose another name")

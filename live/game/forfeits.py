@@ -1,0 +1,100 @@
+"""Games that aren't played because a player doesn't come: how they are written, and what PGN has for them. Pure.
+
+PGN has a result if one player wins by it, and no result if both are absent. The tag Termination says that the game was not
+played: `rules infraction`, an administrative forfeit in the words of the standard.
+"""
+
+from __future__ import annotations
+
+import re
+from dataclasses import dataclass
+from typing import Dict, Union
+
+from live.game import added
+from live.game.added import BLACK_WINS, WHITE_WINS
+
+WHITE, BLACK, BOTH = "+-", "-+", "--"  # White wins, Black wins, nobody does
+SCORES: Dict[str, str] = {WHITE: WHITE_WINS, BLACK: BLACK_WINS, BOTH: "0-0"}
+NO_RESULT = "*"
+TERMINATION = "rules infraction"
+SPELT: Dict[str, str] = {"+--": WHITE, "--+": BLACK}  # +:- and + - -, as pairing programs write them
+MARKED = re.compile(r"([01])F?-([01])(?:F|FF|K|FORFEIT)|([01])F-([01])F", re.IGNORECASE)
+BOTH_LOSE = "PGN has no result for two players who lose. Leave it without one, and note it"
+ALONE = "type {} FF alone, in a line of its own"
+
+
+@dataclass(frozen=True)
+class Forfeit:
+    """The game isn't played."""
+
+    kind: str
+
+    @property
+    def words(self) -> str:
+        """What it comes to."""
+        return f"forfeit {SCORES[self.kind]}"
+
+    @property
+    def result(self) -> str:
+        """The result in PGN."""
+        return NO_RESULT if self.kind == BOTH else SCORES[self.kind]
+
+
+def score_of(kind: str) -> str:
+    """The score of a forfeit; empty if there is none."""
+    return SCORES.get(kind, "")
+
+
+def in_one_word(text: str) -> str:
+    """Without blanks, and with one kind of dash."""
+    return re.sub("[–—−:]", "-", "".join(text.split()))
+
+
+def in_a_table(text: str) -> str:
+    """The forfeit that a table has; empty if it has none. Dashes alone, and 0-0, may mean that nothing was played yet."""
+    word = in_one_word(text)
+    word = SPELT.get(word, word)
+    if word in (WHITE, BLACK):
+        return word
+    marked = MARKED.fullmatch(word)
+    if not marked:
+        return ""
+    score = "-".join(filter(None, marked.groups()))
+    return next((kind for kind, known in SCORES.items() if known == score), "")
+
+
+def typed_forfeit(text: str) -> str:
+    """The forfeit that was typed in a line of its own; empty if it is something else."""
+    return BOTH if in_one_word(text) in (BOTH, "---") and len(text.split()) < 4 else in_a_table(text)
+
+
+def read_typed(text: str, name: str = "") -> Union[Forfeit, added.Typed]:
+    """What was typed in one line. Refused if it makes no sense."""
+    kind = typed_forfeit(text)
+    if kind:
+        return Forfeit(kind)
+    words = text.split()
+    if len(words) > 1 and name and text.strip().endswith(f" {name}"):
+        named = in_a_table(" ".join(words[: -len(name.split())]))
+        if named:
+            raise added.Refused(ALONE.format(SCORES[named]))
+    return added.read_words(text, name)
+
+
+def is_unplayed(pgn: bytes) -> bool:
+    """Whether a text has no move."""
+    return len(pgn.partition(b"\n\n")[2].split()) <= 1
+
+
+def fits(kind: str, result: str, pgn: bytes) -> bool:
+    """Whether a game with this text and this result is the one that was forfeited: it has no move, and no other result was typed."""
+    return kind in SCORES and Forfeit(kind).result == result and is_unplayed(pgn)
+
+
+def refuse_played(plies: int, result: str, typed: Forfeit) -> None:
+    """Refused if a game with so many plies and this result can't be the one that is forfeited: it has a result as others have."""
+    if plies:
+        how = BOTH_LOSE if typed.kind == BOTH else f"type {typed.result}"
+        raise added.Refused(f"the game has moves, so it isn't a forfeit: {how}")
+    if typed.result == NO_RESULT and result != NO_RESULT:
+        raise added.Refused(f"the game has the result {result}: take that off first, with {added.REOPENS}")

@@ -1,0 +1,178 @@
+"""The text of a table: Unicode, or one of Windows' older encodings. Those give one byte other letters in Western Europe, Central
+Europe and Russia, so a table in them is taken for Western only if its words look so; else its reader is asked. Pure."""
+
+from __future__ import annotations
+
+import codecs
+import enum
+import re
+from typing import List, Optional, Sequence
+
+from live.refused import ARGUMENTS, REFUSED, Refused
+
+ENCODING = "--encoding"  # the option
+WESTERN = "cp1252"
+READINGS = (  # what is typed, Python's name, where it is used
+    ("windows-1252", WESTERN, "Western Europe"),
+    ("windows-1250", "cp1250", "Central Europe"),
+    ("windows-1251", "cp1251", "Cyrillic"),
+)
+MOST_SHOWN = 3  # names
+LONGEST_NAME = 30  # characters of one
+VOWELS = frozenset("aeiouy" + "áâäéíîóôöúüýë")  # accented ones that are the same in both of Europe's encodings
+BESIDE_MARKS = frozenset("çðñþß")  # letters that stand beside accented vowels: Conceição, Þór, Großöhme
+WORD = re.compile(r"[A-Za-z\x80-\xff]+")  # of bytes, read as Latin-1
+
+
+class Looks(enum.Enum):
+    """What a word looks like whose letters depend on the encoding."""
+
+    WESTERN = "western"
+    OTHER = "other"
+    EITHER = "either"
+
+
+def text_of(content: bytes, encoding: str = "") -> str:
+    """The text as spreadsheets save it: UTF-8 or UTF-16, with or without a byte order mark; else in this encoding; else in the
+    Western form of Windows. Refused if no encoding is given and the text may be in another one."""
+    found = unicode_text(content)
+    if found is not None:
+        return found
+    if encoding:
+        return _decoded(content, encoding)
+    doubted = doubtful(content)
+    if doubted:
+        raise Refused(REFUSED, *question(doubted))
+    return loose_text(content)
+
+
+def loose_text(content: bytes) -> str:
+    """The text in some way, for what is in ASCII."""
+    found = unicode_text(content)
+    return content.decode(WESTERN, "replace") if found is None else found
+
+
+def unicode_text(content: bytes) -> Optional[str]:
+    """The text, if it is Unicode."""
+    if content[:2] in (b"\xff\xfe", b"\xfe\xff"):
+        return content.decode("utf-16", "replace")
+    if b"\0" in content[:2]:  # half of a UTF-16 letter
+        return content.decode("utf-16-be" if content[:1] == b"\0" else "utf-16-le", "replace")
+    try:
+        return content.decode("utf-8-sig")
+    except UnicodeDecodeError:
+        return None
+
+
+def known_encoding(name: str) -> str:
+    """The name of an encoding, as it is kept. Refused if there is none of that name for text."""
+    try:
+        if b"a".decode(name) == "a":
+            return codecs.lookup(name).name
+    except (LookupError, UnicodeError, ValueError, AttributeError, TypeError):
+        pass
+    raise Refused(ARGUMENTS, f"there is no encoding {name[:LONGEST_NAME]!r}: type one as {READINGS[1][0]}, iso-8859-2 or utf-8")
+
+
+def encoding_in(words: Sequence[str]) -> str:
+    """The encoding that words of a command line give last; empty if they give none."""
+    given = ""
+    for word, following in zip(words, [*words[1:], ""]):
+        option, equals, value = word.partition("=")
+        if option == ENCODING:
+            given = value if equals else following
+    return known_encoding(given) if given else ""
+
+
+def _decoded(content: bytes, encoding: str) -> str:
+    try:
+        return content.decode(encoding)
+    except UnicodeDecodeError as error:
+        line = content.count(b"\n", 0, error.start) + 1
+        raise Refused(REFUSED, f"line {line} isn't in the encoding {encoding}: give another one, or save it as UTF-8") from None
+
+
+def question(doubted: Sequence[bytes]) -> List[str]:
+    """What to ask: these names in each way."""
+    ways = [f"{typed} ({place}): {', '.join(name.decode(codec, 'replace') for name in doubted)}" for typed, codec, place in READINGS]
+    return [
+        "it isn't Unicode, and its names can be read in more than one way:",
+        *ways,
+        f"say which is right, as --encoding {READINGS[1][0]} (in tournament.txt: encoding = {READINGS[1][0]}),",
+        "or save it as UTF-8",
+    ]
+
+
+def doubtful(content: bytes) -> List[bytes]:
+    """Some names of a text that isn't Unicode, if it may be in another encoding than the Western one."""
+    names: List[bytes] = []
+    looks = set()
+    for name in re.split(rb'[,;\t"\r\n]+|  +', content):
+        found = [look for word in WORD.findall(name.decode("latin-1")) for look in [look_of(word)] if look]
+        looks.update(found)
+        if found and found != [Looks.WESTERN] and name.strip() not in names:
+            names.append(name.strip())
+    is_western = Looks.OTHER not in looks and (Looks.WESTERN in looks or Looks.EITHER not in looks)
+    return [] if is_western else [name[:LONGEST_NAME] for name in names[:MOST_SHOWN]]
+
+
+def look_of(word: str) -> Optional[Looks]:
+    """What a word of bytes, read as Latin-1, looks like; None if all its letters are the same in Western and Central Europe."""
+    looks = {look for place in range(len(word)) for look in [_look_at(word, place)] if look}
+    for look in (Looks.OTHER, Looks.WESTERN, Looks.EITHER):
+        if look in looks:
+            return look
+    return None
+
+
+def _look_at(word: str, place: int) -> Optional[Looks]:
+    byte = word[place].encode("latin-1")
+    western, central = byte.decode(WESTERN, "replace"), byte.decode("cp1250", "replace")
+    if byte < b"\x80" or western == central:
+        return None
+    before, after = (part.encode("latin-1").decode(WESTERN, "replace").lower() for part in (word[:place][-1:], word[place + 1 :][:1]))
+    if not western.isalpha() or western in "ªº":
+        return _look_of_sign(western, word, place)
+    if _beside_another(western.lower(), before) or _beside_another(western.lower(), after):
+        return Looks.OTHER
+    return _look_of_letter(western, before, after)
+
+
+def _look_of_sign(sign: str, word: str, place: int) -> Optional[Looks]:
+    """A sign within a word is a letter of another encoding: £ukasz, Wa³êsa. Not so Mª and Nº, and signs that stand alone."""
+    letters = re.findall(r"[A-Za-z\xc0-\xff]", word)
+    if not letters or (sign in "ªº" and place == len(word) - 1 and len(word) < 4) or sign in "\xa0«»·–—’‘“”…°":
+        return None
+    return Looks.OTHER
+
+
+def _beside_another(letter: str, other: str) -> bool:
+    """Whether two marked letters are side by side that no Western language has so: Dvoøák, Ïåòðîâ."""
+    return bool(other) and other > "\x7f" and other.isalpha() and other != letter and not {letter, other} & BESIDE_MARKS
+
+
+def _look_of_letter(western: str, before: str, after: str) -> Looks:
+    """By the letters beside it. What is a vowel in the West is often a consonant in Central Europe: è and č, ø and ř, æ and ć."""
+    letter = western.lower()
+    if letter in "àå":  # ŕ and ĺ are rare
+        return Looks.WESTERN
+    if letter == "ÿ" or (letter == "œ" and after != "u"):  # ź and ś; but cœur
+        return Looks.OTHER
+    if letter == "ñ":  # Muñoz, but Kamiński
+        return Looks.WESTERN if after in VOWELS and after else Looks.OTHER
+    if letter in "ìù":  # Forlì, but Němec and Růžička
+        return Looks.OTHER if after else Looks.WESTERN
+    if letter == "ï":  # Loïc, but Ďurica
+        return Looks.WESTERN if before in VOWELS and before else Looks.OTHER
+    if letter in "ãõ" and after and after in "oe":  # João, Magalhães, Simões
+        return Looks.WESTERN
+    if letter == "ð" and not before:  # Đorđe; ð begins no word
+        return Looks.OTHER
+    if letter == "ø" and after == "y":  # Øystein
+        return Looks.WESTERN
+    if letter in "øæò" or (letter == "è" and after):  # Lefèvre, but Kučera; Krč could be either
+        vowels = sum(beside in VOWELS for beside in (before, after) if beside)
+        consonants = sum(beside not in VOWELS for beside in (before, after) if beside)
+        if vowels != consonants:
+            return Looks.OTHER if vowels > consonants else Looks.WESTERN
+    return Looks.WESTERN if letter == "œ" else Looks.EITHER

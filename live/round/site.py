@@ -1,0 +1,203 @@
+"""A static site of a tournament: a list of rounds with their results, and a page for each round, in files that any web host serves.
+
+What it has comes from the broadcast alone, so it is as late as that. Each file is put in place whole, beside the loop: first the
+games, then what names them.
+"""
+
+from __future__ import annotations
+
+import html
+import json
+import os
+import pathlib
+import re
+import time
+from typing import Callable, Dict, List, Mapping, Sequence
+
+from live.beside import Worker
+from live.broadcast.view import SpectatorBoard
+from live.game.files import put_in_place
+from live.game.making_pgn import Made
+from live.guard import Guard, traced
+from live.loop import Turns
+from live.web.doors import Title
+from live.web.page import FOLDER, PIECES, SPECTATORS
+from live.web.view import json_text, pgn_path, round_pgn
+
+LOOK = 1.0  # seconds between two checks
+AGAIN = 5.0  # seconds until it is tried again after an error
+STATE = "state.json"
+ROUND_FOLDER = re.compile(r"round([0-9]{0,3})")
+POLICY = "default-src 'self'; img-src 'self' data:; base-uri 'none'; form-action 'none'"
+Texts = Dict[str, bytes]  # by path in the folder, in the order of their writing
+
+
+def page_files() -> Texts:
+    """What every round's page uses."""
+    return {name: (FOLDER / name).read_bytes() for name in (*SPECTATORS.files, "site.css")}
+
+
+def round_page() -> bytes:
+    """The spectators' page, with paths that lead out of a round's folder, which asks for files."""
+    text = (FOLDER / SPECTATORS.index).read_bytes().replace(PIECES, (FOLDER / "pieces.svg").read_bytes()).decode("utf-8")
+    text = re.sub(r'(href|src)="/(?!round\.pgn)', r'\1="../', text).replace('"/round.pgn"', '"round.pgn"')
+    text = text.replace("<nav>", '<nav><a href="../index.html">All rounds</a>').replace('<html lang="en">', '<html lang="en" data-files="">')
+    return text.replace('<meta charset="utf-8">', f'<meta charset="utf-8">\n  {_policy()}', 1).encode("utf-8")
+
+
+def _policy() -> str:
+    return f'<meta http-equiv="Content-Security-Policy" content="{POLICY}">'
+
+
+def state_text(title: Title, boards: Sequence[SpectatorBoard], offset: float) -> bytes:
+    """A round in JSON."""
+    said = {"event": title.event, **dict(title.said)}
+    return json_text(said)[:-1] + b',"boards":[' + b",\n".join(board.text(offset, None) for board in boards) + b"]}\n"
+
+
+def round_texts(folder: str, title: Title, boards: Sequence[SpectatorBoard], offset: float) -> Texts:
+    """The files of a round."""
+    games = {folder + pgn_path(board.number): board.pgn for board in boards}
+    return {
+        **games,
+        f"{folder}/round.pgn": round_pgn(board.pgn for board in boards),
+        f"{folder}/{STATE}": state_text(title, boards, offset),
+        f"{folder}/index.html": round_page(),
+    }
+
+
+def list_page(event: str, rounds: Mapping[str, Mapping[str, object]]) -> bytes:
+    """All rounds with their results, from what each has in its JSON."""
+    parts: List[str] = []
+    for folder, state in sorted(rounds.items(), key=lambda one: _number(one[0])):
+        name = f"Round {state['round']}" if state.get("round") else "The round"
+        rows = "".join(map(_row, _boards_of(state), [folder] * len(_boards_of(state))))
+        parts.append(f'<section><h2><a href="{folder}/index.html">{_text(name)}</a></h2>\n<table>{rows}</table>'
+                     f'<p><a href="{folder}/round.pgn" download>PGN of all games</a></p></section>')  # fmt: skip
+    head = f'<meta charset="utf-8">\n{_policy()}\n<meta name="viewport" content="width=device-width, initial-scale=1">'
+    links = '<link rel="icon" href="icon.svg">\n<link rel="stylesheet" href="page.css">\n<link rel="stylesheet" href="site.css">'
+    title = _text(event)
+    return (f'<!DOCTYPE html>\n<html lang="en">\n<head>\n{head}\n<title>{title}</title>\n{links}\n</head>\n<body>\n'
+            f"<header><h1>{title}</h1></header>\n<main>\n" + "\n".join(parts) + "\n</main>\n</body>\n</html>\n").encode("utf-8")  # fmt: skip
+
+
+def _text(value: object) -> str:
+    return html.escape(str(value))
+
+
+def _boards_of(state: Mapping[str, object]) -> List[Mapping[str, object]]:
+    boards = state.get("boards")
+    return [board for board in boards if isinstance(board, dict)] if isinstance(boards, list) else []
+
+
+def _row(board: Mapping[str, object], folder: str) -> str:
+    forfeit, result = str(board.get("forfeit", "")), str(board.get("result", "*"))
+    score = f"{forfeit} forfeit" if forfeit else "" if result == "*" else result
+    number = int(str(board.get("number", 0)))
+    names = [f"<td><bdi>{_text(board.get(side, ''))}</bdi></td>" for side in ("white", "black")]
+    link = f'<th scope="row"><a href="{folder}/index.html#{number}">{number}</a></th>'
+    return f"<tr>{link}{names[0]}<td>{_text(score.replace('1/2', '½').replace('-', '–'))}</td>{names[1]}</tr>\n"
+
+
+def _number(folder: str) -> int:
+    found = ROUND_FOLDER.fullmatch(folder)
+    return int(found[1] or 0) if found else 0
+
+
+def kept_rounds(folder: pathlib.Path) -> Dict[str, Mapping[str, object]]:
+    """The rounds that the folder has, as far as they can be read."""
+    found: Dict[str, Mapping[str, object]] = {}
+    for path in folder.glob(f"round*/{STATE}"):
+        try:
+            state = json.loads(path.read_bytes())
+        except (OSError, ValueError):
+            continue
+        if ROUND_FOLDER.fullmatch(path.parent.name) and isinstance(state, dict):
+            found[path.parent.name] = state
+    return found
+
+
+class SiteFiles:
+    """Keeps a round's part of the site up to date, and the list. `written` is called when something has changed."""
+
+    def __init__(
+        self, loop: Turns, folder: pathlib.Path, title: Title, boards: Callable[[], Sequence[SpectatorBoard]],
+        says: Callable[[str], None], trouble: Callable[[str], None]
+    ) -> None:  # fmt: skip
+        self._loop, self._folder, self._title, self._boards, self._says, self._trouble = loop, folder, title, boards, says, trouble
+        number = title.round if re.fullmatch("[0-9]{1,3}", title.round) else ""
+        self._round = f"round{number}"
+        self._offset = time.time() - loop.now()
+        self._written: Texts = {}
+        self._told = ""
+        self._closed = False
+        self.written: Callable[[], None] = lambda: None
+        self._begin()
+
+    def _begin(self) -> None:
+        self._guard = Guard(self._loop, self._broke, lambda error: self._trouble(traced(error)))
+        self._worker = Worker(self._guard)
+        self._guard.opened(self._worker.close)
+        self._guard.after(0, self._look)
+
+    def _broke(self, error: Exception) -> None:
+        self._trouble(traced(error))
+        self._loop.after(AGAIN, lambda: None if self._closed else self._begin())
+
+    def _texts(self) -> Texts:
+        boards = self._boards()
+        if not boards:
+            return {}
+        of_round = round_texts(self._round, self._title, boards, self._offset)
+        texts = of_round if self._written else {**page_files(), **of_round}
+        return {name: text for name, text in texts.items() if self._written.get(name) != text}
+
+    def _look(self) -> None:
+        """Writes what has changed, and looks again."""
+        texts = self._texts()
+        if not texts:
+            self._guard.after(LOOK, self._look)
+            return
+
+        def done(made: Made) -> None:
+            self._take(texts, made)
+            self._guard.after(AGAIN if made.trouble else LOOK, self._look)
+
+        self._worker.do(lambda: written(self._folder, self._title.event, self._round, texts), done)
+
+    def _take(self, texts: Texts, made: Made) -> None:
+        if made.trouble:
+            if not self._told:
+                self._says(f"NOT WRITTEN: the site in {self._folder} can't be written ({made.trouble}); it is tried again")
+        else:
+            self._written.update(texts)
+            if self._told:
+                self._says(f"the site in {self._folder} is written again")
+            self.written()
+        self._told = made.trouble
+
+    def close(self) -> List[str]:
+        """Writes it a last time. Returns what can't be written."""
+        self._closed = True
+        self._worker.close()
+        self._worker.wait()
+        texts = self._texts()
+        if texts:
+            self._take(texts, written(self._folder, self._title.event, self._round, texts))
+        self._guard.end()
+        return [f"the site in {self._folder} can't be written ({self._told})"] if self._told else []
+
+
+def written(folder: pathlib.Path, event: str, this_round: str, texts: Texts) -> Made:
+    """Writes these files, each whole, and the list last. Returns the outcome."""
+    try:
+        os.makedirs(folder / this_round, exist_ok=True)
+        for name, text in texts.items():
+            put_in_place(folder / name, text)
+        put_in_place(folder / "index.html", list_page(event, kept_rounds(folder)))
+        return Made()
+    except OSError as error:
+        return Made.of_error(error)
+    except Exception as error:  # it is one file of many
+        return Made(f"{type(error).__name__}: {error}")
+

@@ -1,0 +1,57 @@
+"""Where a game or a round was shown last, kept beside it: it is shown there again until another place, or none, is given."""
+
+from __future__ import annotations
+
+import contextlib
+import os
+from typing import Dict, List, Optional, Tuple
+
+from live.game.files import NO_SUCH_FILE, Paths, beginning, put_in_place, text_of
+from live.refused import FAILED, REFUSED, Refused
+from live.web.address import Pages, read_pages
+
+LONGEST = 65536  # bytes of the file that keeps it
+AS_BEFORE = "it is shown as before; --page no ends that"
+GIVE_ONE = "give --page, or remove it"
+
+
+def pages_of(paths: Paths, given: Optional[Pages]) -> Tuple[Pages, bool]:
+    """Where it is shown from now on: the given pages, which are kept, or else those that were kept; and whether they were kept.
+    Refused if they can't be read."""
+    if given is not None and (given.any or given.ends):
+        _keep(paths, given)
+        return given, False
+    kept = _kept(paths)
+    return (kept, True) if kept else (Pages(), False)
+
+
+def _kept(paths: Paths) -> Optional[Pages]:
+    try:
+        text = beginning(paths.pages, LONGEST).decode("utf-8", "replace")
+    except OSError as error:
+        if error.errno in NO_SUCH_FILE:
+            return None
+        raise Refused(FAILED, f"{paths.pages} can't be read ({text_of(error)}): {GIVE_ONE}") from None
+    values: Dict[str, str] = {}
+    hosts: List[str] = []
+    for line in text.splitlines():
+        option, _, value = line.partition(" ")
+        if option == "--page-host":
+            hosts.append(value)
+        else:
+            values[option] = value
+    try:
+        return read_pages(values.get("--page"), values.get("--arbiter-page"), hosts, values.get("--embed"))
+    except Refused as refused:
+        raise Refused(REFUSED, f"{paths.pages} can't be read ({refused.lines[0]}): {GIVE_ONE}") from None
+
+
+def _keep(paths: Paths, pages: Pages) -> None:
+    try:
+        if pages.any:
+            put_in_place(paths.pages, "".join(f"{line}\n" for line in pages.words).encode("utf-8"))
+        else:
+            with contextlib.suppress(FileNotFoundError):
+                os.unlink(paths.pages)
+    except OSError as error:
+        raise Refused(FAILED, f"{paths.pages} can't be written ({text_of(error)}): is the disk full?") from None

@@ -1,0 +1,169 @@
+"""A board that comes back on another device, or whose device the browser has forgotten: its game goes on, and no board has two
+cards."""
+
+import pathlib
+from typing import Optional
+
+from browsed.games import QUEENS, QUEENS_SANS, RUY, RUY_SANS, begin, of_record, play, until_agrees
+from browsed.hall import Hall, Port
+from browsed.page import Page
+from browsed.stage import with_chromium
+from played.stage import same
+
+CARDS = "document.querySelectorAll('a.tile').length"
+
+
+def numbered(port: Port, number: int) -> Port:
+    """The port, whose board gives this serial number."""
+    port.board.serial_number = b"%05d" % number
+    return port
+
+
+def moved(stage: Hall, port: Port) -> Port:
+    """The board is plugged into another port, of which the browser knows nothing."""
+    other = stage.board(port.board.codes)
+    other.board.serial_number = port.board.serial_number
+    return other
+
+
+def choose(page: Page, port: Port, where: str) -> None:
+    """A button is pressed, and the port chosen in the browser's list."""
+    page.value(f"boards.choose({port.number})")
+    page.click(where)
+
+
+def away(stage: Hall, page: Page, number: Optional[int] = None) -> Port:
+    """A board is recorded, is unplugged after two plies, and the browser has forgotten its device."""
+    page.click("#back") if page.shows("#back") else None
+    port = stage.board()
+    if number:
+        numbered(port, number)
+    stage.add(page, port)
+    stage.enlarge(page, len(stage.ports))
+    until_agrees(stage, page)
+    play(stage, page, port, RUY[:2], RUY_SANS[:2])
+    stage.pull(port, stays_granted=False)
+    stage.until(lambda: page.text("#state").startswith("UNPLUGGED"), "the alarm of an unplugged board")
+    return port
+
+
+def goes_on(stage: Hall, page: Page, port: Port) -> None:
+    """The large board is recorded from this port, and there is no other card."""
+    stage.until(lambda: page in port.holders, "the board to be opened")
+    until_agrees(stage, page)
+    play(stage, page, port, RUY[2:4], RUY_SANS[2:4])
+    same((page.value(CARDS), page.text("#title")), (1, "Board 1"))
+    text, capture = stage.saved(page, "#save-game"), stage.saved(page, "#save-capture")
+    same(text, of_record(text, capture))
+
+
+@with_chromium
+def another_port(folder: pathlib.Path) -> None:
+    """A board that gives its number comes back on another port: Add a board goes on with its game."""
+    with Hall(folder) as stage:
+        page = stage.tab()
+        port = moved(stage, away(stage, page, 10001))
+        choose(page, port, "#add")
+        goes_on(stage, page, port)
+
+
+@with_chromium
+def forgotten_port(folder: pathlib.Path) -> None:
+    """A board without a number is plugged in again, and the browser has forgotten it: Add a board goes on with its game."""
+    with Hall(folder) as stage:
+        page = stage.tab()
+        port = away(stage, page)
+        stage.plug(port)
+        choose(page, port, "#add")
+        goes_on(stage, page, port)
+
+
+@with_chromium
+def chosen_in_the_alarm(folder: pathlib.Path) -> None:
+    """The alarm of an unplugged board has the button that opens the browser's list."""
+    with Hall(folder) as stage:
+        page = stage.tab()
+        port = moved(stage, away(stage, page))
+        choose(page, port, "#choose")
+        goes_on(stage, page, port)
+        same(page.shows("#choose"), False)
+
+
+@with_chromium
+def asked_which(folder: pathlib.Path) -> None:
+    """A board without a number on another port: the page asks whether it is the one that is away, or a new one."""
+    with Hall(folder) as stage:
+        page = stage.tab()
+        first = away(stage, page)
+        port = moved(stage, first)
+        choose(page, port, "#add")
+        stage.until_part(page, "#notices", "gives no serial number")
+        same(page.value(CARDS), 1)
+        stage.press(page, "Board 1")
+        goes_on(stage, page, port)
+        stage.pull(port, stays_granted=False)
+        stage.until(lambda: page.text("#state").startswith("UNPLUGGED"), "the alarm of an unplugged board")
+        other = stage.board()
+        choose(page, other, "#add")
+        stage.press(page, "A new board")
+        stage.until(lambda: page.value(CARDS) == 2, "a card for the new board")
+        assert page.moves == RUY_SANS[:4], page.describe()
+
+
+@with_chromium
+def no_second_card(folder: pathlib.Path) -> None:
+    """A device that is chosen again, and one that sends the number of a board that is recorded, get no card of their own."""
+    with Hall(folder) as stage:
+        page, port = begin(stage)
+        numbered(port, 10001)
+        stage.pull(port)
+        stage.plug(port)  # the number is asked for when the line is opened
+        stage.until(lambda: page in port.holders, "the board to be opened again")
+        until_agrees(stage, page)
+        page.click("#back")
+        choose(page, port, "#add")
+        stage.until(lambda: any("recorded already" in line for line in page.messages), "a word on it")
+        same((page.value(CARDS), page.text("#title")), (1, "Board 1"))
+        twin = moved(stage, port)
+        choose(page, twin, "#add")
+        stage.until_part(page, "#notices", "the same serial number, 10001")
+        same(page.value(CARDS), 1)
+        stage.press(page, "It is another board")
+        stage.until(lambda: page.value(CARDS) == 2, "a card for the other board")
+        page.click("#back")
+        stage.enlarge(page, 2)
+        until_agrees(stage, page)
+        play(stage, page, twin, QUEENS[:1], QUEENS_SANS[:1])
+
+
+@with_chromium
+def number_comes_late(folder: pathlib.Path) -> None:
+    """A board is added on another port before it has power: as soon as it gives its number, its own game goes on, without the
+    new card."""
+    with Hall(folder) as stage:
+        page = stage.tab()
+        port = moved(stage, away(stage, page, 10001))
+        port.board.switch_off()
+        choose(page, port, "#add")
+        stage.until(lambda: page.value(CARDS) == 2, "a card for a board that doesn't answer")
+        port.board.switch_on()
+        stage.until(lambda: page.value(CARDS) == 1, "the end of that card")
+        stage.enlarge(page, 1)
+        goes_on(stage, page, port)
+
+
+@with_chromium
+def chosen_for_another(folder: pathlib.Path) -> None:
+    """Of two boards that are away the wrong one is chosen for a card: its number says whose it is, and that game goes on."""
+    with Hall(folder) as stage:
+        page = stage.tab()
+        for number in (10001, 10002):
+            away(stage, page, number)
+        second = moved(stage, stage.ports[1])
+        page.click("#back")
+        stage.enlarge(page, 1)
+        choose(page, second, "#choose")
+        stage.until_text(page, "#title", "Board 2")
+        until_agrees(stage, page)
+        play(stage, page, second, RUY[2:4], RUY_SANS[2:4])
+        same(page.value(CARDS), 2)

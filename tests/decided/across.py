@@ -1,0 +1,93 @@
+"""Boards behind serial servers: their addresses, and what waits until a board has answered."""
+
+from typing import List, Optional, Tuple
+
+from live.device.asking import Came
+from live.device.line import same_line
+from live.device.network_address import Address, is_network, read_address
+from live.device.trial import Trial
+
+from decided.table import same
+
+DUMP = Came(dumped=True)
+
+
+def addresses() -> None:
+    """What is an address, and of what."""
+    cases: List[Tuple[str, Optional[Address]]] = [
+        ("tcp://192.168.1.20:2001", Address("192.168.1.20", 2001)),
+        ("tcp://Pi.local:1", Address("pi.local", 1)),
+        ("TCP://pi:65535/", Address("pi", 65535)),
+        ("tcp://[FE80::1%eth0]:2001", Address("fe80::1%eth0", 2001)),
+        ("tcp://[::1]:2001", Address("::1", 2001)),
+        ("tcp://pi:0", None),
+        ("tcp://pi:65536", None),
+        ("tcp://pi", None),
+        ("tcp://pi:", None),
+        ("tcp://:2001", None),
+        ("tcp://::1:2001", None),
+        ("tcp://a@pi:2001", None),
+        ("tcp://pi:2001/x", None),
+        ("tcp://p i:2001", None),
+        ("tcp://pi:２００１", None),
+        ("tcp://" + "a" * 253 + ":1", Address("a" * 253, 1)),
+        ("tcp://" + "a" * 254 + ":1", None),
+        ("/dev/ttyUSB0", None),
+    ]
+    for text, expected in cases:
+        same(text, read_address(text), expected)
+        same(f"{text} is in the network", is_network(text), text.lower().startswith("tcp:"))
+        if expected:
+            same(f"{text} written again", read_address(str(expected)), expected)
+    same("one name", same_line("TCP://PI:2001/"), "tcp://pi:2001")
+    same("a malformed one", same_line("tcp://PI"), "tcp://PI")
+    same("a device", same_line("/dev/../dev/null"), "/dev/null")
+
+
+def waits_for_a_dump() -> None:
+    """What is passed on after each thing that came."""
+    first, second, third = (b"\x8e\x00", Came()), (b"\x05\x0c", Came()), (b"dump", DUMP)
+    trial = Trial(0.0)
+    same("nothing yet", [trial.passes(first), trial.passes(second)], [[], []])
+    same("all in order", trial.passes(third), [first, second, third])
+    same("and then at once", trial.passes(first), [first])
+    trial = Trial(0.0)
+    for number in range(100):
+        same(f"waits {number}", trial.passes((bytes([number]) * 1024, Came())), [])
+    passed = trial.passes(third)
+    same("the last four kilobytes", [sent[:1] for sent, _ in passed], [bytes([number]) for number in (96, 97, 98, 99)] + [b"d"])
+
+
+def what_it_said() -> None:
+    """The text of a server, if it is text."""
+    for sent, expected in (
+        (b"Port already in use\r\n", "Port already in use"),
+        (b"a\r\n\tb", "a b"),
+        (b"x" * 100, "x" * 60),
+        (b"\x1b[2Jlogin:", ""),
+        (b"\x86\x00\x43", ""),
+        (b"", ""),
+    ):
+        trial = Trial(0.0)
+        trial.passes((sent, Came()))
+        same(f"{sent!r}", trial.said, expected)
+
+
+def floods() -> None:
+    """How many bytes came at which second after the connection, and whether a board may have sent them: 1,920 a second, and 65,536
+    together."""
+    cases: List[List[Tuple[float, int, bool]]] = [
+        [(0.0, 65536, False), (0.0, 1, True)],
+        [(0.0, 65536, False), (1.0, 1920, False), (1.0, 1, True)],
+        [(0.0, 65536, False), (100.0, 65536, False), (100.0, 1, True)],  # what was not sent isn't saved up
+        [(float(second), 960, False) for second in range(200)],
+        [(float(second), 1920, False) for second in range(200)],
+        [(float(second), 3840, second * 1920 + 3840 > 65536) for second in range(40)],
+    ]
+    for number, came in enumerate(cases):
+        trial = Trial(50.0)
+        for second, size, expected in came:
+            same(f"{number}: {size} at {second}", trial.is_flood(50.0 + second, size), expected)
+
+
+TABLES = [addresses, waits_for_a_dump, what_it_said, floods]

@@ -1,0 +1,91 @@
+"""Games that aren't played: how that is written in tables, in reports and by hand, and when it counts."""
+
+from typing import Dict
+
+from live.game import added
+from live.game.forfeits import Forfeit, fits, in_a_table, is_unplayed, read_typed, refuse_played, typed_forfeit
+from live.round.pairings import result_of
+from live.round.trf import outcome_of
+
+from decided.table import accepted, refused, same
+
+WHITE, BLACK, BOTH = "+-", "-+", "--"
+# What is written; what it is in a table; what it is in a typed line.
+WRITTEN = [
+    ("+-", WHITE, WHITE), ("+ -", WHITE, WHITE), ("+:-", WHITE, WHITE), ("+ : -", WHITE, WHITE), ("+ - -", WHITE, WHITE), ("+ – -", WHITE, WHITE),
+    ("-+", BLACK, BLACK), ("- - +", BLACK, BLACK), ("-:+", BLACK, BLACK), ("− : +", BLACK, BLACK),
+    ("1-0 FF", WHITE, WHITE), ("1-0F", WHITE, WHITE), ("1:0 F", WHITE, WHITE), ("1-0K", WHITE, WHITE), ("1F-0F", WHITE, WHITE), ("1 - 0 ff", WHITE, WHITE),
+    ("1-0 forfeit", WHITE, WHITE), ("0-1 FF", BLACK, BLACK), ("0–1 F", BLACK, BLACK), ("0F-1F", BLACK, BLACK),
+    ("0-0 FF", BOTH, BOTH), ("0F-0F", BOTH, BOTH), ("0:0 K", BOTH, BOTH),
+    ("--", "", BOTH), ("- -", "", BOTH), ("-:-", "", BOTH), ("- - -", "", BOTH),
+    # What may mean that nothing was played yet, and what is a result, a move, a sign of an annotator, or nothing.
+    ("0-0", "", ""), ("0:0", "", ""), ("-", "", ""), ("", "", ""), ("*", "", ""), ("1-0", "", ""), ("0-1", "", ""), ("1/2-1/2", "", ""), ("O-O", "", ""),
+    ("+", "", ""), ("+/-", "", ""), ("+--+", "", ""), ("++", "", ""), ("1-1 FF", "", ""), ("1/2 FF", "", ""), ("FF", "", ""), ("1 FF", "", ""), ("- - - -", "", ""),
+    ("Nf3 +-", "", ""), ("+- Nf3", "", ""), ("1-0 FFF", "", ""), ("10-0 FF", "", ""),
+]  # fmt: skip
+
+
+def how_it_is_written() -> None:
+    """As pairing programs and arbiters write it."""
+    for text, table, typed in WRITTEN:
+        same(f"{text!r} in a table", in_a_table(text), table)
+        same(f"{text!r} typed", typed_forfeit(text), typed)
+        if typed:
+            same(f"{text!r} read", read_typed(text), Forfeit(typed))
+    for text, expected in (("Nf3 +-", "neither a move nor a result"), ("+", "neither a move nor a result"), ("0-0", "PGN has no such result")):
+        same(f"{text} isn't done", str(expected in refused(text, added.Refused, read_typed, text)), "True")
+    named = refused("with a name", added.Refused, read_typed, "1-0 FF b4", "b4")
+    same("with a name", named, "type 1-0 FF alone, in a line of its own")
+    same("a result", read_typed("1-0"), added.Result("1-0"))
+
+
+def in_tables() -> None:
+    """The column result: a result, a forfeit, nothing yet, or what is wrong with it."""
+    for text, expected in (
+        ("1-0", ("1-0", "")), ("½ - ½", ("1/2-1/2", "")), ("+ - -", (WHITE, "")), ("0-1 FF", (BLACK, "")), ("0F-0F", (BOTH, "")),
+        ("", ("", "")), ("*", ("", "")), ("- : -", ("", "")), ("---", ("", "")),
+        ("0-0", ("", "result is '0-0': type 1-0, 0-1 or 1/2-1/2; if neither player came, 0-0 FF")),
+        ("2-0", ("", "result is '2-0': type 1-0, 0-1 or 1/2-1/2")),
+    ):  # fmt: skip
+        same(repr(text), result_of(text), expected)
+
+
+def codes_of_reports() -> None:
+    """TRF's codes of White and Black."""
+    cases: Dict[str, str] = {
+        "+-": WHITE, "-+": BLACK, "--": BOTH, "+ ": WHITE, " +": BLACK, "- ": BLACK, " -": WHITE, "10": "1-0", "01": "0-1", "==": "1/2-1/2",
+        "  ": "", "WL": "1-0",
+    }  # fmt: skip
+    for codes, expected in cases.items():
+        same(codes, outcome_of(codes[0].strip(), codes[1].strip()), expected)
+
+
+HEAD = b'[Event "?"]\n\n'
+
+
+def what_counts() -> None:
+    """It counts as long as the game has no move and the result that goes with it."""
+    for kind, result, movetext, expected in (
+        (WHITE, "1-0", b"1-0\n\n", True),
+        (WHITE, "*", b"*\n\n", False),
+        (WHITE, "0-1", b"0-1\n\n", False),
+        (BOTH, "*", b"*\n\n", True),
+        (BOTH, "1-0", b"1-0\n\n", False),
+        (BOTH, "*", b"1. e4 *\n\n", False),
+        (WHITE, "1-0", b"1. e4 1-0\n\n", False),
+        ("1-0", "1-0", b"1-0\n\n", False),
+        ("", "1-0", b"1-0\n\n", False),
+    ):
+        same(f"{kind} {result} {movetext!r}", fits(kind, result, HEAD + movetext), expected)
+    same("no text", is_unplayed(b""), True)
+    for plies, result, kind, why in (
+        (1, "*", WHITE, "the game has moves, so it isn't a forfeit: type 1-0"),
+        (1, "1-0", BOTH, "the game has moves, so it isn't a forfeit: PGN has no result for two players who lose. Leave it without one, and note it"),
+        (0, "1-0", BOTH, "the game has the result 1-0: take that off first, with *"),
+    ):
+        same(why, refused(kind, added.Refused, refuse_played, plies, result, Forfeit(kind)), why)
+    for result, kind in (("*", WHITE), ("1-0", BLACK), ("*", BOTH), ("0-1", BLACK)):
+        accepted(f"{kind} after {result}", refuse_played, 0, result, Forfeit(kind))
+
+
+TABLES = [how_it_is_written, in_tables, codes_of_reports, what_counts]

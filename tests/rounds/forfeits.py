@@ -1,0 +1,155 @@
+"""Games that aren't played, because a player doesn't come."""
+
+import csv
+import json
+import pathlib
+import re
+import signal
+import subprocess
+from typing import Dict, List
+
+import outside
+from played.ports import free_port
+from played.recorder import Live
+from played.stage import Skipped, bytes_of, check, movetext, same, stop, until, until_line
+from rounds.delayed import DELAY, Delayed
+from rounds.hall import Hall, agrees
+from rounds.witness import served, texts_of
+
+from live.round.tournament_files import Result, results_text
+
+WHITE, BLACK, BOTH = "1-0 forfeit", "0-1 forfeit", "* forfeit"
+
+
+def shown(port: int) -> Dict[int, str]:
+    """What spectators see of each board: the score of a forfeit, or the result."""
+    boards = json.loads(served(port, "/state.json"))["boards"]
+    return {board["number"]: board["forfeit"] and f"{board['forfeit']} forfeit" or board["result"] for board in boards}
+
+
+def not_played(folder: pathlib.Path) -> None:
+    """A table says that one game isn't played, and somebody types it of two more. It is on the page, in the published text with a
+    tag and in the games' own texts, and no move is misread; all of it is there again after a restart. A forfeit that is taken off
+    is a game as any other, and so is one with a move on the board. What has moves isn't forfeited."""
+    hall, port = Hall(folder, 5), free_port()
+    hall.extra = {2: ",+:-"}
+    hall.write(header="board,device,white,black,result")
+    live = hall.record("--page", str(port), typed=True)
+    for number in (1, 3, 4, 5):
+        until(lambda: agrees(live, number), f"that board {number} agrees")
+    goes_out = hall.games / "broadcast.pgn"
+    until_line(live, f"2: {hall.games}/02: forfeit 1-0: it isn't played")
+    live.type("3 - +")
+    until_line(live, f"3: {hall.games}/03: forfeit 0-1: it isn't played")
+    live.type("4 --")
+    until_line(live, f"4: {hall.games}/04: forfeit 0-0: it isn't played")
+    wanted = ["*", WHITE, BLACK, BOTH, "*"]
+    until(lambda: texts_of(bytes_of(goes_out)) == wanted, f"{wanted} in what is published", 0.05)
+    until(lambda: shown(port) == {1: "*", 2: WHITE, 3: BLACK, 4: "0-0 forfeit", 5: "*"}, "the same on the page", 0.05)
+    same([movetext(hall.name(number)) for number in (2, 3, 4)], ["1-0", "0-1", "*"])
+    same([check(bytes_of(f"{hall.name(number)}.pgn")) for number in (2, 3)], ["moves 0, result 1-0", "moves 0, result 0-1"])
+    same(bytes_of(goes_out).count(b'[Termination "rules infraction"]'), 3)
+
+    hall.play(0, 2, [0, 4])
+    for text, why in (("1 +-", "the game has moves, so it isn't a forfeit: type 1-0"), ("5 0-0 FF", "PGN has no result for two players who lose"),
+                      ("1 +", "neither a move nor a result"), ("2 --", "the game has the result 1-0: take that off first, with *")):  # fmt: skip
+        live.type(text)
+        until_line(live, why)
+    live.type("+-")
+    until_line(live, "refused: +-: of which board? Type its number first, as 3 +-")
+    hall.play(0, 2, [3])  # both have come
+    until(lambda: shown(port)[4] == "*", "that board 4 is played", 0.05)
+    live.type("4")
+    until_line(live, " 4: agrees")
+    live.type("2")
+    until_line(live, " 2: forfeit 1-0;")
+
+    same(stop(live), 0)
+    live = hall.record("--page", str(port), typed=True)
+    live.type("3")
+    until_line(live, " 3: forfeit 0-1;")
+    until(lambda: shown(port) == {1: "*", 2: WHITE, 3: BLACK, 4: "*", 5: "*"}, "the same after a restart", 0.05)
+    hall.extra = {}
+    hall.write(header="board,device,white,black,result")
+    live.type("r")
+    until_line(live, "2: its line has no forfeit any more: if it is played, type 2 *")
+    live.type("2 *")
+    until(lambda: shown(port)[2] == "*", "that board 2 is played after all", 0.05)
+    hall.play(0, 2, [1])
+    live.type("2 1-0")
+    hall.until_over(live, 2, "1-0")
+    until(lambda: shown(port)[2] == "1-0", "its result", 0.05)
+    same(stop(live), 0)
+    same(texts_of(bytes_of(goes_out))[1:3], ["1. d4 d5 1-0", BLACK])
+    if missing := outside.lacks("pgn-extract"):
+        raise Skipped(missing)
+    read = subprocess.run([str(outside.path_of("pgn-extract")), "-s", str(goes_out)], stdout=subprocess.PIPE, check=True).stdout.decode()
+    same(re.findall(r'(?m)^\[(?:Result|Termination) "(.*)"\]$', read), ["*", "1-0", "0-1", "rules infraction", "*", "*"])
+
+
+def late_forfeits(folder: pathlib.Path) -> None:
+    """With a delay nobody outside hears of a forfeit before its time: neither of its result, nor of its tag, nor that both players
+    are absent; nor after a kill."""
+    round_ = Delayed(folder)
+    hall, witness, port = round_.hall, round_.witness, free_port()
+    live = round_.record("--delay", "15", "--page", str(port), typed=True)
+    hall.begun(live)
+    witness.begin()
+    for number, typed, text, words_told in ((1, "+-", WHITE, "1-0"), (2, "--", BOTH, "0-0")):
+        witness.plays(text)
+        live.type(f"{number} {typed}")
+        until_line(live, f"{hall.name(number)}: forfeit {words_told}: it isn't played")
+    until(lambda: [b"forfeit" in bytes_of(f"{hall.name(number)}.delayed") for number in (1, 2)] == [True, True], "both, hidden", 0.02)
+    witness.look_at(port)
+    live.was_killed = True
+    live.send_all(signal.SIGKILL)
+    until(lambda: not live.runs, "its end")
+    live = round_.record("--page", str(port))
+    until_line(live, "spectators see the round 15 minutes late as before")
+    witness.look_at(port)
+    until(lambda: texts_of(served(port, "/round.pgn")) == ["*", "*"], "both games, unplayed", 0.05)
+    round_.clock.be(DELAY - 60)
+    witness.look_at(port)
+    round_.clock.be(DELAY + 60)
+    until(lambda: texts_of(bytes_of(hall.games / "broadcast.pgn")) == [WHITE, BOTH], "both, after their time", 0.05)
+    until(lambda: shown(port) == {1: WHITE, 2: "0-0 forfeit"}, "the same on the page", 0.05)
+    witness.look_at(port)
+    same(stop(live), 0)
+    witness.end()
+
+
+def by_command(folder: pathlib.Path) -> None:
+    """A game that nobody records is forfeited by a command, that is taken off by another, and its published text follows."""
+    hall = Hall(folder, 1)
+    live = hall.record()
+    hall.begun(live)
+    same(stop(live), 0)
+    name = hall.name(1)
+    for words_typed, expected, told in ((["--add", "-:+"], "0-1", "forfeit 0-1: it isn't played"), (["--add", "1-0 FF"], "1-0", "forfeit 1-0: it isn't played"),
+                                        (["--add", "*"], "*", "goes on, without the result"), (["--add", "0-0 FF"], "*", "forfeit 0-0: it isn't played"),
+                                        (["--add", "e4"], "1. e4 *", "added to")):  # fmt: skip
+        status, said = add(name, *words_typed)
+        same((status, movetext(name)), (0, expected))
+        assert told in said, said
+        forfeited = "forfeit" in told
+        same(pathlib.Path(f"{name}.forfeit").exists() and "e4" not in words_typed, forfeited)
+    status, said = add(name, "--add", "+-")
+    same(status, 1)
+    assert "the game has moves, so it isn't a forfeit: type 1-0" in said, said
+
+
+def add(name: str, *arguments: str) -> "tuple[int, str]":
+    live = Live("", name, *arguments)
+    until(lambda: not live.runs, "its end")
+    return live.process.returncode, live.lines() + live.complaint()
+
+
+def results_in_a_table(_: pathlib.Path) -> None:
+    """The table of results: a forfeit has the points as any result, and a note."""
+    text = results_text([Result(1, "A", "B", "1-0"), Result(2, "C", "D", "0-1", "forfeit"), Result(3, "E", "F", "0-0", "forfeit"), Result(4, "G", "H", "")])
+    rows: List[List[str]] = list(csv.reader(text.decode("utf-8-sig").splitlines(), delimiter=";"))
+    same(rows, [["Board", "White", "Black", "Result", "Note"], ["1", "A", "B", "1-0", ""], ["2", "C", "D", "0-1", "forfeit"],
+                ["3", "E", "F", "0-0", "forfeit"], ["4", "G", "H", "", ""]])  # fmt: skip
+
+
+CASES = [not_played, late_forfeits, by_command, results_in_a_table]

@@ -1,0 +1,210 @@
+// The devices that somebody chooses in the browser's list. A game whose board has another device now, or whose device
+// the browser has forgotten, is known again by the board's serial number; if the board gives none, somebody is asked.
+// So no board gets a second card.
+
+import { missingDevice, systemOf, whichDevice } from '../device/systems.js';
+
+const NO_ANSWER = { connection: null, came: [], number: '', isSilent: true };
+
+/**
+ * Whose board is on a device: { seat }, or { asks } with the seats of which somebody must say whether it is one of them;
+ * neither for a board that isn't there yet. `number` is what the board has sent, if anything. Each seat has its `serial`;
+ * `isAway`, whether it doesn't hear its board; and `hadPort`, whether this was its device. Pure.
+ */
+export function whoseBoard(seats, { number, isSilent }) {
+  const own = number ? seats.find(({ serial }) => serial === number) : null;
+  if (own) return { seat: own, asks: [] };
+  const away = seats.filter(({ isAway, serial }) => isAway && (!serial || !number));
+  const before = away.find(({ hadPort }) => hadPort);
+  if (before) return { seat: before, asks: [] };
+  return { seat: null, asks: isSilent ? [] : away };
+}
+
+export class Devices {
+  constructor(hall) {
+    this.hall = hall;
+    this.asking = 0; // boards that are being asked who they are
+    this.last = Promise.resolve(); // boards are added one after the other
+  }
+
+  get isAsking() {
+    return this.asking > 0;
+  }
+
+  /** Somebody adds a board: the game that has it goes on, or a new card is made. */
+  async add() {
+    const port = await this.chosen();
+    if (!port) return;
+    if (this.holder(port)) this.show(this.holder(port), 'this device is recorded already');
+    else await this.hear(port, (heard) => this.inTurn(() => this.place(port, heard)));
+  }
+
+  /** The device that somebody chooses in the browser's list; null if it is closed without a choice. */
+  async chosen() {
+    try {
+      const port = await navigator.serial.requestPort();
+      this.hall.notice('device', '');
+      this.hall.ports.chosen.add(port);
+      return port;
+    } catch (error) {
+      if (error.name !== 'NotFoundError') throw error;
+      const system = systemOf(navigator);
+      this.hall.notice('device', `No device was chosen. ${whichDevice(system)} ${missingDevice(system)}`);
+      return null;
+    }
+  }
+
+  /** The board that is recorded from a port. */
+  holder(port) {
+    return this.hall.recorded().find((seat) => seat.port === port && !seat.isAway);
+  }
+
+  /** Does this after what was begun before it. */
+  inTurn(work) {
+    const done = this.last.then(work);
+    this.last = done.catch(() => {});
+    return done;
+  }
+
+  /** Gives a board to the game that has it, or to a new one. */
+  async place(port, heard) {
+    const { seat, asks } = this.whose(port, heard);
+    if (seat && seat.isAway) await this.goOn(seat, port, heard);
+    else if (seat) await this.askWhetherSame(seat, port, heard);
+    else if (asks.length > 0) await this.askWhich(port, heard);
+    else await this.addNew(port, heard);
+  }
+
+  /** Somebody chooses the device of a board again. If another game's board is on it, that game goes on. */
+  async choose(seat) {
+    const port = await this.chosen();
+    if (port) await this.recordFrom(port, seat);
+  }
+
+  async recordFrom(port, seat) {
+    const holder = this.holder(port);
+    if (holder && holder !== seat) throw new Error(`board ${holder.id} is recorded from it`);
+    await this.hear(port, (heard) => this.giveTo(seat, port, heard));
+  }
+
+  /** Gives a board to this game, or to the one that has its number. */
+  async giveTo(seat, port, heard) {
+    const owner = heard.number && heard.number !== seat.serial ? this.hall.seatOf(heard.number, seat) : null;
+    if (owner && !owner.isAway) {
+      await this.close(heard);
+      throw new Error(`this is the board with serial number ${heard.number}, and board ${owner.id} is recorded from it`);
+    }
+    await this.goOn(owner || seat, port, heard);
+  }
+
+  async goOn(seat, port, heard) {
+    this.show(seat);
+    await this.record(seat, port, heard);
+  }
+
+  /** A board's number has come. If it has a game already, and no move was made here, that game goes on. */
+  numbered(seat, number) {
+    const other = this.hall.seatOf(number, seat);
+    if (!other || !other.isAway || seat.hasMoves) return;
+    const { port } = seat;
+    const left = seat.recorder.cable.leave();
+    seat.port = null;
+    const isShown = window.location.hash === `#${seat.id}`;
+    const fails = (error) => this.hall.says(`its board can't be taken over: ${error.message}`, other.id);
+    this.record(other, port, left).catch(fails);
+    this.hall.remove(seat).catch(fails);
+    if (isShown) this.show(other);
+  }
+
+  /** A board has come by itself that isn't known to be an awaited one. */
+  came(port, heard) {
+    const { seat, asks } = this.whose(port, heard);
+    if (seat || asks.length === 0) return;
+    this.hall.says("a board is connected, and the page can't see which one it is");
+    this.askWhich(port, heard).catch((error) => this.hall.says(error.message));
+  }
+
+  // What is asked.
+
+  whose(port, heard) {
+    const seats = this.hall.recorded().map((seat) => {
+      const { serial, isAway } = seat;
+      return { seat, serial, isAway, hadPort: seat.port === port };
+    });
+    const { seat, asks } = whoseBoard(seats, heard);
+    return { seat: seat ? seat.seat : null, asks: asks.map((one) => one.seat) };
+  }
+
+  /** Asks the board on a port who it is, and calls `use` with that. */
+  async hear(port, use) {
+    this.asking += 1;
+    this.hall.changed();
+    try {
+      await this.hall.ports.withBoard(port, (heard) => use(heard || NO_ANSWER));
+    } finally {
+      this.asking -= 1;
+      this.hall.changed();
+    }
+  }
+
+  async close({ connection }) {
+    if (connection) await connection.close();
+  }
+
+  /** Boards are awaited, and the number of this one doesn't say whether it is one of them. */
+  async askWhich(port, heard) {
+    await this.close(heard);
+    const { asks } = this.whose(port, heard);
+    const gives = heard.number ? `has serial number ${heard.number}, which is new here` : 'gives no serial number';
+    this.ask(`A board is connected that ${gives}. Which one is it?`, [
+      ...asks.map((seat) => [`Board ${seat.id}`, () => this.recordFrom(port, seat)]),
+      ['A new board', () => this.addAnew(port)],
+    ]);
+  }
+
+  /** A board of this number is recorded from another device, and answers there. */
+  async askWhetherSame(seat, port, heard) {
+    await this.close(heard);
+    const text = `Board ${seat.id} is recorded already, from a device with the same serial number, ${heard.number}.`;
+    this.ask(text, [
+      [`Show board ${seat.id}`, async () => this.show(seat)],
+      ['It is another board', () => this.addAnew(port)],
+    ]);
+  }
+
+  /** A question. Each answer ends it. */
+  ask(text, answers) {
+    const answered = (done) => () => {
+      this.hall.notice('which', '');
+      done().catch((error) => this.hall.notice('which', `That can't be done: ${error.message || error}`, [], true));
+    };
+    this.hall.notice('which', text, answers.map(([label, done]) => [label, answered(done)]));
+  }
+
+  // What is done.
+
+  /** A seat is recorded from this device from now on. */
+  async record(seat, port, { connection, came }) {
+    if (connection) seat.take(port, connection, came);
+    else await seat.plug(port);
+    this.hall.notice('which', '');
+    this.hall.says('its board has this device now, and its game goes on', seat.id);
+    if (seat.recorder) seat.recorder.knows({ info: port.getInfo() });
+  }
+
+  async addAnew(port) {
+    await this.hear(port, (heard) => this.inTurn(() => this.addNew(port, heard)));
+  }
+
+  async addNew(port, { connection, came }) {
+    const seat = await this.hall.addSeat(port.getInfo());
+    if (!seat) await this.close({ connection });
+    else if (connection) seat.take(port, connection, came);
+    else await seat.plug(port);
+  }
+
+  show(seat, text = '') {
+    if (text) this.hall.says(text, seat.id);
+    window.location.hash = `#${seat.id}`;
+  }
+}

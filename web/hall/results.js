@@ -1,0 +1,28 @@
+// The result of a game that is over without one, while its board has the next game: players set up the pieces before
+// anybody has given it.
+
+import { joined } from '../device/protocol.js';
+import { addition } from '../game/adding.js';
+import { textOf } from '../game/reading.js';
+import { spread } from '../kept/spread.js';
+
+/** The last game of a board before the one that is on, if it has no result; else null. */
+export function unended(finished) {
+  const last = finished[finished.length - 1];
+  return last && /^\[Result "\*"\]$/m.test(last.pgn) ? last : null;
+}
+
+/** Gives a result to a game that is over. Throws Refused if the game can't have it. */
+export async function giveResult(hall, game, outcome) {
+  const sent = game.bytes.slice(0, game.end);
+  const { put } = await addition(hall.program, game.options, sent, { kind: 'result', outcome });
+  const bytes = joined(sent, put, game.bytes.slice(game.end));
+  const end = sent.length + put.length;
+  const text = await textOf(hall.program, game.options, bytes.slice(0, end));
+  const { pgn, bytes: before, ...kept } = game;
+  await hall.database.renew({ ...kept, end }, spread(bytes, hall.loop.now()), null);
+  Object.assign(game, { end, bytes, pgn: text });
+  hall.folders.finishes(game);
+  hall.folders.round();
+  hall.says(`added by hand: the result ${outcome} of ${game.name}`, game.board);
+}

@@ -1,0 +1,159 @@
+// Rounds: what all boards share, the next round on all of them, and games that look as if nobody had begun a new round.
+
+import { dayOf, pgnDate } from '../game/names.js';
+import { UNKNOWN, withTag, written } from '../game/options.js';
+import { pairsOf } from '../game/pairs.js';
+import { OF_ALL, optionsOfRound, repeated, roundAfter } from '../game/rounds.js';
+import { nameOfPlayers } from '../kept/file_names.js';
+
+const MOST_NAMED = 4; // games that a question names
+
+export class Rounds {
+  constructor(hall) {
+    this.hall = hall;
+    this.asked = ''; // the last question about games with the same names
+  }
+
+  // What all boards share.
+
+  /** Takes what was typed for a tag at one board. Boards that have nothing there get it too. */
+  async share(seat, name, value) {
+    this.give({ ...this.hall.given, [name]: value });
+    if (!value) return;
+    for (const other of this.others(seat)) {
+      if (!written(other.options, name)) await this.set(other, name, value);
+    }
+  }
+
+  /** The boards at which this tag is another one. */
+  differing(seat, name) {
+    const value = written(seat.options, name);
+    return this.others(seat).filter((other) => written(other.options, name) !== value);
+  }
+
+  /** Each board gets what this one has. */
+  async shareWithAll(seat, name) {
+    const value = written(seat.options, name);
+    for (const other of this.differing(seat, name)) await this.set(other, name, value);
+    this.hall.changed();
+  }
+
+  others(seat) {
+    return this.hall.recorded().filter((other) => other !== seat);
+  }
+
+  set(seat, name, value) {
+    return seat.edit({ options: withTag(seat.options, name, value, UNKNOWN) });
+  }
+
+  /** New boards get these tags. */
+  give(given) {
+    this.hall.given = given;
+    this.hall.database.set('given', given).catch((error) => this.hall.says(`the browser can't keep what new boards get: ${error.message}`));
+  }
+
+  // A new round.
+
+  /** What a new round is likely to be: { Event, Site, Round, Date }. */
+  get likely() {
+    const { Event = '', Site = '', Round = '' } = this.hall.given;
+    const wasPlayed = this.games().some(({ options }) => written(options, 'Round') === Round);
+    return { Event, Site, Round: wasPlayed ? roundAfter(Round) : Round, Date: dayOf(new Date()) };
+  }
+
+  /** The boards whose games end without a result, and those whose games have begun and only get other names. */
+  get inPlay() {
+    const playing = this.seats().filter((seat) => seat.hasMoves && !seat.isOver);
+    const again = this.repeated();
+    const goOn = playing.filter((seat) => again.some(({ id }) => id === seat.game.id));
+    return { end: playing.filter((seat) => !goOn.includes(seat)), goOn };
+  }
+
+  /**
+   * Begins it on all boards, with { Event, Site, Round, Date, pairs } as they were typed. Throws an Error, and does
+   * nothing, if something in them can't be written. Returns the boards on which it couldn't be begun.
+   */
+  async beginRound({ Date: typed, pairs: lines, ...tags }) {
+    const seats = this.seats();
+    const pairs = pairsOf(lines, seats.map(({ id }) => id));
+    const day = typed.trim() ? pgnDate(typed) : null;
+    const date = day === dayOf(new Date()) ? null : day; // the day on which a game begins is its date anyway
+    const options = new Map(seats.map((seat) => [
+      seat,
+      optionsOfRound(seat.options, { tags, date }, pairs.get(seat.id), seat.id, UNKNOWN),
+    ]));
+    const { goOn } = this.inPlay;
+    this.give(Object.fromEntries(OF_ALL.map((name) => [name, written(options.get(seats[0]), name)])));
+    const failed = [];
+    for (const seat of seats) {
+      const isOn = goOn.includes(seat) || (!seat.hasMoves && !seat.isOver);
+      await this.beginOn(seat, options.get(seat), isOn).catch((error) => {
+        this.hall.says(`the new round can't be begun here: ${error.message}`, seat.id);
+        failed.push(seat);
+      });
+    }
+    this.look();
+    this.hall.changed();
+    return failed;
+  }
+
+  /** Begins the round's game on a board, or gives its options to the game that is on. */
+  async beginOn(seat, options, isOn) {
+    const name = nameOfPlayers(written(options, 'White'), written(options, 'Black')) || `board ${seat.id}`;
+    if (isOn) {
+      await seat.edit({ options });
+      await this.hall.rename(seat, name);
+    } else {
+      await seat.nextGame({ options, name: this.hall.freeName(name) });
+    }
+  }
+
+  seats() {
+    return this.hall.recorded().sort((one, other) => one.id - other.id);
+  }
+
+  // Games with the same names.
+
+  /** All games with moves and their texts, in the order in which they were begun. */
+  games() {
+    const games = this.hall.seated().flatMap((seat) => [...seat.finished, ...(seat.hasMoves ? [{ ...seat.game, pgn: seat.pgn }] : [])]);
+    return games.sort((one, other) => one.id - other.id);
+  }
+
+  /** The games with the names and the round of an earlier one, unless somebody has said that this is right. */
+  repeated() {
+    return repeated(this.games()).filter(({ isAgain }) => !isAgain);
+  }
+
+  /** Asks about games with the names and the round of an earlier one. */
+  look() {
+    const games = this.repeated();
+    const nameOf = ({ board, options }) => `board ${board}, ${nameOfPlayers(written(options, 'White'), written(options, 'Black'))}`;
+    const more = games.length > MOST_NAMED ? `; and ${games.length - MOST_NAMED} more` : '';
+    const which = games.slice(0, MOST_NAMED).map(nameOf).join('; ');
+    const text = games.length > 0 ? `A game has the same names and the same round as one before it (${which}${more}). Is that right?` : '';
+    if (text === this.asked) return;
+    this.asked = text;
+    const fails = (error) => this.hall.says(error.message || String(error));
+    const names = games.length === 1 ? [['Change the names', () => this.hall.hears.names(games[0].board)]] : [];
+    this.hall.notice('again', text, text ? [
+      ['New round', () => this.hall.hears.newRound()],
+      ...names,
+      ['It is right', () => this.isRight(games).catch(fails)],
+    ] : []);
+  }
+
+  /** Somebody says that these games are right as they are. */
+  async isRight(games) {
+    const again = (id) => games.some((game) => game.id === id);
+    for (const seat of this.seats()) {
+      if (again(seat.game.id)) await seat.edit({ isAgain: true });
+      for (const game of seat.finished.filter(({ id }) => again(id))) {
+        game.isAgain = true;
+        const { pgn, bytes, ...kept } = game;
+        await this.hall.database.putGame(kept);
+      }
+    }
+    this.look();
+  }
+}
