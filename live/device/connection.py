@@ -15,6 +15,7 @@ from live.loop import Timer
 
 LOOK_AGAIN = 0.5  # seconds between two tries to open a device that isn't there
 CONNECT_AGAIN = 2.0  # and to connect to a serial server
+CALL_AGAIN = 10.0  # seconds of silence after which a serial server is called again
 FLOOD = "it sends faster than a board can"
 
 
@@ -44,7 +45,8 @@ class Connection:
     """A device that may be unplugged and come back, found by the name of its cable; or a serial server that does so.
 
     A device that is open is plugged in. A serial server may be there without a board: it counts as plugged in once the board has
-    answered, or is silent."""
+    answered, or is silent. If it stays silent, the server is called again from time to time, and nobody else gets the line
+    meanwhile: socat, for one, may wait for ever for a byte that another call has taken."""
 
     def __init__(self, guard: Guard, device: str, hears: Hears) -> None:
         self._guard, self._hears = guard, hears
@@ -53,6 +55,7 @@ class Connection:
         self._asking = Asking()
         self._silent = False
         self._timer: Optional[Timer] = None
+        self._calls_again: Optional[Timer] = None
         self._gone = False
         self._is_plugged = False
         self._trial: Optional[Trial] = None  # of a connection to a serial server
@@ -118,6 +121,7 @@ class Connection:
             self._plugged()
         else:
             self._trial = Trial(now)
+            self._call_again_later()
         self._ask()
 
     def _plugged(self) -> None:
@@ -144,28 +148,49 @@ class Connection:
 
     def _lost(self, why: str) -> None:
         said = self._trial.said if self._trial and not self._trial.has_answered else ""
-        self._hang_up()
         self._is_gone(f"{why}, and said '{said}'" if said else why)
 
     def _is_gone(self, why: str = "") -> None:
-        """It isn't there, which is told once, and is tried again."""
+        """It isn't there. That is reported once; it is tried again and again."""
         self.why = why or self._line.why
+        self._hang_up()
         if not self._gone:
             self._gone = True
             self._hears.unplugged()
         if not self._closed:
             self._timer = self._guard.after(LOOK_AGAIN if isinstance(self._line, SerialLine) else CONNECT_AGAIN, self.begin)
 
-    def _hang_up(self) -> None:
-        if self._timer:
-            self._timer.cancel()
-            self._timer = None
+    def _call_again_later(self) -> None:
+        """The next call of a serial server whose board is silent."""
+        if self._calls_again:
+            self._calls_again.cancel()
+            self._calls_again = None
+        if self._silent and not isinstance(self._line, SerialLine):
+            self._calls_again = self._guard.after(CALL_AGAIN, self._call_again)
+
+    def _call_again(self) -> None:
+        """Hangs up and calls again. The board stays silent until it answers, so nothing is reported."""
+        self._disconnect()
+        if not isinstance(self._line, SerialLine):
+            self._line.hang_up()
+        self._asking.silent = self._silent
+        self._timer = self._guard.after(CONNECT_AGAIN, self.begin)
+
+    def _disconnect(self) -> None:
+        """The line is watched no more, and nothing is asked."""
+        for timer in (self._timer, self._calls_again):
+            if timer:
+                timer.cancel()
+        self._timer = self._calls_again = None
         if self._line.number is not None:
             self._guard.forget(self._line.number)
-        self._line.close()
         self._asking.disconnected()
-        self._silent = self._is_plugged = False
         self._trial = None
+
+    def _hang_up(self) -> None:
+        self._disconnect()
+        self._line.close()
+        self._silent = self._is_plugged = False
 
     def _ask_after_time_away(self) -> None:
         """Asks anew if the recorder was away: a dump that has waited since before that isn't what the board shows now."""
@@ -201,6 +226,7 @@ class Connection:
             self._silent = self._asking.silent
             self._plugged()
             self._hears.silence(self._silent)
+            self._call_again_later()
 
     def has_number(self) -> None:
         """The board is known to have a number: it is asked for until it comes."""

@@ -74,8 +74,8 @@ class NetworkLine:
         """Connects, and then calls `done` in the loop with whether it is open. Raises Busy if another process has the line."""
         address = read_address(self.device)
         assert address
-        self.close()
-        self._lock = lock_of(address)
+        self.hang_up()
+        self._lock = self._lock or lock_of(address)
         self._guard = guard
         try:
             places = places_of(address, socket.AI_NUMERICHOST)
@@ -162,17 +162,22 @@ class NetworkLine:
             self._worker.close()
         self._timer = self._worker = self._guard = None
 
-    def close(self) -> None:
-        """Closes it, also while it connects, and gives up the lock."""
-        line, guard, lock = self._socket, self._guard, self._lock
+    def hang_up(self) -> None:
+        """Closes the connection, also while it is being made, and keeps the lock."""
+        line, guard = self._socket, self._guard
         connects = self.number is None
-        self._socket = self._lock = self.number = None
+        self._socket = self.number = None
         self._stop_waiting()
+        if line:
+            if guard and connects:
+                guard.forget(line.fileno())
+            line.close()
+
+    def close(self) -> None:
+        """Closes it, and gives up the lock."""
+        lock, self._lock = self._lock, None
         try:
-            if line:
-                if guard and connects:
-                    guard.forget(line.fileno())
-                line.close()
+            self.hang_up()
         finally:
             if lock:
                 lock.close()

@@ -103,14 +103,14 @@ def socat(device: str) -> Server:
 
 class Served(Board):
     """A board behind a serial server that a case plays. Whoever connects last has the line. `greeting` is sent to each, who is
-    hung up on at once where it `hangs_up`; without `listens` a call is refused."""
+    hung up on at once where it `hangs_up`. A line that `is_stuck` brings nothing until the next call."""
 
     def __init__(self, folder: pathlib.Path) -> None:
         self.port = free_port()
         self._listener = None
         self._call = None
         self.greeting = b""
-        self.hangs_up = False
+        self.hangs_up = self.is_stuck = False
         self.calls = 0
         super().__init__(folder)
         self.device = f"tcp://127.0.0.1:{self.port}"
@@ -148,6 +148,8 @@ class Served(Board):
         with contextlib.suppress(BlockingIOError, ConnectionError):
             if self._call and self._call.recv(1, socket.MSG_PEEK | socket.MSG_DONTWAIT) == b"":
                 self.hang_up()
+        if self.is_stuck:
+            return
         try:
             super().turn()
         except ConnectionError:
@@ -158,6 +160,7 @@ class Served(Board):
             while self._listener:
                 call, _ = self._listener.accept()
                 self.hang_up()
+                self.is_stuck = False
                 self.calls += 1
                 call.setblocking(False)
                 self._call, self.line = call, call.fileno()
@@ -397,6 +400,32 @@ def server_stops(folder: pathlib.Path) -> None:
     same(stop(live), 0)
 
 
+def stuck_line(folder: pathlib.Path) -> None:
+    """A line that brings nothing more until somebody calls again, as socat's may: the board is SILENT, the recorder calls again, and
+    no other recorder gets the line. That isn't said to be a server that went away."""
+    board = Served(folder)
+    live = Live(board.device, folder / "game")
+    begun(live)
+    board.is_stuck = True
+    until_line(live, words.SILENT)
+    refuses(Live(board.device, folder / "other"), 3, words.ANOTHER_RECORDER)
+    until_line(live, "answers again")
+    same(board.calls, 2)
+    board.play("e2e4")
+    until_game(live.name, "1. e4 *")
+    assert NOT_THERE not in live.lines(), live.lines()
+    board.on = False
+    until_line(live, words.SILENT, 2)
+    calls = board.calls
+    until(lambda: board.calls > calls + 1, "two more calls of a server whose board is off")
+    board.on = True
+    until_line(live, "answers again", 2)
+    board.play("e7e5")
+    until_game(live.name, "1. e4 e5 *")
+    assert NOT_THERE not in live.lines(), live.lines()
+    same(stop(live), 0)
+
+
 def odd_addresses(folder: pathlib.Path) -> None:
     """What is no address is refused, and a host that isn't known is tried again and again."""
     for address in ("tcp://", "tcp://host", "tcp://host:0", "tcp://host:65536", "tcp://a b:1", "tcp:///dev/ttyUSB0:1"):
@@ -406,4 +435,15 @@ def odd_addresses(folder: pathlib.Path) -> None:
     same(stop(live), 0)
 
 
-CASES = [half_open, garbage, server_stops, server_goes_away, line_in_use, behind_ser2net, behind_socat, slow_line, odd_addresses]
+CASES = [
+    half_open,
+    stuck_line,
+    garbage,
+    server_stops,
+    server_goes_away,
+    line_in_use,
+    behind_ser2net,
+    behind_socat,
+    slow_line,
+    odd_addresses,
+]
