@@ -240,6 +240,15 @@ class Hall:
             page.click(tile)
         self.until_text(page, "#title", f"Board {number}")
 
+    def until_none_is_large(self, page: Page) -> None:
+        """The page goes back to all boards by itself, once it has done what was asked."""
+        self.until(lambda: not page.shows("#round-dialog") and not page.shows("#title"), "all boards, and none large")
+
+    def begin_round(self, page: Page) -> None:
+        """Presses the button that begins a new round, and waits until that is done, as somebody must who sees its window."""
+        page.click("#round-begin")
+        self.until_none_is_large(page)
+
     def press(self, page: Page, label: str) -> None:
         """Presses the button of a notice that has this label."""
         button = f"[...document.querySelectorAll('#notices button')].find((one) => one.textContent === {json.dumps(label)})"

@@ -71,8 +71,7 @@ def new_round(folder: pathlib.Path) -> None:
         page.click("#round-begin")
         stage.until_part(page, "#round-answer", "isn't in the calendar")
         page.fill("1.6.2024", "#round-date")
-        page.click("#round-begin")
-        stage.until(lambda: not page.shows("#round-dialog"), "the new round")
+        stage.begin_round(page)
         for number, names in ((1, ["Ben", "Emil Roth"]), (2, ["White", "Black"]), (3, ["Kern, Anna", "Dora"])):
             for side, name in zip("wb", names):
                 stage.until_text(page, f"a.tile[href='#{number}'] .player.{side}", name)
@@ -149,8 +148,7 @@ def same_names(folder: pathlib.Path) -> None:
         stage.press(page, "New round")
         stage.until_part(page, "#round-ends", "Board 1: the game that is on belongs to the new round")
         page.fill("Carl; Dora", "#round-pairs")
-        page.click("#round-begin")
-        stage.until(lambda: not page.shows("#round-dialog"), "the new round")
+        stage.begin_round(page)
         stage.until(lambda: "same names" not in page.text("#notices"), "the end of the question")
         told = games(stage.saved(page, "#save-round"))
         wanted = [["3", "Anna", "1. e4 e5 2. Nf3 Nc6 1-0"], ["3", "Anna", "1. d4 d5 2. c4 e6 1-0"], ["4", "Carl", "1. e4 e5 *"]]
@@ -169,7 +167,7 @@ def first_move_on_the_board(folder: pathlib.Path) -> None:
         stage.until_dumped(page, port)
         page.click("#new-round")
         page.fill("Carl; Dora", "#round-pairs")
-        page.click("#round-begin")
+        stage.begin_round(page)
         stage.enlarge(page, 1)
         stage.until_part(page, "#state", "over: set up the pieces for the next game")
         same((page.moves, page.field("#white")), (RUY_SANS[:1], "Anna"))
