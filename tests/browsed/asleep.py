@@ -1,6 +1,7 @@
 """The computer sleeps, or the browser is stopped: what was played meanwhile is in the game, or somebody must look. A tab that nobody
 sees records as any other."""
 
+import functools
 import pathlib
 import signal
 import threading
@@ -41,6 +42,19 @@ window.timer = { longest: 0 };
   }, 250);
 }
 """
+# Has the program report a game only when that is asked for.
+HOLDS = """
+window.program = { held: null };
+{
+  const post = Worker.prototype.postMessage;
+  Worker.prototype.postMessage = function (message) {
+    if (program.held && message.name === 'watch') program.held.push(() => post.call(this, message));
+    else post.call(this, message);
+  };
+}
+"""
+HOLD = "program.held = []"
+REPORT = "{ const { held } = program; program.held = null; held.forEach((call) => call()); }"
 GOES_ON = "clocks.longest = 0; clocks.running += %d; clocks.counting += %d"
 LOOK = "LOOK after 1... e5"
 SECONDS = 5.0  # of a time away
@@ -66,6 +80,10 @@ def looked_at(stage: Hall, page: Page) -> None:
     stage.until_part(page, "#state", LOOK)
     page.click("#ok")
     stage.until(lambda: "LOOK" not in page.text("#state"), "no alarm any more")
+
+
+def is_shown(page: Page, state: str) -> bool:
+    return page.text("#state").startswith(state)
 
 
 @with_chromium
@@ -104,6 +122,27 @@ def held_up(folder: pathlib.Path) -> None:
                 assert "LOOK" not in page.text("#state"), page.describe()
             page.click("#ok") if page.shows("#ok") else None
         play(stage, page, port, RUY[2:4], RUY_SANS[2:4])
+
+
+@with_chromium
+def reported_late(folder: pathlib.Path) -> None:
+    """The program reports moves only four seconds later, when the clock has been stopped: one that was made before that is nothing to
+    look at. One that was made afterwards is."""
+    with Hall(folder) as stage:
+        page, port = begin_with(stage, f"{CLOCKS}{HOLDS}")
+        clock = [5400, 5400]
+        play(stage, page, port, RUY[2:4], RUY_SANS[2:4], clock)
+        for ply, state in ((4, "agrees"), (5, "LOOK since 3. Bb5")):
+            page.value(HOLD)
+            port.board.play(RUY[ply])
+            stage.until_dumped(page, port)
+            port.board.clock(clock[0], clock[1], False)
+            stage.until_dumped(page, port)
+            stage.rest(4)
+            page.value(REPORT)
+            stage.until_moves(page, RUY_SANS[: ply + 1])
+            if page.value("clocks.longest") <= 1000 * SECONDS:  # else this machine has held it up for longer
+                stage.until(functools.partial(is_shown, page, state), f"the state {state}")
 
 
 @with_chromium

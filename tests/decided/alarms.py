@@ -63,23 +63,20 @@ def clocks() -> None:
 
 
 def reported_late() -> None:
-    """Time messages come at once, moves when the program reports them: each counts when its bytes came. Here the clock is stopped at
-    2 s, and runs again at 9 s; two moves are reported after that."""
-    stopped, running = bytes.fromhex("01300001300000"), bytes.fromhex("01300001300001")
-    for name, offsets, expected in [
-        ("both while it stood", (30, 40), ["LOOK since the start: 2 moves were made while the clock was stopped"]),
-        ("one", (15, 40), ["LOOK since 1. e4: a move was made while the clock was stopped"]),
-        ("none", (15, 60), []),
-    ]:
+    """Time messages come at once, moves when the program reports them: each counts when its bytes came."""
+    for name, happenings, expected in cases("alarms", "reported"):
+        looks: List[str] = []
         with tempfile.TemporaryDirectory() as folder:
             alarms = Alarms(Paths(f"{folder}/game"), Course(INITIAL))
-            for now, size, data in ((1.0, 10, running), (2.0, 20, stopped), (3.0, 25, stopped), (9.0, 50, running)):
-                alarms.time(now, data, size)
-            looks = [
-                alarms.take(offset / 5, Line(offset, move_of(words)), False)
-                for offset, words in zip(offsets, ("move 1. e4", "move 1... e5"))
-            ]
-        same(name, [look.text for look in looks if look][-1:], expected)
+            for offset, now, what in happenings:
+                if what.startswith("time "):
+                    alarms.time(now, bytes_of(what[len("time ") :]), offset)
+                elif what == "gone":
+                    alarms.away(0, False)
+                else:
+                    look = alarms.take(now, Line(offset, move_of(what)), False)
+                    looks += [look.text] if look else []
+        same(name, looks[-1:], expected)
 
 
 def afterwards() -> None:

@@ -66,11 +66,7 @@ def after_a_restart() -> None:
     """Two kings have repeated a position, ten seconds a ply, and the recorder was away for a minute. If the board shows the game's
     position at its first dump, four plies may have led back there; if it doesn't, the gap lasts until the next move."""
     kings = ["k7/8/8/8/8/8/8/K7 w", "k7/8/8/8/8/8/8/1K6 b", "1k6/8/8/8/8/8/8/1K6 w", "1k6/8/8/8/8/8/8/K7 b", "k7/8/8/8/8/8/8/K7 w"]
-    for name, shown, expected in [
-        ("it agrees", "k7/8/8/8/8/8/8/K7", [("after 2... Ka8", AFTER_GAP)]),
-        ("a king is in a hand", "k7/8/8/8/8/8/8/8", [("at 3. Kb1", AFTER_GAP)]),
-        ("nothing is known", "", [("at 3. Kb1", AFTER_GAP)]),
-    ]:
+    for name, shown, expected in cases("doubts", "restarts"):
         picture = picture_of_placement(shown) if shown else None
         last = event("move 2... Ka8")
         assert isinstance(last, Move)
@@ -78,7 +74,7 @@ def after_a_restart() -> None:
         doubts.away(60, True)
         looks = [doubts.stands(101)]
         looks += [doubts.take(102, event(words)) for words in ("picture k7/8/8/8/8/8/8/1K6", "move 3. Kb1")]
-        same(name, [(look.what, look.why) for look in looks if look], expected)
+        same(name, [[look.what, look.why] for look in looks if look], expected)
 
 
 def limits() -> None:

@@ -2,6 +2,8 @@
 import { Agreement } from "/web/board/agreement.js";
 import { pictureOfPlacement } from "/web/device/protocol.js";
 import { AfterTheEnd } from "/web/game/after_the_end.js";
+import { Alarms } from "/web/game/alarms.js";
+import { Course } from "/web/game/course.js";
 import { textOfLook } from "/web/game/looks.js";
 import { eventOf } from "/web/game/report.js";
 import { StoppedClock, runs as runsBy } from "/web/game/stopped_clock.js";
@@ -55,6 +57,24 @@ export function clocks(counts, cases) {
       }
     }
     counts.same(name, seen, expected);
+  }
+}
+
+export function reportedLate(counts, cases) {
+  for (const [name, happenings, expected] of cases("reported")) {
+    const alarms = new Alarms(new Course(INITIAL));
+    const seen = [];
+    for (const [offset, now, what] of happenings) {
+      if (what.startsWith(TIME)) {
+        alarms.time(now, bytesOf(what.slice(TIME.length)), offset);
+      } else if (what === "gone") {
+        alarms.away(0, false);
+      } else {
+        const look = alarms.take(now, { offset, event: eventOf(what) }, false);
+        seen.push(...(look ? [textOfLook(look)] : []));
+      }
+    }
+    counts.same(name, seen.slice(-1), expected);
   }
 }
 

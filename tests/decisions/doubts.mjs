@@ -48,6 +48,26 @@ export function paces(counts) {
   }
 }
 
+/** Two kings have repeated a position, ten seconds a ply, and the page was away for a minute. */
+export function restarts(counts, cases) {
+  const kings = [
+    "k7/8/8/8/8/8/8/K7 w",
+    "k7/8/8/8/8/8/8/1K6 b",
+    "1k6/8/8/8/8/8/8/1K6 w",
+    "1k6/8/8/8/8/8/8/K7 b",
+    "k7/8/8/8/8/8/8/K7 w",
+  ];
+  for (const [name, shown, expected] of cases("restarts")) {
+    const fens = kings.map((fen) => `${fen} - - 0 1`);
+    const picture = shown ? codesOf(shown) : null;
+    const taken = Doubts.goingOn(fens, eventOf("move 2... Ka8"), [10, 20, 30, 40], picture);
+    taken.away(60, true);
+    const looks = [taken.stands(101)];
+    for (const words of ["picture k7/8/8/8/8/8/8/1K6", "move 3. Kb1"]) looks.push(taken.take(102, eventOf(words)));
+    counts.same(name, looks.filter(Boolean).map((look) => [look.what, look.why]), expected);
+  }
+}
+
 export function limits(counts, cases) {
   for (const [seconds, expected] of cases("late")) {
     counts.same(`a correction after ${seconds} s is late`, isLate(seconds), expected);

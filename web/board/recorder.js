@@ -131,7 +131,7 @@ export class Recorder {
     if (event.kind === 'fault') return;
     const isOld = offset < this.old;
     if (this.isOld && !isOld) this.tellOld();
-    const now = isOld ? this.capture.times.of(offset) : this.guard.now();
+    const now = this.capture.times.of(offset); // when it came: the report may be late
     if (event.kind === 'picture' && same(codesOf(event.placement), this.course.start)) this.startAt = offset;
     if (this.isOver && offset >= this.game.end) {
       this.hearAfter(line, isOld);
@@ -206,8 +206,8 @@ export class Recorder {
     }
     this.wasAway = false;
     this.isRestart = false;
+    if (ended.time.length > 0) this.alarms.time(now, ended.time, this.capture.size);
     this.capture.append(bytes, now);
-    if (ended.time.length > 0) this.alarms.time(now, ended.time);
     if (ended.dumped) this.dumped();
     if (this.capture.size >= LARGEST - ROOM && !this.isOver) this.end(Reason.LIMIT);
   }

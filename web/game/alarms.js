@@ -3,7 +3,7 @@
 import { Doubts } from './doubts.js';
 import { Looks } from './looks.js';
 import { shortOf } from './report.js';
-import { StoppedClock, hasRun } from './stopped_clock.js';
+import { StoppedClock, hasRun, runs } from './stopped_clock.js';
 
 /** The message about what was acknowledged. */
 export function acknowledged(seen) {
@@ -15,8 +15,9 @@ export class Alarms {
   constructor(course, open = []) {
     const { fens, plies, movedAt } = course;
     const last = plies.length > 0 ? plies[plies.length - 1] : null;
-    this.doubts = Doubts.goingOn(fens, last, movedAt);
+    this.doubts = Doubts.goingOn(fens, last, movedAt, course.board);
     this.clock = new StoppedClock(hasRun(plies), last ? shortOf(last) : '');
+    this.times = []; // time messages that say whether the clock runs: { size, now, data }
     this.looks = new Looks(open);
     this.since = new Map(); // the byte at which each newly reported alarm came
   }
@@ -24,6 +25,7 @@ export class Alarms {
   /** The board wasn't heard for this long, and is heard again; or it was the recorder that was away. */
   away(seconds, isRestart) {
     this.doubts.away(seconds, isRestart);
+    this.times = [];
     this.clock.gone();
   }
 
@@ -37,13 +39,21 @@ export class Alarms {
     return this.add(this.doubts.stands(now));
   }
 
-  /** A time message has come, with these seven bytes. */
-  time(now, data) {
-    this.clock.time(now, data);
+  /**
+   * A time message has come, with these seven bytes, when the capture had this size. A move that came before it may be
+   * reported later.
+   */
+  time(now, data, size) {
+    const last = this.times[this.times.length - 1];
+    if (!last || runs(last.data) !== runs(data)) this.times.push({ size, now, data });
   }
 
   /** The next line of the game. Returns an alarm, if any; none for what was added by hand. */
   take(now, { offset, event }, byHand) {
+    while (this.times.length > 0 && this.times[0].size <= offset) {
+      const { now: cameAt, data } = this.times.shift();
+      this.clock.time(cameAt, data);
+    }
     let look = this.doubts.take(now, event);
     if (event.kind === 'move' && byHand) this.clock.added(event);
     else if (event.kind === 'move') look = this.clock.moved(now, event) || look;

@@ -140,14 +140,17 @@ export class Doubts {
     this.comesFirst = false; // the next picture is the first after it
   }
 
-  /** The doubts of a game that goes on: from its positions, its last move, and when its last moves came. */
-  static goingOn(fens, last, movedAt) {
+  /**
+   * The doubts of a game that goes on: from its positions, its last move, when its last moves came, and what the board has
+   * shown last, if known.
+   */
+  static goingOn(fens, last, movedAt, shown) {
     const doubts = new Doubts();
     for (const fen of fens.slice(-PACE_OF - 1)) {
       doubts.isNew = true;
       doubts.reaches(fen);
     }
-    doubts.shown = doubts.position;
+    doubts.shown = shown;
     doubts.hasBegun = Boolean(last);
     if (last && movedAt.length > 0) {
       doubts.last = shortOf(last);
