@@ -4,6 +4,7 @@ from __future__ import annotations
 
 import collections
 import contextlib
+import functools
 import heapq
 import itertools
 import os
@@ -14,7 +15,7 @@ import time
 from dataclasses import dataclass
 from typing import Callable, Deque, List, Optional, Protocol, Tuple
 
-from live.time_away import Turn, time_away
+from live.time_away import LONGEST, Turn, time_away
 
 Callback = Callable[[], None]
 ENDING = (signal.SIGINT, signal.SIGTERM, signal.SIGHUP)
@@ -78,22 +79,17 @@ class Loop:
         self._timers: List[Tuple[float, int, Timer]] = []  # a heap: those for the same time are called in their order
         self._numbers = itertools.count()
         self._stopped = False
-        self._turn, self._away = self.clocks(), 0.0
+        self._turn, self._away = (self.running(), self.counting()), 0.0
         self._soon: Deque[Callback] = collections.deque()
         self._woken, self._wakes = socket.socketpair()
         self._woken.setblocking(False)
         self._wakes.setblocking(False)
         self.watch(self._woken.fileno(), self._call_soon)
 
-    @staticmethod
-    def now() -> float:
-        """The time of all timers; it never goes back."""
-        return time.monotonic()
-
-    @staticmethod
-    def clocks() -> Turn:
-        """The time, by a clock that stands still while the computer sleeps and by one that counts on. Nobody can set them."""
-        return Turn(time.monotonic(), time.clock_gettime(time.CLOCK_BOOTTIME))
+    now = staticmethod(time.monotonic)  # the time of all timers; it never goes back
+    # Two clocks that nobody can set: one stands still while the computer sleeps, the other counts on.
+    running = staticmethod(time.monotonic)
+    counting = staticmethod(functools.partial(time.clock_gettime, time.CLOCK_BOOTTIME))
 
     def away(self) -> float:
         """The seconds of all times in which the recorder was stopped, or the computer slept."""
@@ -101,8 +97,10 @@ class Loop:
 
     def _turned(self, waited: float = 0.0) -> None:
         """A wait of at most so many seconds is over, or a call. Each call counts as a turn, so many slow ones are no time away."""
-        before, self._turn = self._turn, self.clocks()
-        self._away += time_away(before, self._turn, waited)
+        before, now = self._turn, (self.running(), self.counting())
+        if now[0] - before[0] > LONGEST or now[1] - before[1] > LONGEST:
+            self._away += time_away(Turn(*before), Turn(*now), waited)
+        self._turn = now
 
     def watch(self, number: int, readable: Optional[Callback] = None, writable: Optional[Callback] = None) -> None:
         """Calls these from now on for the file descriptor; none if both are None."""

@@ -142,7 +142,6 @@ class Connection:
                 self._plugged()
             for one in passed:
                 self._hears.came(*one)
-            self._ask_after_time_away()
             self._tell_silence()
             self._ask()
 

@@ -6,7 +6,7 @@ import contextlib
 from typing import Mapping
 
 from live.game.files import Paths, beginning, put_in_place, remove
-from live.game.forfeits import TERMINATION, fits
+from live.game.forfeits import TERMINATION, fits, is_unplayed
 from live.game.game import result_of
 
 LONGEST = 16  # bytes of the file, whoever wrote it
@@ -22,7 +22,7 @@ def kept_forfeit(paths: Paths) -> str:
 
 def forfeit_of(paths: Paths, pgn: bytes) -> str:
     """How the game with this text was forfeited; empty if it wasn't."""
-    kind = kept_forfeit(paths)
+    kind = kept_forfeit(paths) if is_unplayed(pgn) else ""
     return kind if fits(kind, result_of(pgn), pgn) else ""
 
 

@@ -18,8 +18,9 @@ import pathlib, runpy, sys
 sys.dont_write_bytecode = True
 file, sys.argv = pathlib.Path(sys.argv[1]), sys.argv[2:]
 sys.path.insert(0, {top!r})
-from live import loop, time_away
-loop.Loop.clocks = staticmethod(lambda: time_away.Turn(*map(float, file.read_text().split())))
+from live import loop
+for number, clock in enumerate(("running", "counting")):
+    setattr(loop.Loop, clock, staticmethod(lambda number=number: float(file.read_text().split()[number])))
 runpy.run_path(sys.argv[0], run_name="__main__")
 """
 THERE_AND_BACK = ["g1f3", "g8f6", "f3g1", "f6g8"]  # four plies after which the pieces stand as before
