@@ -86,7 +86,11 @@ class Loop:
         self._wakes.setblocking(False)
         self.watch(self._woken.fileno(), self._call_soon)
 
-    now = staticmethod(time.monotonic)  # the time of all timers; it never goes back
+    @staticmethod
+    def now() -> float:
+        """The time of all timers; it never goes back."""
+        return time.monotonic()
+
     # Two clocks that nobody can set: one stands still while the computer sleeps, the other counts on.
     running = staticmethod(time.monotonic)
     counting = staticmethod(functools.partial(time.clock_gettime, time.CLOCK_BOOTTIME))
