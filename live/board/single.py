@@ -50,6 +50,7 @@ class Single:
         self.over: Callable[[], None] = loop.stop  # called when its recording has ended
         self.asked: Callable[[], None] = loop.stop  # and when somebody ends it
         self.goes_on: Callable[[], None] = lambda: None  # and when it is recorded again
+        self.opened: Callable[[], None] = lambda: None  # called once, when its game has been opened
         self.greeting: Tuple[str, ...] = ()  # what to print once it is recorded
         self.secret = ""  # a line with a password, to print after that
         self.is_open = False  # whether its game has been opened
@@ -99,6 +100,8 @@ class Single:
 
     def _opened(self) -> None:
         """Its game is open."""
+        if not self.is_open:
+            self.opened()
         self.is_open = True
         self._choice = Choice(Options(), (), self._choice.is_unseen)  # what was given is kept beside the game by now
         greeting, self.greeting = self.greeting, ()

@@ -21,7 +21,7 @@ from live.game.tags import published
 from live.loop import Loop
 from live.refused import FAILED, Refused
 from live.web.doors import Title, TwoPages
-from live.web.kept_pages import AS_BEFORE, pages_of
+from live.web.kept_pages import keep_pages, pages_of
 from live.web.round_page import ArbiterView
 from live.web.view import round_pgn
 
@@ -36,12 +36,13 @@ class Audience:
             hold(paths)
         # whether spectators haven't seen all of a game that is over
         self.is_unseen = not call.series and is_unseen(paths, lambda text: published_of(paths, text)) and end_mark(paths) is not None
+        where, are_kept = pages_of(paths, call.pages)
+        self._pages = TwoPages(loop, where, are_kept)
+        self._to_keep = None if are_kept else call.pages
         self._delay = delay_of(paths, call.delay, [paths])
         self._late = minutes(self._delay) if self._delay else ""
         self._event = os.path.basename(call.name)
-        title = Title(given.event or self._event, given.round or "", self._late)
-        where, self._is_kept = pages_of(paths, call.pages)
-        self._pages = TwoPages(loop, where, title)
+        self._title = Title(given.event or self._event, given.round or "", self._late)
 
     def join(self, single: Single) -> None:
         """From now on the game of this board is shown. The call ends when spectators have seen it."""
@@ -52,14 +53,21 @@ class Audience:
             self._loop, out, place, lambda: [single] if single.is_open else [], lambda game: paths, single
         )
         self._pages.trouble = single.trouble
-        self._pages.show(ArbiterView(self._event, lambda: [single], single.trouble), broadcast)
+        self._pages.show(self._title, ArbiterView(self._event, lambda: [single], single.trouble), broadcast)
+
+        def opened() -> None:
+            try:
+                if self._to_keep:
+                    keep_pages(paths, self._to_keep)
+            except Refused as refused:  # it is recorded anyway
+                single.say(refused.lines[0])
 
         def changed() -> None:
             self._pages.changed()
             if not single.board.is_new:
                 broadcast.changed()
 
-        single.on_change = changed
+        single.opened, single.on_change = opened, changed
         self._leaving = leaving = Leaving(self._loop, broadcast, single.say)
 
         def over() -> None:
@@ -71,7 +79,7 @@ class Audience:
 
     def _greeting(self) -> Tuple[str, ...]:
         """What is printed once the game is recorded."""
-        greeting = self._pages.told("the game") + ([AS_BEFORE] if self._is_kept else [])
+        greeting = self._pages.told("the game")
         if self._call.shows:
             greeting.append("Ctrl-C ends it")
         if self.is_unseen:

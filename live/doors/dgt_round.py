@@ -31,7 +31,7 @@ from live.round.tournament import Tournament, made, tournament_of
 from live.round.tournament_files import RESULTS, TournamentFiles, all_text, results_text
 from live.web.address import Pages, read_pages
 from live.web.doors import Title, TwoPages
-from live.web.kept_pages import AS_BEFORE, pages_of
+from live.web.kept_pages import keep_pages, pages_of
 from live.web.round_page import ArbiterView
 
 SEE_HELP = "see dgt_round --help"
@@ -198,11 +198,11 @@ def play(asked: Asked, program: Program, signals: Signals) -> Outcome:
     loop = Loop()
     hall = Hall(program, str(folder), given, asked.linger, terminal_of_lines(loop))
     refuse_another_round(source, read, hall)
+    where, are_kept = pages_of(files, asked.pages)
+    pages = TwoPages(loop, where, are_kept)
     delay = delay_of(files, asked.delay, [Paths(str(folder / pairing.file_name)) for pairing in read.boards])
     late = minutes(delay) if delay else ""
     shown = given.written("--event") or file.stem
-    where, is_kept = pages_of(files, asked.pages)
-    pages = TwoPages(loop, where, Title(shown, given.round or "", late))
     event = "" if given.event == UNKNOWN else given.written("--event")
     title = ", ".join(filter(None, (event, given.round and f"round {given.round}"))) or file.stem
     games = Round(loop, source, read, title, replace(hall, out=GoingOut(delay, asked.publish)))
@@ -214,14 +214,16 @@ def play(asked: Asked, program: Program, signals: Signals) -> Outcome:
     try:
         if given.only(TAGS) != kept:
             keep_options(files, given.only(TAGS))
+        if not are_kept and (where.any or where.ends):
+            keep_pages(files, where)
     except Refused as refused:  # the boards are recorded anyway
         games.say(refused.lines[0])
     arbiter = ArbiterView(shown, games.boards, games.trouble)
     arbiter.is_unpublished = lambda: bool(games.broadcast.alarm)
     pages.trouble = games.trouble
-    pages.show(arbiter, games.broadcast)
+    pages.show(Title(shown, given.round or "", late), arbiter, games.broadcast)
     games.on_change = pages.changed
-    for line in filter(None, (*pages.told("the round"), pages.secret, AS_BEFORE if is_kept else "")):
+    for line in filter(None, (*pages.told("the round"), pages.secret)):
         games.say(line)  # the round's log has only faults
     signals.tell(loop, games.end, games.hung_up)
     more = files_of(asked.tournament, loop, games) if asked.tournament else None

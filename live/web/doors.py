@@ -12,11 +12,13 @@ from live.broadcast.broadcast import Broadcast
 from live.loop import Loop
 from live.refused import Refused
 from live.web.address import HERE, HIGHEST_PORT, Address, Door, Names, Pages
-from live.web.page import ARBITER, SPECTATORS
+from live.web.page import ARBITER, SPECTATORS, Site
 from live.web.round_page import ArbiterView, RoundPage
 from live.web.view import RoundView
 
 ANY_PORT = 0
+AS_BEFORE = "it is shown as before; --page no ends that"
+NOT_AS_BEFORE = "it is recorded all the same. Put that right, and start again"
 THIS_COMPUTER = Names(frozenset({"localhost"}))  # who leads another name here could read a page without a password
 LETTERS = "abcdefghjkmnpqrstuvwxyz23456789"  # none looks like another one
 PARTS, PART = 4, 4  # of a password: 79 bits
@@ -41,39 +43,45 @@ class Title:
         return tuple((name, value) for name, value in (("round", self.round), ("late", self.late)) if value)
 
 
-def _spectators_of(loop: Loop, pages: Pages) -> Optional[RoundPage]:
-    """The spectators' page, if there is one. Refused if it can't be served."""
-    if pages.spectators is None:
-        return None
-    return RoundPage(loop, Door(pages.spectators, pages.names, embed=pages.embed), SPECTATORS)
-
-
 class TwoPages:
-    """The pages of a call. Refused if one that was asked for can't be served."""
+    """The pages of a call. Refused if one that was asked for can't be served. One that was kept from before is left out then: the
+    boards are recorded all the same."""
 
-    def __init__(self, loop: Loop, pages: Pages, title: Title) -> None:
-        self._title = title
-        self._spectators = _spectators_of(loop, pages)
+    def __init__(self, loop: Loop, pages: Pages, are_kept: bool) -> None:
+        self._loop, self._are_kept = loop, are_kept
+        self._left_out: List[str] = []  # why
         self._password = ""
-        self._arbiter = self._arbiters(loop, pages) if pages.any else None
+        self._spectators: Optional[RoundPage] = None
+        if pages.spectators:
+            self._spectators = self._page(Door(pages.spectators, pages.names, embed=pages.embed), SPECTATORS)
+        self._arbiter = self._arbiters(pages) if pages.any else None
         self.trouble: Callable[[str], None] = lambda text: None
 
-    def _arbiters(self, loop: Loop, pages: Pages) -> RoundPage:
+    def _page(self, door: Door, site: Site) -> Optional[RoundPage]:
+        """A page behind this door, unless it is left out."""
+        try:
+            return RoundPage(self._loop, door, site)
+        except Refused as refused:
+            if not self._are_kept:
+                raise
+            self._left_out.append(refused.lines[0])
+            return None
+
+    def _arbiters(self, pages: Pages) -> Optional[RoundPage]:
         """The arbiter's page. If no address is given, it is on this computer alone, at the next port or at any free one."""
         if pages.arbiter and pages.arbiter.host not in (HERE, "::1"):
             self._password = new_password()
-            return RoundPage(loop, Door(pages.arbiter, pages.names, self._password), ARBITER)
+            return self._page(Door(pages.arbiter, pages.names, self._password), ARBITER)
         if pages.arbiter:
-            return RoundPage(loop, Door(pages.arbiter, THIS_COMPUTER), ARBITER)
+            return self._page(Door(pages.arbiter, THIS_COMPUTER), ARBITER)
         port = pages.spectators.port if pages.spectators else HIGHEST_PORT
         if port < HIGHEST_PORT:
             with contextlib.suppress(Refused):
-                return RoundPage(loop, Door(Address(HERE, port + 1), THIS_COMPUTER), ARBITER)
-        return RoundPage(loop, Door(Address(HERE, ANY_PORT), THIS_COMPUTER), ARBITER)
+                return RoundPage(self._loop, Door(Address(HERE, port + 1), THIS_COMPUTER), ARBITER)
+        return RoundPage(self._loop, Door(Address(HERE, ANY_PORT), THIS_COMPUTER), ARBITER)
 
-    def show(self, arbiter: ArbiterView, broadcast: Broadcast) -> None:
+    def show(self, title: Title, arbiter: ArbiterView, broadcast: Broadcast) -> None:
         """Shows these from now on. What spectators see comes from the broadcast alone."""
-        title = self._title
         for page in self._all:
             page.trouble = self.trouble
         if self._spectators:
@@ -92,10 +100,14 @@ class TwoPages:
             self._arbiter.changed()
 
     def told(self, what: str) -> List[str]:
-        """Lines that say where they are served."""
+        """Lines that say where they are served, and why one isn't."""
         lines = [f"{what} is shown at {self._spectators.url}"] if self._spectators else []
         if self._arbiter and not self._password:
             lines.append(f"the arbiter's page is at {self._arbiter.url}, on this computer alone")
+        if self._left_out:
+            lines += [*self._left_out, NOT_AS_BEFORE]
+        elif self._are_kept and self._all:
+            lines.append(AS_BEFORE)
         return lines
 
     @property

@@ -1,4 +1,5 @@
-"""Where a game or a round was shown last, kept beside it: it is shown there again until another place, or none, is given."""
+"""Where a game or a round was shown last, kept beside it: it is shown there again until another place, or none, is given. A place
+is kept only once something is shown there."""
 
 from __future__ import annotations
 
@@ -11,15 +12,13 @@ from live.refused import FAILED, REFUSED, Refused
 from live.web.address import Pages, read_pages
 
 LONGEST = 65536  # bytes of the file that keeps it
-AS_BEFORE = "it is shown as before; --page no ends that"
 GIVE_ONE = "give --page, or remove it"
 
 
 def pages_of(paths: Paths, given: Optional[Pages]) -> Tuple[Pages, bool]:
-    """Where it is shown from now on: the given pages, which are kept, or else those that were kept; and whether they were kept.
-    Refused if they can't be read."""
+    """Where it is shown from now on: the given pages, or else those that were kept; and whether they were kept. Refused if they
+    can't be read."""
     if given is not None and (given.any or given.ends):
-        _keep(paths, given)
         return given, False
     kept = _kept(paths)
     return (kept, True) if kept else (Pages(), False)
@@ -46,7 +45,8 @@ def _kept(paths: Paths) -> Optional[Pages]:
         raise Refused(REFUSED, f"{paths.pages} can't be read ({refused.lines[0]}): {GIVE_ONE}") from None
 
 
-def _keep(paths: Paths, pages: Pages) -> None:
+def keep_pages(paths: Paths, pages: Pages) -> None:
+    """Keeps where it is shown, or that it is shown nowhere. Refused if that can't be written."""
     try:
         if pages.any:
             put_in_place(paths.pages, "".join(f"{line}\n" for line in pages.words).encode("utf-8"))
