@@ -62,15 +62,17 @@ class OneGame:
 
     def show(self, game: Game) -> bool:
         """Shows what is due. Returns whether that has changed."""
-        tags, shot = game.tags, self.late.shot
-        shown_of = (id(shot), game.number, tuple(tags.items()), *(written_name(game, side) for side in SIDES))
+        shot = self.late.shot
+        names = {side: written_name(game, side) for side in SIDES}
+        tags = {**game.tags, **names}
+        shown_of = (id(shot), game.number, tuple(tags.items()))
         if shown_of == self._shown:
             return False
         self._shown, self._shot = shown_of, shot  # the shot is kept, so that its id stays its own
         of = (tuple(tags.items()), shot.text, shot.forfeit)
         if of != self._text[0]:
             self._text = of, published(shot.text, tags, told_to_readers(shot.forfeit))
-        white, black = (Player.of_tags(tags, side, written_name(game, side)) for side in SIDES)
+        white, black = (Player.of_tags(tags, side, names[side]) for side in SIDES)
         before = self.board
         shown = SpectatorBoard(game.number, white, black, shot, self._text[1], self.late.history.delay)
         if shown != before:

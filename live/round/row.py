@@ -181,7 +181,7 @@ class Row:
         self.board = Board(loop, hall.program, self._screen, paths, self)
         self.board.called = f"board {pairing.board}"
         self._device = ""  # the line's device when the recording began
-        self._tags: Tuple[Optional[Pairing], Tags] = (None, {})  # a line, and its tags
+        self._of_line: Tuple[Optional[Pairing], Options] = (None, Options())  # a line, and its options
         self._wants_result = True
 
     @property
@@ -283,16 +283,24 @@ class Row:
 
     # What others see.
 
+    @property
+    def _named(self) -> Options:
+        """The options that have its players' names: those of its game, or of its line as long as no game was opened. Both names and
+        all tags come from the same, so they change together."""
+        if self.board.options.tags:
+            return self.board.options
+        if self._of_line[0] is not self.pairing:
+            self._of_line = self.pairing, typed_options(self._hall, self.pairing)
+        return self._of_line[1]
+
     def player_name(self, option: str) -> str:
         """The name for `--white` or `--black`."""
-        return self.board.options.value(option) or (self.pairing.white if option == "--white" else self.pairing.black)
+        return self._named.value(option) or ""
 
     @property
     def tags(self) -> Tags:
-        """The tags of its line that are published but not recorded, or published in other letters."""
-        if self._tags[0] is not self.pairing:
-            self._tags = self.pairing, dict(typed_options(self._hall, self.pairing).tags)
-        return self._tags[1]
+        """The tags that are published but not recorded, or published in other letters."""
+        return dict(self._named.tags)
 
     @property
     def in_front(self) -> str:

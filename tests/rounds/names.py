@@ -5,13 +5,16 @@ import pathlib
 
 from played import words
 from played.ports import free_port
-from played.stage import bytes_of, refuses, same, stop, until, until_line
+from played.stage import bytes_of, refuses, rest, same, stop, until, until_line
+from rounds.delayed import stuck_program, words_of
 from rounds.hall import Hall
 from rounds.witness import served
 
+from live.game.tags import pairs_of
 from live.terminal.columns import width_of
 
 PLAYERS = [("Иванов, Пётр", "王浩然"), ("Γεωργίου, Νίκος", "이세돌"), ("Jörg Müller", "Åse Lund")]
+CORRECTED = [("Jorg Muller", "Ben Oto"), ("Jörg Müller", "Ben Ott")]  # one is recorded in other letters, the other as it is
 ROW = "   1 Иванов, Пётр 王浩然       1. e4"
 
 
@@ -54,4 +57,44 @@ def names_as_written(folder: pathlib.Path) -> None:
     for line in [line for line in lines if line[:5] in ("   1 ", "   2 ", "   3 ")]:
         before, _, _ = line.partition("1. ")
         same((line, width_of(before)), (line, head.index("Last move")))
+    same(stop(live), 0)
+
+
+def change_together(folder: pathlib.Path) -> None:
+    """Both names of a pair are put right while spectators see the round late. Both pages and the published text have the old names
+    until the game is opened again, and then the new ones: never one of each."""
+    hall, stuck = Hall(folder, 1), folder / "stuck"
+    ports = free_port(), free_port()
+
+    def write(white: str, black: str) -> None:
+        hall.file.write_text(f"board;device;white;black\n1;{folder}/board1;{white};{black}\n", encoding="utf-8")
+
+    def shown() -> "set[tuple[str, str]]":
+        """The pairs that somebody sees."""
+        boards = [board for port in ports for board in json.loads(served(port, "/state.json"))["boards"]]
+        pairs = {(board["white"], board["black"]) for board in boards}
+        for text in texts():
+            tags = pairs_of(text.decode("utf-8"))
+            pairs.add((tags["White"], tags["Black"]))
+        return pairs
+
+    def texts() -> "list[bytes]":
+        return list(filter(None, (served(ports[0], "/round.pgn"), bytes_of(hall.games / "broadcast.pgn"))))
+
+    write(*CORRECTED[0])
+    options = ("--delay", "15", "--page", str(ports[0]), "--arbiter-page", str(ports[1]))
+    live = hall.record(*options, program=stuck_program(folder, stuck), typed=True)
+    hall.begun(live)
+    hall.play(0, 2)
+    until(lambda: len(texts()) == 2, "the published text, in the file and on the page", 0.05)
+    until(lambda: shown() == {CORRECTED[0]}, "the names of the table", 0.05)
+    stuck.write_text("record")
+    write(*CORRECTED[1])
+    live.type("r")
+    until_line(live, "is read again")
+    until(lambda: "record" in words_of(live), "the game to be opened again", 0.05)
+    rest(1)  # what is shown is never older
+    same(shown(), {CORRECTED[0]})
+    stuck.unlink()
+    until(lambda: shown() == {CORRECTED[1]}, "the names that were put right", 0.05)
     same(stop(live), 0)
