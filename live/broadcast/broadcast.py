@@ -94,6 +94,7 @@ class Broadcast:
     ) -> None:
         self._loop, self._out, self._place, self._games, self._paths, self._hears = loop, out, place, games, folder, hears
         self.on_news: Optional[Callable[[], None]] = None  # called when what the page shows has changed; None if there is no page
+        self.write_others: Callable[[], None] = lambda: None  # writes a last time what else the command carries away
         self._of: Dict[int, OneGame] = {}
         self.boards: Tuple[SpectatorBoard, ...] = ()
         self._is_known = False  # whether the games have been looked at
@@ -269,6 +270,7 @@ class Broadcast:
                 self._look()
             if self._file and self.boards:  # without a game there is no text
                 self._file.close()
+            self.write_others()
             if self._publisher:
                 ends.append(self._publisher)
                 self._publisher.finish(done)

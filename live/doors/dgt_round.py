@@ -248,7 +248,7 @@ def files_of(tournament: Tournament, loop: Loop, games: Round) -> TournamentFile
 def site_of(folder: str, loop: Loop, games: Round, title: Title) -> SiteFiles:
     """The static site, which has what is broadcast."""
     site = SiteFiles(loop, pathlib.Path(folder), title, lambda: games.broadcast.boards, games.say, games.trouble)
-    site.written = games.broadcast.carry
+    site.written, games.broadcast.write_others = games.broadcast.carry, site.finish
     return site
 
 

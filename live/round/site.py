@@ -118,7 +118,8 @@ def kept_rounds(folder: pathlib.Path) -> Dict[str, Mapping[str, object]]:
 
 
 class SiteFiles:
-    """Keeps a round's part of the site up to date, and the list. `written` is called when something has changed."""
+    """Keeps a round's part of the site up to date, and the list. `written` is called when something has changed, also by
+    `finish`."""
 
     def __init__(
         self, loop: Turns, folder: pathlib.Path, title: Title, boards: Callable[[], Sequence[SpectatorBoard]],
@@ -168,7 +169,8 @@ class SiteFiles:
     def _take(self, texts: Texts, made: Made) -> None:
         if made.trouble:
             if not self._told:
-                self._says(f"NOT WRITTEN: the site in {self._folder} can't be written ({made.trouble}); it is tried again")
+                what = "DISK FULL" if made.full else "NOT WRITTEN"
+                self._says(f"{what}: the site in {self._folder} can't be written ({made.trouble}); it is tried again")
         else:
             self._written.update(texts)
             if self._told:
@@ -176,15 +178,21 @@ class SiteFiles:
             self.written()
         self._told = made.trouble
 
-    def close(self) -> List[str]:
-        """Writes it a last time. Returns what can't be written."""
+    def finish(self) -> None:
+        """Writes it a last time."""
+        if self._closed:
+            return
         self._closed = True
         self._worker.close()
         self._worker.wait()
+        self._guard.end()
         texts = self._texts()
         if texts:
             self._take(texts, written(self._folder, self._title.event, self._round, texts))
-        self._guard.end()
+
+    def close(self) -> List[str]:
+        """Writes it a last time, unless that is done. Returns what can't be written."""
+        self.finish()
         return [f"the site in {self._folder} can't be written ({self._told})"] if self._told else []
 
 

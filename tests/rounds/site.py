@@ -5,15 +5,19 @@ import http.server
 import json
 import pathlib
 import re
+import shutil
+import sys
 import threading
-from typing import List
+from typing import Dict, List
 
 import outside
 from play_board import INITIAL
 from paged.devtools import Shared
-from played.stage import Skipped, bytes_of, same, stop, until, until_line
+from played.recorder import Live
+from played.stage import Skipped, bytes_of, ended, kill, same, stop, until, until_line
 from rounds.delayed import DELAY, Delayed
-from rounds.hall import Hall
+from rounds.going_out import Clock
+from rounds.hall import Hall, games_of
 from rounds.witness import texts_of
 
 
@@ -28,6 +32,55 @@ def rows_of(page: bytes) -> List[List[str]]:
     """The tables of the list."""
     rows = re.findall(r"<tr>(.*?)</tr>", page.decode(), re.S)
     return [[re.sub(r"<[^>]*>", "", cell) for cell in re.findall(r"<t[hd][^>]*>(.*?)</t[hd]>", row, re.S)] for row in rows]
+
+
+# Kills the recorder as it is about to put the file that another one names in its place.
+KILLS = """
+import os, signal
+real = os.replace
+def replace(new, path):
+    with open({at!r}) as file:
+        if str(path) == file.read():
+            os.kill(os.getpid(), signal.SIGKILL)
+    real(new, path)
+os.replace = replace
+"""
+
+# No file of a folder has room for more than twenty bytes, as long as another file is there.
+FULL = """
+import errno, os
+real = os.write
+def write(number, content):
+    if not (os.path.exists({full!r}) and os.readlink(f"/proc/self/fd/{{number}}").startswith({www!r})):
+        return real(number, content)
+    real(number, content[:20])
+    raise OSError(errno.ENOSPC, os.strerror(errno.ENOSPC))
+os.write = write
+"""
+
+
+LIST = "../index.html"  # as a round's page names it, which it names too
+
+
+def files_of(www: pathlib.Path) -> Dict[str, bytes]:
+    """All files of a site."""
+    return {str(path.relative_to(www)): bytes_of(path) for path in www.rglob("*") if path.is_file()}
+
+
+def is_whole(www: pathlib.Path) -> None:
+    """Each file of a site is whole, and what it names is there."""
+    for path in www.rglob("*"):
+        content = bytes_of(path) if path.is_file() else b""
+        named: List[str] = []
+        if path.suffix == ".pgn":
+            assert all(game.startswith(b"[Event ") and game.endswith(b"*\n\n") for game in games_of(content)), content
+        elif path.name == "state.json":
+            named = [board["pgn"][1:] for board in json.loads(content)["boards"]]
+        elif path.suffix == ".html":
+            assert content.endswith(b"</html>\n"), content
+            named = [name for name in re.findall('(?:href|src)="([^"#:]+)', content.decode()) if name != LIST]
+        for name in named:
+            assert (path.parent / name).is_file(), f"{path} names {name}, which isn't there"
 
 
 class Quiet(http.server.SimpleHTTPRequestHandler):
@@ -105,4 +158,115 @@ def late_site(folder: pathlib.Path) -> None:
     witness.end()
 
 
-CASES = [two_rounds, late_site]
+def killed_between(folder: pathlib.Path) -> None:
+    """The recorder is killed between two files of the site, as it is begun and at a move: each file is whole and names none that is
+    missing. The next call has all of it, and leaves nothing else."""
+    hall, www, at = Hall(folder, 2), folder / "www", folder / "at"
+    (folder / "sitecustomize.py").write_text(KILLS.format(at=str(at)))
+    at.write_text("")
+
+    def record() -> Live:
+        return hall.record("--web", str(www), start=[sys.executable], environment={"PYTHONPATH": str(folder)})
+
+    def until_killed(live: Live) -> None:
+        until(lambda: not live.runs, "the end of the recorder")
+        kill(live)
+        is_whole(www)
+        at.write_text("")
+
+    live = record()
+    hall.begun(live)
+    hall.play(0, 1)
+    until(lambda: texts_of(bytes_of(www / "round" / "round.pgn")) == ["1. e4 *", "1. d4 *"], "both moves", 0.05)
+    same(stop(live), 0)
+    wanted = files_of(www)
+    is_whole(www)
+    of_round = [f"round/{name}" for name in ("01.pgn", "02.pgn", "round.pgn", "state.json", "index.html")]
+    for name in ("boards.js", "site.css", *of_round, "index.html"):
+        shutil.rmtree(www)
+        at.write_text(str(www / name))
+        until_killed(record())
+        same((www / name).exists(), False)
+        live = record()
+        until(lambda: files_of(www) == wanted, f"the site that lacked {name}", 0.05)
+        same(stop(live), 0)
+    for ply, name in enumerate(("round/02.pgn", "round/round.pgn", "round/state.json", "index.html"), 1):
+        live = record()
+        hall.begun(live)
+        at.write_text(str(www / name))
+        hall.make(ply, [0, 1])
+        until_killed(live)
+        live = record()
+        until(lambda: not any(name.endswith(".new") for name in files_of(www)), "no half file", 0.05)
+        until(lambda: [len(board["moves"]) for board in state_of(www / "round")["boards"]] == [ply + 1] * 2, "the moves", 0.05)  # type: ignore[attr-defined]
+        is_whole(www)
+        same(stop(live), 0)
+
+
+def full_site(folder: pathlib.Path) -> None:
+    """The site's disk is full: a line says that it can't be written, and each file stays as it was. When there is room it has all
+    moves. If there is none until the end, the call says so, and the next one writes them."""
+    hall, www, full = Hall(folder, 1), folder / "www", folder / "full"
+    (folder / "sitecustomize.py").write_text(FULL.format(www=str(www), full=str(full)))
+
+    def record() -> Live:
+        return hall.record("--web", str(www), start=[sys.executable], environment={"PYTHONPATH": str(folder)})
+
+    def until_there(moves: str) -> None:
+        until(lambda: texts_of(bytes_of(www / "round" / "round.pgn")) == [moves], f"{moves} in the site", 0.05)
+        until(lambda: (www / "index.html").exists(), "the list", 0.05)
+
+    live = record()
+    hall.begun(live)
+    hall.play(0, 1)
+    until_there("1. e4 *")
+    before = files_of(www)
+    full.touch()
+    hall.play(1, 2)
+    told = f"the site in {www} can't be written (No space left on device)"
+    until_line(live, f"DISK FULL: {told}; it is tried again")
+    same({name: content for name, content in files_of(www).items() if not name.endswith(".new")}, before)
+    full.unlink()
+    until_line(live, f"the site in {www} is written again")
+    until_there("1. e4 e5 *")
+    full.touch()
+    hall.play(2, 3)
+    until_line(live, f"DISK FULL: {told}", 2)
+    same(stop(live), 3)
+    assert told in live.complaint(), live.complaint()
+    is_whole(www)
+    full.unlink()
+    live = record()
+    until_there("1. e4 e5 2. Nf3 *")
+    same([name for name in files_of(www) if name.endswith(".new")], [])
+    same(stop(live), 0)
+
+
+def carried_away(folder: pathlib.Path) -> None:
+    """The command carries the site away too: it runs when only the site has changed, by a clock; and at the end, when the site has
+    the last result."""
+    hall, www, script, carried = Hall(folder, 1, clocks=(0,)), folder / "www", folder / "carry", folder / "carried"
+    script.write_text(f"#!/bin/sh\ncp '{www}/round/state.json' '{carried}/new' && mv '{carried}/new' '{carried}/state.json'\n")
+    script.chmod(0o755)
+    carried.mkdir()
+    live = hall.record("--web", str(www), "--publish", str(script), typed=True, start=Clock(folder).start)
+    hall.begun(live)
+    hall.play(0, 2)
+    published = hall.games / "broadcast.pgn"
+
+    def board() -> "dict[str, object]":
+        boards = state_of(carried).get("boards") or [{}]
+        return boards[0]  # type: ignore[index,no-any-return]
+
+    until(lambda: len(board().get("moves", ())) == 2 and hall.text(1) in texts_of(bytes_of(published)), "both moves", 0.05)  # type: ignore[arg-type]
+    before = bytes_of(published)
+    hall.boards[0].clock(4000, 3900)
+    until(lambda: board()["clocks"] == ["1:06:40", "1:05:00"], "the clocks", 0.05)
+    same(bytes_of(published), before)
+    live.type("1 1-0")
+    live.type("q")
+    same(ended(live), 0)
+    same((board()["result"], state_of(www / "round")), ("1-0", state_of(carried)))
+
+
+CASES = [two_rounds, late_site, killed_between, full_site, carried_away]
