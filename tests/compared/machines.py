@@ -95,6 +95,24 @@ def page_is_packed() -> None:
             raise Wrong("bin/recorder.html is not what its sources give: run bin/pack, and commit what it changes")
 
 
+def renew_looks_first() -> None:
+    """Without one of Debian's packages for aarch64, bin/renew says which to install, before it builds or changes anything."""
+    with tempfile.TemporaryDirectory() as folder:
+        top = pathlib.Path(folder)
+        for name in ("bin", "hosts"):
+            (top / name).mkdir()
+        shutil.copy(TOP / "bin" / "renew", top / "bin")
+        build = (TOP / "hosts" / "build").read_text()
+        (top / "hosts" / "build").write_text(build.replace('"/usr/lib/gcc-cross/aarch64-linux-gnu/12"', repr(f"{top}/none")))
+        before = sorted(top.rglob("*"))
+        done = subprocess.run([top / "bin" / "renew"], stdout=subprocess.PIPE, stderr=subprocess.STDOUT, check=False)
+        said = done.stdout.decode(errors="replace")
+        if done.returncode != 1 or not said.rstrip().endswith("sudo apt-get install libgcc-12-dev-arm64-cross"):
+            raise Wrong(f"it ends with status {done.returncode}, and says {said!r}")
+        if sorted(top.rglob("*")) != before:
+            raise Wrong("it has changed something")
+
+
 def program_of(machine: str) -> pathlib.Path:
     """What the gate has made, or what stands in bin where it can make nothing."""
     return TOP / "bin" / machine / FILES[machine] if lacking(machine) else Made.path(machine)
