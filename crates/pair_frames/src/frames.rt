@@ -31,8 +31,8 @@ fn digits(number: u8) -> u8
     16 * (number / 10) + number % 10
 }
 
-/// A reading's times, first that of this side, and the status.
-fn times_of(first: First, reading: &Option<Reading>) -> [u8; 7]
+/// The data bytes of a time message that gives this reading: its times, first that of this side, and the status.
+pub fn times_of(first: First, reading: &Option<Reading>) -> [u8; 7]
     ensures same { result ≡ times_of first reading.now }
     ensures low { AllByRecursion IsLow result }
     ensures read { IsRead reading.now }
@@ -86,8 +86,9 @@ fn add(message: &Message, out: &mut ArrayVec<u8, MOST>)
     append(&frame, out);
 }
 
-/// The codes of the fields, of a board that stands turned or not.
-fn fields_of(rotated: bool, picture: &[u8; 64]) -> [u8; 64]
+/// The codes of the fields of a board that shows this picture, with codes of at most 15 by square number. With `rotated`,
+/// field n is square 63 - n.
+pub fn fields_of(rotated: bool, picture: &[u8; 64]) -> [u8; 64]
     requires { All (λ code. code < 16) picture.now }
     ensures same { result ≡ fields_of rotated picture.now }
     ensures codes { AllByRecursion IsCode result }

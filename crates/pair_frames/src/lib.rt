@@ -5,4 +5,4 @@
 mod frames;
 pub mod laws;
 
-pub use frames::{MOST, put_in};
+pub use frames::{MOST, fields_of, put_in, times_of};
