@@ -5,7 +5,7 @@ use Rattle.dgt_frame.specs.Streams.{Shows, Timed}
 use Rattle.board_events.specs.Commands.{past_of}
 use Rattle.board_events.specs.History.{is_trusted, reading_at}
 use Rattle.board_events.specs.Limits.{limit}
-use Rattle.board_events.specs.Session.{StandsFor, entries_in}
+use Rattle.board_events.specs.Session.{HasTakenEvents, entries_in}
 use Rattle.board_events.specs.Settings.{Setting}
 use Rattle.board_events.specs.View.{Views}
 use Rattle.settle_core.specs.Entries.{last_picture}
@@ -35,7 +35,7 @@ IsTooLong setting true bytes = (limit < length bytes)
 
 -- These events were taken.
 pub record StandsForCapture (captured : Captured) (setting : Setting) (past : List Event) : Type 0 where
-  pub session : StandsFor captured.session setting past
+  pub session : HasTakenEvents captured.session setting past
   pub view : Views captured.view setting.rotated past
   pub shown : captured.has_shown ≡ is_some (last_picture (entries_in setting past))
 

@@ -7,19 +7,19 @@ use Rattle.std.proofs.lemmas.Grind.{same_number_lists}
 use Rattle.dgt_frame.specs.declared.events.Message.TheVariants.{Dump, Update}
 use Rattle.dgt_frame.specs.declared.events.Event.{Event}
 use Rattle.dgt_frame.specs.declared.events.Event.TheVariants.{Message as MessageEvent}
-use Rattle.board_events.specs.History.{code_of, picture_of, turned}
+use Rattle.board_events.specs.History.{code_of_field, picture_of, turned}
 
 pub picture_at : (rotated : Bool) (past : List Event) (square : ℕ) → square < 64
-    → get_or (picture_of rotated past) square 0 ≡ code_of (turned rotated square) past
+    → get_or (picture_of rotated past) square 0 ≡ code_of_field (turned rotated square) past
 unfolding picture_of
-picture_at rotated past square h = get_or-map-range_with_len (λ n. code_of (turned rotated n) past) 0 64 square square 0 h (omega arith)
+picture_at rotated past square h = get_or-map-range_with_len (λ n. code_of_field (turned rotated n) past) 0 64 square square 0 h (omega arith)
 
 pub length-picture_of : (rotated : Bool) (past : List Event) → length (picture_of rotated past) ≡ 64
 unfolding picture_of
-length-picture_of rotated past = length-map-range_with_len (λ n. code_of (turned rotated n) past) 0 64
+length-picture_of rotated past = length-map-range_with_len (λ n. code_of_field (turned rotated n) past) 0 64
 
 pub picture_is : (rotated : Bool) (past : List Event) (picture : List ℕ) → length picture ≡ 64
-    → ((square : ℕ) → square < 64 → get_or picture square 0 ≡ code_of (turned rotated square) past) → picture ≡ picture_of rotated past
+    → ((square : ℕ) → square < 64 → get_or picture square 0 ≡ code_of_field (turned rotated square) past) → picture ≡ picture_of rotated past
 picture_is rotated past picture size same = same_number_lists picture (picture_of rotated past) (size ∙ sym (length-picture_of rotated past))
     (λ k h. let within : k < 64 = omega arith in same k within ∙ sym (picture_at rotated past k within))
 
@@ -39,7 +39,7 @@ turned_within true n h = omega arith
 turned_within false n h = h
 
 code_updated : (rotated : Bool) (field code square : ℕ) (past : List Event) → field < 64 → square < 64
-    → get_or (set (picture_of rotated past) (turned rotated field) code) square 0 ≡ code_of (turned rotated square) (MessageEvent (Update field code) ∷ past)
+    → get_or (set (picture_of rotated past) (turned rotated field) code) square 0 ≡ code_of_field (turned rotated square) (MessageEvent (Update field code) ∷ past)
 code_updated rotated field code square past f s =
     elim (eqb_tells field (turned rotated square)) [
       | inl e ↦

@@ -8,12 +8,12 @@ use Rattle.dgt_frame.specs.declared.events.Event.TheVariants.{Message as Message
 use Rattle.dgt_frame.specs.declared.First.{First}
 use Rattle.settle_core.specs.declared.plies.Seen.{Seen}
 use Rattle.settle_core.specs.Entries.{Entry, changed, entry_of, last_picture}
-use Rattle.settle_core.specs.Settler.{Sheet, StandsFor as Settled, ReturnsSeen, GivesMove}
+use Rattle.settle_core.specs.Settler.{SettlerState, HasSettled, ReturnsSeen, GivesMove}
 use Rattle.board_events.specs.States.{State}
 use Rattle.board_events.specs.Settings.{Setting}
 use Rattle.board_events.specs.History.{is_trusted, picture_of, turned}
 use Rattle.board_events.specs.Entries.{entries, entry_at}
-use Rattle.board_events.specs.Session.{StandsFor, TakesInto, entries_in}
+use Rattle.board_events.specs.Session.{HasTakenEvents, TakesInto, entries_in}
 use Rattle.board_events.proofs.PictureLemmas.{updated_picture}
 
 -- Of a trusted board the last entry has the present picture.
@@ -32,30 +32,30 @@ pub entries_updated : (first : First) (rotated : Bool) (field code : ℕ) (past 
 entries_updated first rotated field code past h = rw h refl
 
 -- The old session with this settler: trusted after a dump, else as it was.
-abbrev pub trusting : Sheet → State → State
+abbrev pub trusting : SettlerState → State → State
 trusting settler old = record { settler = settler; first = old.first; rotated = old.rotated; trusted = true; reading = old.reading }
 
-abbrev pub settling : Sheet → State → State
+abbrev pub settling : SettlerState → State → State
 settling settler old = record old { settler = settler }
 
 abbrev trusted_so : Bool → State → State
 trusted_so trusted old = record old { trusted = trusted }
 
-same_state : (old : State) (settler : Sheet) → settler ≡ old.settler → old.trusted ≡ true → trusting settler old ≡ old
-same_state old settler e t = ap (λ (s : Sheet). trusting s old) e ∙ ap (λ (b : Bool). trusted_so b old) (sym t)
+same_state : (old : State) (settler : SettlerState) → settler ≡ old.settler → old.trusted ≡ true → trusting settler old ≡ old
+same_state old settler e t = ap (λ (s : SettlerState). trusting s old) e ∙ ap (λ (b : Bool). trusted_so b old) (sym t)
 
 -- A settler took this entry, and one whose picture was the last one left it as it was.
-pub record SeesEntry (old new : Sheet) (start : Parts) (past : List Entry) (entry : Entry) (seen : Seen) : Type 0 where
-  pub stands : Settled old start past → Settled new start (entry ∷ past)
-  pub answers : Settled old start past → ReturnsSeen start past entry.picture seen
-  pub same : Settled old start past → last_picture past ≡ Some entry.picture → new ≡ old
+pub record SeesEntry (old new : SettlerState) (start : Parts) (past : List Entry) (entry : Entry) (seen : Seen) : Type 0 where
+  pub stands : HasSettled old start past → HasSettled new start (entry ∷ past)
+  pub answers : HasSettled old start past → ReturnsSeen start past entry.picture seen
+  pub same : HasSettled old start past → last_picture past ≡ Some entry.picture → new ≡ old
 
 -- A settler ran out of memory at this entry: the picture was not the last one, and gives a move.
-pub record RefusesEntry (old : Sheet) (start : Parts) (past : List Entry) (entry : Entry) : Type 0 where
-  pub fresh : Settled old start past → last_picture past ≡ Some entry.picture → ⊥
-  pub moves : Settled old start past → GivesMove start past entry.picture
+pub record RefusesEntry (old : SettlerState) (start : Parts) (past : List Entry) (entry : Entry) : Type 0 where
+  pub fresh : HasSettled old start past → last_picture past ≡ Some entry.picture → ⊥
+  pub moves : HasSettled old start past → GivesMove start past entry.picture
 
-pub dump_taken : (old : State) (settler : Sheet) (codes picture : List ℕ) (seen : Seen)
+pub dump_taken : (old : State) (settler : SettlerState) (codes picture : List ℕ) (seen : Seen)
     → ((past : List Event) → picture ≡ picture_of old.rotated (MessageEvent (Dump codes) ∷ past))
     → ((start : Parts) (past : List Entry) → SeesEntry old.settler settler start past (entry_of picture old.reading) seen)
     → TakesInto old (MessageEvent (Dump codes)) (Ok (record { asks_dump = false; seen = Some seen })) (trusting settler old)
@@ -68,7 +68,7 @@ dump_taken old settler codes picture seen is sees = record {
         reading = h.reading;
         first = h.first;
         rotated = h.rotated;
-        settler = subst (λ (e : Entry). Settled settler setting.start (e ∷ entries_in setting past)) entry ((sees setting.start (entries_in setting past)).stands h.settler);
+        settler = subst (λ (e : Entry). HasSettled settler setting.start (e ∷ entries_in setting past)) entry ((sees setting.start (entries_in setting past)).stands h.settler);
       };
   tells = λ setting past h.
       let shown : picture ≡ picture_of setting.rotated (MessageEvent (Dump codes) ∷ past) = is past ∙ ap (λ (r : Bool). picture_of r (MessageEvent (Dump codes) ∷ past)) h.rotated in
@@ -85,7 +85,7 @@ dump_taken old settler codes picture seen is sees = record {
   memory = λ setting past h. tt;
 }
 
-pub dump_refused : (old : State) (settler : Sheet) (codes picture : List ℕ) (error : AllocError)
+pub dump_refused : (old : State) (settler : SettlerState) (codes picture : List ℕ) (error : AllocError)
     → ((past : List Event) → picture ≡ picture_of old.rotated (MessageEvent (Dump codes) ∷ past))
     → settler ≡ old.settler
     → ((start : Parts) (past : List Entry) → RefusesEntry old.settler start past (entry_of picture old.reading))
@@ -97,7 +97,7 @@ dump_refused old settler codes picture error is kept refuses = record {
       let shown : picture ≡ picture_of setting.rotated (MessageEvent (Dump codes) ∷ past) = is past ∙ ap (λ (r : Bool). picture_of r (MessageEvent (Dump codes) ∷ past)) h.rotated in
       let again : last_picture (entries_in setting past) ≡ Some picture = sym idle.picture ∙ ap (λ (p : List ℕ). Some p) (sym shown) in
       absurd ((refuses setting.start (entries_in setting past)).fresh h.settler again);
-  refused = ap (λ (s : Sheet). settling s old) kept;
+  refused = ap (λ (s : SettlerState). settling s old) kept;
   memory = λ setting past h.
       let shown : picture ≡ picture_of setting.rotated (MessageEvent (Dump codes) ∷ past) = is past ∙ ap (λ (r : Bool). picture_of r (MessageEvent (Dump codes) ∷ past)) h.rotated in
       (refl, subst (λ (p : List ℕ). GivesMove setting.start (entries_in setting past) p) shown ((refuses setting.start (entries_in setting past)).moves h.settler));
@@ -109,12 +109,12 @@ record Last (old : State) (setting : Setting) (past : List Event) (field code sq
   before : Entry
   earlier : List Entry
   are : entries_in setting past ≡ before ∷ earlier
-  settled : Settled old.settler setting.start (before ∷ earlier)
+  settled : HasSettled old.settler setting.start (before ∷ earlier)
   shown : slice_set before.picture square code ≡ picture_of setting.rotated (MessageEvent (Update field code) ∷ past)
   entry : changed before square code old.reading ≡ entry_at setting.first setting.rotated (MessageEvent (Update field code) ∷ past)
 
 last_of : (old : State) (setting : Setting) (past : List Event) (field code square : ℕ) → field < 64 → old.trusted ≡ true
-    → square ≡ turned old.rotated field → StandsFor old setting past → Last old setting past field code square
+    → square ≡ turned old.rotated field → HasTakenEvents old setting past → Last old setting past field code square
 last_of old setting past field code square f trusted turns h =
     let trust : is_trusted past ≡ true = sym h.trust ∙ trusted in
     let found = seen_before setting.first setting.rotated past trust in
@@ -126,7 +126,7 @@ last_of old setting past field code square f trusted turns h =
       before = found.0;
       earlier = found.1;
       are = found.2;
-      settled = subst (λ (es : List Entry). Settled old.settler setting.start es) found.2 h.settler;
+      settled = subst (λ (es : List Entry). HasSettled old.settler setting.start es) found.2 h.settler;
       shown = shown;
       entry = rw (shown, h.reading) refl;
     }
@@ -140,14 +140,14 @@ shown_again old setting past field code square found idle =
     rw (entries_updated setting.first setting.rotated field code past found.trust) refl in
     ap last_picture (sym found.are) ∙ sym idle ∙ now ∙ ap (λ (p : List ℕ). Some p) (sym found.shown)
 
-pub update_taken : (old : State) (settler : Sheet) (field code square : ℕ) (seen : Seen) → field < 64 → old.trusted ≡ true
+pub update_taken : (old : State) (settler : SettlerState) (field code square : ℕ) (seen : Seen) → field < 64 → old.trusted ≡ true
     → square ≡ turned old.rotated field
     → ((start : Parts) (before : Entry) (earlier : List Entry) → SeesEntry old.settler settler start (before ∷ earlier) (changed before square code old.reading) seen)
     → TakesInto old (MessageEvent (Update field code)) (Ok (record { asks_dump = false; seen = Some seen })) (settling settler old)
 update_taken old settler field code square seen f trusted turns sees = record {
   stands = λ setting past h.
       let found = last_of old setting past field code square f trusted turns h in
-      let told = subst (λ (e : Entry). Settled settler setting.start (e ∷ found.before ∷ found.earlier)) found.entry
+      let told = subst (λ (e : Entry). HasSettled settler setting.start (e ∷ found.before ∷ found.earlier)) found.entry
       ((sees setting.start found.before found.earlier).stands found.settled) in
       record {
         trust = h.trust;
@@ -155,7 +155,7 @@ update_taken old settler field code square seen f trusted turns sees = record {
         first = h.first;
         rotated = h.rotated;
         settler = rw (entries_updated setting.first setting.rotated field code past found.trust)
-            (subst (λ (es : List Entry). Settled settler setting.start (entry_at setting.first setting.rotated (MessageEvent (Update field code) ∷ past) ∷ es)) (sym found.are) told);
+            (subst (λ (es : List Entry). HasSettled settler setting.start (entry_at setting.first setting.rotated (MessageEvent (Update field code) ∷ past) ∷ es)) (sym found.are) told);
       };
   tells = λ setting past h.
       let found = last_of old setting past field code square f trusted turns h in
@@ -167,12 +167,12 @@ update_taken old settler field code square seen f trusted turns sees = record {
       };
   idle = λ setting past h idle.
       let found = last_of old setting past field code square f trusted turns h in
-      (ap (λ (s : Sheet). settling s old) ((sees setting.start found.before found.earlier).same found.settled (shown_again old setting past field code square found idle.picture)), refl);
+      (ap (λ (s : SettlerState). settling s old) ((sees setting.start found.before found.earlier).same found.settled (shown_again old setting past field code square found idle.picture)), refl);
   refused = tt;
   memory = λ setting past h. tt;
 }
 
-pub update_refused : (old : State) (settler : Sheet) (field code square : ℕ) (error : AllocError) → field < 64 → old.trusted ≡ true
+pub update_refused : (old : State) (settler : SettlerState) (field code square : ℕ) (error : AllocError) → field < 64 → old.trusted ≡ true
     → square ≡ turned old.rotated field
     → settler ≡ old.settler
     → ((start : Parts) (before : Entry) (earlier : List Entry) → RefusesEntry old.settler start (before ∷ earlier) (changed before square code old.reading))
@@ -183,7 +183,7 @@ update_refused old settler field code square error f trusted turns kept refuses 
   idle = λ setting past h idle.
       let found = last_of old setting past field code square f trusted turns h in
       absurd ((refuses setting.start found.before found.earlier).fresh found.settled (shown_again old setting past field code square found idle.picture));
-  refused = ap (λ (s : Sheet). settling s old) kept;
+  refused = ap (λ (s : SettlerState). settling s old) kept;
   memory = λ setting past h.
       let found = last_of old setting past field code square f trusted turns h in (
         found.trust,

@@ -30,25 +30,25 @@ is_trusted (MessageEvent (Time times) ∷ past) = is_trusted past
 is_trusted (MessageEvent (Other id size) ∷ past) = is_trusted past
 
 -- the code of the last update for the field since the last dump, else that dump's code
-abbrev pub code_of : ℕ → List Event → ℕ
-code_of field [] = 0
-code_of field (MessageEvent (Dump codes) ∷ past) = slice_index codes field
-code_of field (MessageEvent (Update updated code) ∷ past) = if updated == field then code else code_of field past
-code_of field (MessageEvent (Time times) ∷ past) = code_of field past
-code_of field (MessageEvent (Other id size) ∷ past) = code_of field past
-code_of field (Fault kind ∷ past) = code_of field past
+abbrev pub code_of_field : ℕ → List Event → ℕ
+code_of_field field [] = 0
+code_of_field field (MessageEvent (Dump codes) ∷ past) = slice_index codes field
+code_of_field field (MessageEvent (Update updated code) ∷ past) = if updated == field then code else code_of_field field past
+code_of_field field (MessageEvent (Time times) ∷ past) = code_of_field field past
+code_of_field field (MessageEvent (Other id size) ∷ past) = code_of_field field past
+code_of_field field (Fault kind ∷ past) = code_of_field field past
 
 -- the square of a field, and the field of a square: the last is the first on a rotated board
 abbrev pub turned : Bool → ℕ → ℕ
 turned rotated n = if rotated then 63 - n else n
 
 -- the codes of the fields, of a board that stands turned or not
-abbrev pub fields_of : Bool → List ℕ → List ℕ
-fields_of rotated picture = if rotated then reverse picture else picture
+abbrev pub codes_by_field : Bool → List ℕ → List ℕ
+codes_by_field rotated picture = if rotated then reverse picture else picture
 
 -- the codes of the 64 squares
 unfoldable pub picture_of : Bool → List Event → List ℕ
-picture_of rotated past = map (λ square. code_of (turned rotated square) past) (range_with_len 0 64)
+picture_of rotated past = map (λ square. code_of_field (turned rotated square) past) (range_with_len 0 64)
 
 -- a time message that says something: it is no acknowledgement, and has no clock, or good digits
 abbrev pub decides : List ℕ → Bool

@@ -3,7 +3,7 @@ use Rattle.std.specs.Prelude.{◌≡◌, true, List, ◌∷◌, Result, IfSome, 
 use Rattle.std.specs.declared.alloc.AllocError.{AllocError}
 use Rattle.dgt_frame.specs.declared.events.Event.{Event}
 use Rattle.settle_core.specs.Entries.{Entry}
-use Rattle.settle_core.specs.Settler.{StandsFor as Settled, ReturnsSeen, GivesMove}
+use Rattle.settle_core.specs.Settler.{HasSettled, ReturnsSeen, GivesMove}
 use Rattle.board_events.specs.declared.session.Taken.{Taken}
 use Rattle.board_events.specs.Settings.{Setting}
 use Rattle.board_events.specs.States.{State}
@@ -15,12 +15,12 @@ abbrev pub entries_in : Setting → List Event → List Entry
 entries_in setting past = entries setting.first setting.rotated past
 
 -- The session, set up so, was given these events.
-pub record StandsFor (session : State) (setting : Setting) (past : List Event) : Type 0 where
+pub record HasTakenEvents (session : State) (setting : Setting) (past : List Event) : Type 0 where
   pub trust : session.trusted ≡ is_trusted past
   pub reading : session.reading ≡ reading_at setting.first past
   pub first : session.first ≡ setting.first
   pub rotated : session.rotated ≡ setting.rotated
-  pub settler : Settled session.settler setting.start (entries_in setting past)
+  pub settler : HasSettled session.settler setting.start (entries_in setting past)
 
 -- What is told of an event after these: a fault, and nothing else, asks for a dump, and an entry, and nothing else, has
 -- an result of the settler.
@@ -36,9 +36,9 @@ WantsMemory setting past event = (is_entry event past ≡ true)
 
 -- From the one session to the other, this event was taken with this result.
 pub record TakesInto (old : State) (event : Event) (answer : Result Taken AllocError) (new : State) : Type 0 where
-  pub stands : (setting : Setting) (past : List Event) → StandsFor old setting past → OnOk answer (StandsFor new setting (event ∷ past))
-  pub tells : (setting : Setting) (past : List Event) → StandsFor old setting past → IfOk answer (TellsTaken setting past event)
-  pub idle : (setting : Setting) (past : List Event) → StandsFor old setting past
+  pub stands : (setting : Setting) (past : List Event) → HasTakenEvents old setting past → OnOk answer (HasTakenEvents new setting (event ∷ past))
+  pub tells : (setting : Setting) (past : List Event) → HasTakenEvents old setting past → IfOk answer (TellsTaken setting past event)
+  pub idle : (setting : Setting) (past : List Event) → HasTakenEvents old setting past
       → Idle setting.first setting.rotated past event → (new ≡ old) × IsOk answer
   pub refused : OnErr answer (new ≡ old)
-  pub memory : (setting : Setting) (past : List Event) → StandsFor old setting past → OnErr answer (WantsMemory setting past event)
+  pub memory : (setting : Setting) (past : List Event) → HasTakenEvents old setting past → OnErr answer (WantsMemory setting past event)

@@ -4,12 +4,12 @@ ghost use Rattle.dgt_frame.specs.declared.events.Event.{Event};
 ghost use Rattle.dgt_frame.specs.declared.events.Message.{Message};
 ghost use Rattle.settle_core.specs.Entries.{deduplicated};
 ghost use Rattle.settle_core.specs.Folding.{Folds};
-ghost use Rattle.settle_core.specs.Settler.{StandsFor as Settled};
+ghost use Rattle.settle_core.specs.Settler.{HasSettled};
 ghost use Rattle.board_events.specs.Settings.{Setting};
 ghost use Rattle.board_events.specs.History.{IsInRange, is_trusted, picture_of, reading_at, turned};
 ghost use Rattle.board_events.specs.Entries.{Idle};
 ghost use Rattle.board_events.specs.Game.{IsGameOf};
-ghost use Rattle.board_events.specs.Session.{StandsFor, TakesInto, TellsTaken, WantsMemory, entries_in};
+ghost use Rattle.board_events.specs.Session.{HasTakenEvents, TakesInto, TellsTaken, WantsMemory, entries_in};
 
 use chess_clock::Reading;
 use chess_game::{Game, Tags};
@@ -65,7 +65,7 @@ impl Session {
     ///
     /// With `rotated`, field n means square 63 - n, in dumps and updates.
     pub fn new(alloc: Global, start: Position, first: First, rotated: bool) -> Session
-        ensures { let setting : Setting = record { start = start; first = first; rotated = rotated } in StandsFor result setting [] }
+        ensures { let setting : Setting = record { start = start; first = first; rotated = rotated } in HasTakenEvents result setting [] }
     {
         Session {
             settler: Settler::new(alloc, start),
@@ -84,15 +84,15 @@ impl Session {
     /// Memory is taken only where the event gives a move. Where there is none, nothing has changed.
     pub fn take(&mut self, event: Event) -> Result<Taken, AllocError>
         requires { IsInRange event }
-        ensures stands { (setting : Setting) (past : List Event) → StandsFor self.old setting past
-            → OnOk result (StandsFor self.new setting (event ∷ past)) }
-        ensures tells { (setting : Setting) (past : List Event) → StandsFor self.old setting past
+        ensures stands { (setting : Setting) (past : List Event) → HasTakenEvents self.old setting past
+            → OnOk result (HasTakenEvents self.new setting (event ∷ past)) }
+        ensures tells { (setting : Setting) (past : List Event) → HasTakenEvents self.old setting past
             → IfOk result (TellsTaken setting past event) }
         // An idle event leaves the session as it was.
-        ensures idle { (setting : Setting) (past : List Event) → StandsFor self.old setting past
+        ensures idle { (setting : Setting) (past : List Event) → HasTakenEvents self.old setting past
             → Idle setting.first setting.rotated past event → (self.new ≡ self.old) × IsOk result }
         ensures err { OnErr result (self.new ≡ self.old) }
-        ensures memory { (setting : Setting) (past : List Event) → StandsFor self.old setting past
+        ensures memory { (setting : Setting) (past : List Event) → HasTakenEvents self.old setting past
             → OnErr result (WantsMemory setting past event) }
     {
         self.take_ref(&event)
@@ -165,14 +165,14 @@ impl Session {
 
     /// Whether updates count: a dump was taken, and no fault after it. For callers who show a session while it goes on.
     pub fn trusted(&self) -> bool
-        ensures { (setting : Setting) (past : List Event) → StandsFor self.now setting past → result ≡ is_trusted past }
+        ensures { (setting : Setting) (past : List Event) → HasTakenEvents self.now setting past → result ≡ is_trusted past }
     {
         self.trusted
     }
 
     /// What the clocks show, by the last time message that counts. For such callers too.
     pub fn reading(&self) -> Option<Reading>
-        ensures { (setting : Setting) (past : List Event) → StandsFor self.now setting past → result ≡ reading_at setting.first past }
+        ensures { (setting : Setting) (past : List Event) → HasTakenEvents self.now setting past → result ≡ reading_at setting.first past }
     {
         self.reading
     }
@@ -180,17 +180,17 @@ impl Session {
     /// The settler of the pictures that were seen.
     pub fn settler(&self) -> &Settler
         ensures same { result.now ≡ self.now.settler }
-        ensures stands { (setting : Setting) (past : List Event) → StandsFor self.now setting past
-            → Settled result.now setting.start (entries_in setting past) }
+        ensures stands { (setting : Setting) (past : List Event) → HasTakenEvents self.now setting past
+            → HasSettled result.now setting.start (entries_in setting past) }
     {
         &self.settler
     }
 
     /// The game of the events taken, under these tags.
     pub fn into_game(self, tags: Tags) -> Game
-        ensures game { (setting : Setting) (past : List Event) → StandsFor self setting past → IsGameOf result setting tags past }
+        ensures game { (setting : Setting) (past : List Event) → HasTakenEvents self setting past → IsGameOf result setting tags past }
         // No event gives more than one move.
-        ensures count { (setting : Setting) (past : List Event) → StandsFor self setting past → length result.plies ≤ length past }
+        ensures count { (setting : Setting) (past : List Event) → HasTakenEvents self setting past → length result.plies ≤ length past }
     {
         let Session { settler, .. } = self;
         let (start, plies, sign) = settler.into_parts();

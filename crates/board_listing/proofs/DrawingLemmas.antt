@@ -11,7 +11,7 @@ use Rattle.dgt_frame.specs.Streams.{HasFrame}
 use Rattle.settle_core.specs.Entries.{last_picture, repeats}
 use Rattle.settle_core.proofs.Repeats.{repeated_last}
 use Rattle.board_events.specs.Entries.{is_entry}
-use Rattle.board_events.specs.History.{fields_of, picture_of, reading_at, turned}
+use Rattle.board_events.specs.History.{codes_by_field, picture_of, reading_at, turned}
 use Rattle.board_events.specs.Session.{entries_in}
 use Rattle.board_events.specs.Settings.{Setting}
 use Rattle.board_events.proofs.PictureLemmas.{plain_dump, rotated_dump, updated_picture}
@@ -42,7 +42,7 @@ pub draws_new : (placement : PlacementText) (setting : Setting) (past : List Eve
 draws_new placement setting past event entered is = λ picture last. is ∙ last_new setting past event picture entered last
 
 dump_drawn : (rotated : Bool) (codes : List ℕ) (past : List Event) → length codes ≡ 64
-    → fields_of rotated codes ≡ picture_of rotated (Message (Dump codes) ∷ past)
+    → codes_by_field rotated codes ≡ picture_of rotated (Message (Dump codes) ∷ past)
 dump_drawn true codes past size = rotated_dump codes past size
 dump_drawn false codes past size = plain_dump codes past size
 

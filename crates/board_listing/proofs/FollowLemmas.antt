@@ -15,14 +15,14 @@ use Rattle.settle_core.specs.declared.plies.Seen.TheVariants.{Same, Moved, Sign,
 use Rattle.settle_core.specs.Entries.{Entry, repeats, deduplicated}
 use Rattle.settle_core.specs.Folding.{Folds, Replaces, Score, SeenAs, moves_of, played, score_after}
 use Rattle.settle_core.specs.Settling.{reached}
-use Rattle.settle_core.specs.Settler.{ReturnsSeen, ReturnsNewSeen, Sheet, StandsFor as Settled}
+use Rattle.settle_core.specs.Settler.{ReturnsSeen, ReturnsNewSeen, SettlerState, HasSettled}
 use Rattle.settle_core.proofs.Once.{folds_once}
 use Rattle.settle_core.proofs.Repeats.{with_new}
 use Rattle.board_events.specs.declared.session.Taken.{Taken}
 use Rattle.board_events.specs.Entries.{entry_at, is_entry}
 use Rattle.board_events.specs.History.{is_fault, picture_of}
 use Rattle.board_events.specs.Settings.{Setting}
-use Rattle.board_events.specs.Session.{StandsFor, TellsTaken, entries_in}
+use Rattle.board_events.specs.Session.{HasTakenEvents, TellsTaken, entries_in}
 use Rattle.board_events.specs.States.{State}
 use Rattle.board_listing.specs.declared.follower.Follower.{Follower}
 use Rattle.dgt_frame.specs.declared.events.Event.TheVariants.{Message, Fault}
@@ -91,22 +91,22 @@ may_tell start before reading shown (Replaced m) shows = may_replace start befor
     may_replace start (last ∷ earlier) shown m replaces = replaces.0.legal
 
 -- What is known where an entry after these was seen, and its picture is a new one.
-pub record News (sheet : Sheet) (start : Parts) (past : List Entry) (entry : Entry) (seen : Seen) : Type 0 where
+pub record News (settler : SettlerState) (start : Parts) (past : List Entry) (entry : Entry) (seen : Seen) : Type 0 where
   pub before : Score
   pub folds : Folds start (deduplicated past) before
   pub shows : SeenAs start (moves_of before.plies) entry.picture seen
   pub new : repeats entry.picture past ≡ false
-  pub start_is : sheet.start ≡ start
-  pub last : sheet.last ≡ Some entry.picture
-  pub score_is : sheet.score ≡ score_after start before entry.reading seen
+  pub start_is : settler.start ≡ start
+  pub last : settler.last ≡ Some entry.picture
+  pub score_is : settler.score ≡ score_after start before entry.reading seen
 
-news_of : (sheet : Sheet) (start : Parts) (past : List Entry) (entry : Entry) (seen : Seen) → Valid start → Settled sheet start (entry ∷ past)
-    → ReturnsNewSeen start past entry.picture seen → News sheet start past entry seen
-news_of sheet start past entry seen valid stands answer =
+news_of : (settler : SettlerState) (start : Parts) (past : List Entry) (entry : Entry) (seen : Seen) → Valid start → HasSettled settler start (entry ∷ past)
+    → ReturnsNewSeen start past entry.picture seen → News settler start past entry seen
+news_of settler start past entry seen valid stands answer =
     let before = answer.1.0 in
     let after = score_after start before entry.reading seen in
-    let P : List Entry → Type 0 = λ es. Folds start es sheet.score in
-    let folded : Folds start (entry ∷ deduplicated past) sheet.score = subst P (with_new entry past answer.0) stands.folds in
+    let P : List Entry → Type 0 = λ es. Folds start es settler.score in
+    let folded : Folds start (entry ∷ deduplicated past) settler.score = subst P (with_new entry past answer.0) stands.folds in
     let made : Folds start (entry ∷ deduplicated past) after = (before, seen, answer.1.1, answer.1.2, refl) in
     record {
       before = before;
@@ -115,7 +115,7 @@ news_of sheet start past entry seen valid stands answer =
       new = answer.0;
       start_is = stands.start_is;
       last = stands.last;
-      score_is = folds_once start (entry ∷ deduplicated past) sheet.score after valid folded made;
+      score_is = folds_once start (entry ∷ deduplicated past) settler.score after valid folded made;
     }
 
 pub entries_new : (setting : Setting) (event : Event) (past : List Event) → is_entry event past ≡ true → entries_in setting (event ∷ past) ≡ entry_at setting.first setting.rotated (event ∷ past) ∷ entries_in setting past
@@ -126,35 +126,35 @@ entries_same setting event past is = ap (λ b. if b then entry_at setting.first 
 
 -- A session took an event that gave a new picture.
 pub news : (old : Follower) (new : State) (setting : Setting) (past : List Event) (event : Event) (taken : Taken) (seen : Seen) → HasFollowed old setting past
-    → StandsFor new setting (event ∷ past) → TellsTaken setting past event taken → taken.seen ≡ Some seen → seen ≢ Same
+    → HasTakenEvents new setting (event ∷ past) → TellsTaken setting past event taken → taken.seen ≡ Some seen → seen ≢ Same
     → News new.settler setting.start (entries_in setting past) (entry_at setting.first setting.rotated (event ∷ past)) seen
 news old new setting past event taken seen followed stands tells is other =
     let entry : is_entry event past ≡ true = sym tells.entry ∙ ap is_some is in
-    let P : List Entry → Type 0 = λ es. Settled new.settler setting.start es in
+    let P : List Entry → Type 0 = λ es. HasSettled new.settler setting.start es in
     let Q : Option Seen → Type 0 = λ s. IfSome s (ReturnsSeen setting.start (entries_in setting past) (picture_of setting.rotated (event ∷ past))) in
     news_of new.settler setting.start (entries_in setting past) (entry_at setting.first setting.rotated (event ∷ past)) seen followed.valid
     (subst P (entries_new setting event past entry) stands.settler)
     (new_answer setting.start (entries_in setting past) (picture_of setting.rotated (event ∷ past)) seen other (subst Q is tells.seen))
 
-pub may_tell_news : (sheet : Sheet) (start : Parts) (past : List Entry) (entry : Entry) (seen : Seen) → News sheet start past entry seen → MayTell sheet.start sheet.score seen
-may_tell_news sheet start past entry seen news =
-    let P : Parts → Type 0 = λ p. MayTell p sheet.score seen in
+pub may_tell_news : (settler : SettlerState) (start : Parts) (past : List Entry) (entry : Entry) (seen : Seen) → News settler start past entry seen → MayTell settler.start settler.score seen
+may_tell_news settler start past entry seen news =
+    let P : Parts → Type 0 = λ p. MayTell p settler.score seen in
     let Q : Score → Type 0 = λ s. MayTell start s seen in
     subst P (sym news.start_is) (subst Q (sym news.score_is) (may_tell start news.before entry.reading entry.picture seen news.shows))
 
 -- What was told stands where the picture waits.
-pub told_waits : (old : Follower) (sheet : Sheet) (setting : Setting) (past : List Event) (entry : Entry) (seen : Seen) → HasFollowed old setting past
-    → News sheet setting.start (entries_in setting past) entry seen → seen ≡ Waits → HasResult sheet.start sheet.score old.told
-told_waits old sheet setting past entry seen followed news waits =
+pub told_waits : (old : Follower) (settler : SettlerState) (setting : Setting) (past : List Event) (entry : Entry) (seen : Seen) → HasFollowed old setting past
+    → News settler setting.start (entries_in setting past) entry seen → seen ≡ Waits → HasResult settler.start settler.score old.told
+told_waits old settler setting past entry seen followed news waits =
     let start = setting.start in
     let before : followed.score ≡ news.before = folds_once start (deduplicated (entries_in setting past)) followed.score news.before followed.valid followed.folds news.folds in
-    let same : followed.score ≡ sheet.score = before ∙ sym (news.score_is ∙ ap (score_after start news.before entry.reading) waits) in
-    let P : Parts → Type 0 = λ p. HasResult p sheet.score old.told in
+    let same : followed.score ≡ settler.score = before ∙ sym (news.score_is ∙ ap (score_after start news.before entry.reading) waits) in
+    let P : Parts → Type 0 = λ p. HasResult p settler.score old.told in
     let Q : Score → Type 0 = λ s. HasResult start s old.told in
     subst P (sym news.start_is) (subst Q same followed.told)
 
 -- An event that adds no entry, or one whose picture was seen last, leaves the game.
-pub followed_same : (old : Follower) (new : State) (setting : Setting) (past : List Event) (event : Event) → HasFollowed old setting past → StandsFor new setting (event ∷ past)
+pub followed_same : (old : Follower) (new : State) (setting : Setting) (past : List Event) (event : Event) → HasFollowed old setting past → HasTakenEvents new setting (event ∷ past)
     → deduplicated (entries_in setting (event ∷ past)) ≡ deduplicated (entries_in setting past) → HasFollowed (record { session = new; told = old.told }) setting (event ∷ past)
 followed_same old new setting past event followed stands same =
     let P : List Entry → Type 0 = λ es. Folds setting.start es followed.score in
@@ -178,7 +178,7 @@ abbrev pub Added : Follower → Setting → List Event → Timed → List ℕ �
 Added new setting past x lines lines' = HasFollowed new setting (x.event ∷ past) × ((more : List ℕ) × (lines' ≡ lines ++ more) × TellsEvent setting past x more)
 
 pub added_fault : (old : Follower) (new : State) (setting : Setting) (past : List Event) (x : Timed) (taken : Taken) (lines lines' : List ℕ) → HasFollowed old setting past
-    → StandsFor new setting (x.event ∷ past) → TellsTaken setting past x.event taken → taken.asks_dump ≡ true → lines' ≡ lines ++ line_of x
+    → HasTakenEvents new setting (x.event ∷ past) → TellsTaken setting past x.event taken → taken.asks_dump ≡ true → lines' ≡ lines ++ line_of x
     → Added (record { session = new; told = old.told }) setting past x lines lines'
 added_fault old new setting past x taken lines lines' followed stands tells asks lines_are =
     let fault : is_fault x.event ≡ true = sym tells.asks ∙ asks in
@@ -197,7 +197,7 @@ added_fault old new setting past x taken lines lines' followed stands tells asks
     )
 
 pub added_nothing : (old : Follower) (new : State) (setting : Setting) (past : List Event) (x : Timed) (taken : Taken) (lines lines' : List ℕ) → HasFollowed old setting past
-    → StandsFor new setting (x.event ∷ past) → TellsTaken setting past x.event taken → taken.asks_dump ≡ false → taken.seen ≡ None → lines' ≡ lines
+    → HasTakenEvents new setting (x.event ∷ past) → TellsTaken setting past x.event taken → taken.asks_dump ≡ false → taken.seen ≡ None → lines' ≡ lines
     → Added (record { session = new; told = old.told }) setting past x lines lines'
 added_nothing old new setting past x taken lines lines' followed stands tells asks seen lines_are =
     let none : is_entry x.event past ≡ false = sym tells.entry ∙ ap is_some seen in (
@@ -215,7 +215,7 @@ added_nothing old new setting past x taken lines lines' followed stands tells as
     )
 
 pub added_same : (old : Follower) (new : State) (setting : Setting) (past : List Event) (x : Timed) (taken : Taken) (seen : Seen) (lines lines' : List ℕ) → HasFollowed old setting past
-    → StandsFor new setting (x.event ∷ past) → TellsTaken setting past x.event taken → taken.asks_dump ≡ false → taken.seen ≡ Some seen → seen ≡ Same → lines' ≡ lines
+    → HasTakenEvents new setting (x.event ∷ past) → TellsTaken setting past x.event taken → taken.asks_dump ≡ false → taken.seen ≡ Some seen → seen ≡ Same → lines' ≡ lines
     → Added (record { session = new; told = old.told }) setting past x lines lines'
 added_same old new setting past x taken seen lines lines' followed stands tells asks some same lines_are =
     let entry : is_entry x.event past ≡ true = sym tells.entry ∙ ap is_some some in
@@ -238,7 +238,7 @@ added_same old new setting past x taken seen lines lines' followed stands tells 
     )
 
 pub added_news : (old new : Follower) (setting : Setting) (past : List Event) (x : Timed) (taken : Taken) (seen : Seen) (lines lines' : List ℕ) → HasFollowed old setting past
-    → StandsFor new.session setting (x.event ∷ past) → TellsTaken setting past x.event taken → taken.asks_dump ≡ false → taken.seen ≡ Some seen
+    → HasTakenEvents new.session setting (x.event ∷ past) → TellsTaken setting past x.event taken → taken.asks_dump ≡ false → taken.seen ≡ Some seen
     → News new.session.settler setting.start (entries_in setting past) (entry_at setting.first setting.rotated (x.event ∷ past)) seen
     → AddsNews x.offset new.session.settler.start new.session.settler.score (picture_of setting.rotated (x.event ∷ past)) seen old.told new.told lines lines'
     → Added new setting past x lines lines'

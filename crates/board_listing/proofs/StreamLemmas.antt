@@ -14,7 +14,7 @@ use Rattle.board_listing.specs.declared.listing.Listing.{Listing}
 use Rattle.board_listing.specs.declared.listing.Listing.TheVariants.{Events, Pictures, Game, Watched}
 use Rattle.board_listing.specs.Inside.Printers.{Follows, HasBegun}
 use Rattle.watched_streams.specs.Input.{ReadsWithin}
-use Rattle.board_listing.specs.Listings.{HasLines, Leaves, ListsAll, ListsFirst, ListsFront, ListsRead, ListsRefused, WritesFront, first_line, last_line}
+use Rattle.board_listing.specs.Listings.{HasLines, LeavesOut, ListsAll, ListsFirst, ListsFront, ListsRead, ListsRefused, WritesFront, first_line, last_line}
 use Rattle.watched_streams.specs.Output.{Gathers}
 use Rattle.watched_streams.proofs.InputLemmas.{cut_bytes}
 use Rattle.board_listing.specs.WatchLines.{position_words}
@@ -110,7 +110,7 @@ refused_at_chunk old new printer listing count rest room buffer chunk input now 
     let consumed : Consumes input left (bytes ++ (heard ++ gives.beyond)) = Consumes-trans input now left bytes (heard ++ gives.beyond) done.3 gives.consumes in
     let P : List ℕ → Type 0 = λ bs. Consumes input left bs in
     let Q : List Timed → Type 0 = λ es. Shows (bytes ++ cut.0) es rest in
-    let L : List Timed → Type 0 = λ es. Leaves listing broken.taken es in (
+    let L : List Timed → Type 0 = λ es. LeavesOut listing broken.taken es in (
       bytes ++ cut.0,
       cut.1 ++ gives.beyond,
       broken.taken,

@@ -11,7 +11,7 @@ use Rattle.dgt_frame.specs.Streams.{Timed}
 use Rattle.board_events.specs.Settings.{Setting}
 use Rattle.board_listing.specs.GameText.{reached_by}
 use Rattle.board_listing.specs.GivenGame.{GameLine, text_of}
-use Rattle.board_listing.specs.WatchLaws.{WatchShowsThePictures, WatchTellsWhatFollowTells, game_lines, picture_lines, said_of_picture}
+use Rattle.board_listing.specs.WatchLaws.{WatchShowsThePictures, WatchTellsWhatFollowTells, game_lines, said_of_picture, watched_pictures}
 use Rattle.board_listing.specs.WatchLines.{picture_words, position_words, tells_change, tells_game, tells_picture, tells_position, tells_reading}
 use Rattle.board_listing.specs.WatchText.{IsGameLine, ShowsPicture, ShowsReading, WatchesEvent, line_with, with_position}
 use Rattle.board_listing.proofs.LineLemmas.{drawn, drawn-append, text_append}
@@ -83,33 +83,33 @@ no_picture : (a b : Bool) → not (a || b) ≡ true → a ≡ false
 no_picture false b h = refl
 no_picture true b h = absurd (cc)
 
-drops_game : (told : GameLine) (rest : List GameLine) → tells_game told.words ≡ true → picture_lines (told ∷ rest) ≡ picture_lines rest
+drops_game : (told : GameLine) (rest : List GameLine) → tells_game told.words ≡ true → watched_pictures (told ∷ rest) ≡ watched_pictures rest
 drops_game told rest kind =
-    ap (λ b. if b then told ∷ picture_lines rest else picture_lines rest)
+    ap (λ b. if b then told ∷ watched_pictures rest else watched_pictures rest)
     (no_picture (tells_picture told.words) (tells_position told.words || tells_reading told.words) kind)
 
-pictures_of_one : (p : Parts) (told : GameLine) (rest : List GameLine) (change : Bool) → tells_game told.words ≡ true → picture_lines (with_if p told change ++ rest) ≡ picture_lines rest
+pictures_of_one : (p : Parts) (told : GameLine) (rest : List GameLine) (change : Bool) → tells_game told.words ≡ true → watched_pictures (with_if p told change ++ rest) ≡ watched_pictures rest
 pictures_of_one p told rest true kind = drops_game told rest kind
 pictures_of_one p told rest false kind = drops_game told rest kind
 
 pictures_of_followed : (offset : ℕ) (p : Parts) (followed rest : List GameLine) → AllByRecursion (IsGameLine offset) followed
-    → picture_lines (flat_map (with_position p) followed ++ rest) ≡ picture_lines rest
+    → watched_pictures (flat_map (with_position p) followed ++ rest) ≡ watched_pictures rest
 pictures_of_followed offset p [] rest each = refl
 pictures_of_followed offset p (told ∷ earlier) rest each =
-    ap picture_lines (append_assoc (with_position p told) (flat_map (with_position p) earlier) rest)
+    ap watched_pictures (append_assoc (with_position p told) (flat_map (with_position p) earlier) rest)
     ∙ pictures_of_one p told (flat_map (with_position p) earlier ++ rest) (tells_change told.words) each.0.kind
     ∙ pictures_of_followed offset p earlier rest each.1
 
-pictures_of_timed : (offset : ℕ) (old new : Option Reading) (timed rest : List GameLine) → ShowsReading offset old new timed → picture_lines (timed ++ rest) ≡ picture_lines rest
-pictures_of_timed offset old new timed rest (inl (same, none)) = ap (λ ls. picture_lines (ls ++ rest)) none
-pictures_of_timed offset old new timed rest (inr (other, is)) = ap (λ ls. picture_lines (ls ++ rest)) is
+pictures_of_timed : (offset : ℕ) (old new : Option Reading) (timed rest : List GameLine) → ShowsReading offset old new timed → watched_pictures (timed ++ rest) ≡ watched_pictures rest
+pictures_of_timed offset old new timed rest (inl (same, none)) = ap (λ ls. watched_pictures (ls ++ rest)) none
+pictures_of_timed offset old new timed rest (inr (other, is)) = ap (λ ls. watched_pictures (ls ++ rest)) is
 
 pictures_of_event : (setting : Setting) (past : List Event) (x : Timed) (more before : List GameLine) (e : WatchesEvent setting past x more)
-    → picture_lines (more ++ before) ≡ picture_lines (e.pictured ++ before)
+    → watched_pictures (more ++ before) ≡ watched_pictures (e.pictured ++ before)
 pictures_of_event setting past x more before e =
     let p = reached_by setting.start e.score in
     let placed = flat_map (with_position p) e.followed in
-    ap picture_lines (all_of_event setting past x more before e)
+    ap watched_pictures (all_of_event setting past x more before e)
     ∙ pictures_of_timed x.offset _ _ e.timed (placed ++ (e.pictured ++ before)) e.reading_is
     ∙ pictures_of_followed x.offset p e.followed (e.pictured ++ before) e.each
 
@@ -120,16 +120,16 @@ said lines = flat_map said_of_picture (reverse lines)
 said-append : (new old : List GameLine) → said (new ++ old) ≡ said old ++ said new
 said-append new old = ap (flat_map said_of_picture) (reverse-append new old) ∙ flat_map-append said_of_picture (reverse old) (reverse new)
 
-said_of_shown : (offset : ℕ) (old new : List (List ℕ)) (pictured before : List GameLine) → ShowsPicture offset old new pictured → said (picture_lines before) ≡ drawn old
-    → said (picture_lines (pictured ++ before)) ≡ drawn new
-said_of_shown offset old new pictured before (inl (same, none)) is = ap (λ ls. said (picture_lines (ls ++ before))) none ∙ is ∙ ap drawn (sym same)
+said_of_shown : (offset : ℕ) (old new : List (List ℕ)) (pictured before : List GameLine) → ShowsPicture offset old new pictured → said (watched_pictures before) ≡ drawn old
+    → said (watched_pictures (pictured ++ before)) ≡ drawn new
+said_of_shown offset old new pictured before (inl (same, none)) is = ap (λ ls. said (watched_pictures (ls ++ before))) none ∙ is ∙ ap drawn (sym same)
 said_of_shown offset old new pictured before (inr (picture, newest, shown)) is =
     let told = line_with offset (picture_words picture) in
-    ap (λ ls. said (picture_lines (ls ++ before))) shown ∙ said-append (told ∷ []) (picture_lines before) ∙ ap (λ t. t ++ said (told ∷ [])) is
+    ap (λ ls. said (watched_pictures (ls ++ before))) shown ∙ said-append (told ∷ []) (watched_pictures before) ∙ ap (λ t. t ++ said (told ∷ [])) is
     ∙ sym (drawn-append (picture ∷ []) old) ∙ ap drawn (sym newest)
 
 pub watch_shows_the_pictures : WatchShowsThePictures
-watch_shows_the_pictures setting [] lines is = ap (λ ls. said (picture_lines ls)) is
+watch_shows_the_pictures setting [] lines is = ap (λ ls. said (watched_pictures ls)) is
 watch_shows_the_pictures setting (x ∷ past) lines (before, more, watches, e, lines_are) =
-    ap (λ ls. said (picture_lines ls)) lines_are ∙ ap said (pictures_of_event setting (events_of past) x more before e)
+    ap (λ ls. said (watched_pictures ls)) lines_are ∙ ap said (pictures_of_event setting (events_of past) x more before e)
     ∙ said_of_shown x.offset _ _ e.pictured before e.picture_is (watch_shows_the_pictures setting past before watches)

@@ -20,7 +20,7 @@ use Rattle.board_events.specs.Entries.{entry_at, is_entry}
 use Rattle.board_events.specs.History.{is_fault, picture_of, reading_at}
 use Rattle.board_events.specs.Pictures.{pictures}
 use Rattle.board_events.specs.Settings.{Setting}
-use Rattle.board_events.specs.Session.{StandsFor, TellsTaken, entries_in}
+use Rattle.board_events.specs.Session.{HasTakenEvents, TellsTaken, entries_in}
 use Rattle.board_events.specs.States.{State}
 use Rattle.board_events.proofs.ViewLemmas.{pictures_more, pictures_none, pictures_same}
 use Rattle.board_listing.specs.declared.follower.Follower.{Follower}
@@ -69,25 +69,25 @@ told_by old new session setting past x plain text lines lines' same added placed
     record { followed = subst P (sym same) here.0; plain = plain; text = text; tells = here.1; placed = placed; lines_are = lines_are }
 
 told_news : TextsArePlain → (old new : Follower) (session : State) (setting : Setting) (past : List Event) (x : Timed) (taken : Taken) (seen : Seen) (lines lines' : List ℕ)
-    → HasFollowed old setting past → StandsFor session setting (x.event ∷ past) → TellsTaken setting past x.event taken → taken.asks_dump ≡ false → taken.seen ≡ Some seen
+    → HasFollowed old setting past → HasTakenEvents session setting (x.event ∷ past) → TellsTaken setting past x.event taken → taken.asks_dump ≡ false → taken.seen ≡ Some seen
     → new.session ≡ session → News session.settler setting.start (entries_in setting past) (entry_at setting.first setting.rotated (x.event ∷ past)) seen
     → AddsNewsAndPositions x.offset session.settler.start session.settler.score (picture_of setting.rotated (x.event ∷ past)) seen old.told new.told lines lines'
     → Told new session setting past x lines lines'
 told_news law old new session setting past x taken seen lines lines' followed stands tells asks some session_is fresh adds =
     let here = entry_at setting.first setting.rotated (x.event ∷ past) in
-    let sheet = session.settler in
-    let P : Parts → Type 0 = λ p. AddsNewsAndPositions x.offset p sheet.score here.picture seen old.told new.told lines lines' in
-    let made : AddsNewsAndPositions x.offset setting.start sheet.score here.picture seen old.told new.told lines lines' = subst P fresh.start_is adds in
-    let played : Played setting.start (moves_of sheet.score.plies) = folds_played setting.start (deduplicated (entries_in setting (x.event ∷ past))) sheet.score stands.settler.folds in
-    let may = may_tell_news sheet setting.start (entries_in setting past) here seen fresh in
-    let placed : NewsPlaced x.offset setting.start sheet.score here.picture seen old.told new.told (made.first ++ made.second) =
-    news_placed law x.offset setting.start sheet.score here.picture seen old.told new.told made.first made.second followed.valid played (subst (λ p. MayTell p sheet.score seen) fresh.start_is may) made.first_is made.second_is in
+    let settler = session.settler in
+    let P : Parts → Type 0 = λ p. AddsNewsAndPositions x.offset p settler.score here.picture seen old.told new.told lines lines' in
+    let made : AddsNewsAndPositions x.offset setting.start settler.score here.picture seen old.told new.told lines lines' = subst P fresh.start_is adds in
+    let played : Played setting.start (moves_of settler.score.plies) = folds_played setting.start (deduplicated (entries_in setting (x.event ∷ past))) settler.score stands.settler.folds in
+    let may = may_tell_news settler setting.start (entries_in setting past) here seen fresh in
+    let placed : NewsPlaced x.offset setting.start settler.score here.picture seen old.told new.told (made.first ++ made.second) =
+    news_placed law x.offset setting.start settler.score here.picture seen old.told new.told made.first made.second followed.valid played (subst (λ p. MayTell p settler.score seen) fresh.start_is may) made.first_is made.second_is in
     let plain = placed.first ++ placed.second in
-    let added : AddsNews x.offset setting.start sheet.score here.picture seen old.told new.told [] plain =
+    let added : AddsNews x.offset setting.start settler.score here.picture seen old.told new.told [] plain =
     record { first = placed.first; second = placed.second; first_is = placed.first_is; second_is = placed.second_is; result_is = made.result_is; lines_are = refl } in
-    let Q : Parts → Type 0 = λ p. AddsNews x.offset p sheet.score here.picture seen old.told new.told [] plain in
+    let Q : Parts → Type 0 = λ p. AddsNews x.offset p settler.score here.picture seen old.told new.told [] plain in
     let R : State → Type 0 = λ s. AddsNews x.offset s.settler.start s.settler.score here.picture seen old.told new.told [] plain in
-    let S : State → Type 0 = λ s. StandsFor s setting (x.event ∷ past) in
+    let S : State → Type 0 = λ s. HasTakenEvents s setting (x.event ∷ past) in
     let N : State → Type 0 = λ s. News s.settler setting.start (entries_in setting past) here seen in
     let back = sym session_is in
     let whole = from_none new setting past x plain (added_news old new setting past x taken seen [] plain followed (subst S back stands) tells asks some (subst N back fresh)
@@ -130,7 +130,7 @@ shown_none old new session setting past x lines lines' pictures_are new_is draws
     }
 
 shown_seen : TextsArePlain → (old new : Watcher) (session : State) (setting : Setting) (past : List Event) (x : Timed) (taken : Taken) (seen : Seen) (lines lines' : List ℕ)
-    → HasWatched old setting past → HasFrame x.event → StandsFor session setting (x.event ∷ past) → TellsTaken setting past x.event taken → taken.asks_dump ≡ false → taken.seen ≡ Some seen
+    → HasWatched old setting past → HasFrame x.event → HasTakenEvents session setting (x.event ∷ past) → TellsTaken setting past x.event taken → taken.asks_dump ≡ false → taken.seen ≡ Some seen
     → Tells old session taken x new lines lines' → (seen ≡ Same) ⊎ (seen ≢ Same) → Shown new session setting past x lines lines'
 shown_seen law old new session setting past x taken seen lines lines' h frame stands tells asks some t (inl same) =
     let kept = t.same asks (some ∙ ap Some same) in
@@ -160,7 +160,7 @@ shown_seen law old new session setting past x taken seen lines lines' h frame st
     }
 
 shown : TextsArePlain → (old new : Watcher) (session : State) (setting : Setting) (past : List Event) (x : Timed) (taken : Taken) (lines lines' : List ℕ)
-    → HasWatched old setting past → HasFrame x.event → StandsFor session setting (x.event ∷ past) → TellsTaken setting past x.event taken → Tells old session taken x new lines lines'
+    → HasWatched old setting past → HasFrame x.event → HasTakenEvents session setting (x.event ∷ past) → TellsTaken setting past x.event taken → Tells old session taken x new lines lines'
     → (asks : Bool) (seen : Option Seen) → taken.asks_dump ≡ asks → taken.seen ≡ seen → Shown new session setting past x lines lines'
 shown law old new session setting past x taken lines lines' h frame stands tells t true seen asks some =
     let kept = t.fault asks in
@@ -184,7 +184,7 @@ shown law old new session setting past x taken lines lines' h frame stands tells
 
 -- The watcher was given the event, and its lines were added.
 pub watched : TextsArePlain → (old new : Watcher) (session : State) (setting : Setting) (past : List Event) (x : Timed) (taken : Taken) (lines told_lines lines' : List ℕ)
-    (before after : Option Reading) → HasWatched old setting past → HasFrame x.event → StandsFor session setting (x.event ∷ past) → TellsTaken setting past x.event taken
+    (before after : Option Reading) → HasWatched old setting past → HasFrame x.event → HasTakenEvents session setting (x.event ∷ past) → TellsTaken setting past x.event taken
     → Tells old session taken x new lines told_lines
     → before ≡ reading_at setting.first past → after ≡ reading_at setting.first (x.event ∷ past)
     → ((timed : List GameLine) × ShowsReading x.offset before after timed × (lines' ≡ told_lines ++ text_of timed))
@@ -224,7 +224,7 @@ watched law old new session setting past x taken lines told_lines lines' before 
     )
 
 may_tell_some : (old : Follower) (session : State) (setting : Setting) (past : List Event) (event : Event) (taken : Taken) (seen : Option Seen) → HasFollowed old setting past
-    → StandsFor session setting (event ∷ past) → TellsTaken setting past event taken → taken.seen ≡ seen
+    → HasTakenEvents session setting (event ∷ past) → TellsTaken setting past event taken → taken.seen ≡ seen
     → IfSome seen (λ s. s ≢ Same → MayTell session.settler.start session.settler.score s)
 may_tell_some old session setting past event taken None followed stands tells some = tt
 may_tell_some old session setting past event taken (Some seen) followed stands tells some = λ other.
@@ -233,6 +233,6 @@ may_tell_some old session setting past event taken (Some seen) followed stands t
 
 -- What the session saw can be told.
 pub may_tell_taken : (old : Follower) (session : State) (setting : Setting) (past : List Event) (event : Event) (taken : Taken) → HasFollowed old setting past
-    → StandsFor session setting (event ∷ past) → TellsTaken setting past event taken
+    → HasTakenEvents session setting (event ∷ past) → TellsTaken setting past event taken
     → taken.asks_dump ≡ false → IfSome taken.seen (λ seen. seen ≢ Same → MayTell session.settler.start session.settler.score seen)
 may_tell_taken old session setting past event taken followed stands tells asks = may_tell_some old session setting past event taken taken.seen followed stands tells refl

@@ -51,10 +51,10 @@ LacksMemory (Game start first rotated) events x = WantsMemory (record { start = 
 LacksMemory (Watched start first rotated) events x = WantsMemory (record { start = start; first = first; rotated = rotated }) (past_of events) x.event
 
 -- After these events no other was left out, or one for which memory ran out.
-abbrev pub Leaves : Listing → List Timed → List Timed → Type 0
-Leaves listing events [] = ⊤
-Leaves listing events (x ∷ []) = LacksMemory listing events x
-Leaves listing events (x ∷ y ∷ more) = ⊥
+abbrev pub LeavesOut : Listing → List Timed → List Timed → Type 0
+LeavesOut listing events [] = ⊤
+LeavesOut listing events (x ∷ []) = LacksMemory listing events x
+LeavesOut listing events (x ∷ y ∷ more) = ⊥
 
 -- All of the input was read, which is within the limit, and the text of what it shows was written.
 abbrev pub ListsAll : Listing → Option (List ℕ) → Option (List ℕ) → Option (List ℕ) → Type 0
@@ -80,7 +80,7 @@ WritesFront written written' text = (left : List ℕ) × Gathers written written
 -- or of those before one for which memory ran out.
 abbrev pub ListsFront : Listing → Option (List ℕ) → Option (List ℕ) → Option (List ℕ) → Option (List ℕ) → Type 0
 ListsFront listing input input' written written' = (bytes after : List ℕ) × (events extra : List Timed) × (rest : ℕ) × (text : List ℕ)
-    × Consumes input input' (bytes ++ after) × Shows bytes (events ++ extra) rest × Leaves listing events extra × HasLines listing events text
+    × Consumes input input' (bytes ++ after) × Shows bytes (events ++ extra) rest × LeavesOut listing events extra × HasLines listing events text
     × WritesFront written written' (text ++ last_line listing rest)
 
 -- Of the bytes that were read, the last event that these show gives a move, the memory for it was refused, and the

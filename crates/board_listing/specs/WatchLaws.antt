@@ -33,8 +33,8 @@ abbrev pub game_lines : List GameLine → List GameLine
 game_lines lines = filter (λ told. tells_game told.words) lines
 
 -- the lines that tell a picture
-abbrev pub picture_lines : List GameLine → List GameLine
-picture_lines lines = filter (λ told. tells_picture told.words) lines
+abbrev pub watched_pictures : List GameLine → List GameLine
+watched_pictures lines = filter (λ told. tells_picture told.words) lines
 
 -- Without the lines that `watch` adds, its text is that of `follow`.
 abbrev pub WatchTellsWhatFollowTells : Type 0
@@ -48,7 +48,7 @@ said_of_picture told = drop (length (codes "picture ")) told.words ++ codes "\n"
 -- The lines that tell a picture are, without offset and word, those of `pictures`.
 abbrev pub WatchShowsThePictures : Type 0
 WatchShowsThePictures = (setting : Setting) (events : List Timed) (lines : List GameLine) → Watches setting events lines
-    → flat_map said_of_picture (reverse (picture_lines lines)) ≡ flat_map placement_line (reverse (pictures setting.rotated (map (λ t. t.event) events)))
+    → flat_map said_of_picture (reverse (watched_pictures lines)) ≡ flat_map placement_line (reverse (pictures setting.rotated (map (λ t. t.event) events)))
 
 -- Each line that tells a position has that which the lines of `follow` before it give.
 abbrev pub NamesPositions : Parts → List GameLine → Type 0

@@ -24,22 +24,22 @@ abbrev pub reading_words : Option Reading → List ℕ
 reading_words reading = codes "clock " ++ both_times reading
 
 -- whether words begin with this text
-abbrev pub begins : List ℕ → List ℕ → Bool
-begins [] words = true
-begins (byte ∷ bytes) [] = false
-begins (byte ∷ bytes) (first ∷ words) = if first == byte then begins bytes words else false
+abbrev pub begins_with : List ℕ → List ℕ → Bool
+begins_with [] words = true
+begins_with (byte ∷ bytes) [] = false
+begins_with (byte ∷ bytes) (first ∷ words) = if first == byte then begins_with bytes words else false
 
 -- whether they tell a picture
 abbrev pub tells_picture : List ℕ → Bool
-tells_picture words = begins (codes "picture ") words
+tells_picture words = begins_with (codes "picture ") words
 
 -- whether they tell a position
 abbrev pub tells_position : List ℕ → Bool
-tells_position words = begins (codes "position ") words
+tells_position words = begins_with (codes "position ") words
 
 -- whether they tell what the clocks show
 abbrev pub tells_reading : List ℕ → Bool
-tells_reading words = begins (codes "clock ") words
+tells_reading words = begins_with (codes "clock ") words
 
 -- whether they are words of `follow`: none of these
 abbrev pub tells_game : List ℕ → Bool
@@ -47,4 +47,4 @@ tells_game words = not (tells_picture words || (tells_position words || tells_re
 
 -- whether they tell a move, a correction or a result
 abbrev pub tells_change : List ℕ → Bool
-tells_change words = begins (codes "move ") words || (begins (codes "correction ") words || begins (codes "result ") words)
+tells_change words = begins_with (codes "move ") words || (begins_with (codes "correction ") words || begins_with (codes "result ") words)

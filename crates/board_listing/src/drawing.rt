@@ -1,7 +1,7 @@
 //! The placement of the picture that a board shows now.
 ghost use Rattle.std.specs.Prelude.{◌≡◌};
 ghost use Rattle.dgt_frame.specs.Streams.{HasFrame};
-ghost use Rattle.board_events.specs.History.{fields_of};
+ghost use Rattle.board_events.specs.History.{codes_by_field};
 ghost use Rattle.chess_text.specs.KeptRanks.{picture_in};
 ghost use Rattle.board_listing.specs.Inside.Drawing.{drawn};
 
@@ -10,7 +10,7 @@ use dgt_frame::{Event, Message};
 
 /// The codes by square.
 fn turned(rotated: bool, codes: &[u8; 64]) -> [u8; 64]
-    ensures { result ≡ fields_of rotated codes.now }
+    ensures { result ≡ codes_by_field rotated codes.now }
 {
     let mut picture = *codes;
     if rotated {

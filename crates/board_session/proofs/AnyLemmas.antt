@@ -7,17 +7,17 @@ use Rattle.chess_rules.specs.Picture.{picture}
 use Rattle.dgt_frame.specs.declared.events.Event.{Event}
 use Rattle.settle_core.specs.declared.plies.Outcome.{Outcome}
 use Rattle.settle_core.specs.declared.plies.Ply.{Ply}
-use Rattle.settle_core.specs.AnyPlay.{AllShowBothKings, KeepsAllButLast as KeepsAllButLatest, WereShown as WereShownIn}
+use Rattle.settle_core.specs.AnyPlay.{AllShowBothKings, KeepsAllButLast, WereShown}
 use Rattle.settle_core.specs.Entries.{Entry, deduplicated, last_picture, repeats}
 use Rattle.settle_core.specs.Folding.{Folds, Score, moves_of, score_of, time_of}
-use Rattle.settle_core.specs.HonestPlay.{AllPass, AllRest, HasWhole, ShownEach, shown_plies}
+use Rattle.settle_core.specs.HonestPlay.{AllShowNoMoreOrLackKing, AllWithinTurnOrLackKing, HasWhole, ShownEach, shown_plies}
 use Rattle.settle_core.specs.Settling.{Line, position_after, reached}
 use Rattle.settle_core.specs.Sign.{IsSign}
 use Rattle.settle_core.proofs.Resuming.{honest_play_resumes as plies_resume, kings_end_resumed_play as kings_end_resumed, resumed_play_stops as resumed_stops}
 use Rattle.settle_core.proofs.Whatever.{kings_keep_the_plies, nothing_is_invented as plies_were_shown, only_the_last_may_change}
 use Rattle.chess_game.specs.Games.{Content, Result}
 use Rattle.chess_game.specs.Values.{TagValues}
-use Rattle.board_session.specs.AnyStream.{HonestPlayResumes, KeepsAllButLast, KingsEndResumedPlay, KingsInCentreKeepThePlies, NothingIsInvented, OnlyTheLastPlyMayChange, ResumedPlayStops, WereShown, end_of}
+use Rattle.board_session.specs.AnyStream.{HasAllButLast, KingsInCentreRecordNoMove, NothingRecordedIsInvented, OnlyTheLastRecordedPlyMayChange, ResumedEndIsRecorded, ResumedPlayIsRecorded, ResumedStopIsRecorded, WereShownByEvents, end_of}
 use Rattle.board_events.specs.Entries.{entry_at, is_entry}
 use Rattle.board_events.specs.Game.{IsGameOf}
 use Rattle.board_events.specs.Settings.{Setting}
@@ -96,11 +96,11 @@ event_of setting (one ∷ past) later before entry e =
 
 -- what entries showed, their events showed
 shown_by_events : (setting : Setting) (plies : List Ply) (past : List Event)
-    → WereShownIn setting.start plies (deduplicated (entries_in setting past)) → WereShown setting plies past
+    → WereShown setting.start plies (deduplicated (entries_in setting past)) → WereShownByEvents setting plies past
 shown_by_events setting [] past h = tt
 shown_by_events setting (ply ∷ earlier) past h =
     let e : EventOf setting past h.1 h.2 = event_of setting past h.0 h.2 h.1 h.3 in
-    let B : List Entry → Type 0 = λ es. WereShownIn setting.start earlier es in (
+    let B : List Entry → Type 0 = λ es. WereShown setting.start earlier es in (
       e.later,
       e.event,
       e.earlier,
@@ -111,7 +111,7 @@ shown_by_events setting (ply ∷ earlier) past h =
       shown_by_events setting earlier e.earlier (subst B e.before_is h.6),
     )
 
-pub nothing_is_invented : NothingIsInvented
+pub nothing_is_invented : NothingRecordedIsInvented
 nothing_is_invented setting tags past game is =
     shown_by_events setting (reverse game.plies) past (plies_were_shown setting.start (deduplicated (entries_in setting past)) (score_of game.plies is.sign) is.folds)
 
@@ -131,10 +131,10 @@ deduplicated_on (entry ∷ more) past = one_more (repeats entry.picture (more ++
         (entry ∷ on.0, new ∙ ap (λ (es : List Entry). entry ∷ es) on.1)
 
 -- the latest first, and in their order
-keeps_in_order : (before plies : List Ply) → KeepsAllButLatest (reverse before) (reverse plies) → KeepsAllButLast before plies
+keeps_in_order : (before plies : List Ply) → KeepsAllButLast (reverse before) (reverse plies) → HasAllButLast before plies
 keeps_in_order before plies keeps kept last is =
     let were : reverse before ≡ last ∷ reverse kept = ap reverse is ∙ reverse-append kept (last ∷ []) in
-    let K : List Ply → Type 0 = λ ps. KeepsAllButLatest ps (reverse plies) in
+    let K : List Ply → Type 0 = λ ps. KeepsAllButLast ps (reverse plies) in
     let k = subst K were keeps in (
       k.1,
       reverse k.0,
@@ -143,7 +143,7 @@ keeps_in_order before plies keeps kept last is =
           ∙ append_assoc kept (k.1 ∷ []) (reverse k.0),
     )
 
-pub only_the_last_ply_may_change : OnlyTheLastPlyMayChange
+pub only_the_last_ply_may_change : OnlyTheLastRecordedPlyMayChange
 only_the_last_ply_may_change setting tags later past before game valid h k =
     let on = entries_on setting later past in
     let kept = deduplicated_on on.0 (entries_in setting past) in
@@ -176,7 +176,7 @@ added_in_order before plies shown e =
     sym (reverse-reverse plies) ∙ ap reverse e ∙ reverse-append (reverse shown) (reverse before)
     ∙ ap (λ (ps : List Ply). ps ++ reverse (reverse shown)) (reverse-reverse before) ∙ ap (λ (ps : List Ply). before ++ ps) (reverse-reverse shown)
 
-pub honest_play_resumes : HonestPlayResumes
+pub honest_play_resumes : ResumedPlayIsRecorded
 honest_play_resumes setting tags later past before game moves lists valid agrees on gives is =
     let h : IsGameOf before setting tags past = agrees.game_is in
     let p : Parts = reached setting.start (moves_of (reverse before.plies)) in
@@ -194,7 +194,7 @@ honest_play_resumes setting tags later past before game moves lists valid agrees
       subst R (ap (λ (s : Score). s.sign) one) is.result_is,
     )
 
-pub resumed_play_stops : ResumedPlayStops
+pub resumed_play_stops : ResumedStopIsRecorded
 resumed_play_stops setting tags later past before game moves lists part valid agrees on passes gives is =
     let h : IsGameOf before setting tags past = agrees.game_is in
     let p : Parts = reached setting.start (moves_of (reverse before.plies)) in
@@ -203,7 +203,7 @@ resumed_play_stops setting tags later past before game moves lists part valid ag
     let L : Parts → Type 0 = λ x. last_picture (entries_in setting past) ≡ Some (picture x) in
     let M : Parts → Type 0 = λ x. Line x moves in
     let S : Parts → Type 0 = λ x. ShownEach x moves lists in
-    let A : Parts → Type 0 = λ x. AllPass (position_after x moves) part in
+    let A : Parts → Type 0 = λ x. AllWithinTurnOrLackKing (position_after x moves) part in
     let F : List Entry → Type 0 = λ es. Folds setting.start es (score_of game.plies is.sign) in
     let stops = resumed_stops setting.start (entries_in setting past) (score_of before.plies h.sign) (score_of game.plies is.sign) moves lists part valid h.folds none
     (subst L at agrees.last) (subst M at on.line) (subst S at on.shown) (subst A at passes) (subst F gives is.folds) in
@@ -214,7 +214,7 @@ resumed_play_stops setting tags later past before game moves lists part valid ag
       subst R stops.0 is.result_is,
     )
 
-pub kings_end_resumed_play : KingsEndResumedPlay
+pub kings_end_resumed_play : ResumedEndIsRecorded
 kings_end_resumed_play setting tags later past before game moves lists clearing rest kings outcome valid agrees on a k b gives is =
     let h : IsGameOf before setting tags past = agrees.game_is in
     let p : Parts = reached setting.start (moves_of (reverse before.plies)) in
@@ -223,8 +223,8 @@ kings_end_resumed_play setting tags later past before game moves lists clearing 
     let L : Parts → Type 0 = λ x. last_picture (entries_in setting past) ≡ Some (picture x) in
     let M : Parts → Type 0 = λ x. Line x moves in
     let S : Parts → Type 0 = λ x. ShownEach x moves lists in
-    let A : Parts → Type 0 = λ x. AllRest (position_after x moves) clearing in
-    let B : Parts → Type 0 = λ x. AllRest (position_after x moves) rest in
+    let A : Parts → Type 0 = λ x. AllShowNoMoreOrLackKing (position_after x moves) clearing in
+    let B : Parts → Type 0 = λ x. AllShowNoMoreOrLackKing (position_after x moves) rest in
     let K : Parts → Type 0 = λ x. IsSign (position_after x moves) kings.picture outcome in
     let G : Parts → Type 0 = λ x. game.plies ≡ before.plies ++ shown_plies x moves lists in
     let F : List Entry → Type 0 = λ es. Folds setting.start es (score_of game.plies is.sign) in
@@ -251,7 +251,7 @@ kings_kept (entry ∷ more) past a = one_more (repeats entry.picture (more ++ pa
         let new : deduplicated (entry ∷ (more ++ past)) ≡ entry ∷ deduplicated (more ++ past) = rw e refl in
         (entry ∷ on.0, new ∙ ap (λ (es : List Entry). entry ∷ es) on.1, (a.0, on.2))
 
-pub kings_in_centre_keep_the_plies : KingsInCentreKeepThePlies
+pub kings_in_centre_keep_the_plies : KingsInCentreRecordNoMove
 kings_in_centre_keep_the_plies setting tags later past before game shown valid h are kings k =
     let kept = kings_kept shown (entries_in setting past) kings in
     let F : List Entry → Type 0 = λ es. Folds setting.start es (score_of game.plies k.sign) in

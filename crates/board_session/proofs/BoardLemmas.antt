@@ -8,7 +8,7 @@ use Rattle.dgt_frame.specs.declared.events.Event.TheVariants.{Message as Message
 use Rattle.dgt_frame.specs.declared.First.{First}
 use Rattle.settle_core.specs.Entries.{Entry}
 use Rattle.settle_core.proofs.Resuming.{onto}
-use Rattle.board_events.specs.History.{is_trusted, picture_of, turned, fields_of}
+use Rattle.board_events.specs.History.{is_trusted, picture_of, turned, codes_by_field}
 use Rattle.board_session.specs.HonestBoard.{HonestBoardsAreRead, SendsOn, pictures_in}
 use Rattle.board_events.proofs.PictureLemmas.{plain_dump, rotated_dump, updated_picture}
 use Rattle.board_events.proofs.TakeLemmas.{entries_updated}
@@ -43,14 +43,14 @@ sent_on first rotated past now pictures (MessageEvent (Other id size) ∷ events
 sent_on first rotated past now pictures (Fault kind ∷ events) t shows h = absurd h
 
 dumped : (rotated : Bool) (picture : List ℕ) (past : List Event) → length picture ≡ 64
-    → picture_of rotated (MessageEvent (Dump (fields_of rotated picture)) ∷ past) ≡ picture
+    → picture_of rotated (MessageEvent (Dump (codes_by_field rotated picture)) ∷ past) ≡ picture
 dumped false picture past size = sym (plain_dump picture past size)
 dumped true picture past size =
     sym (rotated_dump (reverse picture) past (Rattle.std.proofs.lemmas.List.length-reverse picture ∙ size)) ∙ reverse-reverse picture
 
 pub honest_boards_are_read : HonestBoardsAreRead
 honest_boards_are_read first rotated past events picture pictures h =
-    let dump : Event = MessageEvent (Dump (fields_of rotated picture)) in
+    let dump : Event = MessageEvent (Dump (codes_by_field rotated picture)) in
     let is : picture_of rotated (dump ∷ past) ≡ picture = dumped rotated picture past h.squares in
     let P : List Event → Type 0 = λ es. pictures_in first rotated (reverse es ++ past) ≡ reverse (picture ∷ pictures) ++ pictures_in first rotated past in
     let order : pictures_in first rotated (reverse (dump ∷ h.later) ++ past) ≡ pictures_in first rotated (reverse_aux h.later (dump ∷ past)) =

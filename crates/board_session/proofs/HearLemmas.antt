@@ -14,7 +14,7 @@ use Rattle.board_session.specs.declared.recorder.Recorder.{Recorder}
 use Rattle.board_events.specs.Settings.{Setting}
 use Rattle.board_events.specs.Commands.{asked, commands, faults_in, messages_in, past_of}
 use Rattle.board_events.specs.History.{is_fault}
-use Rattle.board_events.specs.Session.{StandsFor}
+use Rattle.board_events.specs.Session.{HasTakenEvents}
 use Rattle.watched_streams.specs.Output.{AppendsPart}
 use Rattle.watched_streams.proofs.OutputLemmas.{part_behind}
 use Rattle.board_events.proofs.CommandLemmas.{at, past_more, commands_more}
@@ -35,7 +35,7 @@ counted_message true n = omega arith
 counted_message false n = refl
 
 pub kept_more : (old new : Recorder) (setting : Setting) (taken : List Timed) (offset : ℕ) (event : Event) → Kept old setting taken
-    → StandsFor new.session setting (event ∷ past_of taken)
+    → HasTakenEvents new.session setting (event ∷ past_of taken)
     → new.messages ≡ (if is_fault event then old.messages else old.messages + 1)
     → new.faults ≡ (if is_fault event then old.faults + 1 else old.faults)
     → Kept new setting (taken ++ at offset event ∷ [])

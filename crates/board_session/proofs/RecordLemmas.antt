@@ -19,7 +19,7 @@ use Rattle.board_events.specs.Settings.{Setting, setting_of}
 use Rattle.board_events.specs.Commands.{past_of}
 use Rattle.board_events.specs.Session.{entries_in}
 use Rattle.board_events.proofs.GameLemmas.{one_each}
-use Rattle.board_session.specs.Recording.{Ends, Leaves, RecordsAll, Sends, RecordsGame}
+use Rattle.board_session.specs.Recording.{Ends, RecordingLeaves, RecordsAll, Sends, RecordsGame}
 use Rattle.watched_streams.specs.Output.{AppendsPart}
 
 -- the text was written, and reading had ended early
@@ -52,7 +52,7 @@ all_read (Some xs) None read consumes end = absurd consumes
 all_read (Some xs) (Some ys) read consumes end = consumes ∙ ap (λ (bs : List ℕ). read ++ bs) end ∙ append-nil read
 
 records_known : (setup : Setup) (report : Report) (input input' sent sent' written written' : Option (List ℕ)) (bytes : List ℕ)
-    (h : Leaves setup (Ok report) input input' sent sent' written written') → TextsTellGames → bytes ≡ h.read
+    (h : RecordingLeaves setup (Ok report) input input' sent sent' written written') → TextsTellGames → bytes ≡ h.read
     → Ends (setting_of setup) (Ok tt) input' h.front h.back h.taken h.extra → Sends (Ok tt) sent sent' h.taken
     → RecordsGame setup report bytes sent sent' written written'
 records_known setup report input input' sent sent' written written' bytes h tell e ends sends =
@@ -75,7 +75,7 @@ records_known setup report input input' sent sent' written written' bytes h tell
     }
 
 pub records_all : (setup : Setup) (input input' sent sent' written written' : Option (List ℕ)) (answer : Result Report RecordError) → TextsTellGames
-    → Leaves setup answer input input' sent sent' written written' → IfOk answer (λ report. RecordsAll setup report input sent sent' written written')
+    → RecordingLeaves setup answer input input' sent sent' written written' → IfOk answer (λ report. RecordsAll setup report input sent sent' written written')
 records_all setup None input' sent sent' written written' (Ok report) tell h = tt
 records_all setup (Some bytes) input' sent sent' written written' (Ok report) tell h =
     let ends = subst (λ (ending : Result ⊤ RecordError). Ends (setting_of setup) ending input' h.front h.back h.taken h.extra) h.answers.0 h.ends in

@@ -25,7 +25,7 @@ use Rattle.settle_core.proofs.Twice.{DiffersTwice, moves_differ}
 use Rattle.settle_core.proofs.Repeats.{repeated_last}
 use Rattle.board_events.specs.Commands.{past_of}
 use Rattle.board_events.specs.Entries.{entry_at}
-use Rattle.board_events.specs.History.{code_of, is_trusted, picture_of, turned}
+use Rattle.board_events.specs.History.{code_of_field, is_trusted, picture_of, turned}
 use Rattle.board_events.specs.Settings.{Setting}
 use Rattle.board_events.specs.Session.{entries_in}
 use Rattle.board_session.specs.Sizes.{FramesAreWithin, MovesTakeTenBytes, WrittenMovesTakeTenBytes, size_of, sizes}
@@ -84,7 +84,7 @@ updates_one rotated field code past square low differ =
     elim (eqb_tells field (turned rotated square)) [
       | inl e ↦ e.1
       | inr e ↦
-          let same : code_of (turned rotated square) (MessageEvent (Update field code) ∷ past) ≡ code_of (turned rotated square) past = rw e.0 refl in
+          let same : code_of_field (turned rotated square) (MessageEvent (Update field code) ∷ past) ≡ code_of_field (turned rotated square) past = rw e.0 refl in
           absurd (differ (picture_at rotated past square low ∙ sym same ∙ sym (picture_at rotated (MessageEvent (Update field code) ∷ past) square low)))
     ]
 

@@ -16,7 +16,7 @@ use Rattle.settle_core.specs.Settling.{position_after, reached}
 use Rattle.settle_core.proofs.Lists.{position_in_order}
 use Rattle.settle_core.proofs.Skipping.{three_unseen_add_nothing as three_add_nothing, two_unseen_change_nothing}
 use Rattle.board_events.specs.Entries.{entry_at, is_entry}
-use Rattle.board_session.specs.Laws.{ThreeUnseenAddNothing, TwoUnseenAreNotRecorded}
+use Rattle.board_session.specs.Laws.{ThreeUnseenAddNoMove, TwoUnseenAreNotRecorded}
 use Rattle.board_events.specs.History.{picture_of}
 use Rattle.board_events.specs.Settings.{Setting}
 use Rattle.board_events.specs.Session.{entries_in}
@@ -105,7 +105,7 @@ last_event setting past event before score m reply next false e valid h lm ln lx
 pub in_order : (plies : List Ply) (last : Ply) (earlier : List Ply) → reverse plies ≡ last ∷ earlier → plies ≡ reverse earlier ++ last ∷ []
 in_order plies last earlier e = sym (reverse-reverse plies) ∙ ap reverse e ∙ reverse-append (last ∷ []) earlier
 
-pub three_unseen_add_nothing : ThreeUnseenAddNothing
+pub three_unseen_add_nothing : ThreeUnseenAddNoMove
 three_unseen_add_nothing setting tags past event before game m reply next valid h lm ln lx shows k =
     let at : position_after setting.start (moves_of before.plies) ≡ reached setting.start (moves_of (reverse before.plies)) = reached_by setting.start before.plies in
     let L : Parts → Type 0 = λ p. Legal p m in

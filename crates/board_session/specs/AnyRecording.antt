@@ -14,7 +14,7 @@ use Rattle.settle_core.specs.AnyPlay.{AllShowBothKings}
 use Rattle.settle_core.specs.Endings.{IsEnd}
 use Rattle.settle_core.specs.Entries.{Entry, deduplicated}
 use Rattle.settle_core.specs.Folding.{moves_of}
-use Rattle.settle_core.specs.HonestPlay.{AllPass, AllRest, HasOneMore, HasWhole, IsFront, ShownEach, shown_plies}
+use Rattle.settle_core.specs.HonestPlay.{AllShowNoMoreOrLackKing, AllWithinTurnOrLackKing, HasOneMore, HasWhole, IsFront, ShownEach, shown_plies}
 use Rattle.settle_core.specs.Laws.{joined}
 use Rattle.settle_core.specs.Settling.{Line, position_after}
 use Rattle.settle_core.specs.Sign.{IsSign}
@@ -23,11 +23,11 @@ use Rattle.chess_game.specs.Values.{TagValues}
 use Rattle.board_session.specs.declared.refusal.RecordError.{RecordError}
 use Rattle.board_session.specs.declared.report.Report.{Report}
 use Rattle.board_events.specs.declared.setup.Setup.{Setup}
-use Rattle.board_session.specs.AnyStream.{Agrees, GivesOn, KeepsAllButLast, ShowsOn, WereShown, end_of}
+use Rattle.board_session.specs.AnyStream.{Agrees, GivesOn, HasAllButLast, ShowsOn, WereShownByEvents, end_of}
 use Rattle.board_events.specs.Commands.{past_of}
 use Rattle.board_events.specs.Game.{IsGameOf}
 use Rattle.board_session.specs.Laws.{TellTheSame}
-use Rattle.board_session.specs.Recording.{Leaves}
+use Rattle.board_session.specs.Recording.{RecordingLeaves}
 use Rattle.board_events.specs.Settings.{setting_of, Setting}
 use Rattle.board_events.specs.Session.{entries_in}
 
@@ -40,12 +40,12 @@ pub record Left (setup : Setup) : Type 0 where
   pub sent' : Option (List ℕ)
   pub written : Option (List ℕ)
   pub written' : Option (List ℕ)
-  pub leaves : Leaves setup answer input input' sent sent' written written'
+  pub leaves : RecordingLeaves setup answer input input' sent sent' written written'
 
 -- Nothing is invented: each ply of the game was shown whole by the events taken, in its turn.
 abbrev pub NothingWrittenIsInvented : Type 0
 NothingWrittenIsInvented = (setup : Setup) (left : Left setup)
-    → WereShown (setting_of setup) (reverse left.leaves.game.plies) (past_of left.leaves.taken)
+    → WereShownByEvents (setting_of setup) (reverse left.leaves.game.plies) (past_of left.leaves.taken)
 
 -- Only the last ply may change: the game of a stream has all plies but the last of the game of its first bytes. `extra`
 -- are the events for which memory ran out.
@@ -53,7 +53,7 @@ abbrev pub OnlyTheLastPlyIsRewritten : Type 0
 OnlyTheLastPlyIsRewritten = (setup : Setup) (left : Left setup) (bytes more : List ℕ) (events : List Timed) (rest : ℕ) (before : Content)
     → left.leaves.front ≡ bytes ++ more → left.leaves.extra ≡ []
     → Shows bytes events rest → IsGameOf before (setting_of setup) setup.tags (past_of events)
-    → KeepsAllButLast before.plies left.leaves.game.plies
+    → HasAllButLast before.plies left.leaves.game.plies
 
 -- Honest play resumes: where the board agreed with the game of the first events taken, the moves that the later ones
 -- show honestly are added to its plies, and nothing else is; so it is where that play stops, and where the kings end
@@ -75,7 +75,7 @@ ResumedStopIsWritten = (setup : Setup) (left : Left setup) (first later : List T
     → left.leaves.taken ≡ first ++ later
     → Agrees before (setting_of setup) setup.tags (past_of first)
     → ShowsOn (end_of before) moves lists
-    → AllPass (position_after (end_of before) moves) part
+    → AllWithinTurnOrLackKing (position_after (end_of before) moves) part
     → GivesOn (setting_of setup) (past_of later) (past_of first) (joined lists ++ part)
     → ((made : List Ply) × (left.leaves.game.plies ≡ before.plies ++ made) × HasWhole (end_of before) moves lists part made)
     × Result setup.start left.leaves.game.plies None left.leaves.game.result
@@ -87,9 +87,9 @@ ResumedEndIsWritten = (setup : Setup) (left : Left setup) (first later : List Ti
     → left.leaves.taken ≡ first ++ later
     → Agrees before (setting_of setup) setup.tags (past_of first)
     → ShowsOn (end_of before) moves lists
-    → AllRest (position_after (end_of before) moves) clearing
+    → AllShowNoMoreOrLackKing (position_after (end_of before) moves) clearing
     → IsSign (position_after (end_of before) moves) kings.picture outcome
-    → AllRest (position_after (end_of before) moves) rest
+    → AllShowNoMoreOrLackKing (position_after (end_of before) moves) rest
     → GivesOn (setting_of setup) (past_of later) (past_of first) (joined lists ++ (clearing ++ kings ∷ rest))
     → (left.leaves.game.plies ≡ before.plies ++ shown_plies (end_of before) moves lists)
     × Result setup.start left.leaves.game.plies (Some outcome) left.leaves.game.result
@@ -185,7 +185,7 @@ MadeAgainIsRecorded = (setting : Setting) (tags : TagValues) (past : List Event)
     (lists : List (List Entry))
     (part : List Entry)
     → Valid setting.start → Line setting.start moves → ShownEachInTheEnd setting.start moves lists
-    → AllPass (position_after setting.start moves) part
+    → AllWithinTurnOrLackKing (position_after setting.start moves) part
     → deduplicated (entries_in setting past) ≡ deduplicated (reverse (joined lists ++ part))
     → IsGameOf game setting tags past
     → ((made : List Ply) × (moves_of made ≡ moves)
@@ -196,7 +196,7 @@ MadeAgainIsRecorded = (setting : Setting) (tags : TagValues) (past : List Event)
 abbrev pub MadeAgainIsWritten : Type 0
 MadeAgainIsWritten = (setup : Setup) (left : Left setup) (moves : List Move) (lists : List (List Entry)) (part : List Entry)
     → Line setup.start moves → ShownEachInTheEnd setup.start moves lists
-    → AllPass (position_after setup.start moves) part
+    → AllWithinTurnOrLackKing (position_after setup.start moves) part
     → ShowsPictures (setting_of setup) left.leaves.front (joined lists ++ part) → left.leaves.extra ≡ []
     → ((made : List Ply) × (moves_of made ≡ moves)
     × ((left.leaves.game.plies ≡ made) ⊎ HasOneMore (position_after setup.start moves) made part left.leaves.game.plies))

@@ -12,7 +12,7 @@ use Rattle.settle_core.specs.declared.plies.Ply.{Ply}
 use Rattle.settle_core.specs.AnyPlay.{AllShowBothKings}
 use Rattle.settle_core.specs.Entries.{Entry, deduplicated, last_picture}
 use Rattle.settle_core.specs.Folding.{moves_of, time_of}
-use Rattle.settle_core.specs.HonestPlay.{AllPass, AllRest, HasWhole, ShownEach, shown_plies}
+use Rattle.settle_core.specs.HonestPlay.{AllShowNoMoreOrLackKing, AllWithinTurnOrLackKing, HasWhole, ShownEach, shown_plies}
 use Rattle.settle_core.specs.Laws.{joined}
 use Rattle.settle_core.specs.Settling.{Line, position_after, reached}
 use Rattle.settle_core.specs.Sign.{IsSign}
@@ -27,30 +27,30 @@ use Rattle.board_events.specs.Session.{entries_in}
 -- Each of the plies, of which the latest comes first, was shown whole: at some event that gives an entry the picture
 -- was that after it, and in the reading then its mover had the time that is the ply's clock; and the plies before it
 -- were shown in the events before that one.
-abbrev pub WereShown : Setting → List Ply → List Event → Type 0
-WereShown setting [] past = Unit {0}
-WereShown setting (ply ∷ earlier) past = (later : List Event) × (event : Event) × (before : List Event)
+abbrev pub WereShownByEvents : Setting → List Ply → List Event → Type 0
+WereShownByEvents setting [] past = Unit {0}
+WereShownByEvents setting (ply ∷ earlier) past = (later : List Event) × (event : Event) × (before : List Event)
     × (past ≡ later ++ event ∷ before)
     × (is_entry event before ≡ true)
     × (picture_of setting.rotated (event ∷ before) ≡ picture (after (reached setting.start (moves_of earlier)) ply.mv))
     × (ply.clock ≡ time_of (reached setting.start (moves_of earlier)).side (reading_at setting.first (event ∷ before)))
-    × WereShown setting earlier before
+    × WereShownByEvents setting earlier before
 
 -- Nothing is invented: whatever the events, each ply of their game was shown whole, in its turn.
-abbrev pub NothingIsInvented : Type 0
-NothingIsInvented = (setting : Setting) (tags : TagValues) (past : List Event) (game : Content)
-    → IsGameOf game setting tags past → WereShown setting (reverse game.plies) past
+abbrev pub NothingRecordedIsInvented : Type 0
+NothingRecordedIsInvented = (setting : Setting) (tags : TagValues) (past : List Event) (game : Content)
+    → IsGameOf game setting tags past → WereShownByEvents setting (reverse game.plies) past
 
 -- The plies that come after have all plies but the last in their places, and another one at least after them.
-abbrev pub KeepsAllButLast : List Ply → List Ply → Type 0
-KeepsAllButLast before plies = (kept : List Ply) (last : Ply) → before ≡ kept ++ last ∷ []
+abbrev pub HasAllButLast : List Ply → List Ply → Type 0
+HasAllButLast before plies = (kept : List Ply) (last : Ply) → before ≡ kept ++ last ∷ []
     → (ply : Ply) × (more : List Ply) × (plies ≡ kept ++ ply ∷ more)
 
 -- Only the last ply may change: whatever events come later, all plies but the last stand for good.
-abbrev pub OnlyTheLastPlyMayChange : Type 0
-OnlyTheLastPlyMayChange = (setting : Setting) (tags : TagValues) (later past : List Event) (before game : Content)
+abbrev pub OnlyTheLastRecordedPlyMayChange : Type 0
+OnlyTheLastRecordedPlyMayChange = (setting : Setting) (tags : TagValues) (later past : List Event) (before game : Content)
     → Valid setting.start → IsGameOf before setting tags past → IsGameOf game setting tags (later ++ past)
-    → KeepsAllButLast before.plies game.plies
+    → HasAllButLast before.plies game.plies
 
 -- the position that a game has reached
 abbrev pub end_of : Content → Parts
@@ -75,8 +75,8 @@ GivesOn setting later past shown =
 
 -- Honest play resumes: whatever was sent before, where the board agrees with the game, the moves that later events show
 -- honestly are added to its plies, each with its clock, and nothing else is.
-abbrev pub HonestPlayResumes : Type 0
-HonestPlayResumes = (setting : Setting) (tags : TagValues) (later past : List Event) (before game : Content) (moves : List Move)
+abbrev pub ResumedPlayIsRecorded : Type 0
+ResumedPlayIsRecorded = (setting : Setting) (tags : TagValues) (later past : List Event) (before game : Content) (moves : List Move)
     (lists : List (List Entry))
     → Valid setting.start → Agrees before setting tags past
     → ShowsOn (end_of before) moves lists
@@ -85,36 +85,36 @@ HonestPlayResumes = (setting : Setting) (tags : TagValues) (later past : List Ev
     → (game.plies ≡ before.plies ++ shown_plies (end_of before) moves lists) × Result setting.start game.plies None game.result
 
 -- Where it then stops between two moves, the plies that were added are those of the whole moves, or these and one more.
-abbrev pub ResumedPlayStops : Type 0
-ResumedPlayStops = (setting : Setting) (tags : TagValues) (later past : List Event) (before game : Content) (moves : List Move)
+abbrev pub ResumedStopIsRecorded : Type 0
+ResumedStopIsRecorded = (setting : Setting) (tags : TagValues) (later past : List Event) (before game : Content) (moves : List Move)
     (lists : List (List Entry))
     (part : List Entry)
     → Valid setting.start → Agrees before setting tags past
     → ShowsOn (end_of before) moves lists
-    → AllPass (position_after (end_of before) moves) part
+    → AllWithinTurnOrLackKing (position_after (end_of before) moves) part
     → GivesOn setting later past (joined lists ++ part)
     → IsGameOf game setting tags (later ++ past)
     → ((made : List Ply) × (game.plies ≡ before.plies ++ made) × HasWhole (end_of before) moves lists part made)
     × Result setting.start game.plies None game.result
 
 -- And where the kings end it, the game has these plies, and the result of its last position, else the sign's.
-abbrev pub KingsEndResumedPlay : Type 0
-KingsEndResumedPlay = (setting : Setting) (tags : TagValues) (later past : List Event) (before game : Content) (moves : List Move)
+abbrev pub ResumedEndIsRecorded : Type 0
+ResumedEndIsRecorded = (setting : Setting) (tags : TagValues) (later past : List Event) (before game : Content) (moves : List Move)
     (lists : List (List Entry))
     (clearing rest : List Entry) (kings : Entry) (outcome : Outcome)
     → Valid setting.start → Agrees before setting tags past
     → ShowsOn (end_of before) moves lists
-    → AllRest (position_after (end_of before) moves) clearing
+    → AllShowNoMoreOrLackKing (position_after (end_of before) moves) clearing
     → IsSign (position_after (end_of before) moves) kings.picture outcome
-    → AllRest (position_after (end_of before) moves) rest
+    → AllShowNoMoreOrLackKing (position_after (end_of before) moves) rest
     → GivesOn setting later past (joined lists ++ (clearing ++ kings ∷ rest))
     → IsGameOf game setting tags (later ++ past)
     → (game.plies ≡ before.plies ++ shown_plies (end_of before) moves lists) × Result setting.start game.plies (Some outcome) game.result
 
 -- While both kings stand in the centre no move is made: later events of which all entries show them there leave the
 -- plies as they were, whatever else they show; the result alone can change.
-abbrev pub KingsInCentreKeepThePlies : Type 0
-KingsInCentreKeepThePlies = (setting : Setting) (tags : TagValues) (later past : List Event) (before game : Content) (shown : List Entry)
+abbrev pub KingsInCentreRecordNoMove : Type 0
+KingsInCentreRecordNoMove = (setting : Setting) (tags : TagValues) (later past : List Event) (before game : Content) (shown : List Entry)
     → Valid setting.start → IsGameOf before setting tags past
     → entries_in setting (later ++ past) ≡ shown ++ entries_in setting past
     → AllShowBothKings shown

@@ -6,7 +6,7 @@ use Rattle.dgt_frame.specs.declared.events.Event.TheVariants.{Message as Message
 use Rattle.dgt_frame.specs.declared.First.{First}
 use Rattle.settle_core.specs.Entries.{Entry}
 use Rattle.board_events.specs.Entries.{entries}
-use Rattle.board_events.specs.History.{fields_of, turned}
+use Rattle.board_events.specs.History.{codes_by_field, turned}
 
 -- The board, which shows one picture now, goes on to show these, and sends for each of them one update of the one
 -- square that changes. Times and other messages may stand anywhere between.
@@ -24,7 +24,7 @@ SendsOn rotated now pictures (Fault kind ∷ events) = ⊥
 pub record SendsPictures (rotated : Bool) (picture : List ℕ) (pictures : List (List ℕ)) (events : List Event) : Type 0 where
   pub squares : length picture ≡ 64
   pub later : List Event
-  pub are : events ≡ MessageEvent (Dump (fields_of rotated picture)) ∷ later
+  pub are : events ≡ MessageEvent (Dump (codes_by_field rotated picture)) ∷ later
   pub goes_on : SendsOn rotated picture pictures later
 
 abbrev pub pictures_in : First → Bool → List Event → List (List ℕ)

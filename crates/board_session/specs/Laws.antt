@@ -16,7 +16,7 @@ use Rattle.settle_core.specs.Entries.{Entry, deduplicated}
 use Rattle.settle_core.specs.Folding.{moves_of}
 use Rattle.settle_core.specs.Laws.{joined}
 use Rattle.settle_core.specs.Settling.{Line, position_after}
-use Rattle.settle_core.specs.HonestPlay.{AllPass, AllRest, HasWhole, IsFront, ShownEach, shown_plies}
+use Rattle.settle_core.specs.HonestPlay.{AllShowNoMoreOrLackKing, AllWithinTurnOrLackKing, HasWhole, IsFront, ShownEach, shown_plies}
 use Rattle.settle_core.specs.Sign.{IsSign}
 use Rattle.settle_core.specs.declared.plies.Outcome.{Outcome}
 use Rattle.settle_core.specs.declared.plies.Ply.{Ply}
@@ -30,7 +30,7 @@ use Rattle.board_events.specs.Commands.{asks, past_of}
 use Rattle.board_events.specs.Entries.{Idle}
 use Rattle.board_events.specs.Game.{IsGameOf}
 use Rattle.board_events.specs.History.{picture_of}
-use Rattle.board_session.specs.Recording.{Leaves, RecordsGame}
+use Rattle.board_session.specs.Recording.{RecordingLeaves, RecordsGame}
 use Rattle.board_events.specs.Settings.{setting_of, Setting}
 use Rattle.board_events.specs.Session.{entries_in}
 
@@ -112,7 +112,7 @@ abbrev pub HonestStopIsRecorded : Type 0
 HonestStopIsRecorded = (setting : Setting) (tags : TagValues) (past : List Event) (game : Content) (moves : List Move)
     (lists : List (List Entry)) (part : List Entry)
     → Valid setting.start → Line setting.start moves → ShownEach setting.start moves lists
-    → AllPass (position_after setting.start moves) part
+    → AllWithinTurnOrLackKing (position_after setting.start moves) part
     → deduplicated (entries_in setting past) ≡ deduplicated (reverse (joined lists ++ part))
     → IsGameOf game setting tags past
     → HasWhole setting.start moves lists part game.plies × Result setting.start game.plies None game.result
@@ -125,9 +125,9 @@ KingsEndIsRecorded = (setting : Setting) (tags : TagValues) (past : List Event) 
     (lists : List (List Entry))
     (clearing later : List Entry) (kings : Entry) (outcome : Outcome)
     → Valid setting.start → Line setting.start moves → ShownEach setting.start moves lists
-    → AllRest (position_after setting.start moves) clearing
+    → AllShowNoMoreOrLackKing (position_after setting.start moves) clearing
     → IsSign (position_after setting.start moves) kings.picture outcome
-    → AllRest (position_after setting.start moves) later
+    → AllShowNoMoreOrLackKing (position_after setting.start moves) later
     → deduplicated (entries_in setting past) ≡ deduplicated (reverse (joined lists ++ (clearing ++ kings ∷ later)))
     → IsGameOf game setting tags past
     → (game.plies ≡ shown_plies setting.start moves lists) × Result setting.start game.plies (Some outcome) game.result
@@ -154,8 +154,8 @@ pub record HasAnotherLast (before plies : List Ply) : Type 0 where
 
 -- Where three plies were not seen, the event after them adds no move: the game is as it was, or its last move is
 -- corrected.
-abbrev pub ThreeUnseenAddNothing : Type 0
-ThreeUnseenAddNothing = (setting : Setting) (tags : TagValues) (past : List Event) (event : Event) (before game : Content)
+abbrev pub ThreeUnseenAddNoMove : Type 0
+ThreeUnseenAddNoMove = (setting : Setting) (tags : TagValues) (past : List Event) (event : Event) (before game : Content)
     (m reply next : Move)
     → Valid setting.start → IsGameOf before setting tags past
     → Legal (position_after setting.start (moves_of before.plies)) m
@@ -196,7 +196,7 @@ pub record HasFront (setup : Setup) (moves : List Move) (lists : List (List Entr
 -- honestly, the game whose text it wrote has all moves that were shown whole, and at most one try.
 abbrev pub HonestFrontIsWritten : Type 0
 HonestFrontIsWritten = (setup : Setup) (answer : ResultOf Report RecordError) (input input' sent sent' written written' : Option (List ℕ))
-    (recording : Leaves setup answer input input' sent sent' written written') (more : List ℕ) (moves : List Move)
+    (recording : RecordingLeaves setup answer input input' sent sent' written written') (more : List ℕ) (moves : List Move)
     (lists : List (List Entry))
     → Line setup.start moves → ShownEach setup.start moves lists
     → ShowsEntries (setting_of setup) (recording.front ++ more) (joined lists)
@@ -210,9 +210,9 @@ KingsEndIsWritten = (setup : Setup) (report : Report) (bytes : List ℕ) (sent s
     (recording : RecordsGame setup report bytes sent sent' written written') (moves : List Move) (lists : List (List Entry))
     (clearing later : List Entry) (kings : Entry) (outcome : Outcome)
     → Line setup.start moves → ShownEach setup.start moves lists
-    → AllRest (position_after setup.start moves) clearing
+    → AllShowNoMoreOrLackKing (position_after setup.start moves) clearing
     → IsSign (position_after setup.start moves) kings.picture outcome
-    → AllRest (position_after setup.start moves) later
+    → AllShowNoMoreOrLackKing (position_after setup.start moves) later
     → ShowsEntries (setting_of setup) bytes (joined lists ++ (clearing ++ kings ∷ later))
     → (recording.game.plies ≡ shown_plies setup.start moves lists)
     × Result setup.start recording.game.plies (Some outcome) recording.game.result

@@ -97,7 +97,7 @@ Returns (Err TooLong) ending taken game rest written written' text = TellsEnding
 -- What a recording leaves, whatever it returns: these bytes were read, and of the events that their front shows these
 -- were taken; the board was sent what they ask for; and the PGN text of their game was written, wholly or as far as it
 -- went.
-pub record Leaves (setup : Setup) (answer : Result Report RecordError)
+pub record RecordingLeaves (setup : Setup) (answer : Result Report RecordError)
     (input input' sent sent' written written' : Option (List ℕ)) : Type 0 where
   pub ending : Result ⊤ RecordError
   pub read : List ℕ

@@ -6,10 +6,10 @@ ghost use Rattle.chess_game.specs.Games.{Content};
 ghost use Rattle.pgn_book.specs.Pgn.{Pgn};
 ghost use Rattle.chess_game.specs.Values.{TagValues};
 ghost use Rattle.board_session.specs.AnyRecording.{HonestEndIsRecorded, HonestEndIsWritten, HonestStopAnywhereIsRecorded, HonestStopAnywhereIsWritten, KingsInCentreWriteNoMove, MadeAgainIsRecorded, MadeAgainIsWritten, NothingWrittenIsInvented, OnlyTheLastPlyIsRewritten, RestartsAreRecorded, RestartsAreWritten, ResumedEndIsWritten, ResumedPlayIsWritten, ResumedStopIsWritten};
-ghost use Rattle.board_session.specs.AnyStream.{HonestPlayResumes, KingsEndResumedPlay, KingsInCentreKeepThePlies, NothingIsInvented, OnlyTheLastPlyMayChange, ResumedPlayStops};
+ghost use Rattle.board_session.specs.AnyStream.{KingsInCentreRecordNoMove, NothingRecordedIsInvented, OnlyTheLastRecordedPlyMayChange, ResumedEndIsRecorded, ResumedPlayIsRecorded, ResumedStopIsRecorded};
 ghost use Rattle.board_events.specs.Game.{IsGameOf};
 ghost use Rattle.board_session.specs.HonestBoard.{HonestBoardsAreRead};
-ghost use Rattle.board_session.specs.Laws.{EventsTellTheGame, FaultsAskOnce, FaultsBeforeDumpsCanGo, HonestClocksAreRecorded, HonestFrontIsWritten, HonestPlayIsRecorded, HonestPlayIsWritten, HonestStopIsRecorded, IdleEventsCanGo, KingsEndIsRecorded, KingsEndIsWritten, NoEventGivesTwo, ThreeUnseenAddNothing, TwoUnseenAreNotRecorded};
+ghost use Rattle.board_session.specs.Laws.{EventsTellTheGame, FaultsAskOnce, FaultsBeforeDumpsCanGo, HonestClocksAreRecorded, HonestFrontIsWritten, HonestPlayIsRecorded, HonestPlayIsWritten, HonestStopIsRecorded, IdleEventsCanGo, KingsEndIsRecorded, KingsEndIsWritten, NoEventGivesTwo, ThreeUnseenAddNoMove, TwoUnseenAreNotRecorded};
 ghost use Rattle.board_events.specs.Settings.{Setting};
 ghost use Rattle.board_session.specs.Sizes.{FramesAreWithin, MovesTakeTenBytes, WrittenMovesTakeTenBytes};
 
@@ -69,7 +69,7 @@ pub fn two_unseen_are_not_recorded()
 
 /// An event whose picture is that after three plies that were not seen adds no move; it may correct the last one.
 pub fn three_unseen_add_nothing()
-    ensures { ThreeUnseenAddNothing }
+    ensures { ThreeUnseenAddNoMove }
 {}
 
 /// What `record` writes of honest play: where a whole stream shows a line of moves honestly, the game has exactly these
@@ -100,13 +100,13 @@ pub fn kings_end_is_written()
 
 /// Nothing is invented: whatever a board sends, each ply was shown whole, in its turn, with its clock.
 pub fn nothing_is_invented()
-    ensures recorded { NothingIsInvented }
+    ensures recorded { NothingRecordedIsInvented }
     ensures written { NothingWrittenIsInvented }
 {}
 
 /// Only the last ply may change: whatever comes later, all plies but the last stand for good.
 pub fn only_the_last_ply_may_change()
-    ensures recorded { OnlyTheLastPlyMayChange }
+    ensures recorded { OnlyTheLastRecordedPlyMayChange }
     ensures written { OnlyTheLastPlyIsRewritten }
 {
     // For its clause: the law that the second clause rests on.
@@ -117,9 +117,9 @@ pub fn only_the_last_ply_may_change()
 /// that are shown honestly from there on are added, and nothing else is. So it is where the kings end it. Where that
 /// play stops between two moves, there may be one ply more, of a move that was tried and takes no piece.
 pub fn honest_play_resumes()
-    ensures adds { HonestPlayResumes }
-    ensures stops { ResumedPlayStops }
-    ensures ends { KingsEndResumedPlay }
+    ensures adds { ResumedPlayIsRecorded }
+    ensures stops { ResumedStopIsRecorded }
+    ensures ends { ResumedEndIsRecorded }
 {}
 
 /// What `honest_play_resumes` says holds of the game that `record` leaves, whatever it returned.
@@ -131,7 +131,7 @@ pub fn resumed_play_is_written()
 
 /// While both kings stand in the centre no move is made, whatever else shows; the result alone can change.
 pub fn kings_in_centre_make_no_move()
-    ensures recorded { KingsInCentreKeepThePlies }
+    ensures recorded { KingsInCentreRecordNoMove }
     ensures written { KingsInCentreWriteNoMove }
 {}
 

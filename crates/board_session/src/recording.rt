@@ -1,7 +1,7 @@
 //! Recordings: the game of a stream of board bytes, as PGN text.
 ghost use Rattle.std.specs.Prelude.{◌≡◌, ◌≢◌, ◌⊎◌, OnOk, IfOk, Err, true, false};
 ghost use Rattle.watched_streams.specs.Watch.{IsFlushed, inner_of, has_failed};
-ghost use Rattle.board_session.specs.Recording.{Leaves, RecordsAll};
+ghost use Rattle.board_session.specs.Recording.{RecordingLeaves, RecordsAll};
 
 use crate::recorder::Recorder;
 use crate::refusal::RecordError;
@@ -40,7 +40,7 @@ pub fn record<R: Read, B: Write, W: Write>(
         (W.contents (inner_of out.new))) }
 
     // Whatever is returned, this was read, sent and written.
-    ensures leaves { Leaves setup result (R.remaining (inner_of reader.old)) (R.remaining (inner_of reader.new))
+    ensures leaves { RecordingLeaves setup result (R.remaining (inner_of reader.old)) (R.remaining (inner_of reader.new))
         (B.contents (inner_of board.old)) (B.contents (inner_of board.new)) (W.contents (inner_of out.old))
         (W.contents (inner_of out.new)) }
 

@@ -35,12 +35,12 @@ Completes Later bytes events = (more : List ℕ) (later : List Timed) (rest : �
     → Later (length bytes) more later rest → ShowsFrom 0 (bytes ++ more) (events ++ later) rest
 
 -- the last of the bytes are this part, and those before it have shown the events
-abbrev pub Leaves : List ℕ → List ℕ → List Timed → Type 0
-Leaves part bytes events = (length part ≤ length bytes) × Completes (Continues part) bytes events
+abbrev pub LeavesUnfinished : List ℕ → List ℕ → List Timed → Type 0
+LeavesUnfinished part bytes events = (length part ≤ length bytes) × Completes (Continues part) bytes events
 
 abbrev pub DecodedBy : State → List ℕ → List ℕ → List Timed → Type 0
 DecodedBy Skipping stored bytes events = Completes Resumes bytes events
-DecodedBy state stored bytes events = (part : List ℕ) × Holds state stored part × Leaves part bytes events
+DecodedBy state stored bytes events = (part : List ℕ) × Holds state stored part × LeavesUnfinished part bytes events
 
 -- The decoder was given these bytes, one by one, and has returned these events.
 pub record Decoded (decoder : Decoder) (bytes : List ℕ) (events : List Timed) : Type 0 where

@@ -5,7 +5,7 @@ use Rattle.dgt_frame.specs.Streams.{Shows, Timed}
 use Rattle.board_listing.specs.declared.listing.Listing.{Listing}
 use Rattle.board_listing.specs.declared.listing.Listing.TheVariants.{Events, Pictures}
 use Rattle.board_listing.specs.EventLines.{rest_line}
-use Rattle.board_listing.specs.Listings.{EndsForMemory, HasLines, Leaves, ListingEnds, ListsAll, ListsFirst, ListsFront, ListsRead, LacksMemory, WritesFront, last_line}
+use Rattle.board_listing.specs.Listings.{EndsForMemory, HasLines, LeavesOut, ListingEnds, ListsAll, ListsFirst, ListsFront, ListsRead, LacksMemory, WritesFront, last_line}
 use Rattle.board_listing.specs.OneText.{TextEnds, WritesAll, WritesFirst, WritesPart, WritesRead, event_lines, no_line, picture_lines}
 
 -- What is listed has one text, and memory runs out at no event.
@@ -40,7 +40,7 @@ read_text listing lines last one input input' written written' (bytes, events, r
     (bytes, events, rest, consumes, shows, subst P (one.text events text has) appends)
 
 -- No event was left out.
-none_left : (listing : Listing) (lines : List Timed → List ℕ) (last : ℕ → List ℕ) → HasOneText listing lines last → (bytes : List ℕ) (events extra : List Timed) (rest : ℕ) → Leaves listing events extra
+none_left : (listing : Listing) (lines : List Timed → List ℕ) (last : ℕ → List ℕ) → HasOneText listing lines last → (bytes : List ℕ) (events extra : List Timed) (rest : ℕ) → LeavesOut listing events extra
     → Shows bytes (events ++ extra) rest → Shows bytes events rest
 none_left listing lines last one bytes events [] rest leaves shows = let P : List Timed → Type 0 = λ es. Shows bytes es rest in subst P (append-nil events) shows
 none_left listing lines last one bytes events (x ∷ []) rest leaves shows = absurd (one.granted events x leaves)

@@ -5,7 +5,7 @@ use Rattle.board_session.specs.declared.refusal.RecordError.{RecordError}
 use Rattle.board_session.specs.declared.refusal.RecordError.TheVariants.{Read, Board, Write}
 use Rattle.board_session.specs.declared.report.Report.{Report}
 use Rattle.board_events.specs.declared.setup.Setup.{Setup}
-use Rattle.board_session.specs.Recording.{Leaves, RecordsAll}
+use Rattle.board_session.specs.Recording.{RecordingLeaves, RecordsAll}
 use Rattle.watched_streams.specs.Output.{AppendsPart}
 use Rattle.text_subcommands.specs.Messages.{Says}
 use Rattle.text_subcommands.specs.Streams.{Streams}
@@ -25,7 +25,7 @@ RecordsAndTells setup s = (report : Report) × (asked : Option (List ℕ))
 -- reason, and a text.
 abbrev pub EndsFor : RecordError → Setup → Streams → Type 0
 EndsFor reason setup s = (asked : Option (List ℕ))
-    × Leaves setup (Err reason) s.input s.input' s.said asked s.written s.written' × Says asked s.said' s.err_failed (message_of reason)
+    × RecordingLeaves setup (Err reason) s.input s.input' s.said asked s.written s.written' × Says asked s.said' s.err_failed (message_of reason)
 
 -- The whole was recorded, and the line about it could not be written to its end.
 abbrev pub RecordsUntold : Setup → Streams → Type 0

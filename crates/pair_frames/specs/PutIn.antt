@@ -13,7 +13,7 @@ use Rattle.dgt_frame.specs.Streams.{Shows, Timed}
 use Rattle.chess_rules.specs.Picture.{picture}
 use Rattle.settle_core.specs.Entries.{Entry}
 use Rattle.unseen_pairs.specs.declared.pair.Recovery.{Recovery}
-use Rattle.board_events.specs.History.{fields_of}
+use Rattle.board_events.specs.History.{codes_by_field}
 
 -- a minute or a second: its tens in bits 6 to 4, its units in bits 3 to 0
 abbrev pub digits : ℕ → ℕ
@@ -37,7 +37,7 @@ time_put_in first now reading =
 
 -- a dump of the picture, its fields in the order of a board that stands turned or not
 abbrev pub dump_of : Bool → List ℕ → Event
-dump_of rotated shown = MessageEvent (Dump (fields_of rotated shown))
+dump_of rotated shown = MessageEvent (Dump (codes_by_field rotated shown))
 
 -- Behind the entry: the reading that the pair has, the boards after its first and its second ply, the entry's reading
 -- again, and its board.

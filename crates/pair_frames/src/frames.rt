@@ -6,7 +6,7 @@ ghost use Rattle.dgt_frame.specs.declared.events.Event.TheVariants.{Message as M
 ghost use Rattle.dgt_frame.specs.Encoding.{IsEncodable};
 ghost use Rattle.dgt_frame.specs.Frames.{Frame, IsCode, IsLow};
 ghost use Rattle.settle_core.specs.Entries.{entry_of};
-ghost use Rattle.board_events.specs.History.{reading_at, fields_of};
+ghost use Rattle.board_events.specs.History.{reading_at, codes_by_field};
 ghost use Rattle.pair_frames.specs.PutIn.{ShowsWhole, digits, dump_of, group_of, put_in, time_put_in, times_of};
 ghost use Rattle.pair_frames.specs.Laws.{IsRead, IsReadBehind};
 
@@ -90,7 +90,7 @@ fn add(message: &Message, out: &mut ArrayVec<u8, MOST>)
 /// field n is square 63 - n.
 pub fn fields_of(rotated: bool, picture: &[u8; 64]) -> [u8; 64]
     requires { All (λ code. code < 16) picture.now }
-    ensures same { result ≡ fields_of rotated picture.now }
+    ensures same { result ≡ codes_by_field rotated picture.now }
     ensures codes { AllByRecursion IsCode result }
 {
     let mut fields = *picture;

@@ -2,7 +2,7 @@
 use Rattle.std.proofs.Common.{◌≡◌, ℕ, List, [], ◌∷◌, ◌++◌, sym, ap, ◌∙◌, append_assoc}
 use Rattle.chess_text.specs.Laws.{TextsArePlain}
 use Rattle.chess_game.specs.Games.{Content, IsGame}
-use Rattle.pgn_book.specs.Movetext.{ShownMove, AreShown, result_text, game_tokens}
+use Rattle.pgn_book.specs.Movetext.{ShownMove, ArePliesShown, result_text, game_tokens}
 use Rattle.pgn_book.specs.Pgn.{Pgn, IsSetUp, roster}
 use Rattle.pgn_book.specs.Inside.Flow.{flow}
 use Rattle.pgn_book.proofs.Flowing.{movetext_of, movetext_is}
@@ -17,7 +17,7 @@ regrouped : (set_up tokens : List ℕ) → set_up ++ 10 ∷ (tokens ++ 10 ∷ []
 regrouped set_up tokens =
     append_assoc set_up (10 ∷ (tokens ++ 10 ∷ [])) (10 ∷ []) ∙ ap (λ (x : List ℕ). set_up ++ 10 ∷ x) (append_assoc tokens (10 ∷ []) (10 ∷ []))
 
-pub pieces_are_pgn : TextsArePlain → (game : Content) (set_up : List ℕ) (moves : List ShownMove) → IsGame game → IsSetUp game.start set_up → AreShown game.start game.plies moves
+pub pieces_are_pgn : TextsArePlain → (game : Content) (set_up : List ℕ) (moves : List ShownMove) → IsGame game → IsSetUp game.start set_up → ArePliesShown game.start game.plies moves
     → Pgn game (pieces game set_up moves)
 pieces_are_pgn plain game set_up moves is up are =
     let fit = game_fits moves game.result (moves_fit plain game.start game.plies moves is.start is.line is.clocks are) in

@@ -18,7 +18,7 @@ use Rattle.settle_core.specs.Folding.{moves_of}
 use Rattle.settle_core.specs.GameResult.{IsResult}
 use Rattle.chess_game.specs.Values.{TagValues}
 use Rattle.chess_game.specs.Games.{Content, IsGame}
-use Rattle.pgn_book.specs.Movetext.{ShownMove, AreShown}
+use Rattle.pgn_book.specs.Movetext.{ShownMove, ArePliesShown}
 use Rattle.pgn_book.specs.Pgn.{Pgn, IsSetUp, at_initial, elsewhere}
 use Rattle.pgn_book.specs.Inside.Parse.{Turn, IsTurn, AreTurns, HasStart, Parses, fen_at, set_up_part, moves_part, words, turns_at}
 use Rattle.pgn_book.proofs.Export.{pieces, pgn_is_pieces}
@@ -32,7 +32,7 @@ same_shown a b s n t c =
     ap (λ x. make_shown x a.number a.san a.clock) s ∙ ap (λ x. make_shown b.side x a.san a.clock) n
     ∙ ap (λ x. make_shown b.side b.number x a.clock) t ∙ ap (λ x. make_shown b.side b.number b.san x) c
 
-one_shown : MovesTellTexts → (p : Parts) (plies : List Ply) (xs ys : List ShownMove) → Valid p → Line p (moves_of plies) → AreShown p plies xs → AreShown p plies ys → xs ≡ ys
+one_shown : MovesTellTexts → (p : Parts) (plies : List Ply) (xs ys : List ShownMove) → Valid p → Line p (moves_of plies) → ArePliesShown p plies xs → ArePliesShown p plies ys → xs ≡ ys
 one_shown tell p [] [] [] v line h k = refl
 one_shown tell p [] [] (y ∷ ys) v line h k = absurd k
 one_shown tell p [] (x ∷ xs) ys v line h k = absurd h

@@ -18,7 +18,7 @@ use Rattle.chess_game.specs.declared.values.Tag.{Tag}
 use Rattle.chess_game.specs.TagNames.{all_tags, tag_name}
 use Rattle.chess_game.specs.Values.{TagValues, value_of}
 use Rattle.chess_game.specs.Games.{Content, IsTimed}
-use Rattle.pgn_book.specs.Movetext.{ShownMove, AreShown, result_text, game_tokens}
+use Rattle.pgn_book.specs.Movetext.{ShownMove, ArePliesShown, result_text, game_tokens}
 use Rattle.pgn_book.specs.Pgn.{Pgn, IsSetUp, at_initial, elsewhere, escape, escaped, tag_line, tag_lines, roster}
 use Rattle.pgn_book.specs.Inside.Flow.{flow}
 use Rattle.pgn_book.specs.Inside.Parse.{Turn, AreTurns, HasStart, Parses, words, turns_at, value_at, after_value, result_at, HaveValues, behind_lines, value_part, next_part, next_line, result_part, set_up_part, has_fen, fen_part, fen_at, moves_part}
@@ -146,7 +146,7 @@ set_up_back start set_up moves bytes (elsewhere i lines) e =
       has_moves = rw with_fen (next_behind 15 (fen_part bytes) (fen start) (behind last) at_fen);
     }
 
-turns_are : (p : Parts) (plies : List Ply) (moves : List ShownMove) → Line p (moves_of plies) → AllByRecursion IsTimed plies → AreShown p plies moves → AreTurns p plies (map turn_of moves)
+turns_are : (p : Parts) (plies : List Ply) (moves : List ShownMove) → Line p (moves_of plies) → AllByRecursion IsTimed plies → ArePliesShown p plies moves → AreTurns p plies (map turn_of moves)
 turns_are p [] [] line timed are = tt
 turns_are p [] (shown ∷ moves) line timed are = absurd are
 turns_are p (ply ∷ plies) [] line timed are = absurd are

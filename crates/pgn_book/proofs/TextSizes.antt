@@ -18,7 +18,7 @@ use Rattle.chess_game.specs.declared.values.Tag.{Tag}
 use Rattle.chess_game.specs.declared.values.Tag.TheVariants.{Event, Site, Date, Round, White as WhiteTag, Black as BlackTag}
 use Rattle.pgn_book.specs.Inside.Flow.{piece, column, flow}
 use Rattle.pgn_book.specs.Laws.{TextsAreShort}
-use Rattle.pgn_book.specs.Movetext.{ShownMove, AreShown, number_tokens, clock_tokens, move_tokens, tokens_of, result_text, game_tokens}
+use Rattle.pgn_book.specs.Movetext.{ShownMove, ArePliesShown, number_tokens, clock_tokens, move_tokens, tokens_of, result_text, game_tokens}
 use Rattle.pgn_book.specs.Pgn.{IsSetUp, at_initial, elsewhere, escape, escaped, roster, tag_line, tag_lines}
 use Rattle.chess_game.specs.TagNames.{all_tags, tag_name}
 use Rattle.chess_game.specs.Values.{AreValues, TagValues, value_of}
@@ -76,7 +76,7 @@ result_short (Some BlackWins) = omega arith
 result_short (Some Drawn) = omega arith
 result_short None = omega arith
 
-shown_length : (p : Parts) (plies : List Ply) (moves : List ShownMove) → AreShown p plies moves → length moves ≡ length plies
+shown_length : (p : Parts) (plies : List Ply) (moves : List ShownMove) → ArePliesShown p plies moves → length moves ≡ length plies
 shown_length p [] [] are = omega arith
 shown_length p [] (shown ∷ moves) are = absurd are
 shown_length p (ply ∷ plies) [] are = absurd are

@@ -28,7 +28,7 @@ use Rattle.settle_core.specs.Folding.{moves_of}
 use Rattle.chess_clock.specs.Clock.{IsTime}
 use Rattle.chess_game.specs.Games.{IsTimed}
 use Rattle.pgn_book.specs.Lines.{IsToken}
-use Rattle.pgn_book.specs.Movetext.{ShownMove, AreShown, number_token, number_tokens, clock_tokens, move_tokens, tokens_of, result_text, game_tokens}
+use Rattle.pgn_book.specs.Movetext.{ShownMove, ArePliesShown, number_token, number_tokens, clock_tokens, move_tokens, tokens_of, result_text, game_tokens}
 
 -- ---- what a move's text is, whatever the move
 
@@ -69,7 +69,7 @@ pub record Fits (shown : ShownMove) : Type 0 where
   pub clock : ForSome shown.clock IsTime
 
 shown_fit : TextsArePlain → (p : Parts) (plies : List Ply) (moves : List ShownMove) → Valid p → Line p (moves_of plies) → AllByRecursion IsTimed plies
-    → AreShown p plies moves → AllByRecursion Fits moves
+    → ArePliesShown p plies moves → AllByRecursion Fits moves
 shown_fit plain p [] [] v line timed are = tt
 shown_fit plain p [] (shown ∷ moves) v line timed are = absurd are
 shown_fit plain p (ply ∷ plies) [] v line timed are = absurd are
@@ -85,7 +85,7 @@ shown_fit plain p (ply ∷ plies) (shown ∷ moves) v line timed are =
     )
 
 pub moves_fit : TextsArePlain → (p : Parts) (plies : List Ply) (moves : List ShownMove) → Valid p → Line p (moves_of plies) → All IsTimed plies
-    → AreShown p plies moves → AllByRecursion Fits moves
+    → ArePliesShown p plies moves → AllByRecursion Fits moves
 moves_fit plain p plies moves v line timed are = shown_fit plain p plies moves v line (recursion_from_All IsTimed plies timed) are
 
 -- ---- tokens

@@ -18,18 +18,18 @@ pub record ShownMove : Type 0 where
   pub clock : Option Hms
 
 -- the move of this ply in this position
-pub record IsShown (p : Parts) (ply : Ply) (shown : ShownMove) : Type 0 where
+pub record IsPlyShown (p : Parts) (ply : Ply) (shown : ShownMove) : Type 0 where
   pub side : shown.side ≡ p.side
   pub number : shown.number ≡ p.fullmove
   pub san : San p ply.mv shown.san
   pub clock : shown.clock ≡ ply.clock
 
 -- The moves of these plies from a position on.
-abbrev pub AreShown : Parts → List Ply → List ShownMove → Type 0
-AreShown p [] [] = Unit {0}
-AreShown p [] (shown ∷ moves) = ⊥
-AreShown p (ply ∷ plies) [] = ⊥
-AreShown p (ply ∷ plies) (shown ∷ moves) = IsShown p ply shown × AreShown (after p ply.mv) plies moves
+abbrev pub ArePliesShown : Parts → List Ply → List ShownMove → Type 0
+ArePliesShown p [] [] = Unit {0}
+ArePliesShown p [] (shown ∷ moves) = ⊥
+ArePliesShown p (ply ∷ plies) [] = ⊥
+ArePliesShown p (ply ∷ plies) (shown ∷ moves) = IsPlyShown p ply shown × ArePliesShown (after p ply.mv) plies moves
 
 -- the number and one period before White's move, three before Black's
 abbrev pub number_token : Side → ℕ → List ℕ

@@ -9,7 +9,7 @@ use Rattle.chess_game.specs.TagNames.{all_tags, tag_name}
 use Rattle.chess_game.specs.Values.{TagValues, value_of}
 use Rattle.chess_game.specs.Games.{Content, IsGame}
 use Rattle.pgn_book.specs.Lines.{IsMovetext}
-use Rattle.pgn_book.specs.Movetext.{ShownMove, AreShown, result_text, game_tokens}
+use Rattle.pgn_book.specs.Movetext.{ShownMove, ArePliesShown, result_text, game_tokens}
 
 -- a quotation mark (34) and a backslash (92) have a backslash before them
 abbrev pub escape : ℕ → List ℕ
@@ -44,7 +44,7 @@ pub record Pgn (game : Content) (text : List ℕ) : Type 0 where
   pub set_up : List ℕ
   pub is_set_up : IsSetUp game.start set_up
   pub moves : List ShownMove
-  pub are_moves : AreShown game.start game.plies moves
+  pub are_moves : ArePliesShown game.start game.plies moves
   pub movetext : List ℕ
   pub is_movetext : IsMovetext (game_tokens moves game.result) movetext
   pub is_text : text ≡ roster game.tags (result_text game.result) ++ (set_up ++ 10 ∷ movetext ++ 10 ∷ [])

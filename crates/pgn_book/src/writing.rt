@@ -7,7 +7,7 @@ ghost use Rattle.chess_rules.specs.Legal.{Legal};
 ghost use Rattle.chess_rules.specs.After.{is_white};
 ghost use Rattle.settle_core.specs.Settling.{Line};
 ghost use Rattle.settle_core.specs.Folding.{moves_of};
-ghost use Rattle.pgn_book.specs.Movetext.{ShownMove, AreShown, IsShown, clock_text, clock_tokens, number_token, number_tokens, move_tokens, tokens_of, result_text, game_tokens};
+ghost use Rattle.pgn_book.specs.Movetext.{ShownMove, ArePliesShown, IsPlyShown, clock_text, clock_tokens, number_token, number_tokens, move_tokens, tokens_of, result_text, game_tokens};
 ghost use Rattle.pgn_book.specs.Pgn.{Pgn, IsSetUp, escape, escaped, roster, tag_line, tag_lines};
 ghost use Rattle.chess_game.specs.TagNames.{all_tags};
 ghost use Rattle.pgn_book.specs.Written.{AppendsFront};
@@ -139,7 +139,7 @@ fn put_ply<W: Write>(
     wanted: bool,
 )
     requires { Legal position.now ply.now.mv }
-    ensures { (shown : ShownMove) × IsShown position.now ply.now shown
+    ensures { (shown : ShownMove) × IsPlyShown position.now ply.now shown
         × Writes (W.contents (inner_of out.old)) (W.contents (inner_of out.new)) (has_failed out.old) (has_failed out.new) at.old at.new
         (move_tokens wanted shown) }
 {
@@ -153,7 +153,7 @@ fn put_ply<W: Write>(
 /// Writes the moves of a line.
 fn put_plies<W: Write>(out: &mut Watch<W>, at: &mut Place, start: &Position, plies: &[Ply])
     requires { Line start.now (moves_of plies.now) }
-    ensures { (moves : List ShownMove) × AreShown start.now plies.now moves
+    ensures { (moves : List ShownMove) × ArePliesShown start.now plies.now moves
         × Writes (W.contents (inner_of out.old)) (W.contents (inner_of out.new)) (has_failed out.old) (has_failed out.new) at.old at.new
         (tokens_of true moves) }
 {
@@ -245,7 +245,7 @@ fn put_set_up<W: Write>(out: &mut Watch<W>, at: &mut Place, start: &Position)
 
 fn put_movetext<W: Write>(out: &mut Watch<W>, at: &mut Place, game: &Game)
     requires { at.old.column ≡ 0 }
-    ensures { (moves : List ShownMove) × AreShown game.now.start game.now.plies moves
+    ensures { (moves : List ShownMove) × ArePliesShown game.now.start game.now.plies moves
         × Adds (W.contents (inner_of out.old)) (W.contents (inner_of out.new)) (has_failed out.old) (has_failed out.new) at.old at.new
         (flow 0 (game_tokens moves game.now.result) ++ 10 ∷ 10 ∷ []) }
 {

@@ -13,7 +13,7 @@ use Rattle.recovery.specs.declared.refusal.RecoverError.{RecoverError}
 use Rattle.recovery.specs.declared.refusal.RecoverError.TheVariants.{Read, Write, Lines, TooLong, Memory}
 use Rattle.recovery.specs.Inside.Passing.{Adds, PassesBytes, StandsForStream}
 use Rattle.recovery.specs.Inside.Progress.{BreaksOff, Concludes, PassesOn, HasBegun, IsPutIn, PutsPart, RefusesAmong}
-use Rattle.recovery.specs.Streams.{IsLine}
+use Rattle.recovery.specs.Streams.{IsPairLine}
 use Rattle.recovery.specs.Weaving.{Recovers}
 
 stands_as : (decoder : Decoder) (keeper : Keeper) (setting : Setting) (bytes bytes' woven woven' text text' : List ℕ) → bytes ≡ bytes' → woven ≡ woven' → text ≡ text'
@@ -140,7 +140,7 @@ breaks_write old now keeper k start chunk whole after waiting written written' w
       tt,
     )
 
-line_of : (frames line : List ℕ) → 0 < length line → IsPutIn frames line → IsLine line
+line_of : (frames line : List ℕ) → 0 < length line → IsPutIn frames line → IsPairLine line
 line_of frames line some (inl none) = absurd (let z : length line ≡ 0 = ap length none.1 in omega (arith, z))
 line_of frames line some (inr is) = is.1
 

@@ -12,9 +12,9 @@ use Rattle.settle_core.specs.Folding.{Score, moves_of, time_of}
 use Rattle.settle_core.specs.Settling.{reached}
 use Rattle.settle_core.proofs.Lines.{map-reverse}
 use Rattle.unseen_pairs.specs.declared.pair.Recovery.{Recovery}
-use Rattle.unseen_pairs.specs.declared.pair.Told.{Told}
-use Rattle.unseen_pairs.specs.declared.pair.Told.TheVariants.{Shown, Recovered}
-use Rattle.unseen_pairs.specs.Laws.{AllComeFrom, NothingIsInvented, RecoversOnce, WasRecovered, WasShown as WasShownIn}
+use Rattle.unseen_pairs.specs.declared.pair.SeenOrRecovered.{SeenOrRecovered}
+use Rattle.unseen_pairs.specs.declared.pair.SeenOrRecovered.TheVariants.{Shown, Recovered}
+use Rattle.unseen_pairs.specs.Laws.{AllComeFrom, PliesAreShownOrRecovered, RecoversOnce, WasRecovered, WasShown}
 use Rattle.unseen_pairs.specs.Pairs.{Confirms}
 use Rattle.unseen_pairs.specs.Recoverer.{ReturnsTold, TellsNew}
 use Rattle.unseen_pairs.specs.Recovering.{FoldsRecovering, TellsAs}
@@ -23,7 +23,7 @@ use Rattle.board_events.specs.Commands.{past_of}
 use Rattle.board_events.specs.Entries.{entry_at, is_entry}
 use Rattle.board_events.specs.Settings.{Setting}
 use Rattle.board_events.specs.Session.{entries_in}
-use Rattle.recovery.specs.Invented.{AreShownOrTold, HasLine, PliesAreShownOrTold, WasShown}
+use Rattle.recovery.specs.Invented.{AreShownOrTold, HasPairLine, PliesAreShownOrTold, WasShownByEvent}
 use Rattle.recovery.specs.Keeping.{RecoversAt}
 use Rattle.recovery.specs.Weaving.{Put, Puts, PutsAll, TellsPuts, TellsRecovered}
 
@@ -105,7 +105,7 @@ event_of setting (one ∷ past) later before entry e =
 -- ---- what is found at it
 
 -- What is told of a new picture is this, if its entries tell it.
-tells_same : RecoversOnce → (start : Parts) (past : List Entry) (entry : Entry) (score : Score) (waiting : List Entry) (r : Recovery) (told : Told) → Valid start
+tells_same : RecoversOnce → (start : Parts) (past : List Entry) (entry : Entry) (score : Score) (waiting : List Entry) (r : Recovery) (told : SeenOrRecovered) → Valid start
     → FoldsRecovering start (deduplicated past) score waiting → TellsAs start (moves_of score.plies) waiting entry.picture (Recovered r)
     → TellsNew start past entry.picture told → Recovered r ≡ told
 tells_same once start past entry score waiting r told valid folds tells new =
@@ -203,8 +203,8 @@ events-append : (later earlier : List Timed) → events_of (later ++ earlier) �
 events-append [] earlier = refl
 events-append (x ∷ later) earlier = ap (λ es. x.event ∷ es) (events-append later earlier)
 
-shown : (setting : Setting) (events : List Timed) (ply : Ply) (earlier : List Ply) → WasShownIn setting.start ply earlier (deduplicated (entries_in setting (events_of events)))
-    → WasShown setting ply earlier (events_of events)
+shown : (setting : Setting) (events : List Timed) (ply : Ply) (earlier : List Ply) → WasShown setting.start ply earlier (deduplicated (entries_in setting (events_of events)))
+    → WasShownByEvent setting ply earlier (events_of events)
 shown setting events ply earlier w =
     let e = event_of setting events w.later w.before w.entry w.among in record {
       later = events_of e.later;
@@ -227,7 +227,7 @@ begins_there setting ply earlier past w =
     ]
 
 told : RecoversOnce → (setting : Setting) (events : List Timed) (puts : List Put) (text : List ℕ) (ply : Ply) (earlier : List Ply) → Valid setting.start → PutsAll setting events puts → TellsPuts puts text
-    → WasRecovered setting.start ply earlier (deduplicated (entries_in setting (events_of events))) → HasLine setting ply earlier text
+    → WasRecovered setting.start ply earlier (deduplicated (entries_in setting (events_of events))) → HasPairLine setting ply earlier text
 told once setting events puts text ply earlier valid all tells w =
     let e = event_of setting events w.later w.before w.entry w.among in
     let past = events_of e.earlier in
@@ -257,7 +257,7 @@ each once setting events puts text (ply ∷ earlier) valid all tells (inl w, h) 
 each once setting events puts text (ply ∷ earlier) valid all tells (inr w, h) =
     (inr (told once setting events puts text ply earlier valid all tells w), each once setting events puts text earlier valid all tells h)
 
-pub plies_are_shown_or_told : RecoversOnce → NothingIsInvented → PliesAreShownOrTold
+pub plies_are_shown_or_told : RecoversOnce → PliesAreShownOrRecovered → PliesAreShownOrTold
 plies_are_shown_or_told once invented setting bytes woven text valid r =
     let past_is : past_of r.events ≡ events_of (reverse r.events) = sym (map-reverse (λ (t : Timed). t.event) r.events) in
     let F : List Event → Type 0 = λ es. FoldsRecovering setting.start (deduplicated (entries_in setting es)) r.score r.waiting in

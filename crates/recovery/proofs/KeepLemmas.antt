@@ -11,11 +11,11 @@ use Rattle.chess_rules.specs.declared.parts.Parts.{Parts}
 use Rattle.chess_rules.specs.Legal.{Legal}
 use Rattle.settle_core.specs.declared.plies.Seen.TheVariants.{Same}
 use Rattle.settle_core.specs.Entries.{Entry, deduplicated, entry_of, last_picture, repeats}
-use Rattle.settle_core.specs.Settler.{StandsFor, has_seen}
+use Rattle.settle_core.specs.Settler.{HasSettled, has_seen}
 use Rattle.settle_core.proofs.Repeats.{repeated_last, repeats_by}
 use Rattle.unseen_pairs.specs.declared.pair.Recovery.{Recovery}
-use Rattle.unseen_pairs.specs.declared.pair.Heard.{Heard}
-use Rattle.unseen_pairs.specs.Recoverer.{Desk, HoldsOf, ReturnsTold, StandsForRecovered, written_after}
+use Rattle.unseen_pairs.specs.declared.pair.SeenOrFound.{SeenOrFound}
+use Rattle.unseen_pairs.specs.Recoverer.{HasRecovered, HoldsOf, RecovererState, ReturnsTold, written_after}
 use Rattle.board_events.specs.Entries.{entries, entry_at, is_entry}
 use Rattle.board_events.specs.History.{picture_of, reading_at}
 use Rattle.board_events.specs.Pictures.{IsLast, pictures}
@@ -71,10 +71,10 @@ on_any_err (Ok v) p = tt
 on_any_err (Err error) p = p
 
 -- The entries with one more that repeats the last picture.
-again_settles : (desk : Desk) (start : _) (past written : List Entry) (entry : Entry) → last_picture written ≡ last_picture past
-    → repeats entry.picture past ≡ true → StandsFor desk.settler start written → StandsFor desk.settler start (entry ∷ written)
-again_settles desk start past [] entry last again stands = absurd (let n : repeats entry.picture [] ≡ true = repeats_by entry.picture [] past last ∙ again in cc)
-again_settles desk start past (before ∷ written) entry last again stands =
+again_settles : (recoverer : RecovererState) (start : _) (past written : List Entry) (entry : Entry) → last_picture written ≡ last_picture past
+    → repeats entry.picture past ≡ true → HasSettled recoverer.settler start written → HasSettled recoverer.settler start (entry ∷ written)
+again_settles recoverer start past [] entry last again stands = absurd (let n : repeats entry.picture [] ≡ true = repeats_by entry.picture [] past last ∙ again in cc)
+again_settles recoverer start past (before ∷ written) entry last again stands =
     let here : repeats entry.picture (before ∷ written) ≡ true = repeats_by entry.picture (before ∷ written) past last ∙ again in
     let d = bytes_eq-Decides entry.picture before.picture in record {
       start_is = stands.start_is;
@@ -82,10 +82,10 @@ again_settles desk start past (before ∷ written) entry last again stands =
       folds = rw here stands.folds;
     }
 
-pub once_more : (desk : Desk) (start : _) (past written : List Entry) (entry : Entry) → StandsForRecovered desk start past written
-    → repeats entry.picture past ≡ true → StandsForRecovered desk start (entry ∷ past) (entry ∷ written)
-once_more desk start past written entry stands again = record {
-  settles = again_settles desk start past written entry stands.last again stands.settles;
+pub once_more : (recoverer : RecovererState) (start : _) (past written : List Entry) (entry : Entry) → HasRecovered recoverer start past written
+    → repeats entry.picture past ≡ true → HasRecovered recoverer start (entry ∷ past) (entry ∷ written)
+once_more recoverer start past written entry stands again = record {
+  settles = again_settles recoverer start past written entry stands.last again stands.settles;
   last = refl;
   waiting = stands.waiting;
   folds = rw again stands.folds;
@@ -95,7 +95,7 @@ once_more desk start past written entry stands again = record {
 -- An event at which the picture stays.
 pub kept_same : (new : Keeper) (setting : Setting) (past : List Event) (event : Event) (written : List Entry)
     → Views new.view setting.rotated (event ∷ past) → new.reading ≡ reading_at setting.first (event ∷ past) → new.first ≡ setting.first → new.rotated ≡ setting.rotated
-    → StandsForRecovered new.recoverer setting.start (entries_in setting past) written
+    → HasRecovered new.recoverer setting.start (entries_in setting past) written
     → pictures setting.rotated (event ∷ past) ≡ pictures setting.rotated past
     → KeepsNext new setting past event None written
 kept_same new setting past event written views reading first rotated stands same = elim (cases_Bool (is_entry event past)) [
@@ -176,9 +176,9 @@ entry_before setting past picture earlier shown =
     first_entry (entries_in setting past) picture
     (last_alike setting.first setting.rotated past ∙ last_shown (entries White setting.rotated past) picture earlier shown)
 
-pub seen_before : (desk : Desk) (start : Parts) (before : Entry) (past written : List Entry) → StandsForRecovered desk start (before ∷ past) written
-    → has_seen desk.settler ≡ true
-seen_before desk start before past written stands = ap is_some ((stands.settles).last ∙ stands.last)
+pub seen_before : (recoverer : RecovererState) (start : Parts) (before : Entry) (past written : List Entry) → HasRecovered recoverer start (before ∷ past) written
+    → has_seen recoverer.settler ≡ true
+seen_before recoverer start before past written stands = ap is_some ((stands.settles).last ∙ stands.last)
 
 -- The square that changed shows what the picture shows there.
 pub shown_there : (old seen : List ℕ) (at code : ℕ) → at < 64 → length seen ≡ 64 → seen ≡ slice_set old at code → seen ≡ slice_set old at (slice_index seen at)
@@ -187,11 +187,11 @@ shown_there old seen at code low long is =
     is ∙ ap (slice_set old at) (sym (ap (λ xs. get_or xs at 0) is ∙ get_or-set_same old at code 0 (rw long' low)))
 
 -- A pair that was recovered, where it stands.
-pub sees_found : (desk : Desk) (start : Parts) (past written : List Entry) (entry : Entry) (found : Option Recovery)
-    → HoldsOf (λ told. StandsForRecovered desk start (entry ∷ past) (written_after entry told written)) Heard.Recovered found
-    → HoldsOf (ReturnsTold start past entry.picture) Heard.Recovered found → Sees desk start past written entry found
-sees_found desk start past written entry (Some r) stands answer = (stands, answer)
-sees_found desk start past written entry None stands answer = absurd stands
+pub sees_found : (recoverer : RecovererState) (start : Parts) (past written : List Entry) (entry : Entry) (found : Option Recovery)
+    → HoldsOf (λ told. HasRecovered recoverer start (entry ∷ past) (written_after entry told written)) SeenOrFound.Recovered found
+    → HoldsOf (ReturnsTold start past entry.picture) SeenOrFound.Recovered found → Sees recoverer start past written entry found
+sees_found recoverer start past written entry (Some r) stands answer = (stands, answer)
+sees_found recoverer start past written entry None stands answer = absurd stands
 
 -- Both plies of a pair that was recovered are legal where they stand.
 pub legal_found : (setting : Setting) (past : List Event) (event : Event) (r : Recovery) → RecoversAt setting past event (Some r)

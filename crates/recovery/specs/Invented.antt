@@ -17,7 +17,7 @@ use Rattle.recovery.specs.Weaving.{Recovers, TellsRecovered}
 
 -- This ply after these was shown whole: one of the events gives an entry, with the picture after the ply, and in the
 -- reading then the mover has the time that is the ply's clock.
-pub record WasShown (setting : Setting) (ply : Ply) (earlier : List Ply) (past : List Event) : Type 0 where
+pub record WasShownByEvent (setting : Setting) (ply : Ply) (earlier : List Ply) (past : List Event) : Type 0 where
   pub later : List Event
   pub event : Event
   pub before : List Event
@@ -28,7 +28,7 @@ pub record WasShown (setting : Setting) (ply : Ply) (earlier : List Ply) (past :
 
 -- This ply after these is the first or the second of a pair whose line is in the text. In the pair's reading the mover
 -- has the time that is the ply's clock.
-pub record HasLine (setting : Setting) (ply : Ply) (earlier : List Ply) (text : List ℕ) : Type 0 where
+pub record HasPairLine (setting : Setting) (ply : Ply) (earlier : List Ply) (text : List ℕ) : Type 0 where
   pub front : List ℕ
   pub line : List ℕ
   pub back : List ℕ
@@ -44,7 +44,7 @@ pub record HasLine (setting : Setting) (ply : Ply) (earlier : List Ply) (text : 
 abbrev pub AreShownOrTold : Setting → List Ply → List Event → List ℕ → Type 0
 AreShownOrTold setting [] past text = ⊤
 AreShownOrTold setting (ply ∷ earlier) past text =
-    (WasShown setting ply earlier past ⊎ HasLine setting ply earlier text) × AreShownOrTold setting earlier past text
+    (WasShownByEvent setting ply earlier past ⊎ HasPairLine setting ply earlier text) × AreShownOrTold setting earlier past text
 
 -- Nothing is invented: each ply of the score that the bytes give with their pairs was shown by the bytes, or it is one
 -- of a pair whose line was written.

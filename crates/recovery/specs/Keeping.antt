@@ -4,7 +4,7 @@ use Rattle.dgt_frame.specs.declared.events.Event.{Event}
 use Rattle.settle_core.specs.declared.plies.Seen.{Seen}
 use Rattle.settle_core.specs.Entries.{repeats}
 use Rattle.unseen_pairs.specs.declared.pair.Recovery.{Recovery}
-use Rattle.unseen_pairs.specs.declared.pair.Told.TheVariants.{Shown, Recovered}
+use Rattle.unseen_pairs.specs.declared.pair.SeenOrRecovered.TheVariants.{Shown, Recovered}
 use Rattle.unseen_pairs.specs.Recoverer.{ReturnsTold}
 use Rattle.board_events.specs.Entries.{is_entry}
 use Rattle.board_events.specs.History.{picture_of}

@@ -54,11 +54,11 @@ RecoversSome setting input input' written written' said said' = (bytes behind wo
     × Recovers setting bytes woven text × Appends written written' woven × Appends said said' text
 
 -- a line that tells of a pair, or the first bytes of one
-abbrev pub IsLine : List ℕ → Type 0
-IsLine text = (offset : ℕ) × (r : Recovery) × TellsRecovered offset r text
+abbrev pub IsPairLine : List ℕ → Type 0
+IsPairLine text = (offset : ℕ) × (r : Recovery) × TellsRecovered offset r text
 
-abbrev pub BeginsLine : List ℕ → Type 0
-BeginsLine part = (text rest : List ℕ) × IsLine text × (text ≡ part ++ rest)
+abbrev pub BeginsPairLine : List ℕ → Type 0
+BeginsPairLine part = (text rest : List ℕ) × IsPairLine text × (text ≡ part ++ rest)
 
 -- A front was written of what the first of the bytes that were read give, and no other byte; all of its lines were
 -- said, and of the next one at most a part, where their stream has failed. So no frame was put in whose line was not
@@ -74,4 +74,4 @@ pub record RecoversFront (setting : Setting) (input input' written written' said
   pub recovers : Recovers setting bytes woven text
   pub writes : AppendsPart written written' woven
   pub says : Appends said said' (text ++ part)
-  pub unfinished : (part ≡ []) ⊎ ((lines_failed ≡ true) × BeginsLine part)
+  pub unfinished : (part ≡ []) ⊎ ((lines_failed ≡ true) × BeginsPairLine part)

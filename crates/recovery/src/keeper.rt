@@ -5,7 +5,7 @@ ghost use Rattle.dgt_frame.specs.declared.time.First.{First as FirstOf};
 ghost use Rattle.chess_rules.specs.declared.parts.Parts.{Parts as PartsOf};
 ghost use Rattle.settle_core.specs.Entries.{Entry, entry_of};
 ghost use Rattle.settle_core.specs.Settler.{has_seen};
-ghost use Rattle.unseen_pairs.specs.Recoverer.{StandsForRecovered};
+ghost use Rattle.unseen_pairs.specs.Recoverer.{HasRecovered};
 ghost use Rattle.board_events.specs.Settings.{Setting};
 ghost use Rattle.board_events.specs.History.{IsInRange, reading_at};
 ghost use Rattle.recovery.specs.Inside.Seeing.{Sees};
@@ -17,7 +17,7 @@ use chess_rules::{Position, Square};
 use dgt_frame::{Event, First, Message, read_time};
 use pair_frames::{MOST, put_in};
 use std::alloc::{AllocError, Global};
-use unseen_pairs::{Heard, Recoverer, Recovery, Told};
+use unseen_pairs::{Recoverer, Recovery, SeenOrFound, SeenOrRecovered};
 
 /// Follows the events of a board: which picture it shows, what the clocks show, and which pairs of plies are recovered.
 #[derive(Drop)]
@@ -47,7 +47,7 @@ fn see_square(
     requires seen { has_seen recoverer.old.settler ≡ true }
     ensures squares { length picture.now ≡ 64 }
     ensures sees { (start : PartsOf) (before : Entry) (past written : List Entry)
-        → StandsForRecovered recoverer.old start (before ∷ past) written
+        → HasRecovered recoverer.old start (before ∷ past) written
         → picture.now ≡ slice_set before.picture square (slice_index picture.now square)
         → IfOk result (λ is. Sees recoverer.new start (before ∷ past) written (entry_of picture.now reading)
         (if is then found.new else None)) }
@@ -56,8 +56,8 @@ fn see_square(
         unreachable!();
     };
     match recoverer.see_square(alloc, picture, square, reading, found) {
-        Ok(Heard::Shown(_)) => Ok(false),
-        Ok(Heard::Recovered) => Ok(true),
+        Ok(SeenOrFound::Shown(_)) => Ok(false),
+        Ok(SeenOrFound::Recovered) => Ok(true),
         Err(error) => Err(error),
     }
 }
@@ -72,12 +72,12 @@ fn see_whole(
     found: &mut Option<Recovery>,
 ) -> Result<bool, AllocError>
     requires { All (λ code. code < 16) picture.now }
-    ensures { (start : PartsOf) (past written : List Entry) → StandsForRecovered recoverer.old start past written
+    ensures { (start : PartsOf) (past written : List Entry) → HasRecovered recoverer.old start past written
         → IfOk result (λ is. Sees recoverer.new start past written (entry_of picture.now reading) (if is then found.new else None)) }
 {
     match recoverer.see(alloc, picture, reading)? {
-        Told::Shown(_) => Ok(false),
-        Told::Recovered(recovery) => {
+        SeenOrRecovered::Shown(_) => Ok(false),
+        SeenOrRecovered::Recovered(recovery) => {
             *found = Some(recovery);
             Ok(true)
         }

@@ -11,7 +11,7 @@ use Rattle.settle_core.specs.declared.plies.Ply.{Ply}
 use Rattle.settle_core.specs.Entries.{Entry, deduplicated}
 use Rattle.settle_core.specs.Settling.{reached, position_after, Line}
 use Rattle.settle_core.specs.Folding.{Score, Folds, moves_of}
-use Rattle.settle_core.specs.HonestPlay.{IsCapture, AllPass, Shown, ShownEach, shown_plies, IsAmong, HasOneMore, IsFront}
+use Rattle.settle_core.specs.HonestPlay.{IsCapture, AllWithinTurnOrLackKing, Shown, ShownEach, shown_plies, IsAmong, HasOneMore, IsFront}
 use Rattle.settle_core.specs.Laws.{joined, GivesScore, HonestPlayStops, FrontsOfHonestPlay}
 use Rattle.settle_core.proofs.Stages.{IsSound, StandsIn, Opens, entry_open, opens, IsOpen}
 use Rattle.settle_core.proofs.Lines.{open_no_sign, MakesMove, line_ends, moves_shown, reverse_aux-append}
@@ -34,7 +34,7 @@ AllAre Q (entry ∷ more) = Q entry.picture × AllAre Q more
 pub all_open :
     (start : Parts) (earlier : List Ply) (Q : List ℕ → Type 0) (part past : List Entry)
     → IsSound start earlier
-    → AllPass (reached start (moves_of earlier)) part
+    → AllWithinTurnOrLackKing (reached start (moves_of earlier)) part
     → AllAre Q part
     → Opens start earlier Q past
     → Opens start earlier Q (reverse_aux part past)
@@ -74,7 +74,7 @@ honest_stops start moves lists part score v l h a f =
     let plies : List Ply = shown_plies start moves lists in
     let made : MakesMove start (reverse plies) (joined lists) [] = line_ends start moves lists v l h in
     let at : reached start (moves_of (reverse plies)) ≡ position_after start moves = reached_shown start moves lists h in
-    let A : Parts → Type 0 = λ x. AllPass x part in
+    let A : Parts → Type 0 = λ x. AllWithinTurnOrLackKing x part in
     let all : Opens start (reverse plies) (IsAmong part) (reverse_aux part (reverse_aux (joined lists) [])) =
     all_open start (reverse plies) (IsAmong part) part (reverse_aux (joined lists) []) made.sound (subst A (sym at) a) (among part [] part refl)
     (opens start (reverse plies) (IsAmong part) (reverse_aux (joined lists) []) made.ends) in
@@ -103,7 +103,7 @@ align (x ∷ xs) ys (u ∷ us) vs e =
     ]
 
 -- before the end of a list that shows a move
-short_passes : (p : Parts) (m : Move) (part : List Entry) (entry : Entry) (more : List Entry) → Shown p m (part ++ entry ∷ more) → AllPass p part
+short_passes : (p : Parts) (m : Move) (part : List Entry) (entry : Entry) (more : List Entry) → Shown p m (part ++ entry ∷ more) → AllWithinTurnOrLackKing p part
 short_passes p m [] entry more h = tt
 short_passes p m (one ∷ []) entry more h = ((h.0).0, tt)
 short_passes p m (one ∷ next ∷ part) entry more h = ((h.0).0, short_passes p m (next ∷ part) entry more h.1)
@@ -112,7 +112,7 @@ short_passes p m (one ∷ next ∷ part) entry more h = ((h.0).0, short_passes p
 pub record Fronts (start : Parts) (moves : List Move) (lists : List (List Entry)) (first : List Entry) : Type 0 where
   pub front : IsFront start moves lists first
   pub line : Line start front.done
-  pub passes : AllPass (position_after start front.done) front.part
+  pub passes : AllWithinTurnOrLackKing (position_after start front.done) front.part
 
 pub fronts :
     (start : Parts) (moves : List Move) (lists : List (List Entry)) (first rest : List Entry)

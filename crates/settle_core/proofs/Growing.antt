@@ -6,7 +6,7 @@ use Rattle.settle_core.specs.declared.plies.Seen.{Seen}
 use Rattle.settle_core.specs.declared.plies.Seen.TheVariants.{Same, Moved, Sign, Replaced, Waits}
 use Rattle.settle_core.specs.Entries.{Entry, repeats, deduplicated}
 use Rattle.settle_core.specs.Folding.{Score, Folds, score_after}
-use Rattle.settle_core.specs.Settler.{Sheet, StandsFor}
+use Rattle.settle_core.specs.Settler.{HasSettled, SettlerState}
 
 length-replaced : (start : Parts) (plies : List Ply) (seen : List ℕ) (entry : Entry) (m : Seen) → length (drop 1 plies) + 1 ≤ length plies + 1
 length-replaced start [] seen entry m = omega arith
@@ -40,9 +40,9 @@ length-deduplicated (entry ∷ past) =
     ]
 
 -- no more plies than entries
-pub moves_within : (sheet : Sheet) (start : Parts) (past : List Entry) (plies : List Ply)
-    → StandsFor sheet start past → length sheet.score.plies ≡ length plies → length plies ≤ length past
-moves_within sheet start past plies st e =
-    let a : length sheet.score.plies ≤ length (deduplicated past) = length-folds start (deduplicated past) sheet.score st.folds in
+pub moves_within : (settler : SettlerState) (start : Parts) (past : List Entry) (plies : List Ply)
+    → HasSettled settler start past → length settler.score.plies ≡ length plies → length plies ≤ length past
+moves_within settler start past plies st e =
+    let a : length settler.score.plies ≤ length (deduplicated past) = length-folds start (deduplicated past) settler.score st.folds in
     let b : length (deduplicated past) ≤ length past = length-deduplicated past in
     omega arith

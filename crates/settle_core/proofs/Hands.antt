@@ -1,4 +1,4 @@
--- Pictures with pieces in hand, and pictures without a king.
+-- Pictures within the mover's turn, and pictures without a king.
 use Rattle.std.proofs.Common.{◌≢◌, ℕ, ◌<◌, List, get_or}
 use Rattle.chess_rules.specs.declared.pieces.Side.{Side}
 use Rattle.chess_rules.specs.declared.pieces.Side.TheVariants.{White, Black}
@@ -13,8 +13,8 @@ use Rattle.chess_rules.proofs.Shifts.{on_board}
 use Rattle.settle_core.specs.declared.plies.Outcome.{Outcome}
 use Rattle.settle_core.specs.Settling.{Settles}
 use Rattle.settle_core.specs.Sign.{IsSign}
-use Rattle.settle_core.specs.HonestPlay.{IsCapture, HasKingsApart, IsInHand, LacksKing}
-use Rattle.settle_core.specs.Laws.{UnderWayIsInHand}
+use Rattle.settle_core.specs.HonestPlay.{IsCapture, HasKingsApart, IsWithinTurn, LacksKing}
+use Rattle.settle_core.specs.Laws.{UnderWayIsWithinTurn}
 use Rattle.settle_core.proofs.Pieces.{ShowsNoNew, takes_unless, quiet_under_way, settles_end, no_new_under_way, shown_on}
 use Rattle.settle_core.proofs.Apart.{centre_low, kings_apart_under_way}
 
@@ -22,12 +22,12 @@ use Rattle.settle_core.proofs.Apart.{centre_low, kings_apart_under_way}
 pub no_sign_apart : (seen : List ℕ) → HasKingsApart seen → (p : Parts) (outcome : Outcome) → ¬ IsSign p seen outcome
 no_sign_apart seen apart p outcome h = apart h.white_king h.black_king h.white.centre h.black.centre h.white.stands h.black.stands
 
--- what a picture with pieces in hand settles takes no piece
-pub in_hand_quiet : (p : Parts) (k : Move) (seen : List ℕ) → IsInHand p seen → Settles p seen k → ¬ IsCapture p k
-in_hand_quiet p k seen hand h t = hand.no_capture k h.legal t h.shows
+-- what a picture within the turn settles takes no piece
+pub within_turn_quiet : (p : Parts) (k : Move) (seen : List ℕ) → IsWithinTurn p seen → Settles p seen k → ¬ IsCapture p k
+within_turn_quiet p k seen hand h t = hand.no_capture k h.legal t h.shows
 
-pub in_hand_no_new : (p : Parts) (seen : List ℕ) → IsInHand p seen → ShowsNoNew p seen
-in_hand_no_new p seen hand = hand.theirs
+pub within_turn_no_new : (p : Parts) (seen : List ℕ) → IsWithinTurn p seen → ShowsNoNew p seen
+within_turn_no_new p seen hand = hand.theirs
 
 -- a picture without a king is that of no position
 pub lacking_no_picture : (p : Parts) (seen : List ℕ) → Valid p → LacksKing seen → seen ≢ picture p
@@ -46,9 +46,9 @@ lacking_sign p seen outcome Black nowhere h = nowhere h.black_king (centre_low h
 pub lacking_no_sign : (p : Parts) (seen : List ℕ) (outcome : Outcome) → LacksKing seen → ¬ IsSign p seen outcome
 lacking_no_sign p seen outcome lacks = lacking_sign p seen outcome lacks.side lacks.nowhere
 
--- a picture on the way to a move, or a try of its piece, has pieces in hand
-pub under_way_is_in_hand : UnderWayIsInHand
-under_way_is_in_hand p m seen v l way =
+-- a picture on the way to a move, or a try of its piece, is within the mover's turn
+pub under_way_is_within_turn : UnderWayIsWithinTurn
+under_way_is_within_turn p m seen v l way =
     record {
       theirs = no_new_under_way p m seen v l way;
       kings = kings_apart_under_way p m seen v l way;

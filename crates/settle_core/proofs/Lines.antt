@@ -56,7 +56,7 @@ pub record MakesMove (start : Parts) (made : List Ply) (entries past : List Entr
   pub never : NeverSigns start entries past
   pub sound : IsSound start made
 
--- no sign stands while pieces are in hand
+-- no sign stands within the turn
 pub open_no_sign : (start : Parts) (earlier : List Ply) (Q : List ℕ → Type 0) (score : Score) → IsOpen start earlier Q score → score.sign ≡ None
 open_no_sign start earlier Q score o = elim o [ inl e ↦ ap (λ (s : Score). s.sign) e | inr i ↦ ap (λ (s : Score). s.sign) i.is ]
 

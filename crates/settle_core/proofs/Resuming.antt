@@ -12,7 +12,7 @@ use Rattle.settle_core.specs.AnyPlay.{HonestPlayResumes, KingsEndResumedPlay, Re
 use Rattle.settle_core.specs.Entries.{Entry, deduplicated, last_picture}
 use Rattle.settle_core.specs.Settling.{Line, position_after, reached}
 use Rattle.settle_core.specs.Folding.{Folds, Score, moves_of}
-use Rattle.settle_core.specs.HonestPlay.{AllPass, AllRest, HasOneMore, IsAmong, ShownEach, shown_plies}
+use Rattle.settle_core.specs.HonestPlay.{AllShowNoMoreOrLackKing, AllWithinTurnOrLackKing, HasOneMore, IsAmong, ShownEach, shown_plies}
 use Rattle.settle_core.specs.Laws.{joined}
 use Rattle.settle_core.specs.Sign.{IsSign}
 use Rattle.settle_core.proofs.Fronts.{all_open, among, one_more}
@@ -95,7 +95,7 @@ resumed_play_stops start past before score moves lists part v f none last l h a 
     let s : IsSound start (reverse all) = subst S order made.sound in
     let at : reached start (moves_of (reverse all)) ≡ position_after p moves =
     ap (λ (ps : List Ply). reached start (moves_of ps)) (sym order) ∙ reached_resumed start before.plies moves lists h in
-    let A : Parts → Type 0 = λ x. AllPass x part in
+    let A : Parts → Type 0 = λ x. AllWithinTurnOrLackKing x part in
     let opened : Opens start (reverse all) (IsAmong part) (reverse_aux part (reverse_aux (joined lists) past)) =
     all_open start (reverse all) (IsAmong part) part (reverse_aux (joined lists) past) s (subst A (sym at) a) (among part [] part refl)
     (opens start (reverse all) (IsAmong part) (reverse_aux (joined lists) past) ends) in
@@ -117,8 +117,8 @@ kings_end_resumed_play start past before score moves lists clearing later kings 
     let plies : List Ply = reverse_aux (shown_plies p moves lists) before.plies in
     let s : IsSound start plies = made.sound in
     let at : position_after p moves ≡ reached start (moves_of plies) = sym (reached_resumed start before.plies moves lists h) in
-    let A : Parts → Type 0 = λ x. AllRest x clearing in
-    let B : Parts → Type 0 = λ x. AllRest x later in
+    let A : Parts → Type 0 = λ x. AllShowNoMoreOrLackKing x clearing in
+    let B : Parts → Type 0 = λ x. AllShowNoMoreOrLackKing x later in
     let K : Parts → Type 0 = λ x. IsSign x kings.picture outcome in
     let old : List Entry = reverse_aux (joined lists) past in
     let one : Gives start (with_sign plies None) (reverse_aux clearing old) = rest_all start plies None clearing old s (subst A at a) (made.ends).score in

@@ -17,10 +17,10 @@ use Rattle.chess_rules.proofs.LawLemmas.{moves_stay_valid, pictures_tell_moves}
 use Rattle.settle_core.specs.declared.plies.Ply.{Ply}
 use Rattle.settle_core.specs.declared.plies.Seen.{Seen}
 use Rattle.settle_core.specs.declared.plies.Seen.TheVariants.{Same, Moved, Sign, Replaced, Waits}
-use Rattle.settle_core.specs.AnyHands.{MadeAgainStops, ShownEachInTheEnd, ShownInTheEnd, TakenBackAndMadeAgain, WholeMoveIsInHand}
+use Rattle.settle_core.specs.AnyHands.{MadeAgainStops, ShownEachInTheEnd, ShownInTheEnd, TakenBackAndMadeAgain, WholeMoveIsWithinTurn}
 use Rattle.settle_core.specs.Entries.{Entry, deduplicated, last_picture, repeats}
 use Rattle.settle_core.specs.Folding.{Folds, Score, SeenAs, moves_of, score_after}
-use Rattle.settle_core.specs.HonestPlay.{AllPass, IsAmong, MayPass, IsCapture}
+use Rattle.settle_core.specs.HonestPlay.{AllWithinTurnOrLackKing, IsAmong, IsWithinTurnOrLacksKing, IsCapture}
 use Rattle.settle_core.specs.Laws.{joined}
 use Rattle.settle_core.specs.Settling.{Line, Played, position_after, reached}
 use Rattle.settle_core.proofs.Apart.{apart_unless, apart_valid, no_sign_valid}
@@ -32,8 +32,8 @@ use Rattle.settle_core.proofs.Pieces.{no_new_after, no_reply, picture_moves, qui
 use Rattle.settle_core.proofs.Stages.{Ends, EndsAt, IsOpen, IsSound, Opens, bare, end_again, end_first, entry_open, now, opens, shows_at}
 use Rattle.settle_core.proofs.Repeats.{repeated_last}
 
-pub whole_move_is_in_hand : WholeMoveIsInHand
-whole_move_is_in_hand p m v l quiet = record {
+pub whole_move_is_within_turn : WholeMoveIsWithinTurn
+whole_move_is_within_turn p m v l quiet = record {
   theirs = no_new_after p m (picture (after p m)) v l refl;
   kings = apart_unless (picture (after p m)) (after p m).side (apart_valid (after p m) (picture (after p m)) (moves_stay_valid p m v l) refl);
   no_capture = λ n ln t e.
@@ -145,7 +145,7 @@ coming_on :
     (start : Parts) (earlier : List Ply) (m : Move) (past : List Entry) (entry : Entry)
     → IsSound start earlier
     → Legal (reached start (moves_of earlier)) m
-    → MayPass (reached start (moves_of earlier)) entry.picture
+    → IsWithinTurnOrLacksKing (reached start (moves_of earlier)) entry.picture
     → Coming start earlier m past
     → Coming start earlier m (entry ∷ past)
 coming_on start earlier m past entry s l pass coming = record {
@@ -262,7 +262,7 @@ made_again_stops start moves lists part score v l h a f =
     let at : reached start (moves_of (reverse plies)) ≡ position_after start moves =
     sym (position_in_order start (reverse plies)) ∙ ap (λ (ps : List Ply). position_after start (moves_of ps)) (reverse-reverse plies)
     ∙ ap (position_after start) made.moves_are in
-    let A : Parts → Type 0 = λ x. AllPass x part in
+    let A : Parts → Type 0 = λ x. AllWithinTurnOrLackKing x part in
     let before : Opens start (reverse plies) (IsAmong part) past = λ x k. inl (folds_once start (deduplicated past) x mid.score v k mid.folds ∙ made.is) in
     let o : IsOpen start (reverse plies) (IsAmong part) score =
     all_open start (reverse plies) (IsAmong part) part past sound (subst A (sym at) a) (among part [] part refl) before score g in (

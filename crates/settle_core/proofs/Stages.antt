@@ -17,10 +17,10 @@ use Rattle.settle_core.specs.declared.plies.Seen.TheVariants.{Same, Moved, Sign,
 use Rattle.settle_core.specs.Entries.{Entry, repeats, deduplicated}
 use Rattle.settle_core.specs.Settling.{Settles, reached, Played}
 use Rattle.settle_core.specs.Folding.{Score, moves_of, played, Replaces, SeenAs, score_after, Folds}
-use Rattle.settle_core.specs.HonestPlay.{IsCapture, IsInHand, LacksKing, MayPass}
+use Rattle.settle_core.specs.HonestPlay.{IsCapture, IsWithinTurn, IsWithinTurnOrLacksKing, LacksKing}
 use Rattle.settle_core.proofs.Pieces.{ShowsNoNew, quiet_unless, no_new_after, no_reply, no_earlier, picture_moves, settles_end}
 use Rattle.settle_core.proofs.Apart.{no_sign_valid}
-use Rattle.settle_core.proofs.Hands.{no_sign_apart, in_hand_quiet, in_hand_no_new, lacking_settles, lacking_no_sign}
+use Rattle.settle_core.proofs.Hands.{no_sign_apart, within_turn_quiet, within_turn_no_new, lacking_settles, lacking_no_sign}
 
 -- a score of these plies, the latest first, without a sign
 abbrev pub bare : List Ply → Score
@@ -34,7 +34,7 @@ pub record StandsIn (start : Parts) (earlier : List Ply) (Q : List ℕ → Type 
   pub no_capture : ¬ IsCapture (reached start (moves_of earlier)) ply.mv
   pub shown : Q (picture (after (reached start (moves_of earlier)) ply.mv))
 
--- what the score may be while pieces are in hand
+-- what the score may be within the turn
 abbrev pub IsOpen : Parts → List Ply → (List ℕ → Type 0) → Score → Type 0
 IsOpen start earlier Q score = (score ≡ bare earlier) ⊎ StandsIn start earlier Q score
 
@@ -67,21 +67,21 @@ pub shows_at :
     → score ≡ score' → SeenAs start (moves_of score.plies) seen shown → SeenAs start (moves_of score'.plies) seen shown
 shows_at start score score' seen shown e h = let P : Score → Type 0 = λ s. SeenAs start (moves_of s.plies) seen shown in subst P e h
 
--- the move that a picture in hand settles stands in the place of the next one
+-- the move that a picture within the turn settles stands in the place of the next one
 stands_in :
     (start : Parts) (earlier : List Ply) (Q : List ℕ → Type 0) (seen : List ℕ) (reading : Option Reading) (k : Move)
-    → IsInHand (reached start (moves_of earlier)) seen
+    → IsWithinTurn (reached start (moves_of earlier)) seen
     → Q seen
     → Settles (reached start (moves_of earlier)) seen k
     → StandsIn start earlier Q (played start earlier reading k)
 stands_in start earlier Q seen reading k hand q h =
-    record { ply = _; is = refl; legal = h.legal; no_capture = in_hand_quiet (reached start (moves_of earlier)) k seen hand h; shown = subst Q h.shows q }
+    record { ply = _; is = refl; legal = h.legal; no_capture = within_turn_quiet (reached start (moves_of earlier)) k seen hand h; shown = subst Q h.shows q }
 
 -- where no other move stands there
 step_first :
     (start : Parts) (earlier : List Ply) (Q : List ℕ → Type 0) (seen : List ℕ) (reading : Option Reading) (shown : Seen)
     → IsSound start earlier
-    → IsInHand (reached start (moves_of earlier)) seen
+    → IsWithinTurn (reached start (moves_of earlier)) seen
     → Q seen
     → SeenAs start (moves_of earlier) seen shown
     → IsOpen start earlier Q (score_after start (bare earlier) reading shown)
@@ -90,7 +90,7 @@ step_first start earlier Q seen reading Waits s hand q h = inl refl
 step_first start earlier Q seen reading (Sign outcome) s hand q h = absurd (no_sign_apart seen hand.kings _ outcome h)
 step_first start earlier Q seen reading (Moved k) s hand q h = inr (stands_in start earlier Q seen reading k hand q h)
 step_first start earlier Q seen reading (Replaced k) s hand q h =
-    absurd (no_replace start (moves_of earlier) k seen s.valid s.played (in_hand_no_new (reached start (moves_of earlier)) seen hand) h.2)
+    absurd (no_replace start (moves_of earlier) k seen s.valid s.played (within_turn_no_new (reached start (moves_of earlier)) seen hand) h.2)
 
 -- and where one does
 step_again :
@@ -99,7 +99,7 @@ step_again :
     → StandsIn start earlier Q (bare (ply ∷ earlier))
     → Legal (reached start (moves_of earlier)) ply.mv
     → ¬ IsCapture (reached start (moves_of earlier)) ply.mv
-    → IsInHand (reached start (moves_of earlier)) seen
+    → IsWithinTurn (reached start (moves_of earlier)) seen
     → Q seen
     → SeenAs start (ply.mv ∷ moves_of earlier) seen shown
     → IsOpen start earlier Q (score_after start (bare (ply ∷ earlier)) reading shown)
@@ -108,14 +108,14 @@ step_again start earlier Q ply seen reading Waits s i l t hand q h = inr i
 step_again start earlier Q ply seen reading (Sign outcome) s i l t hand q h = absurd (no_sign_apart seen hand.kings _ outcome h)
 step_again start earlier Q ply seen reading (Moved k) s i l t hand q h =
     let p : Parts = reached start (moves_of earlier) in
-    absurd (no_reply p ply.mv k seen (now start earlier s) l (quiet_unless p ply.mv t) (in_hand_no_new p seen hand) h)
+    absurd (no_reply p ply.mv k seen (now start earlier s) l (quiet_unless p ply.mv t) (within_turn_no_new p seen hand) h)
 step_again start earlier Q ply seen reading (Replaced k) s i l t hand q h = inr (stands_in start earlier Q seen reading k hand q (h.2).0)
 
--- a picture with pieces in hand
+-- a picture within the turn
 step_hand :
     (start : Parts) (earlier : List Ply) (Q : List ℕ → Type 0) (score : Score) (seen : List ℕ) (reading : Option Reading) (shown : Seen)
     → IsSound start earlier
-    → IsInHand (reached start (moves_of earlier)) seen
+    → IsWithinTurn (reached start (moves_of earlier)) seen
     → Q seen
     → IsOpen start earlier Q score
     → SeenAs start (moves_of score.plies) seen shown
@@ -162,7 +162,7 @@ lacking_step start score seen reading (Replaced k) v l lacks h = absurd (lacking
 pub step_open :
     (start : Parts) (earlier : List Ply) (Q : List ℕ → Type 0) (score : Score) (seen : List ℕ) (reading : Option Reading) (shown : Seen)
     → IsSound start earlier
-    → MayPass (reached start (moves_of earlier)) seen
+    → IsWithinTurnOrLacksKing (reached start (moves_of earlier)) seen
     → Q seen
     → IsOpen start earlier Q score
     → SeenAs start (moves_of score.plies) seen shown
@@ -295,7 +295,7 @@ fold_new start past entry P Q new before step score h =
 pub entry_open :
     (start : Parts) (earlier : List Ply) (Q : List ℕ → Type 0) (past : List Entry) (entry : Entry)
     → IsSound start earlier
-    → MayPass (reached start (moves_of earlier)) entry.picture
+    → IsWithinTurnOrLacksKing (reached start (moves_of earlier)) entry.picture
     → Q entry.picture
     → Opens start earlier Q past
     → Opens start earlier Q (entry ∷ past)

@@ -21,7 +21,7 @@ use Rattle.settle_core.specs.declared.plies.Seen.TheVariants.{Same, Moved, Sign,
 use Rattle.settle_core.specs.Entries.{Entry, entry_of, repeats, deduplicated}
 use Rattle.settle_core.specs.Settling.{Settles, reached, Played}
 use Rattle.settle_core.specs.Folding.{Score, Folds, SeenAs, Replaces, moves_of, score_after}
-use Rattle.settle_core.specs.Settler.{Sheet, StandsFor, ReturnsSeen, GivesMove}
+use Rattle.settle_core.specs.Settler.{SettlerState, HasSettled, ReturnsSeen, GivesMove}
 use Rattle.settle_core.proofs.Changing.{set_differs}
 use Rattle.settle_core.specs.Inside.Kept.{IsLastSet, CanReplace, before_last, last_of, position_in}
 
@@ -126,14 +126,14 @@ line_replaced start (last ∷ earlier) old new ply before e can set p b = (set l
 
 -- The picture is new, and shows this: it stands.
 pub taken_stands :
-    (old new : Sheet) (start : Parts) (past : List Entry) (picture : List ℕ) (reading : Option Reading) (seen : Seen)
-    → StandsFor old start past
+    (old new : SettlerState) (start : Parts) (past : List Entry) (picture : List ℕ) (reading : Option Reading) (seen : Seen)
+    → HasSettled old start past
     → repeats picture past ≡ false
     → SeenAs old.start (moves_of old.score.plies) picture seen
     → new ≡ record { start = old.start; score = score_after old.start old.score reading seen; last = Some picture }
-    → StandsFor new start (entry_of picture reading ∷ past)
+    → HasSettled new start (entry_of picture reading ∷ past)
 taken_stands old new start past picture reading seen st fresh shows is =
-    let P : Sheet → Type 0 = λ s. StandsFor s start (entry_of picture reading ∷ past) in
+    let P : SettlerState → Type 0 = λ s. HasSettled s start (entry_of picture reading ∷ past) in
     let F : List Entry → Type 0 = λ es. Folds start es (score_after old.start old.score reading seen) in
     let S : Parts → Type 0 = λ s. SeenAs s (moves_of old.score.plies) picture seen in
     let folds : Folds start (entry_of picture reading ∷ deduplicated past) (score_after old.start old.score reading seen) =
@@ -156,8 +156,8 @@ answers_new start past seen score Waits new f h = (new, (score, f, h))
 
 -- and this is the result
 pub taken_answers :
-    (old : Sheet) (start : Parts) (past : List Entry) (picture : List ℕ) (seen : Seen)
-    → StandsFor old start past
+    (old : SettlerState) (start : Parts) (past : List Entry) (picture : List ℕ) (seen : Seen)
+    → HasSettled old start past
     → repeats picture past ≡ false
     → SeenAs old.start (moves_of old.score.plies) picture seen
     → ReturnsSeen start past picture seen
@@ -167,8 +167,8 @@ taken_answers old start past picture seen st fresh shows =
 
 -- out of memory
 pub refused_gives :
-    (old : Sheet) (start : Parts) (past : List Entry) (picture : List ℕ) (m : Move)
-    → StandsFor old start past
+    (old : SettlerState) (start : Parts) (past : List Entry) (picture : List ℕ) (m : Move)
+    → HasSettled old start past
     → repeats picture past ≡ false
     → Settles (reached old.start (moves_of old.score.plies)) picture m
     → GivesMove start past picture
@@ -176,10 +176,10 @@ refused_gives old start past picture m st fresh h = (m, taken_answers old start 
 
 -- The picture is the last one: it stands.
 pub same_stands :
-    (old : Sheet) (start : Parts) (past : List Entry) (picture : List ℕ) (reading : Option Reading)
-    → StandsFor old start past
+    (old : SettlerState) (start : Parts) (past : List Entry) (picture : List ℕ) (reading : Option Reading)
+    → HasSettled old start past
     → old.last ≡ Some picture
-    → StandsFor old start (entry_of picture reading ∷ past)
+    → HasSettled old start (entry_of picture reading ∷ past)
 same_stands old start [] picture reading st e = absurd (none-some _ (sym st.last ∙ e))
 same_stands old start (before ∷ past) picture reading st e =
     let same : before.picture ≡ picture = same_Some _ _ (sym st.last ∙ e) in
@@ -192,7 +192,7 @@ same_stands old start (before ∷ past) picture reading st e =
     }
 
 pub same_answers :
-    (old : Sheet) (start : Parts) (past : List Entry) (picture : List ℕ) → StandsFor old start past → old.last ≡ Some picture → repeats picture past ≡ true
+    (old : SettlerState) (start : Parts) (past : List Entry) (picture : List ℕ) → HasSettled old start past → old.last ≡ Some picture → repeats picture past ≡ true
 same_answers old start [] picture st e = absurd (none-some _ (sym st.last ∙ e))
 same_answers old start (before ∷ past) picture st e =
     let same : before.picture ≡ picture = same_Some _ _ (sym st.last ∙ e) in
@@ -200,7 +200,7 @@ same_answers old start (before ∷ past) picture st e =
 
 -- a picture that is not the last one is new
 pub fresh :
-    (old : Sheet) (start : Parts) (past : List Entry) (picture : List ℕ) → StandsFor old start past → old.last ≢ Some picture → repeats picture past ≡ false
+    (old : SettlerState) (start : Parts) (past : List Entry) (picture : List ℕ) → HasSettled old start past → old.last ≢ Some picture → repeats picture past ≡ false
 fresh old start [] picture st ne = refl
 fresh old start (before ∷ past) picture st ne =
     let d = bytes_eq-Decides picture before.picture in
@@ -208,12 +208,12 @@ fresh old start (before ∷ past) picture st ne =
 
 -- what was judged of the last picture
 pub judged :
-    (old mid new : Sheet) (picture : List ℕ) (reading : Option Reading) (seen : Seen)
+    (old mid new : SettlerState) (picture : List ℕ) (reading : Option Reading) (seen : Seen)
     → mid ≡ record { start = old.start; score = old.score; last = Some picture }
     → SeenAs mid.start (moves_of mid.score.plies) picture seen × (new ≡ record { start = mid.start; score = score_after mid.start mid.score reading seen; last = mid.last })
     → SeenAs old.start (moves_of old.score.plies) picture seen × (new ≡ record { start = old.start; score = score_after old.start old.score reading seen; last = Some picture })
 judged old mid new picture reading seen e h =
-    let P : Sheet → Type 0 = λ s. SeenAs s.start (moves_of s.score.plies) picture seen × (new ≡ record { start = s.start; score = score_after s.start s.score reading seen; last = s.last }) in
+    let P : SettlerState → Type 0 = λ s. SeenAs s.start (moves_of s.score.plies) picture seen × (new ≡ record { start = s.start; score = score_after s.start s.score reading seen; last = s.last }) in
     subst P e h
 
 -- a fact about a position and a picture, where they are named otherwise
@@ -236,7 +236,7 @@ field_differs kept picture number at code e n l low ne same =
 
 -- a field that is set back
 pub restored :
-    (old mid back new : Sheet) (picture : List ℕ) (at code : ℕ)
+    (old mid back new : SettlerState) (picture : List ℕ) (at code : ℕ)
     → old.last ≡ Some picture
     → mid ≡ record { start = old.start; score = old.score; last = Some (slice_set picture at code) }
     → back ≡ mid
@@ -246,7 +246,7 @@ restored old mid back new picture at code last changed refused again =
     let e : back ≡ record { start = old.start; score = old.score; last = Some (slice_set picture at code) } = refused ∙ changed in
     let shown : slice_set (slice_set picture at code) at (get_or picture at 0) ≡ picture = set-set picture at code (get_or picture at 0) ∙ set-get_or picture at 0 in
     again
-    ∙ ap (λ (s : Sheet). record { start = s.start; score = s.score; last = Some (slice_set (slice_set picture at code) at (get_or picture at 0)) }) e
+    ∙ ap (λ (s : SettlerState). record { start = s.start; score = s.score; last = Some (slice_set (slice_set picture at code) at (get_or picture at 0)) }) e
     ∙ ap (λ (x : Option (List ℕ)). record { start = old.start; score = old.score; last = x }) (ap (λ (xs : List ℕ). Some xs) shown ∙ sym last)
 
 -- where a picture was seen, it is the last one

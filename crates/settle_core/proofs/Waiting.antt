@@ -20,8 +20,8 @@ use Rattle.settle_core.specs.Entries.{Entry, repeats, deduplicated}
 use Rattle.settle_core.specs.Settling.{Line, Settles, reached, position_after}
 use Rattle.settle_core.specs.Sign.{IsSign}
 use Rattle.settle_core.specs.Folding.{Score, Folds, SeenAs, moves_of, score_after, score_of}
-use Rattle.settle_core.specs.HonestPlay.{ShowsNoMore, MayRest, AllRest, ShownEach, shown_plies}
-use Rattle.settle_core.specs.Laws.{joined, GivesScore, NoMoreIsInHand, RestingWaits}
+use Rattle.settle_core.specs.HonestPlay.{ShowsNoMore, ShowsNoMoreOrLacksKing, AllShowNoMoreOrLackKing, ShownEach, shown_plies}
+use Rattle.settle_core.specs.Laws.{joined, GivesScore, NoMoreIsWithinTurn, RestingWaits}
 use Rattle.settle_core.proofs.Pieces.{same_code, code_no_zero, shown_on, ShowsNoNew, Arrives, arrives, settles_end}
 use Rattle.settle_core.proofs.Apart.{BothKings, apart_unless, both_kings, kings_apart, apart, centre_low}
 use Rattle.settle_core.proofs.Hands.{lacking_settles, lacking_no_sign}
@@ -59,8 +59,8 @@ no_more_sign p seen v h over outcome sign = no_more_apart p seen v h (both_kings
 pub no_more_new : (p : Parts) (seen : List ℕ) → ShowsNoMore p seen → ShowsNoNew p seen
 no_more_new p seen h s k low e = no_more_piece p seen s (other p.side) k h low e
 
-pub no_more_in_hand : NoMoreIsInHand
-no_more_in_hand p seen v h =
+pub no_more_is_within_turn : NoMoreIsWithinTurn
+no_more_is_within_turn p seen v h =
     record {
       theirs = no_more_new p seen h;
       kings = apart_unless seen p.side (no_more_apart p seen v h);
@@ -80,7 +80,7 @@ resting_waits start moves seen v l (inr lacks) = (
   λ n. lacking_replaces start moves seen n v l lacks,
 )
 
-resting_no_sign : (p : Parts) (seen : List ℕ) → Valid p → MayRest p seen → (outcome : Outcome) → ¬ IsSign p seen outcome
+resting_no_sign : (p : Parts) (seen : List ℕ) → Valid p → ShowsNoMoreOrLacksKing p seen → (outcome : Outcome) → ¬ IsSign p seen outcome
 resting_no_sign p seen v (inl h) outcome = no_more_sign p seen v h p outcome
 resting_no_sign p seen v (inr lacks) outcome = lacking_no_sign p seen outcome lacks
 
@@ -99,7 +99,7 @@ NoSignLast p (entry ∷ past) = (outcome : Outcome) → ¬ IsSign p entry.pictur
 rest_step :
     (start : Parts) (plies : List Ply) (sign : Option Outcome) (past : List Entry) (entry : Entry)
     → IsSound start plies
-    → MayRest (reached start (moves_of plies)) entry.picture
+    → ShowsNoMoreOrLacksKing (reached start (moves_of plies)) entry.picture
     → Gives start (with_sign plies sign) past
     → Gives start (with_sign plies sign) (entry ∷ past)
 rest_step start plies sign past entry s rest g =
@@ -113,7 +113,7 @@ rest_step start plies sign past entry s rest g =
 pub rest_all :
     (start : Parts) (plies : List Ply) (sign : Option Outcome) (entries past : List Entry)
     → IsSound start plies
-    → AllRest (reached start (moves_of plies)) entries
+    → AllShowNoMoreOrLackKing (reached start (moves_of plies)) entries
     → Gives start (with_sign plies sign) past
     → Gives start (with_sign plies sign) (reverse_aux entries past)
 rest_all start plies sign [] past s a g = g
@@ -123,7 +123,7 @@ rest_all start plies sign (entry ∷ entries) past s a g =
 pub rest_last :
     (start : Parts) (plies : List Ply) (entries past : List Entry)
     → IsSound start plies
-    → AllRest (reached start (moves_of plies)) entries
+    → AllShowNoMoreOrLackKing (reached start (moves_of plies)) entries
     → NoSignLast (reached start (moves_of plies)) past
     → NoSignLast (reached start (moves_of plies)) (reverse_aux entries past)
 rest_last start plies [] past s a n = n
@@ -160,9 +160,9 @@ pub kings_end :
     (start : Parts) (moves : List Move) (lists : List (List Entry)) (clearing later : List Entry) (kings : Entry) (outcome : Outcome)
     (score : Score)
     → Valid start → Line start moves → ShownEach start moves lists
-    → AllRest (position_after start moves) clearing
+    → AllShowNoMoreOrLackKing (position_after start moves) clearing
     → IsSign (position_after start moves) kings.picture outcome
-    → AllRest (position_after start moves) later
+    → AllShowNoMoreOrLackKing (position_after start moves) later
     → GivesScore start (joined lists ++ (clearing ++ kings ∷ later)) score
     → score ≡ score_of (shown_plies start moves lists) (Some outcome)
 kings_end start moves lists clearing later kings outcome score v l h a k b f =
@@ -170,8 +170,8 @@ kings_end start moves lists clearing later kings outcome score v l h a k b f =
     let made : MakesMove start plies (joined lists) [] = line_ends start moves lists v l h in
     let s : IsSound start plies = made.sound in
     let at : position_after start moves ≡ reached start (moves_of plies) = sym (reached_shown start moves lists h) in
-    let A : Parts → Type 0 = λ x. AllRest x clearing in
-    let B : Parts → Type 0 = λ x. AllRest x later in
+    let A : Parts → Type 0 = λ x. AllShowNoMoreOrLackKing x clearing in
+    let B : Parts → Type 0 = λ x. AllShowNoMoreOrLackKing x later in
     let K : Parts → Type 0 = λ x. IsSign x kings.picture outcome in
     let past : List Entry = reverse_aux (joined lists) [] in
     let one : Gives start (with_sign plies None) (reverse_aux clearing past) = rest_all start plies None clearing past s (subst A at a) (made.ends).score in

@@ -10,21 +10,21 @@ use Rattle.chess_rules.specs.Valid.{Valid}
 use Rattle.settle_core.specs.declared.plies.Ply.{Ply}
 use Rattle.settle_core.specs.Entries.{Entry}
 use Rattle.settle_core.specs.Folding.{Score, moves_of}
-use Rattle.settle_core.specs.HonestPlay.{AllPass, HasOneMore, HasWhole, HoldsOne, IsFront, IsInHand, MayPass, IsCapture, shown_plies}
+use Rattle.settle_core.specs.HonestPlay.{AllWithinTurnOrLackKing, HasOneMore, HasWhole, HoldsOne, IsFront, IsWithinTurn, IsWithinTurnOrLacksKing, IsCapture, shown_plies}
 use Rattle.settle_core.specs.Laws.{GivesScore, joined}
 use Rattle.settle_core.specs.Settling.{Line, position_after}
 
--- The whole picture of a move that takes no piece has pieces in hand: so it may stand among the pictures on the way to
--- this move, and to any other of the same side.
-abbrev pub WholeMoveIsInHand : Type 0
-WholeMoveIsInHand = (p : Parts) (m : Move) → Valid p → Legal p m → ¬ IsCapture p m → IsInHand p (picture (after p m))
+-- The whole picture of a move that takes no piece is within the mover's turn: so it may stand among the pictures on the
+-- way to this move, and to any other of the same side.
+abbrev pub WholeMoveIsWithinTurn : Type 0
+WholeMoveIsWithinTurn = (p : Parts) (m : Move) → Valid p → Legal p m → ¬ IsCapture p m → IsWithinTurn p (picture (after p m))
 
 -- The entries, in their order, show the move in the end: the last of them has the picture after the move, and others
 -- may have it too.
 abbrev pub ShownInTheEnd : Parts → Move → List Entry → Type 0
 ShownInTheEnd p m [] = ⊥
 ShownInTheEnd p m (entry ∷ []) = entry.picture ≡ picture (after p m)
-ShownInTheEnd p m (entry ∷ next ∷ more) = MayPass p entry.picture × ShownInTheEnd p m (next ∷ more)
+ShownInTheEnd p m (entry ∷ next ∷ more) = IsWithinTurnOrLacksKing p entry.picture × ShownInTheEnd p m (next ∷ more)
 
 -- The lists of entries show the moves of a line, one list for each.
 abbrev pub ShownEachInTheEnd : Parts → List Move → List (List Entry) → Type 0
@@ -51,7 +51,7 @@ MadeAgainStops =
     → Valid start
     → Line start moves
     → ShownEachInTheEnd start moves lists
-    → AllPass (position_after start moves) part
+    → AllWithinTurnOrLackKing (position_after start moves) part
     → GivesScore start (joined lists ++ part) score
     → (score.sign ≡ None) × ((made : List Ply) × (moves_of made ≡ moves)
     × ((reverse score.plies ≡ made) ⊎ HasOneMore (position_after start moves) made part (reverse score.plies)))

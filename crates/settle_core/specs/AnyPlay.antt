@@ -12,7 +12,7 @@ use Rattle.settle_core.specs.declared.plies.Ply.{Ply}
 use Rattle.settle_core.specs.Entries.{Entry, deduplicated, last_picture}
 use Rattle.settle_core.specs.Settling.{Line, Played, Settles, position_after, reached}
 use Rattle.settle_core.specs.Folding.{Folds, Replaces, Score, moves_of, time_of}
-use Rattle.settle_core.specs.HonestPlay.{AllPass, AllRest, HasWhole, ShownEach, shown_plies}
+use Rattle.settle_core.specs.HonestPlay.{AllShowNoMoreOrLackKing, AllWithinTurnOrLackKing, HasWhole, ShownEach, shown_plies}
 use Rattle.settle_core.specs.Laws.{joined}
 use Rattle.settle_core.specs.Sign.{InCentre, IsSign}
 
@@ -71,7 +71,7 @@ ResumedPlayStops =
     → last_picture past ≡ Some (picture (reached start (moves_of before.plies)))
     → Line (reached start (moves_of before.plies)) moves
     → ShownEach (reached start (moves_of before.plies)) moves lists
-    → AllPass (position_after (reached start (moves_of before.plies)) moves) part
+    → AllWithinTurnOrLackKing (position_after (reached start (moves_of before.plies)) moves) part
     → Folds start (deduplicated (reverse (joined lists ++ part) ++ past)) score
     → (score.sign ≡ None) × ((made : List Ply) × (reverse score.plies ≡ reverse before.plies ++ made)
     × HasWhole (reached start (moves_of before.plies)) moves lists part made)
@@ -87,9 +87,9 @@ KingsEndResumedPlay =
     → last_picture past ≡ Some (picture (reached start (moves_of before.plies)))
     → Line (reached start (moves_of before.plies)) moves
     → ShownEach (reached start (moves_of before.plies)) moves lists
-    → AllRest (position_after (reached start (moves_of before.plies)) moves) clearing
+    → AllShowNoMoreOrLackKing (position_after (reached start (moves_of before.plies)) moves) clearing
     → IsSign (position_after (reached start (moves_of before.plies)) moves) kings.picture outcome
-    → AllRest (position_after (reached start (moves_of before.plies)) moves) later
+    → AllShowNoMoreOrLackKing (position_after (reached start (moves_of before.plies)) moves) later
     → Folds start (deduplicated (reverse (joined lists ++ (clearing ++ kings ∷ later)) ++ past)) score
     → score ≡ record {
       plies = reverse (shown_plies (reached start

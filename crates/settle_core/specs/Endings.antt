@@ -6,25 +6,25 @@ use Rattle.chess_rules.specs.Valid.{Valid}
 use Rattle.settle_core.specs.declared.plies.Outcome.{Outcome}
 use Rattle.settle_core.specs.Entries.{Entry}
 use Rattle.settle_core.specs.Folding.{Score, score_of}
-use Rattle.settle_core.specs.HonestPlay.{AllRest, HasWhole, IsFront, ShownEach, shown_plies}
+use Rattle.settle_core.specs.HonestPlay.{AllShowNoMoreOrLackKing, HasWhole, IsFront, ShownEach, shown_plies}
 use Rattle.settle_core.specs.Laws.{GivesScore, joined}
 use Rattle.settle_core.specs.Settling.{Line, position_after}
 use Rattle.settle_core.specs.Sign.{IsSign}
 
 -- The kings' picture, the sign of a result, stands among others on which pieces are taken off or set up.
-pub record HasKings (p : Parts) (outcome : Outcome) (entries : List Entry) : Type 0 where
+pub record HasKingsSign (p : Parts) (outcome : Outcome) (entries : List Entry) : Type 0 where
   pub clearing : List Entry
   pub kings : Entry
   pub later : List Entry
   pub are : entries ≡ clearing ++ kings ∷ later
-  pub clears : AllRest p clearing
+  pub clears : AllShowNoMoreOrLackKing p clearing
   pub is_sign : IsSign p kings.picture outcome
-  pub rests : AllRest p later
+  pub rests : AllShowNoMoreOrLackKing p later
 
 -- What is seen after the last move: pieces are taken off and set up again, and in between the kings may give a sign.
 abbrev pub IsEnd : Parts → Option Outcome → List Entry → Type 0
-IsEnd p None entries = AllRest p entries
-IsEnd p (Some outcome) entries = HasKings p outcome entries
+IsEnd p None entries = AllShowNoMoreOrLackKing p entries
+IsEnd p (Some outcome) entries = HasKingsSign p outcome entries
 
 -- After honest play and such an end, the score is the plies of the line, with the sign.
 abbrev pub HonestPlayEnds : Type 0

@@ -1,4 +1,4 @@
--- Pictures that show a move honestly: while pieces are in hand, and at the move's end.
+-- Pictures that show a move honestly: within the mover's turn, and at the move's end.
 use Rattle.std.specs.Prelude.{◌≡◌, ◌≢◌, ◌⊎◌, ℕ, ◌<◌, List, [], ◌∷◌, ◌++◌, Option, None, IsSome, length, slice_index}
 use Rattle.std.specs.List.{flat_map}
 use Rattle.chess_clock.specs.declared.times.Reading.{Reading}
@@ -31,10 +31,10 @@ abbrev pub HasKingsApart : List ℕ → Type 0
 HasKingsApart seen = (white black : ℕ) → InCentre white → InCentre black
     → slice_index seen white ≡ code_of_piece White King → slice_index seen black ≢ code_of_piece Black King
 
--- The picture shows the mover with pieces in hand. His own pieces may show anywhere, or nowhere. A piece of the other
--- side shows where it stands, or nowhere. The kings are not both in the centre. And no capture shows: the picture is
--- not that after a legal move that takes a piece.
-pub record IsInHand (p : Parts) (seen : List ℕ) : Type 0 where
+-- The picture is within the mover's turn. His own pieces may show anywhere, or nowhere. A piece of the other side shows
+-- where it stands, or nowhere. The kings are not both in the centre. And no capture shows: the picture is not that
+-- after a legal move that takes a piece.
+pub record IsWithinTurn (p : Parts) (seen : List ℕ) : Type 0 where
   pub theirs : (s : ℕ) (kind : Kind) → s < 64 → slice_index seen s ≡ code_of_piece (other p.side) kind
       → on p.board s ≡ piece_of (other p.side) kind
   pub kings : HasKingsApart seen
@@ -45,25 +45,25 @@ pub record LacksKing (seen : List ℕ) : Type 0 where
   pub side : Side
   pub nowhere : (s : ℕ) → s < 64 → slice_index seen s ≢ code_of_piece side King
 
--- what may be seen between two moves: pieces in hand, or a king off the board, and then whatever else
-abbrev pub MayPass : Parts → List ℕ → Type 0
-MayPass p seen = IsInHand p seen ⊎ LacksKing seen
+-- what may be seen between two moves: a picture within the turn, or a king off the board, and then whatever else
+abbrev pub IsWithinTurnOrLacksKing : Parts → List ℕ → Type 0
+IsWithinTurnOrLacksKing p seen = IsWithinTurn p seen ⊎ LacksKing seen
 
-abbrev pub AllPass : Parts → List Entry → Type 0
-AllPass p [] = Unit {0}
-AllPass p (entry ∷ more) = MayPass p entry.picture × AllPass p more
+abbrev pub AllWithinTurnOrLackKing : Parts → List Entry → Type 0
+AllWithinTurnOrLackKing p [] = Unit {0}
+AllWithinTurnOrLackKing p (entry ∷ more) = IsWithinTurnOrLacksKing p entry.picture × AllWithinTurnOrLackKing p more
 
 -- each square shows what the position has, or nothing
 abbrev pub ShowsNoMore : Parts → List ℕ → Type 0
 ShowsNoMore p seen = (s : ℕ) → s < 64 → (slice_index seen s ≡ code (on p.board s)) ⊎ (slice_index seen s ≡ 0)
 
 -- what may be seen where pieces are taken off or set up: no more than the position has, or a king off the board
-abbrev pub MayRest : Parts → List ℕ → Type 0
-MayRest p seen = ShowsNoMore p seen ⊎ LacksKing seen
+abbrev pub ShowsNoMoreOrLacksKing : Parts → List ℕ → Type 0
+ShowsNoMoreOrLacksKing p seen = ShowsNoMore p seen ⊎ LacksKing seen
 
-abbrev pub AllRest : Parts → List Entry → Type 0
-AllRest p [] = Unit {0}
-AllRest p (entry ∷ more) = MayRest p entry.picture × AllRest p more
+abbrev pub AllShowNoMoreOrLackKing : Parts → List Entry → Type 0
+AllShowNoMoreOrLackKing p [] = Unit {0}
+AllShowNoMoreOrLackKing p (entry ∷ more) = ShowsNoMoreOrLacksKing p entry.picture × AllShowNoMoreOrLackKing p more
 
 -- the move changes what stands on s
 abbrev pub ChangesSquare : Parts → Move → ℕ → Type 0
@@ -127,7 +127,7 @@ pub record IsUnderWay (p : Parts) (m : Move) (seen : List ℕ) : Type 0 where
 abbrev pub Shown : Parts → Move → List Entry → Type 0
 Shown p m [] = ⊥
 Shown p m (entry ∷ []) = entry.picture ≡ picture (after p m)
-Shown p m (entry ∷ next ∷ more) = (MayPass p entry.picture × (entry.picture ≢ picture (after p m))) × Shown p m (next ∷ more)
+Shown p m (entry ∷ next ∷ more) = (IsWithinTurnOrLacksKing p entry.picture × (entry.picture ≢ picture (after p m))) × Shown p m (next ∷ more)
 
 -- The lists of entries show the moves of a line, one list for each.
 abbrev pub ShownEach : Parts → List Move → List (List Entry) → Type 0

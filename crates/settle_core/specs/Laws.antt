@@ -14,7 +14,7 @@ use Rattle.settle_core.specs.declared.plies.Seen.TheVariants.{Waits}
 use Rattle.settle_core.specs.Settling.{Settles, Line, Played, position_after, reached}
 use Rattle.settle_core.specs.Sign.{IsSign}
 use Rattle.settle_core.specs.Folding.{Score, Folds, SeenAs, moves_of}
-use Rattle.settle_core.specs.HonestPlay.{AllPass, HasWhole, IsFront, IsInHand, IsUnderWay, MayRest, ShownEach, ShowsNoMore}
+use Rattle.settle_core.specs.HonestPlay.{AllWithinTurnOrLackKing, HasWhole, IsFront, IsUnderWay, IsWithinTurn, ShownEach, ShowsNoMore, ShowsNoMoreOrLacksKing}
 
 -- the lists, one after the other
 abbrev pub joined : List (List Entry) → List Entry
@@ -35,7 +35,7 @@ HonestPlayFolds =
     → ((score : Score) → GivesScore start (joined lists) score → moves_of (reverse score.plies) ≡ moves)
     × ((first rest : List Entry) (score : Score) → joined lists ≡ first ++ rest → GivesScore start first score → score.sign ≡ None)
 
--- Where honest play stops between two moves: after a line, and then pictures with pieces in hand or a king off the
+-- Where honest play stops between two moves: after a line, and then pictures within the turn or with a king off the
 -- board, no sign stands, and the plies are those of the line, or these and one more: of a legal move that takes no
 -- piece, and that was shown.
 abbrev pub HonestPlayStops : Type 0
@@ -44,7 +44,7 @@ HonestPlayStops =
     → Valid start
     → Line start moves
     → ShownEach start moves lists
-    → AllPass (position_after start moves) part
+    → AllWithinTurnOrLackKing (position_after start moves) part
     → GivesScore start (joined lists ++ part) score
     → (score.sign ≡ None) × HasWhole start moves lists part (reverse score.plies)
 
@@ -67,7 +67,7 @@ RestingWaits =
     (start : Parts) (moves : List Move) (seen : List ℕ)
     → Valid start
     → Played start moves
-    → MayRest (reached start moves) seen
+    → ShowsNoMoreOrLacksKing (reached start moves) seen
     → SeenAs start moves seen Waits
 
 -- Nothing is guessed where two plies were not seen: after moves that are legal in their turn, whatever they are, the
@@ -126,13 +126,13 @@ ThreeUnseenAddNothing =
     → Folds start (entry ∷ past) score
     → (score ≡ before) ⊎ HasAnotherLastPly before score
 
--- A picture that shows no more than the position has has pieces in hand.
-abbrev pub NoMoreIsInHand : Type 0
-NoMoreIsInHand = (p : Parts) (seen : List ℕ) → Valid p → ShowsNoMore p seen → IsInHand p seen
+-- A picture that shows no more than the position has is within the mover's turn.
+abbrev pub NoMoreIsWithinTurn : Type 0
+NoMoreIsWithinTurn = (p : Parts) (seen : List ℕ) → Valid p → ShowsNoMore p seen → IsWithinTurn p seen
 
--- A picture on the way to a move, or a try of its piece, has pieces in hand.
-abbrev pub UnderWayIsInHand : Type 0
-UnderWayIsInHand = (p : Parts) (m : Move) (seen : List ℕ) → Valid p → Legal p m → IsUnderWay p m seen → IsInHand p seen
+-- A picture on the way to a move, or a try of its piece, is within the mover's turn.
+abbrev pub UnderWayIsWithinTurn : Type 0
+UnderWayIsWithinTurn = (p : Parts) (m : Move) (seen : List ℕ) → Valid p → Legal p m → IsUnderWay p m seen → IsWithinTurn p seen
 
 -- Taking out an entry whose picture equals the one before leaves the score: entries are listed with the latest first,
 -- so `later` came after the entry.

@@ -1,4 +1,4 @@
--- What a settler stands for.
+-- What a settler has settled.
 use Rattle.std.specs.Prelude.{◌≡◌, ℕ, Bool, true, false, is_some, List, Option, reverse}
 use Rattle.chess_rules.specs.declared.chess_move.Move.{Move}
 use Rattle.chess_rules.specs.declared.parts.Parts.{Parts}
@@ -10,29 +10,29 @@ use Rattle.settle_core.specs.Settling.{reached}
 use Rattle.settle_core.specs.Folding.{Score, Folds, SeenAs, moves_of}
 
 -- What is seen of a settler: the position that the line starts in, the score, and the last picture, if one was seen.
-pub record Sheet : Type 0 where
+pub record SettlerState : Type 0 where
   pub start : Parts
   pub score : Score
   pub last : Option (List ℕ)
 
 -- whether a picture was seen
-abbrev pub has_seen : Sheet → Bool
-has_seen sheet = is_some sheet.last
+abbrev pub has_seen : SettlerState → Bool
+has_seen settler = is_some settler.last
 
 -- the position that the plies lead to
-abbrev pub position_of : Sheet → Parts
-position_of sheet = reached sheet.start (moves_of sheet.score.plies)
+abbrev pub position_of : SettlerState → Parts
+position_of settler = reached settler.start (moves_of settler.score.plies)
 
 -- the plies in their order
-abbrev pub plies_of : Sheet → List Ply
-plies_of sheet = reverse sheet.score.plies
+abbrev pub plies_of : SettlerState → List Ply
+plies_of settler = reverse settler.score.plies
 
 -- From this start the settler was given these entries, the latest first: its last picture is that of the last entry,
 -- and its plies and sign are those of the entries without repeated pictures.
-pub record StandsFor (sheet : Sheet) (start : Parts) (past : List Entry) : Type 0 where
-  pub start_is : sheet.start ≡ start
-  pub last : sheet.last ≡ last_picture past
-  pub folds : Folds start (deduplicated past) sheet.score
+pub record HasSettled (settler : SettlerState) (start : Parts) (past : List Entry) : Type 0 where
+  pub start_is : settler.start ≡ start
+  pub last : settler.last ≡ last_picture past
+  pub folds : Folds start (deduplicated past) settler.score
 
 -- what a picture that is not the last one shows after these entries
 abbrev pub ReturnsNewSeen : Parts → List Entry → List ℕ → Seen → Type 0

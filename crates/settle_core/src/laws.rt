@@ -1,9 +1,9 @@
 //! What holds of all games: each law is the contract of a function, which changes nothing. `candidate` and `diff_mask`,
 //! which read a move off two pictures, can be had from here too.
-ghost use Rattle.settle_core.specs.AnyHands.{MadeAgainStops, OneHandStops, TakenBackAndMadeAgain, WholeMoveIsInHand};
+ghost use Rattle.settle_core.specs.AnyHands.{MadeAgainStops, OneHandStops, TakenBackAndMadeAgain, WholeMoveIsWithinTurn};
 ghost use Rattle.settle_core.specs.AnyPlay.{HonestPlayResumes, KingsEndResumedPlay, KingsInCentreKeepThePlies, KingsInCentreMakeNoMove, NothingIsInvented, OnlyTheLastPlyMayChange, ResumedPlayStops};
 ghost use Rattle.settle_core.specs.Endings.{HonestPlayEnds, HonestPlayStopsAnywhere};
-ghost use Rattle.settle_core.specs.Laws.{FoldsOnce, FrontsOfHonestPlay, HonestPlayFolds, HonestPlayStops, NoEntryGivesTwo, NoMoreIsInHand, RepeatsCountOnce, RestingWaits, SignsSettleNothing, ThreeUnseenAddNothing, ThreeUnseenSettleNothing, TwoUnseenChangeNothing, TwoUnseenWait, UnderWayIsInHand};
+ghost use Rattle.settle_core.specs.Laws.{FoldsOnce, FrontsOfHonestPlay, HonestPlayFolds, HonestPlayStops, NoEntryGivesTwo, NoMoreIsWithinTurn, RepeatsCountOnce, RestingWaits, SignsSettleNothing, ThreeUnseenAddNothing, ThreeUnseenSettleNothing, TwoUnseenChangeNothing, TwoUnseenWait, UnderWayIsWithinTurn};
 
 pub use crate::candidate::candidate;
 pub use crate::masks::diff_mask;
@@ -42,14 +42,14 @@ pub fn three_unseen_settle_nothing()
     ensures score { ThreeUnseenAddNothing }
 {}
 
-/// A picture on the way to a move, or a try of its piece, has pieces in hand.
-pub fn under_way_is_in_hand()
-    ensures { UnderWayIsInHand }
+/// A picture on the way to a move, or a try of its piece, is within the mover's turn.
+pub fn under_way_is_within_turn()
+    ensures { UnderWayIsWithinTurn }
 {}
 
-/// A picture has pieces in hand, too, where each square shows what the position has there, or nothing.
-pub fn no_more_is_in_hand()
-    ensures { NoMoreIsInHand }
+/// So is a picture on which each square shows what the position has there, or nothing.
+pub fn no_more_is_within_turn()
+    ensures { NoMoreIsWithinTurn }
 {}
 
 /// An entry whose picture equals the one before counts for nothing.
@@ -106,10 +106,10 @@ pub fn honest_play_stops_anywhere()
 {}
 
 /// A move that takes no piece may be made whole, taken back and made again before the other side begins. Its whole
-/// picture has pieces in hand, and honest play with such pictures folds to its moves. Where it stops between two moves,
-/// there may be one ply more, of a move that was tried.
+/// picture is within the mover's turn, and honest play with such pictures folds to its moves. Where it stops between two
+/// moves, there may be one ply more, of a move that was tried.
 pub fn moves_may_be_made_again()
-    ensures hand { WholeMoveIsInHand }
+    ensures whole { WholeMoveIsWithinTurn }
     ensures folds { TakenBackAndMadeAgain }
     ensures stops { MadeAgainStops }
 {}

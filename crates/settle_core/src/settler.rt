@@ -11,7 +11,7 @@ ghost use Rattle.settle_core.specs.Lost.{Loses, MayHideTwo};
 ghost use Rattle.settle_core.specs.Masks.{IsDiff};
 ghost use Rattle.settle_core.specs.Settling.{Settles, Line, position_after, reached};
 ghost use Rattle.settle_core.specs.Folding.{Folds, Replaces, SeenAs, moves_of, played, score_after, score_of, time_of as time_in};
-ghost use Rattle.settle_core.specs.Settler.{StandsFor, ReturnsSeen, GivesMove, has_seen, plies_of, position_of};
+ghost use Rattle.settle_core.specs.Settler.{HasSettled, ReturnsSeen, GivesMove, has_seen, plies_of, position_of};
 ghost use Rattle.settle_core.specs.Inside.Kept.{CanReplace, IsComparedIn, IsLastSet, last_of, position_in};
 
 use crate::compared::{Compared, shown_after};
@@ -39,14 +39,14 @@ pub struct Settler {
 }
 
 impl Model for Settler {
-    ghost use Rattle.settle_core.specs.Settler.{Sheet};
-    ghost use Rattle.settle_core.specs.Inside.Kept.{IsKept, sheet_of};
+    ghost use Rattle.settle_core.specs.Settler.{SettlerState};
+    ghost use Rattle.settle_core.specs.Inside.Kept.{IsKept, settler_state};
     ghost use Rattle.settle_core.specs.Folding.{moves_of};
     ghost use Rattle.std.specs.Prelude.{reverse};
 
-    ghost Value = { Sheet };
+    ghost Value = { SettlerState };
 
-    ghost view = { λ s. sheet_of s.start s.plies.items s.sign s.seen s.picture };
+    ghost view = { λ s. settler_state s.start s.plies.items s.sign s.seen s.picture };
 
     ghost invariant = { λ s. IsKept s.start (moves_of (reverse s.plies.items)) s.here s.before s.picture s.shown };
 }
@@ -98,7 +98,7 @@ fn change_all(compared: &mut Option<Compared>, at: u8, code: u8)
 impl Settler {
     /// A settler that has seen no picture. Takes no memory.
     pub fn new(alloc: Global, start: Position) -> Settler
-        ensures { StandsFor result start [] }
+        ensures { HasSettled result start [] }
     {
         let picture = [0; 64];
         Settler {
@@ -120,15 +120,15 @@ impl Settler {
     /// Memory is taken only where a ply is appended; where there is none, nothing has changed.
     pub fn see(&mut self, picture: &[u8; 64], clock: Option<Reading>) -> Result<Seen, AllocError>
         requires { All (λ code. code < 16) picture.now }
-        ensures stands { (start : PartsOf) (past : List Entry) → StandsFor self.old start past
-            → OnOk result (StandsFor self.new start (entry_of picture.now clock ∷ past)) }
-        ensures answer { (start : PartsOf) (past : List Entry) → StandsFor self.old start past
+        ensures stands { (start : PartsOf) (past : List Entry) → HasSettled self.old start past
+            → OnOk result (HasSettled self.new start (entry_of picture.now clock ∷ past)) }
+        ensures answer { (start : PartsOf) (past : List Entry) → HasSettled self.old start past
             → IfOk result (ReturnsSeen start past picture.now) }
         // An equal picture leaves the settler as it was.
         ensures same { self.old.last ≡ Some picture.now → (self.new ≡ self.old) × (result ≡ Ok Seen.Same) }
         ensures seen { has_seen self.new ≡ (has_seen self.old || is_ok result) }
         ensures err { OnErr result (self.new ≡ self.old) }
-        ensures memory { (start : PartsOf) (past : List Entry) → StandsFor self.old start past
+        ensures memory { (start : PartsOf) (past : List Entry) → HasSettled self.old start past
             → OnErr result (GivesMove start past picture.now) }
     {
         if self.is_last(picture) {
@@ -161,16 +161,16 @@ impl Settler {
     ) -> Result<Seen, AllocError>
         requires seen { has_seen self.old ≡ true }
         requires code { code < 16 }
-        ensures stands { (start : PartsOf) (before : Entry) (past : List Entry) → StandsFor self.old start (before ∷ past)
-            → OnOk result (StandsFor self.new start (changed before square code clock ∷ before ∷ past)) }
-        ensures answer { (start : PartsOf) (before : Entry) (past : List Entry) → StandsFor self.old start (before ∷ past)
+        ensures stands { (start : PartsOf) (before : Entry) (past : List Entry) → HasSettled self.old start (before ∷ past)
+            → OnOk result (HasSettled self.new start (changed before square code clock ∷ before ∷ past)) }
+        ensures answer { (start : PartsOf) (before : Entry) (past : List Entry) → HasSettled self.old start (before ∷ past)
             → IfOk result (ReturnsSeen start (before ∷ past) (slice_set before.picture square code)) }
         // A code that the square showed leaves the settler as it was.
         ensures same { (picture : List ℕ) → self.old.last ≡ Some picture → slice_set picture square code ≡ picture
             → (self.new ≡ self.old) × (result ≡ Ok Seen.Same) }
         ensures seen { has_seen self.new ≡ true }
         ensures err { OnErr result (self.new ≡ self.old) }
-        ensures memory { (start : PartsOf) (before : Entry) (past : List Entry) → StandsFor self.old start (before ∷ past)
+        ensures memory { (start : PartsOf) (before : Entry) (past : List Entry) → HasSettled self.old start (before ∷ past)
             → OnErr result (GivesMove start (before ∷ past) (slice_set before.picture square code)) }
     {
         let at = square.number();
@@ -304,10 +304,10 @@ impl Settler {
         ensures plies { result.now ≡ plies_of self.now }
         // Each move is legal where it stands.
         ensures line { Line self.now.start (moves_of result.now) }
-        ensures folds { (start : PartsOf) (past : List Entry) → StandsFor self.now start past
+        ensures folds { (start : PartsOf) (past : List Entry) → HasSettled self.now start past
             → Folds start (deduplicated past) (score_of result.now self.now.score.sign) }
         // No entry gives more than one move.
-        ensures count { (start : PartsOf) (past : List Entry) → StandsFor self.now start past → length result.now ≤ length past }
+        ensures count { (start : PartsOf) (past : List Entry) → HasSettled self.now start past → length result.now ≤ length past }
     {
         &self.plies
     }
@@ -392,9 +392,9 @@ impl Settler {
         ensures plies { result.1.items ≡ plies_of self }
         ensures sign { result.2 ≡ self.score.sign }
         ensures line { Line self.start (moves_of result.1.items) }
-        ensures folds { (start : PartsOf) (past : List Entry) → StandsFor self start past
+        ensures folds { (start : PartsOf) (past : List Entry) → HasSettled self start past
             → Folds start (deduplicated past) (score_of result.1.items result.2) }
-        ensures count { (start : PartsOf) (past : List Entry) → StandsFor self start past → length result.1.items ≤ length past }
+        ensures count { (start : PartsOf) (past : List Entry) → HasSettled self start past → length result.1.items ≤ length past }
     {
         (self.start, self.plies, self.sign)
     }

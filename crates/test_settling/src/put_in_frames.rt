@@ -14,7 +14,7 @@ use pair_frames::{MOST, put_in};
 use settle_core::Seen;
 use std::alloc::{AllocError, Global};
 use std::process::Abort;
-use unseen_pairs::{Recoverer, Recovery, Told};
+use unseen_pairs::{Recoverer, Recovery, SeenOrRecovered};
 
 /// How a board is read, and its clocks.
 #[derive(Clone, Copy)]
@@ -95,8 +95,8 @@ fn put_in_at(
     requires { All (λ code. code < 16) picture.now }
 {
     match recoverer.see(alloc, picture, reading_of(clocks))? {
-        Told::Shown(seen) => Ok(none_for(&seen)),
-        Told::Recovered(found) => Ok(put_in_for(board, picture, &found, frames)),
+        SeenOrRecovered::Shown(seen) => Ok(none_for(&seen)),
+        SeenOrRecovered::Recovered(found) => Ok(put_in_for(board, picture, &found, frames)),
     }
 }
 

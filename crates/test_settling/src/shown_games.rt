@@ -8,7 +8,7 @@ use chess_rules::{Position, Square};
 use settle_core::{Outcome, Settler};
 use std::alloc::{AllocError, Global};
 use std::process::Abort;
-use unseen_pairs::{Recoverer, Told};
+use unseen_pairs::{Recoverer, SeenOrRecovered};
 
 /// The picture after 1. e4 e5, with these codes on g1 and f3.
 pub fn after_two(g1: u8, f3: u8) -> [u8; 64]
@@ -60,8 +60,8 @@ pub fn show(
     requires { All (λ code. code < 16) picture.now }
 {
     match recoverer.see(alloc, picture, reading)? {
-        Told::Shown(seen) => Ok(Answer::Shown(shown_of(&seen))),
-        Told::Recovered(recovery) => Ok(recovered_of(&recovery)),
+        SeenOrRecovered::Shown(seen) => Ok(Answer::Shown(shown_of(&seen))),
+        SeenOrRecovered::Recovered(recovery) => Ok(recovered_of(&recovery)),
     }
 }
 

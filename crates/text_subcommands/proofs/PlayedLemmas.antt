@@ -13,7 +13,7 @@ use Rattle.chess_text.specs.Fen.{fen}
 use Rattle.chess_text.specs.San.{San}
 use Rattle.settle_core.specs.Settling.{position_after}
 use Rattle.watched_streams.specs.Input.{ReadsWithin}
-use Rattle.text_subcommands.specs.Played.{Plays, NamesMoves, NamesNoMove, PlaysAll, PlaysPart, RefusesMoves, StopsAfter, fen_lines, line_limit, word_message}
+use Rattle.text_subcommands.specs.Played.{Plays, NamesMoves, NamesNoMove, PlaysAll, PlaysPart, RefusesMoves, StopsAtWord, fen_lines, line_limit, word_message}
 use Rattle.text_subcommands.specs.Messages.{Says, Tells}
 use Rattle.text_subcommands.specs.Streams.{Streams}
 use Rattle.text_subcommands.specs.Words.{filled, is_blank, parts, words}
@@ -111,7 +111,7 @@ plays_to_end start begin all position lines number so =
 
 pub plays_to_word : (start : Parts) (begin : List ℕ) (all behind : List (List ℕ)) (word : List ℕ) (position : Parts) (lines : List ℕ) (number : ℕ)
     → PlaysSoFar start begin all (word ∷ behind) position lines number → NamesNoMove position word
-    → (moves : List Move) × (lines ≡ begin ++ fen_lines start moves) × ((number + 1 ≡ length moves + 1) × StopsAfter start all moves)
+    → (moves : List Move) × (lines ≡ begin ++ fen_lines start moves) × ((number + 1 ≡ length moves + 1) × StopsAtWord start all moves)
 plays_to_word start begin all behind word position lines number so none =
     let P : Parts → Type 0 = λ p. NamesNoMove p word in
     (so.moves, so.played, (ap (λ n. n + 1) so.count, (so.found, behind, word, so.split, so.named, subst P so.here none)))
@@ -167,7 +167,7 @@ match_some {A} P Q o a is holds = let R : Option A → Type 0 = λ x. MatchOptio
 
 -- What is said once the lines of a text were written.
 pub tells_played : (start : Parts) (text lines : List ℕ) (stopped : Option ℕ) (status : ℕ) (written written' said said' : Option (List ℕ)) (out_failed err_failed : Bool) → length text ≤ line_limit
-    → ((moves : List Move) × (lines ≡ fen_lines start moves) × MatchOption stopped (NamesMoves start (words text) moves) (λ number. (number ≡ length moves + 1) × StopsAfter start (words text) moves))
+    → ((moves : List Move) × (lines ≡ fen_lines start moves) × MatchOption stopped (NamesMoves start (words text) moves) (λ number. (number ≡ length moves + 1) × StopsAtWord start (words text) moves))
     → (status ≡ 0 → Keeps said said')
     → (status ≡ 1 → (number : ℕ) × (stopped ≡ Some number) × Appends written written' lines × Says said said' err_failed (word_message number))
     → (status ≡ 3 → (out_failed ≡ true) × Says said said' err_failed (codes "write fault\n")) → status ≤ 3
@@ -177,7 +177,7 @@ tells_played start text lines stopped status written written' said said' out_fai
   refused = λ e.
       (let told = refused e in
       let moves = played.0 in
-      let stops = match_some (NamesMoves start (words text) moves) (λ number. (number ≡ length moves + 1) × StopsAfter start (words text) moves) stopped told.0 told.1 played.2 in
+      let stops = match_some (NamesMoves start (words text) moves) (λ number. (number ≡ length moves + 1) × StopsAtWord start (words text) moves) stopped told.0 told.1 played.2 in
       let P : List ℕ → Type 0 = λ bs. Appends written written' bs in
       (word_message told.0, inr (moves, (within, stops.1), subst P played.1 told.2, ap word_message stops.0), told.3));
   fault = λ e. inr (fault e);

@@ -34,8 +34,8 @@ fen_lines p [] = fen p ++ codes "\n"
 fen_lines p (m ∷ moves) = fen p ++ codes "\n" ++ fen_lines (after p m) moves
 
 -- The first words are moves, and the word after them is none.
-abbrev pub StopsAfter : Parts → List (List ℕ) → List Move → Type 0
-StopsAfter start found moves = (before after : List (List ℕ)) × (word : List ℕ) × (found ≡ before ++ word ∷ after)
+abbrev pub StopsAtWord : Parts → List (List ℕ) → List Move → Type 0
+StopsAtWord start found moves = (before after : List (List ℕ)) × (word : List ℕ) × (found ≡ before ++ word ∷ after)
     × NamesMoves start before moves × NamesNoMove (position_after start moves) word
 
 -- All words of the input, which is within the limit, are moves, and their positions were written.
@@ -52,7 +52,7 @@ word_message number = codes "move " ++ decimal number ++ codes ": not a legal mo
 abbrev pub RefusesMoves : Parts → Option (List ℕ) → Option (List ℕ) → Option (List ℕ) → List ℕ → Type 0
 RefusesMoves start input written written' message =
     (IfSome input (λ bytes. line_limit < length bytes) × Keeps written written' × IsTooLong message)
-    ⊎ ((moves : List Move) × IfSome input (λ bytes. (length bytes ≤ line_limit) × StopsAfter start (words bytes) moves)
+    ⊎ ((moves : List Move) × IfSome input (λ bytes. (length bytes ≤ line_limit) × StopsAtWord start (words bytes) moves)
     × Appends written written' (fen_lines start moves) × (message ≡ word_message (length moves + 1)))
 
 -- A first part was written of the positions up to the end, or up to the first word that is no move.

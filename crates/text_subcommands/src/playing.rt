@@ -10,7 +10,7 @@ ghost use Rattle.chess_text.specs.Fen.{fen as fen_of};
 ghost use Rattle.chess_text.specs.San.{San};
 ghost use Rattle.watched_streams.specs.Watch.{IsFlushed, inner_of, has_failed};
 ghost use Rattle.chess_text.specs.Start.{HasNoStart, StartsAt, given};
-ghost use Rattle.text_subcommands.specs.Played.{Plays, NamesMoves, NamesNoMove, PlaysAll, PlaysPart, RefusesMoves, StopsAfter, fen_lines, word_message};
+ghost use Rattle.text_subcommands.specs.Played.{Plays, NamesMoves, NamesNoMove, PlaysAll, PlaysPart, RefusesMoves, StopsAtWord, fen_lines, word_message};
 ghost use Rattle.text_subcommands.specs.Refusals.{Refuses, RefusesStart};
 ghost use Rattle.text_subcommands.specs.Messages.{Says, Tells};
 ghost use Rattle.text_subcommands.specs.Streams.{streams};
@@ -75,7 +75,7 @@ fn play_words(
     lines: &mut Vec<u8>,
 ) -> Result<Option<usize>, AllocError>
     ensures { IfOk result (λ stopped. (moves : List Move) × (lines.new.items ≡ lines.old.items ++ fen_lines start moves)
-        × MatchOption stopped (NamesMoves start (words text.now) moves) (λ number. (number ≡ length moves + 1) × StopsAfter start (words text.now) moves)) }
+        × MatchOption stopped (NamesMoves start (words text.now) moves) (λ number. (number ≡ length moves + 1) × StopsAtWord start (words text.now) moves)) }
 {
     add_position(lines, &start)?;
     let mut position = start;

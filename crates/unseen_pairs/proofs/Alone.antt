@@ -27,19 +27,19 @@ use Rattle.settle_core.proofs.Pieces.{no_new_after, no_new_partial, settles_end,
 use Rattle.settle_core.proofs.Stages.{EndsAt, lacking_replaces, no_replace, valid_reached}
 use Rattle.settle_core.proofs.Lists.{moves_of_drop}
 use Rattle.unseen_pairs.specs.declared.pair.Recovery.{Recovery}
-use Rattle.unseen_pairs.specs.declared.pair.Told.{Told}
-use Rattle.unseen_pairs.specs.declared.pair.Told.TheVariants.{Shown, Recovered}
+use Rattle.unseen_pairs.specs.declared.pair.SeenOrRecovered.{SeenOrRecovered}
+use Rattle.unseen_pairs.specs.declared.pair.SeenOrRecovered.TheVariants.{Shown, Recovered}
 use Rattle.unseen_pairs.specs.Pairs.{BringsNew, Confirms, Explains, GoesOn, IsAfterTwo, IsInstead, ends, root}
 use Rattle.unseen_pairs.specs.Recovering.{FoldsRecovering, TellsAs, score_told, waiting_after}
 use Rattle.unseen_pairs.specs.Laws.{ConfirmNone}
-use Rattle.unseen_pairs.specs.HonestHands.{EachShownByHand, HonestHandsAreLeftAlone, HonestHandsConfirmNone, IsOnTheWay, MayCome, PlainHandsAreOnTheWay, ShownByHand}
-use Rattle.unseen_pairs.specs.HandsAtRest.{MayStay}
+use Rattle.unseen_pairs.specs.HonestHands.{EachShownByHand, HonestHandsAreLeftAlone, HonestHandsConfirmNone, IsOnTheWay, IsOnTheWayOrLacksKing, PlainHandsAreOnTheWay, ShownByHand}
+use Rattle.unseen_pairs.specs.HandsAtRest.{IsAtRest}
 use Rattle.unseen_pairs.proofs.OnTheWay.{no_correction, no_own_pair, no_reply_pair, no_reply_settles, own_shows_no_more, reply_shows_no_more}
 use Rattle.unseen_pairs.proofs.Recovered.{nothing_put_in}
 use Rattle.unseen_pairs.proofs.Resting.{AllAre, IsResting, LastStays, Rests, are_unless, last_stays, none_are, none_new, shows_no_more, stay_settles}
 
 -- the picture of a position does not lack a king
-on_the_way : (p : Parts) (m : Move) (q : Parts) (seen : List ℕ) → Valid q → seen ≡ picture q → MayCome p m seen → IsOnTheWay p m seen
+on_the_way : (p : Parts) (m : Move) (q : Parts) (seen : List ℕ) → Valid q → seen ≡ picture q → IsOnTheWayOrLacksKing p m seen → IsOnTheWay p m seen
 on_the_way p m q seen v e (inl h) = h
 on_the_way p m q seen v e (inr lacks) = absurd (lacking_no_picture q seen v lacks e)
 
@@ -70,7 +70,7 @@ plain p m seen v l q =
 
 -- what goes on is a move, with a piece on a new square
 goes_by_move :
-    (now p : Parts) (m : Move) (q : Parts) (seen : List ℕ) (a : Seen) → MayCome p m seen → GoesOn now q seen a → (x : Move) × Settles q seen x × BringsNew now q seen
+    (now p : Parts) (m : Move) (q : Parts) (seen : List ℕ) (a : Seen) → IsOnTheWayOrLacksKing p m seen → GoesOn now q seen a → (x : Move) × Settles q seen x × BringsNew now q seen
 goes_by_move now p m q seen (Moved x) c h = (x, h.0, h.1)
 goes_by_move now p m q seen (Sign o) (inl way) h = absurd (no_sign_apart seen way.kings q o h.0)
 goes_by_move now p m q seen (Sign o) (inr lacks) h = absurd (lacking_no_sign q seen o lacks h.0)
@@ -88,8 +88,8 @@ pair_first :
     → IsAfterTwo (reached start (root corrects earlier)) seen k n
     → (corrects ≡ true → IsInstead earlier k)
     → Settles (after (after (reached start (root corrects earlier)) k) n) now x
-    → MayCome (reached start earlier) m seen
-    → MayCome (reached start earlier) m now
+    → IsOnTheWayOrLacksKing (reached start earlier) m seen
+    → IsOnTheWayOrLacksKing (reached start earlier) m now
     → ⊥
 pair_first start earlier m false k n x seen now v h l two instead next a b =
     let p : Parts = reached start earlier in
@@ -116,8 +116,8 @@ rest_first :
     → IsAfterTwo (reached start (root corrects earlier)) seen k n
     → (corrects ≡ true → IsInstead earlier k)
     → Settles (after (after (reached start (root corrects earlier)) k) n) now x
-    → MayStay (reached start earlier) seen
-    → MayCome (reached start earlier) m now
+    → IsAtRest (reached start earlier) seen
+    → IsOnTheWayOrLacksKing (reached start earlier) m now
     → ¬ BringsNew (reached start earlier) (after (after (reached start (root corrects earlier)) k) n) now
 rest_first start earlier m false k n x seen now v h l two instead next stay came new =
     let p : Parts = reached start earlier in
@@ -158,8 +158,8 @@ pair_again :
     → Valid start → Played start earlier → Legal (reached start earlier) m → Legal (reached start earlier) tried
     → IsAfterTwo (reached start (root corrects (tried ∷ earlier))) seen k n
     → Settles (after (after (reached start (root corrects (tried ∷ earlier))) k) n) now x
-    → MayCome (reached start earlier) m seen
-    → MayCome (reached start earlier) m now
+    → IsOnTheWayOrLacksKing (reached start earlier) m seen
+    → IsOnTheWayOrLacksKing (reached start earlier) m now
     → ⊥
 pair_again start earlier m tried true k n x seen now v h l t two next a b =
     pair_first start earlier m false k n x seen now v h l two (λ e. absurd (let never : ⊥ = cc in never)) next a b
@@ -181,12 +181,12 @@ record IsTried (p : Parts) (m : Move) (earlier now : List Move) : Type 0 where
 
 -- what may wait before the move: what may be seen up to it, or while no move is made
 abbrev MayWait : Parts → Move → List ℕ → Type 0
-MayWait p m seen = MayCome p m seen ⊎ MayStay p seen
+MayWait p m seen = IsOnTheWayOrLacksKing p m seen ⊎ IsAtRest p seen
 
 -- the moves that were told, and what waits, on the way to the move
 abbrev IsUpTo : Parts → List Move → Move → List Move → List Entry → Type 0
 IsUpTo start earlier m now waiting = ((now ≡ earlier) × AllAre (λ xs. MayWait (reached start earlier) m xs) waiting)
-    ⊎ (IsTried (reached start earlier) m earlier now × AllAre (λ xs. MayCome (reached start earlier) m xs) waiting)
+    ⊎ (IsTried (reached start earlier) m earlier now × AllAre (λ xs. IsOnTheWayOrLacksKing (reached start earlier) m xs) waiting)
 
 -- what is known of the line so far, and of its next move
 pub record IsNext (start : Parts) (earlier : List Move) (m : Move) : Type 0 where
@@ -202,7 +202,7 @@ confirms_none :
     (start : Parts) (earlier : List Move) (m : Move) (now : List Move) (waiting : List Entry) (seen : List ℕ) (r : Recovery)
     → IsNext start earlier m
     → IsUpTo start earlier m now waiting
-    → MayCome (reached start earlier) m seen
+    → IsOnTheWayOrLacksKing (reached start earlier) m seen
     → ¬ Confirms start now waiting seen r
 confirms_none start earlier m now waiting seen r s up came c =
     let p : Parts = reached start earlier in
@@ -233,7 +233,7 @@ none_again :
     (start : Parts) (earlier : List Move) (m : Move) (now : List Move) (seen : List ℕ) (n : Move)
     → IsNext start earlier m
     → IsTried (reached start earlier) m earlier now
-    → MayCome (reached start earlier) m seen
+    → IsOnTheWayOrLacksKing (reached start earlier) m seen
     → ¬ Settles (reached start now) seen n
 none_again start earlier m now seen n s t came h =
     let p : Parts = reached start earlier in
@@ -246,14 +246,14 @@ none_again start earlier m now seen n s t came h =
 -- no move is settled in the place of the last one before
 none_instead :
     (start : Parts) (earlier : List Move) (m : Move) (seen : List ℕ) (n : Move)
-    → IsNext start earlier m → MayCome (reached start earlier) m seen → ¬ Replaces start earlier seen n
+    → IsNext start earlier m → IsOnTheWayOrLacksKing (reached start earlier) m seen → ¬ Replaces start earlier seen n
 none_instead start earlier m seen n s (inl way) h = no_replace start earlier n seen s.valid s.played way.nowhere_else h
 none_instead start earlier m seen n s (inr lacks) h = lacking_replaces start earlier seen n s.valid s.played lacks h
 
 tried_now :
     (start : Parts) (earlier : List Move) (m : Move) (now : List Move) (seen : List ℕ) (n : Move)
     → IsNext start earlier m
-    → MayCome (reached start earlier) m seen
+    → IsOnTheWayOrLacksKing (reached start earlier) m seen
     → Settles (reached start earlier) seen n
     → now ≡ n ∷ earlier
     → IsTried (reached start earlier) m earlier now
@@ -265,10 +265,10 @@ tried_now start earlier m now seen n s came h is =
 
 -- one more entry
 told_more :
-    (start : Parts) (earlier : List Move) (m : Move) (score : Score) (waiting : List Entry) (entry : Entry) (told : Told)
+    (start : Parts) (earlier : List Move) (m : Move) (score : Score) (waiting : List Entry) (entry : Entry) (told : SeenOrRecovered)
     → IsNext start earlier m
     → IsUpTo start earlier m (moves_of score.plies) waiting
-    → MayCome (reached start earlier) m entry.picture
+    → IsOnTheWayOrLacksKing (reached start earlier) m entry.picture
     → TellsAs start (moves_of score.plies) waiting entry.picture told
     → IsUpTo start earlier m (moves_of (score_told start score entry.reading told).plies) (waiting_after start (moves_of score.plies) waiting entry told)
 told_more start earlier m score waiting entry (Recovered r) s up came h =
@@ -279,11 +279,11 @@ told_more start earlier m score waiting entry (Shown Waits) s up came h =
     let own : Bool = bytes_eq entry.picture (picture (reached start (moves_of score.plies))) in
     elim up [
       | inl e ↦ inl (e.0, are_unless (λ xs. MayWait p m xs) own waiting entry e.1 (inl came))
-      | inr t ↦ inr (t.0, are_unless (λ xs. MayCome p m xs) own waiting entry t.1 came)
+      | inr t ↦ inr (t.0, are_unless (λ xs. IsOnTheWayOrLacksKing p m xs) own waiting entry t.1 came)
     ]
 told_more start earlier m score waiting entry (Shown (Sign o)) s up came h =
     let p : Parts = reached start earlier in
-    elim up [ inl e ↦ inl (e.0, none_are (λ xs. MayWait p m xs)) | inr t ↦ inr (t.0, none_are (λ xs. MayCome p m xs)) ]
+    elim up [ inl e ↦ inl (e.0, none_are (λ xs. MayWait p m xs)) | inr t ↦ inr (t.0, none_are (λ xs. IsOnTheWayOrLacksKing p m xs)) ]
 told_more start earlier m score waiting entry (Shown (Moved n)) s up came h =
     let p : Parts = reached start earlier in
     let S : List Move → Type 0 = λ ms. Settles (reached start ms) entry.picture n in
@@ -291,7 +291,7 @@ told_more start earlier m score waiting entry (Shown (Moved n)) s up came h =
       | inl e ↦
           inr (
             tried_now start earlier m (n ∷ moves_of score.plies) entry.picture n s came (subst S e.0 h.0) (ap (λ (ms : List Move). n ∷ ms) e.0),
-            none_are (λ xs. MayCome p m xs),
+            none_are (λ xs. IsOnTheWayOrLacksKing p m xs),
           )
       | inr t ↦ absurd (none_again start earlier m (moves_of score.plies) entry.picture n s t.0 came h.0)
     ]
@@ -305,7 +305,7 @@ told_more start earlier m score waiting entry (Shown (Replaced n)) s up came h =
           inr (
             tried_now start earlier m (n ∷ moves_of (drop 1 score.plies)) entry.picture n s came k.0
                 (ap (λ (ms : List Move). n ∷ ms) (moves_of_drop score.plies ∙ ap (λ (ms : List Move). drop 1 ms) (t.0).is)),
-            none_are (λ xs. MayCome p m xs),
+            none_are (λ xs. IsOnTheWayOrLacksKing p m xs),
           )
     ]
 
@@ -339,10 +339,10 @@ end_waits start earlier m now waiting entry s t e h false own =
 
 -- the entry with the picture after the move
 told_end :
-    (start : Parts) (earlier : List Move) (m : Move) (score : Score) (waiting : List Entry) (entry : Entry) (told : Told)
+    (start : Parts) (earlier : List Move) (m : Move) (score : Score) (waiting : List Entry) (entry : Entry) (told : SeenOrRecovered)
     → IsNext start earlier m
     → IsUpTo start earlier m (moves_of score.plies) waiting
-    → MayCome (reached start earlier) m entry.picture
+    → IsOnTheWayOrLacksKing (reached start earlier) m entry.picture
     → entry.picture ≡ picture (after (reached start earlier) m)
     → TellsAs start (moves_of score.plies) waiting entry.picture told
     → IsMade (m ∷ earlier) (moves_of (score_told start score entry.reading told).plies) (waiting_after start (moves_of score.plies) waiting entry told)
@@ -410,7 +410,7 @@ comes_again start earlier m past entry same c =
 comes_new :
     (start : Parts) (earlier : List Move) (m : Move) (past : List Entry) (entry : Entry)
     → IsNext start earlier m
-    → MayCome (reached start earlier) m entry.picture
+    → IsOnTheWayOrLacksKing (reached start earlier) m entry.picture
     → repeats entry.picture past ≡ false → Comes start earlier m past → Comes start earlier m (entry ∷ past)
 comes_new start earlier m past entry s came new c =
     let one : deduplicated (entry ∷ past) ≡ entry ∷ deduplicated past = cond-false (repeats entry.picture past) (deduplicated past) (entry ∷ deduplicated past) new in
@@ -435,7 +435,7 @@ comes_new start earlier m past entry s came new c =
 comes_more :
     (start : Parts) (earlier : List Move) (m : Move) (past : List Entry) (entry : Entry)
     → IsNext start earlier m
-    → MayCome (reached start earlier) m entry.picture
+    → IsOnTheWayOrLacksKing (reached start earlier) m entry.picture
     → Comes start earlier m past → Comes start earlier m (entry ∷ past)
 comes_more start earlier m past entry s came c =
     elim (cases_Bool (repeats entry.picture past)) [
@@ -458,7 +458,7 @@ resting start moves past v played s =
       kept = λ score waiting f.
           let made = s.made score waiting f in
           let R : List Entry → Type 0 = λ ws. IsResting start moves (moves_of score.plies) ws in
-          subst R (sym made.1) (record { moves_are = made.0; stays = none_are (λ xs. MayStay p xs) });
+          subst R (sym made.1) (record { moves_are = made.0; stays = none_are (λ xs. IsAtRest p xs) });
       last = last_stays p past (valid_reached start moves v played) s.last;
     }
 

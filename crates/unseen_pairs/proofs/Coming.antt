@@ -9,11 +9,11 @@ use Rattle.settle_core.specs.declared.plies.Seen.TheVariants.{Same, Moved, Sign,
 use Rattle.settle_core.specs.Entries.{Entry}
 use Rattle.settle_core.specs.Settling.{reached}
 use Rattle.settle_core.specs.Folding.{Replaces, Score, moves_of, score_after}
-use Rattle.unseen_pairs.specs.declared.pair.Told.{Told}
-use Rattle.unseen_pairs.specs.declared.pair.Told.TheVariants.{Shown, Recovered}
+use Rattle.unseen_pairs.specs.declared.pair.SeenOrRecovered.{SeenOrRecovered}
+use Rattle.unseen_pairs.specs.declared.pair.SeenOrRecovered.TheVariants.{Shown, Recovered}
 use Rattle.unseen_pairs.specs.Pairs.{GoesOn, root}
 use Rattle.unseen_pairs.specs.Recovering.{FoldsRecovering, TellsAs, recovered, score_told}
-use Rattle.unseen_pairs.specs.Laws.{AllComeFrom, NothingIsInvented, WasRecovered, WasShown}
+use Rattle.unseen_pairs.specs.Laws.{AllComeFrom, PliesAreShownOrRecovered, WasRecovered, WasShown}
 use Rattle.unseen_pairs.proofs.Putting.{roots}
 
 still_shown : (start : Parts) (ply : Ply) (earlier : List Ply) (entry : Entry) (past : List Entry) → WasShown start ply earlier past → WasShown start ply earlier (entry ∷ past)
@@ -82,7 +82,7 @@ sequel_come now start score Waits entry past g h = absurd g
 sequel_come now start score Same entry past g h = absurd g
 
 told_come :
-    (start : Parts) (entry : Entry) (past : List Entry) (before : Score) (waited : List Entry) (told : Told)
+    (start : Parts) (entry : Entry) (past : List Entry) (before : Score) (waited : List Entry) (told : SeenOrRecovered)
     → FoldsRecovering start past before waited
     → TellsAs start (moves_of before.plies) waited entry.picture told
     → AllComeFrom start before.plies past
@@ -134,7 +134,7 @@ told_come start entry past before waited (Recovered r) f t h =
     let G : List Move → Type 0 = λ ms. GoesOn (reached start (moves_of before.plies)) (after (after (reached start ms) r.pair.first) r.pair.second) entry.picture r.sequel in
     sequel_come (reached start (moves_of before.plies)) start s r.sequel entry past (subst G same (t.1).goes_on) two
 
-pub nothing_is_invented : NothingIsInvented
+pub nothing_is_invented : PliesAreShownOrRecovered
 nothing_is_invented start [] score waiting h = let P : Score → Type 0 = λ s. AllComeFrom start s.plies [] in subst P (sym h.0) tt
 nothing_is_invented start (entry ∷ past) score waiting h =
     let P : Score → Type 0 = λ s. AllComeFrom start s.plies (entry ∷ past) in

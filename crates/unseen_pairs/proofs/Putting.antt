@@ -19,7 +19,7 @@ use Rattle.settle_core.proofs.Once.{folds_played, replies_replace_nothing, signs
 use Rattle.settle_core.proofs.Stages.{valid_reached}
 use Rattle.unseen_pairs.specs.declared.pair.Pair.{Pair}
 use Rattle.unseen_pairs.specs.declared.pair.Recovery.{Recovery}
-use Rattle.unseen_pairs.specs.declared.pair.Told.TheVariants.{Recovered}
+use Rattle.unseen_pairs.specs.declared.pair.SeenOrRecovered.TheVariants.{Recovered}
 use Rattle.unseen_pairs.specs.Pairs.{Confirms, Explains, GoesOn, IsInstead, ends, root}
 use Rattle.unseen_pairs.specs.Recovering.{recovered, score_told}
 

@@ -20,8 +20,8 @@ use Rattle.settle_core.proofs.Once.{folds_played, shows_once}
 use Rattle.settle_core.proofs.Stages.{valid_reached}
 use Rattle.unseen_pairs.specs.declared.pair.Pair.{Pair}
 use Rattle.unseen_pairs.specs.declared.pair.Recovery.{Recovery}
-use Rattle.unseen_pairs.specs.declared.pair.Told.{Told}
-use Rattle.unseen_pairs.specs.declared.pair.Told.TheVariants.{Shown, Recovered}
+use Rattle.unseen_pairs.specs.declared.pair.SeenOrRecovered.{SeenOrRecovered}
+use Rattle.unseen_pairs.specs.declared.pair.SeenOrRecovered.TheVariants.{Shown, Recovered}
 use Rattle.unseen_pairs.specs.Pairs.{Confirms, ExplainsAt, GoesOn, begins, ends}
 use Rattle.unseen_pairs.specs.Recovering.{FoldsRecovering, TellsAs, score_told, waiting_after}
 use Rattle.unseen_pairs.specs.Recoverer.{written_after}
@@ -31,7 +31,7 @@ use Rattle.unseen_pairs.proofs.Telling.{valid_root}
 
 -- where no pair is told
 shown_folds :
-    (start : Parts) (entry : Entry) (past : List Entry) (before score : Score) (waited : List Entry) (told : Told)
+    (start : Parts) (entry : Entry) (past : List Entry) (before score : Score) (waited : List Entry) (told : SeenOrRecovered)
     → ((r : Recovery) → ¬ TellsAs start (moves_of before.plies) waited entry.picture (Recovered r))
     → TellsAs start (moves_of before.plies) waited entry.picture told
     → Folds start past before
@@ -81,7 +81,7 @@ is_written start past score waiting =
     (recovers_writes start past score waiting, λ h. writes_recovers start past h.0 score waiting h.1)
 
 given_after :
-    (start : Parts) (moves : List Move) (entry : Entry) (waited earlier : List Entry) (told : Told)
+    (start : Parts) (moves : List Move) (entry : Entry) (waited earlier : List Entry) (told : SeenOrRecovered)
     → ((r : Recovery) → ¬ TellsAs start moves waited entry.picture (Recovered r))
     → TellsAs start moves waited entry.picture told
     → written_after entry told earlier ≡ entry ∷ earlier
@@ -96,7 +96,7 @@ nothing_put_in start (entry ∷ past) written score waiting none h =
     ∙ ap (λ es. entry ∷ es) (nothing_put_in start past h.3 h.0 h.1 none.0 h.4)
 
 told_folds :
-    (start : Parts) (entry : Entry) (earlier : List Entry) (before score : Score) (waited : List Entry) (told : Told)
+    (start : Parts) (entry : Entry) (earlier : List Entry) (before score : Score) (waited : List Entry) (told : SeenOrRecovered)
     → Valid start
     → Folds start earlier before
     → TellsAs start (moves_of before.plies) waited entry.picture told
@@ -179,7 +179,7 @@ confirms_once start moves waiting seen r s v played g h =
     (goes_once (reached start moves) (ends start moves r.pair) seen r.sequel s.sequel ue g.goes_on (subst G (sym pair) h.goes_on))
 
 told_once :
-    (start : Parts) (moves : List Move) (waiting : List Entry) (seen : List ℕ) (a b : Told)
+    (start : Parts) (moves : List Move) (waiting : List Entry) (seen : List ℕ) (a b : SeenOrRecovered)
     → Valid start
     → Played start moves
     → TellsAs start moves waiting seen a
@@ -195,7 +195,7 @@ told_once start moves waiting seen (Recovered r) (Recovered s) v played g h =
     ap (λ (x : Recovery). Recovered x) (confirms_once start moves waiting seen r s v played g.1 h.1)
 
 pub told_same :
-    (start : Parts) (past : List Entry) (entry : Entry) (a b : Score) (v w : List Entry) (t u : Told)
+    (start : Parts) (past : List Entry) (entry : Entry) (a b : Score) (v w : List Entry) (t u : SeenOrRecovered)
     → Valid start
     → FoldsRecovering start past b w
     → a ≡ b
@@ -213,10 +213,10 @@ recovers_once start [] a b v w valid g h = (g.0 ∙ sym h.0, g.1 ∙ sym h.1)
 recovers_once start (entry ∷ past) a b v w valid g h =
     let same = recovers_once start past g.0 h.0 g.1 h.1 valid g.3 h.3 in
     let told : g.2 ≡ h.2 = told_same start past entry g.0 h.0 g.1 h.1 g.2 h.2 valid h.3 same.0 same.1 g.4 h.4 in (
-      g.5 ∙ ap (λ (s : Score). score_told start s entry.reading g.2) same.0 ∙ ap (λ (t : Told). score_told start h.0 entry.reading t) told ∙ sym h.5,
+      g.5 ∙ ap (λ (s : Score). score_told start s entry.reading g.2) same.0 ∙ ap (λ (t : SeenOrRecovered). score_told start h.0 entry.reading t) told ∙ sym h.5,
       g.6 ∙ ap (λ (s : Score). waiting_after start (moves_of s.plies) g.1 entry g.2) same.0
           ∙ ap (λ (ws : List Entry). waiting_after start (moves_of (h.0).plies) ws entry g.2) same.1
-          ∙ ap (λ (t : Told). waiting_after start (moves_of (h.0).plies) h.1 entry t) told ∙ sym h.6,
+          ∙ ap (λ (t : SeenOrRecovered). waiting_after start (moves_of (h.0).plies) h.1 entry t) told ∙ sym h.6,
     )
 
 pub writes_once : WritesOnce
@@ -226,5 +226,5 @@ writes_once start (entry ∷ past) x y a b v w valid g h =
     let k = writes_recovers start past h.3 h.0 h.1 h.4 in
     let same = recovers_once start past g.0 h.0 g.1 h.1 valid f k in
     let told : g.2 ≡ h.2 = told_same start past entry g.0 h.0 g.1 h.1 g.2 h.2 valid k same.0 same.1 g.5 h.5 in
-    g.6 ∙ ap (λ (t : Told). written_after entry t g.3) told
+    g.6 ∙ ap (λ (t : SeenOrRecovered). written_after entry t g.3) told
     ∙ ap (λ (es : List Entry). written_after entry h.2 es) (writes_once start past g.3 h.3 g.0 h.0 g.1 h.1 valid g.4 h.4) ∙ sym h.6

@@ -23,13 +23,13 @@ use Rattle.settle_core.proofs.Stages.{EndsAt, valid_reached}
 use Rattle.settle_core.proofs.Waiting.{resting_waits}
 use Rattle.settle_core.proofs.Whatever.{kings_make_no_move}
 use Rattle.unseen_pairs.specs.declared.pair.Recovery.{Recovery}
-use Rattle.unseen_pairs.specs.declared.pair.Told.{Told}
-use Rattle.unseen_pairs.specs.declared.pair.Told.TheVariants.{Shown, Recovered}
+use Rattle.unseen_pairs.specs.declared.pair.SeenOrRecovered.{SeenOrRecovered}
+use Rattle.unseen_pairs.specs.declared.pair.SeenOrRecovered.TheVariants.{Shown, Recovered}
 use Rattle.unseen_pairs.specs.Pairs.{Confirms, GoesOn, ShowsNew, begins, ends}
 use Rattle.unseen_pairs.specs.Recovering.{FoldsRecovering, TellsAs, score_told, waiting_after}
 use Rattle.unseen_pairs.specs.Laws.{ConfirmNone, Writes}
 use Rattle.unseen_pairs.specs.Recoverer.{written_after}
-use Rattle.unseen_pairs.specs.HandsAtRest.{AreAtRest, MayStay, RestAddsNothing}
+use Rattle.unseen_pairs.specs.HandsAtRest.{AreAtRest, IsAtRest, RestAddsNothing}
 use Rattle.unseen_pairs.proofs.Recovered.{is_written, recovering_played, recovers_once, writes_once}
 use Rattle.unseen_pairs.proofs.Telling.{valid_root}
 
@@ -60,19 +60,19 @@ none_new p seen v less new =
 
 -- a picture of a position that may be seen at rest shows no more than stands
 pub shows_no_more :
-    (p q : Parts) (m : Move) (seen : List ℕ) → Valid q → Legal q m → seen ≡ picture (after q m) → MayStay p seen → ShowsNoMore p seen
+    (p q : Parts) (m : Move) (seen : List ℕ) → Valid q → Legal q m → seen ≡ picture (after q m) → IsAtRest p seen → ShowsNoMore p seen
 shows_no_more p q m seen v l e (inl (inl h)) = h
 shows_no_more p q m seen v l e (inl (inr lacks)) = absurd (lacking_no_picture (after q m) seen (moves_stay_valid q m v l) lacks e)
 shows_no_more p q m seen v l e (inr kings) = absurd ((kings_make_no_move q [] seen v tt kings).0 m (settles_end q m seen v l e))
 
 -- the picture of the position itself
-pub own_stays : (p : Parts) (seen : List ℕ) → Valid p → seen ≡ picture p → MayStay p seen
+pub own_stays : (p : Parts) (seen : List ℕ) → Valid p → seen ≡ picture p → IsAtRest p seen
 own_stays p seen v e =
     inl (inl (λ s low. inl (ap (λ (xs : List ℕ). get_or xs s 0) e ∙ at_picture p s (rw v.squares low))))
 
 none_goes :
     (p q : Parts) (a : Seen) (seen : List ℕ)
-    → Valid p → Valid q → ShowsNoMore p (picture q) → MayStay p seen → ¬ GoesOn p q seen a
+    → Valid p → Valid q → ShowsNoMore p (picture q) → IsAtRest p seen → ¬ GoesOn p q seen a
 none_goes p q (Moved m) seen v vq less stay g =
     elim g.1 [
       | inl put ↦ none_new p (picture q) v less put
@@ -86,8 +86,8 @@ none_goes p q Waits seen v vq less stay g = g
 confirms_none :
     (start : Parts) (moves : List Move) (waiting : List Entry) (seen : List ℕ) (r : Recovery)
     → Valid start → Played start moves
-    → AllAre (λ xs. MayStay (reached start moves) xs) waiting
-    → MayStay (reached start moves) seen
+    → AllAre (λ xs. IsAtRest (reached start moves) xs) waiting
+    → IsAtRest (reached start moves) seen
     → ¬ Confirms start moves waiting seen r
 confirms_none start moves waiting seen r v played stays stay c =
     let p : Parts = reached start moves in
@@ -104,14 +104,14 @@ confirms_none start moves waiting seen r v played stays stay c =
 -- the game while no move is made
 pub record IsResting (start : Parts) (moves now : List Move) (waiting : List Entry) : Type 0 where
   pub moves_are : now ≡ moves
-  pub stays : AllAre (λ xs. MayStay (reached start moves) xs) waiting
+  pub stays : AllAre (λ xs. IsAtRest (reached start moves) xs) waiting
 
-pub stay_settles : (start : Parts) (moves : List Move) (seen : List ℕ) (n : Move) → Valid start → Played start moves → MayStay (reached start moves) seen
+pub stay_settles : (start : Parts) (moves : List Move) (seen : List ℕ) (n : Move) → Valid start → Played start moves → IsAtRest (reached start moves) seen
     → ¬ Settles (reached start moves) seen n
 stay_settles start moves seen n v l (inl rest) = (resting_waits start moves seen v l rest).0 n
 stay_settles start moves seen n v l (inr kings) = (kings_make_no_move start moves seen v l kings).0 n
 
-stay_replaces : (start : Parts) (moves : List Move) (seen : List ℕ) (n : Move) → Valid start → Played start moves → MayStay (reached start moves) seen
+stay_replaces : (start : Parts) (moves : List Move) (seen : List ℕ) (n : Move) → Valid start → Played start moves → IsAtRest (reached start moves) seen
     → ¬ Replaces start moves seen n
 stay_replaces start moves seen n v l (inl rest) = (resting_waits start moves seen v l rest).2 n
 stay_replaces start moves seen n v l (inr kings) = (kings_make_no_move start moves seen v l kings).1 n
@@ -120,30 +120,30 @@ stay_confirms :
     (start : Parts) (moves now : List Move) (waiting : List Entry) (seen : List ℕ) (r : Recovery)
     → Valid start → Played start moves
     → IsResting start moves now waiting
-    → MayStay (reached start moves) seen
+    → IsAtRest (reached start moves) seen
     → ¬ Confirms start now waiting seen r
 stay_confirms start moves now waiting seen r v played rest stay c =
     let C : List Move → Type 0 = λ ms. Confirms start ms waiting seen r in
     confirms_none start moves waiting seen r v played rest.stays stay (subst C rest.moves_are c)
 
 stay_told :
-    (start : Parts) (moves : List Move) (score : Score) (waiting : List Entry) (entry : Entry) (told : Told)
+    (start : Parts) (moves : List Move) (score : Score) (waiting : List Entry) (entry : Entry) (told : SeenOrRecovered)
     → Valid start → Played start moves
     → IsResting start moves (moves_of score.plies) waiting
-    → MayStay (reached start moves) entry.picture
+    → IsAtRest (reached start moves) entry.picture
     → TellsAs start (moves_of score.plies) waiting entry.picture told
     → IsResting start moves (moves_of (score_told start score entry.reading told).plies) (waiting_after start (moves_of score.plies) waiting entry told)
 stay_told start moves score waiting entry (Recovered r) v played rest stay h =
     absurd (stay_confirms start moves (moves_of score.plies) waiting entry.picture r v played rest stay h.1)
 stay_told start moves score waiting entry (Shown Same) v played rest stay h = absurd h.0
 stay_told start moves score waiting entry (Shown Waits) v played rest stay h =
-    let P : List ℕ → Type 0 = λ xs. MayStay (reached start moves) xs in
+    let P : List ℕ → Type 0 = λ xs. IsAtRest (reached start moves) xs in
     record {
       moves_are = rest.moves_are;
       stays = are_unless P (bytes_eq entry.picture (picture (reached start (moves_of score.plies)))) waiting entry rest.stays stay;
     }
 stay_told start moves score waiting entry (Shown (Sign o)) v played rest stay h =
-    record { moves_are = rest.moves_are; stays = none_are (λ xs. MayStay (reached start moves) xs) }
+    record { moves_are = rest.moves_are; stays = none_are (λ xs. IsAtRest (reached start moves) xs) }
 stay_told start moves score waiting entry (Shown (Moved n)) v played rest stay h =
     let S : List Move → Type 0 = λ ms. Settles (reached start ms) entry.picture n in
     absurd (stay_settles start moves entry.picture n v played stay (subst S rest.moves_are h.0))
@@ -158,9 +158,9 @@ record AddsNothing (start : Parts) (before : Score) (later written : List Entry)
   pub rests : IsResting start (moves_of before.plies) (moves_of score.plies) waiting
 
 rest_plain :
-    (start : Parts) (before now : Score) (waited : List Entry) (entry : Entry) (told : Told) (earlier : List Entry)
+    (start : Parts) (before now : Score) (waited : List Entry) (entry : Entry) (told : SeenOrRecovered) (earlier : List Entry)
     → Valid start → Played start (moves_of before.plies)
-    → MayStay (reached start (moves_of before.plies)) entry.picture
+    → IsAtRest (reached start (moves_of before.plies)) entry.picture
     → IsResting start (moves_of before.plies) (moves_of now.plies) waited
     → TellsAs start (moves_of now.plies) waited entry.picture told
     → (written_after entry told earlier ≡ entry ∷ earlier) × ((score_told start now entry.reading told).plies ≡ now.plies)
@@ -177,9 +177,9 @@ rest_plain start before now waited entry (Shown (Replaced n)) earlier v played s
     absurd (stay_replaces start (moves_of before.plies) entry.picture n v played stay (subst R rest.moves_are (h.0).2))
 
 rest_told :
-    (start : Parts) (before now score : Score) (waited waiting : List Entry) (entry : Entry) (told : Told) (later written earlier all : List Entry)
+    (start : Parts) (before now score : Score) (waited waiting : List Entry) (entry : Entry) (told : SeenOrRecovered) (later written earlier all : List Entry)
     → Valid start → Played start (moves_of before.plies)
-    → MayStay (reached start (moves_of before.plies)) entry.picture
+    → IsAtRest (reached start (moves_of before.plies)) entry.picture
     → AddsNothing start before later written now earlier waited
     → TellsAs start (moves_of now.plies) waited entry.picture told
     → all ≡ written_after entry told earlier
@@ -208,13 +208,13 @@ rest_keeps start [] past written all before score waiting v w rest h =
     let f : FoldsRecovering start past before [] = (is_written start past before []).1 (written, w) in
     let g : FoldsRecovering start past score waiting = (is_written start past score waiting).1 (all, h) in
     let once = recovers_once start past score before waiting [] v g f in
-    let S : List Entry → Type 0 = λ ws. AllAre (λ xs. MayStay (reached start (moves_of before.plies)) xs) ws in
+    let S : List Entry → Type 0 = λ ws. AllAre (λ xs. IsAtRest (reached start (moves_of before.plies)) xs) ws in
     record {
       added = writes_once start past all written score before waiting [] v h w;
       plies = ap (λ (x : Score). x.plies) once.0;
       rests = record {
         moves_are = ap (λ (x : Score). moves_of x.plies) once.0;
-        stays = subst S (sym once.1) (none_are (λ xs. MayStay (reached start (moves_of before.plies)) xs));
+        stays = subst S (sym once.1) (none_are (λ xs. IsAtRest (reached start (moves_of before.plies)) xs));
       };
     }
 rest_keeps start (entry ∷ later) past written all before score waiting v w rest h =
@@ -230,7 +230,7 @@ rest_adds_nothing start later past written all before score waiting v w rest h =
 -- what was seen last, if anything, may be seen at rest
 abbrev pub LastStays : Parts → List Entry → Type 0
 LastStays p [] = Unit {0}
-LastStays p (entry ∷ past) = MayStay p entry.picture
+LastStays p (entry ∷ past) = IsAtRest p entry.picture
 
 pub last_stays : (p : Parts) (past : List Entry) → Valid p → EndsAt p past → LastStays p past
 last_stays p [] v h = tt
@@ -244,7 +244,7 @@ pub record Rests (start : Parts) (moves : List Move) (past : List Entry) : Type 
 
 rest_again :
     (start : Parts) (moves : List Move) (past : List Entry) (entry : Entry)
-    → MayStay (reached start moves) entry.picture
+    → IsAtRest (reached start moves) entry.picture
     → repeats entry.picture past ≡ true → Rests start moves past → Rests start moves (entry ∷ past)
 rest_again start moves past entry stay same r =
     let once : deduplicated (entry ∷ past) ≡ deduplicated past = cond-true (repeats entry.picture past) (deduplicated past) (entry ∷ deduplicated past) same in
@@ -258,7 +258,7 @@ rest_again start moves past entry stay same r =
 rest_new :
     (start : Parts) (moves : List Move) (past : List Entry) (entry : Entry)
     → Valid start → Played start moves
-    → MayStay (reached start moves) entry.picture
+    → IsAtRest (reached start moves) entry.picture
     → repeats entry.picture past ≡ false → Rests start moves past → Rests start moves (entry ∷ past)
 rest_new start moves past entry v played stay new r =
     let once : deduplicated (entry ∷ past) ≡ entry ∷ deduplicated past = cond-false (repeats entry.picture past) (deduplicated past) (entry ∷ deduplicated past) new in
@@ -278,7 +278,7 @@ rest_new start moves past entry v played stay new r =
 rest_more :
     (start : Parts) (moves : List Move) (past : List Entry) (entry : Entry)
     → Valid start → Played start moves
-    → MayStay (reached start moves) entry.picture
+    → IsAtRest (reached start moves) entry.picture
     → Rests start moves past → Rests start moves (entry ∷ past)
 rest_more start moves past entry v played stay r =
     elim (cases_Bool (repeats entry.picture past)) [

@@ -14,7 +14,7 @@ use Rattle.settle_core.specs.declared.plies.Seen.{Seen}
 use Rattle.settle_core.specs.declared.plies.Seen.TheVariants.{Same, Moved, Sign, Replaced, Waits}
 use Rattle.chess_clock.specs.declared.times.Reading.{Reading}
 use Rattle.settle_core.specs.Entries.{Entry, changed, entry_of, deduplicated, last_picture, repeats}
-use Rattle.settle_core.specs.Settler.{ReturnsNewSeen, ReturnsSeen, Sheet, StandsFor}
+use Rattle.settle_core.specs.Settler.{HasSettled, ReturnsNewSeen, ReturnsSeen, SettlerState}
 use Rattle.settle_core.specs.Settling.{Played, reached}
 use Rattle.settle_core.specs.Folding.{Score, Folds, SeenAs, moves_of, score_after}
 use Rattle.settle_core.proofs.Apart.{no_sign_valid}
@@ -23,14 +23,14 @@ use Rattle.settle_core.proofs.Pieces.{picture_moves}
 use Rattle.settle_core.proofs.Stages.{differ_false, valid_reached}
 use Rattle.settle_core.proofs.Repeats.{repeats_by, with_new, with_repeated}
 use Rattle.unseen_pairs.specs.declared.pair.Recovery.{Recovery}
-use Rattle.unseen_pairs.specs.declared.pair.Heard.{Heard}
-use Rattle.unseen_pairs.specs.declared.pair.Told.{Told}
-use Rattle.unseen_pairs.specs.declared.pair.Told.TheVariants.{Shown, Recovered}
+use Rattle.unseen_pairs.specs.declared.pair.SeenOrFound.{SeenOrFound}
+use Rattle.unseen_pairs.specs.declared.pair.SeenOrRecovered.{SeenOrRecovered}
+use Rattle.unseen_pairs.specs.declared.pair.SeenOrRecovered.TheVariants.{Shown, Recovered}
 use Rattle.unseen_pairs.specs.declared.confirming.Candidate.{Candidate}
 use Rattle.unseen_pairs.specs.declared.confirming.Confirmed.{Confirmed}
 use Rattle.unseen_pairs.specs.Pairs.{Confirms, Explains, GoesOn, IsInstead, begins, ends, root}
 use Rattle.unseen_pairs.specs.Recovering.{FoldsRecovering, TellsAs, score_told, waiting_after}
-use Rattle.unseen_pairs.specs.Recoverer.{Desk, HoldsOf, StandsForRecovered, TellsNew}
+use Rattle.unseen_pairs.specs.Recoverer.{HasRecovered, HoldsOf, RecovererState, TellsNew}
 use Rattle.unseen_pairs.specs.Inside.Telling.{HasTold, IsWaiting}
 use Rattle.unseen_pairs.specs.Candidates.{ListsCandidates}
 use Rattle.unseen_pairs.specs.Inside.Waiting.{AreKept, AreAllAdded, HidesNone, IsOnlyOne}
@@ -47,10 +47,10 @@ no_candidates start moves = record {
 
 -- what a settler showed that was given one new entry
 shown_step :
-    (old new : Sheet) (start : Parts) (written : List Entry) (entry : Entry) (a : Seen)
+    (old new : SettlerState) (start : Parts) (written : List Entry) (entry : Entry) (a : Seen)
     → Valid start
-    → StandsFor old start written
-    → StandsFor new start (entry ∷ written)
+    → HasSettled old start written
+    → HasSettled new start (entry ∷ written)
     → ReturnsNewSeen start written entry.picture a
     → SeenAs start (moves_of old.score.plies) entry.picture a × new.score ≡ score_after start old.score entry.reading a
 shown_step old new start written entry a v st after h =
@@ -65,15 +65,15 @@ shown_step old new start written entry a v st after h =
 
 -- A move or a sign is told, and nothing waits.
 shown_new :
-    (old new : Desk) (start : Parts) (past written : List Entry) (entry : Entry) (a : Seen)
+    (old new : RecovererState) (start : Parts) (past written : List Entry) (entry : Entry) (a : Seen)
     → Valid start
-    → (st : StandsForRecovered old start past written)
-    → StandsFor new.settler start (entry ∷ written)
+    → (st : HasRecovered old start past written)
+    → HasSettled new.settler start (entry ∷ written)
     → new.candidates ≡ []
     → (a ≢ Waits)
     → waiting_after start (moves_of old.settler.score.plies) st.waiting entry (Shown a) ≡ []
     → ReturnsNewSeen start written entry.picture a
-    → StandsForRecovered new start (entry ∷ past) (entry ∷ written) × TellsNew start past entry.picture (Shown a)
+    → HasRecovered new start (entry ∷ past) (entry ∷ written) × TellsNew start past entry.picture (Shown a)
 shown_new old new start past written entry a v st after none ne empty h =
     let step = shown_step old.settler new.settler start written entry a v st.settles after h in
     let fresh : repeats entry.picture past ≡ false = sym (repeats_by entry.picture written past st.last) ∙ h.0 in
@@ -91,10 +91,10 @@ shown_new old new start past written entry a v st after none ne empty h =
     )
 
 pub shown_told :
-    (old new : Desk) (start : Parts) (past written : List Entry) (entry : Entry) (a : Seen)
+    (old new : RecovererState) (start : Parts) (past written : List Entry) (entry : Entry) (a : Seen)
     → Valid start
-    → StandsForRecovered old start past written
-    → StandsFor new.settler start (entry ∷ written)
+    → HasRecovered old start past written
+    → HasSettled new.settler start (entry ∷ written)
     → new.candidates ≡ []
     → a ≢ Same
     → a ≢ Waits
@@ -114,10 +114,10 @@ shown_told old new start past written entry (Replaced m) v st after none no_same
 
 -- The last picture again changes nothing.
 pub same_told :
-    (old : Desk) (new : Sheet) (start : Parts) (past written : List Entry) (entry : Entry)
+    (old : RecovererState) (new : SettlerState) (start : Parts) (past written : List Entry) (entry : Entry)
     → Valid start
-    → StandsForRecovered old start past written
-    → StandsFor new start (entry ∷ written)
+    → HasRecovered old start past written
+    → HasSettled new start (entry ∷ written)
     → ReturnsSeen start written entry.picture Same
     → HasTold (record { settler = new; candidates = old.candidates }) start past written entry (Shown Same)
 same_told old new start past written entry v st after h =
@@ -140,10 +140,10 @@ same_told old new start past written entry v st after h =
 
 -- A picture that shows nothing by itself is to wait.
 pub to_wait :
-    (old : Desk) (new : Sheet) (start : Parts) (past written : List Entry) (entry : Entry)
+    (old : RecovererState) (new : SettlerState) (start : Parts) (past written : List Entry) (entry : Entry)
     → Valid start
-    → StandsForRecovered old start past written
-    → StandsFor new start (entry ∷ written)
+    → HasRecovered old start past written
+    → HasSettled new start (entry ∷ written)
     → ReturnsSeen start written entry.picture Waits
     → IsWaiting (record { settler = new; candidates = old.candidates }) start past written entry
 to_wait old new start past written entry v st after h =
@@ -166,60 +166,60 @@ to_wait old new start past written entry v st after h =
 
 -- The picture waits, and the candidates are brought to it.
 kept_told :
-    (desk : Desk) (candidates : List Candidate) (start : Parts) (past written : List Entry) (entry : Entry) (w : IsWaiting desk start past written entry)
-    → ((one : Confirmed) → ¬ IsOnlyOne (reached start (moves_of desk.settler.score.plies)) desk.candidates entry.picture one)
-    → ListsCandidates start (moves_of desk.settler.score.plies) (waiting_after start (moves_of desk.settler.score.plies) w.waiting entry (Shown Waits)) candidates
-    → HasTold (record { settler = desk.settler; candidates = candidates }) start past written entry (Shown Waits)
-kept_told desk candidates start past written entry w none lists =
-    let moves = moves_of desk.settler.score.plies in
+    (recoverer : RecovererState) (candidates : List Candidate) (start : Parts) (past written : List Entry) (entry : Entry) (w : IsWaiting recoverer start past written entry)
+    → ((one : Confirmed) → ¬ IsOnlyOne (reached start (moves_of recoverer.settler.score.plies)) recoverer.candidates entry.picture one)
+    → ListsCandidates start (moves_of recoverer.settler.score.plies) (waiting_after start (moves_of recoverer.settler.score.plies) w.waiting entry (Shown Waits)) candidates
+    → HasTold (record { settler = recoverer.settler; candidates = candidates }) start past written entry (Shown Waits)
+kept_told recoverer candidates start past written entry w none lists =
+    let moves = moves_of recoverer.settler.score.plies in
     let tells : TellsAs start moves w.waiting entry.picture (Shown Waits) = (
       w.waits,
       λ e r h.
-          let one = confirmed_one start moves w.waiting desk.candidates entry.picture r w.candidates h in
+          let one = confirmed_one start moves w.waiting recoverer.candidates entry.picture r w.candidates h in
           none one.0 one.1,
     ) in
     let next : List Entry = waiting_after start moves w.waiting entry (Shown Waits) in
-    let F : List Entry → Type 0 = λ es. FoldsRecovering start es desk.settler.score next in
+    let F : List Entry → Type 0 = λ es. FoldsRecovering start es recoverer.settler.score next in
     record {
       stands = record {
         settles = w.settles;
         last = refl;
         waiting = next;
-        folds = subst F (sym (with_new entry past w.new)) (desk.settler.score, w.waiting, Shown Waits, w.folds, tells, refl, refl);
+        folds = subst F (sym (with_new entry past w.new)) (recoverer.settler.score, w.waiting, Shown Waits, w.folds, tells, refl, refl);
         candidates = lists;
       };
-      answer = (w.new, (desk.settler.score, w.waiting, w.folds, tells));
+      answer = (w.new, (recoverer.settler.score, w.waiting, w.folds, tells));
     }
 
 -- It is the position's own.
 pub own_told :
-    (desk : Desk) (candidates : List Candidate) (start : Parts) (past written : List Entry) (entry : Entry)
-    → IsWaiting desk start past written entry
-    → ((one : Confirmed) → ¬ IsOnlyOne (reached start (moves_of desk.settler.score.plies)) desk.candidates entry.picture one)
-    → entry.picture ≡ picture (reached start (moves_of desk.settler.score.plies))
+    (recoverer : RecovererState) (candidates : List Candidate) (start : Parts) (past written : List Entry) (entry : Entry)
+    → IsWaiting recoverer start past written entry
+    → ((one : Confirmed) → ¬ IsOnlyOne (reached start (moves_of recoverer.settler.score.plies)) recoverer.candidates entry.picture one)
+    → entry.picture ≡ picture (reached start (moves_of recoverer.settler.score.plies))
     → candidates ≡ []
-    → HasTold (record { settler = desk.settler; candidates = candidates }) start past written entry (Shown Waits)
-own_told desk candidates start past written entry w none own empty =
-    let moves = moves_of desk.settler.score.plies in
+    → HasTold (record { settler = recoverer.settler; candidates = candidates }) start past written entry (Shown Waits)
+own_told recoverer candidates start past written entry w none own empty =
+    let moves = moves_of recoverer.settler.score.plies in
     let test : bytes_eq entry.picture (picture (reached start moves)) ≡ true = let d = bytes_eq-Decides entry.picture (picture (reached start moves)) in d.1 own in
     let next : waiting_after start moves w.waiting entry (Shown Waits) ≡ [] = cond-true (bytes_eq entry.picture (picture (reached start moves))) [] (entry ∷ w.waiting) test in
     let L : List Entry → Type 0 = λ es. ListsCandidates start moves es candidates in
     let C : List Candidate → Type 0 = λ cs. ListsCandidates start moves [] cs in
-    kept_told desk candidates start past written entry w none (subst L (sym next) (subst C (sym empty) (no_candidates start moves)))
+    kept_told recoverer candidates start past written entry w none (subst L (sym next) (subst C (sym empty) (no_candidates start moves)))
 
 -- It is another one.
 pub other_told :
-    (desk : Desk) (candidates : List Candidate) (start : Parts) (past written : List Entry) (entry : Entry) (w : IsWaiting desk start past written entry)
-    → ((one : Confirmed) → ¬ IsOnlyOne (reached start (moves_of desk.settler.score.plies)) desk.candidates entry.picture one)
-    → entry.picture ≢ picture (reached start (moves_of desk.settler.score.plies))
-    → ListsCandidates start (moves_of desk.settler.score.plies) (entry ∷ w.waiting) candidates
-    → HasTold (record { settler = desk.settler; candidates = candidates }) start past written entry (Shown Waits)
-other_told desk candidates start past written entry w none other lists =
-    let moves = moves_of desk.settler.score.plies in
+    (recoverer : RecovererState) (candidates : List Candidate) (start : Parts) (past written : List Entry) (entry : Entry) (w : IsWaiting recoverer start past written entry)
+    → ((one : Confirmed) → ¬ IsOnlyOne (reached start (moves_of recoverer.settler.score.plies)) recoverer.candidates entry.picture one)
+    → entry.picture ≢ picture (reached start (moves_of recoverer.settler.score.plies))
+    → ListsCandidates start (moves_of recoverer.settler.score.plies) (entry ∷ w.waiting) candidates
+    → HasTold (record { settler = recoverer.settler; candidates = candidates }) start past written entry (Shown Waits)
+other_told recoverer candidates start past written entry w none other lists =
+    let moves = moves_of recoverer.settler.score.plies in
     let next : waiting_after start moves w.waiting entry (Shown Waits) ≡ entry ∷ w.waiting =
     cond-false (bytes_eq entry.picture (picture (reached start moves))) [] (entry ∷ w.waiting) (differ_false _ _ other) in
     let L : List Entry → Type 0 = λ es. ListsCandidates start moves es candidates in
-    kept_told desk candidates start past written entry w none (subst L (sym next) lists)
+    kept_told recoverer candidates start past written entry w none (subst L (sym next) lists)
 
 -- No pair explains it, and none waits.
 none_listed : (cs : List Candidate) (c : Candidate) → cs ≡ [] → ¬ Contains cs c
@@ -239,47 +239,47 @@ none_long [] e = refl
 none_long (c ∷ cs) e = absurd (let n : ⊥ = omega arith in n)
 
 pub idle_told :
-    (desk : Desk) (start : Parts) (past written : List Entry) (entry : Entry)
+    (recoverer : RecovererState) (start : Parts) (past written : List Entry) (entry : Entry)
     → Valid start
-    → IsWaiting desk start past written entry
-    → desk.candidates ≡ []
-    → HidesNone desk.settler
-    → HasTold desk start past written entry (Shown Waits)
-idle_told desk start past written entry v w empty hides =
-    let plies = desk.settler.score.plies in
+    → IsWaiting recoverer start past written entry
+    → recoverer.candidates ≡ []
+    → HidesNone recoverer.settler
+    → HasTold recoverer start past written entry (Shown Waits)
+idle_told recoverer start past written entry v w empty hides =
+    let plies = recoverer.settler.score.plies in
     let p : Parts = reached start (moves_of plies) in
-    let played : Played start (moves_of plies) = folds_played start (deduplicated written) desk.settler.score w.folded in
-    let start_is : desk.settler.start ≡ start = (w.settles).start_is in
+    let played : Played start (moves_of plies) = folds_played start (deduplicated written) recoverer.settler.score w.folded in
+    let start_is : recoverer.settler.start ≡ start = (w.settles).start_is in
     let P : Parts → Type 0 = λ (q : Parts). Played q (moves_of plies) in
     let S : Parts → Type 0 = λ (q : Parts). SeenAs q (moves_of plies) entry.picture Waits in
-    let A : Parts → Type 0 = λ (q : Parts). AreAllAdded q plies entry.picture entry.reading desk.candidates desk.candidates in
-    let all : AreAllAdded start plies entry.picture entry.reading desk.candidates desk.candidates =
-    subst A start_is (hides entry.picture entry.reading desk.candidates (w.settles).last (subst P (sym start_is) played) (subst S (sym start_is) w.waits)) in
-    let none : (one : Confirmed) → ¬ IsOnlyOne (reached start (moves_of desk.settler.score.plies)) desk.candidates entry.picture one = λ one only. none_listed desk.candidates one.candidate empty only.listed in
+    let A : Parts → Type 0 = λ (q : Parts). AreAllAdded q plies entry.picture entry.reading recoverer.candidates recoverer.candidates in
+    let all : AreAllAdded start plies entry.picture entry.reading recoverer.candidates recoverer.candidates =
+    subst A start_is (hides entry.picture entry.reading recoverer.candidates (w.settles).last (subst P (sym start_is) played) (subst S (sym start_is) w.waits)) in
+    let none : (one : Confirmed) → ¬ IsOnlyOne (reached start (moves_of recoverer.settler.score.plies)) recoverer.candidates entry.picture one = λ one only. none_listed recoverer.candidates one.candidate empty only.listed in
     let d = bytes_eq-Decides entry.picture (picture p) in
     elim (cases_Bool (bytes_eq entry.picture (picture p))) [
-      | inl own ↦ own_told desk desk.candidates start past written entry w none (d.0 own) empty
+      | inl own ↦ own_told recoverer recoverer.candidates start past written entry w none (d.0 own) empty
       | inr other ↦
-          other_told desk desk.candidates start past written entry w none (λ e. both_ways _ other (d.1 e))
-          (lists_next start plies w.waiting entry desk.candidates desk.candidates all.one desk.candidates
-          v played w.waits w.candidates (none_kept p entry.picture desk.candidates empty) all.next all.more all.none)
+          other_told recoverer recoverer.candidates start past written entry w none (λ e. both_ways _ other (d.1 e))
+          (lists_next start plies w.waiting entry recoverer.candidates recoverer.candidates all.one recoverer.candidates
+          v played w.waits w.candidates (none_kept p entry.picture recoverer.candidates empty) all.next all.more all.none)
     ]
 
 -- The last picture with another code on a square.
 pub changed_step :
-    (old new : Sheet) (start : Parts) (before : Entry) (past written : List Entry) (seen : List ℕ) (square code : ℕ) (reading : Option Reading) (a : Seen)
-    → StandsFor old start written
+    (old new : SettlerState) (start : Parts) (before : Entry) (past written : List Entry) (seen : List ℕ) (square code : ℕ) (reading : Option Reading) (a : Seen)
+    → HasSettled old start written
     → last_picture written ≡ last_picture (before ∷ past)
     → seen ≡ slice_set before.picture square code
-    → ((w : Entry) (ws : List Entry) → StandsFor old start (w ∷ ws)
-    → StandsFor new start (changed w square code reading ∷ w ∷ ws) × ReturnsSeen start (w ∷ ws) (slice_set w.picture square code) a)
-    → StandsFor new start (entry_of seen reading ∷ written) × ReturnsSeen start written seen a
+    → ((w : Entry) (ws : List Entry) → HasSettled old start (w ∷ ws)
+    → HasSettled new start (changed w square code reading ∷ w ∷ ws) × ReturnsSeen start (w ∷ ws) (slice_set w.picture square code) a)
+    → HasSettled new start (entry_of seen reading ∷ written) × ReturnsSeen start written seen a
 changed_step old new start before past [] seen square code reading a st last shown k = absurd (let n : ⊥ = cc in n)
 changed_step old new start before past (w ∷ ws) seen square code reading a st last shown k =
     let same : w.picture ≡ before.picture = cc in
     let at : slice_set w.picture square code ≡ seen = ap (λ xs. slice_set xs square code) same ∙ sym shown in
     let both = k w ws st in (
-      subst (λ (xs : List ℕ). StandsFor new start (entry_of xs reading ∷ w ∷ ws)) at both.0,
+      subst (λ (xs : List ℕ). HasSettled new start (entry_of xs reading ∷ w ∷ ws)) at both.0,
       subst (λ (xs : List ℕ). ReturnsSeen start (w ∷ ws) xs a) at both.1,
     )
 
@@ -314,22 +314,22 @@ goes_elsewhere now p seen Same v h e = h
 
 -- The pair is told, and its pictures were put in.
 pub put_in_told :
-    (desk new : Desk) (start : Parts) (past written : List Entry) (entry : Entry) (one : Confirmed)
+    (recoverer new : RecovererState) (start : Parts) (past written : List Entry) (entry : Entry) (one : Confirmed)
     → Valid start
-    → IsWaiting desk start past written entry
-    → IsOnlyOne (reached start (moves_of desk.settler.score.plies)) desk.candidates entry.picture one
-    → StandsFor new.settler start
+    → IsWaiting recoverer start past written entry
+    → IsOnlyOne (reached start (moves_of recoverer.settler.score.plies)) recoverer.candidates entry.picture one
+    → HasSettled new.settler start
     (entry
     ∷ entry_of (picture one.candidate.after) one.candidate.reading
     ∷ entry_of (picture one.candidate.middle) one.candidate.reading
     ∷ entry ∷ written)
     → new.candidates ≡ []
     → HasTold new start past written entry (Recovered (recovery_of one))
-put_in_told desk new start past written entry one v w only st none =
+put_in_told recoverer new start past written entry one v w only st none =
     let r : Recovery = recovery_of one in
-    let before : Score = desk.settler.score in
+    let before : Score = recoverer.settler.score in
     let moves = moves_of before.plies in
-    let conf : Confirms start moves w.waiting entry.picture r = one_confirmed start moves w.waiting desk.candidates entry.picture one w.candidates only in
+    let conf : Confirms start moves w.waiting entry.picture r = one_confirmed start moves w.waiting recoverer.candidates entry.picture one w.candidates only in
     let e : Explains start moves (conf.entry).picture r.pair = (conf.explains).explains in
     let played : Played start moves = folds_played start (deduplicated written) before w.folded in
     let p : Parts = begins start moves r.pair in
@@ -371,9 +371,9 @@ put_in_told desk new start past written entry one v w only st none =
       answer = (w.new, (before, w.waiting, w.folds, tells));
     }
 
-pub map_heard : {E : Type 0} (P Q : Told → Type 0) (r : Result Heard E) (found : Option Recovery) → ((told : Told) → P told → Q told)
+pub map_heard : {E : Type 0} (P Q : SeenOrRecovered → Type 0) (r : Result SeenOrFound E) (found : Option Recovery) → ((told : SeenOrRecovered) → P told → Q told)
     → IfOk r (λ heard. HoldsOf P heard found) → IfOk r (λ heard. HoldsOf Q heard found)
-map_heard P Q (Ok (Heard.Shown a)) found f h = f (Shown a) h
-map_heard P Q (Ok Heard.Recovered) (Some r) f h = f (Recovered r) h
-map_heard P Q (Ok Heard.Recovered) None f h = h
+map_heard P Q (Ok (SeenOrFound.Shown a)) found f h = f (Shown a) h
+map_heard P Q (Ok SeenOrFound.Recovered) (Some r) f h = f (Recovered r) h
+map_heard P Q (Ok SeenOrFound.Recovered) None f h = h
 map_heard P Q (Err e) found f h = tt

@@ -8,20 +8,20 @@ use Rattle.chess_rules.specs.Valid.{Valid}
 use Rattle.settle_core.specs.AnyPlay.{ShowsBothKings}
 use Rattle.settle_core.specs.Entries.{Entry, deduplicated}
 use Rattle.settle_core.specs.Folding.{Score, moves_of}
-use Rattle.settle_core.specs.HonestPlay.{MayRest}
+use Rattle.settle_core.specs.HonestPlay.{ShowsNoMoreOrLacksKing}
 use Rattle.settle_core.specs.Settling.{Line, position_after, reached}
 use Rattle.unseen_pairs.specs.HonestHands.{ShownByHand}
 use Rattle.unseen_pairs.specs.Laws.{ConfirmNone, Writes}
 
 -- What may be seen while no move is made: each square shows what the position has or nothing; or a king is off the
 -- board, and then whatever else shows; or both kings are in the centre, and then whatever else shows.
-abbrev pub MayStay : Parts → List ℕ → Type 0
-MayStay p seen = MayRest p seen ⊎ ShowsBothKings seen
+abbrev pub IsAtRest : Parts → List ℕ → Type 0
+IsAtRest p seen = ShowsNoMoreOrLacksKing p seen ⊎ ShowsBothKings seen
 
 -- such entries
 abbrev pub AreAtRest : Parts → List Entry → Type 0
 AreAtRest p [] = Unit {0}
-AreAtRest p (entry ∷ more) = MayStay p entry.picture × AreAtRest p more
+AreAtRest p (entry ∷ more) = IsAtRest p entry.picture × AreAtRest p more
 
 -- Whatever came before: from where nothing waits, entries with such pictures, in any order, add no pair, and the plies
 -- stay. All have the latest first.

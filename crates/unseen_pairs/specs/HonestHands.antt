@@ -17,8 +17,8 @@ use Rattle.settle_core.specs.Settling.{Line}
 use Rattle.unseen_pairs.specs.Laws.{ConfirmNone, Writes}
 
 -- The move leaves this piece on its square.
-abbrev pub Leaves : Parts → Move → ℕ → Side → Kind → Type 0
-Leaves p m s side kind = (on p.board s ≡ piece_of side kind) × (on (after p m).board s ≡ piece_of side kind)
+abbrev pub LeavesPiece : Parts → Move → ℕ → Side → Kind → Type 0
+LeavesPiece p m s side kind = (on p.board s ≡ piece_of side kind) × (on (after p m).board s ≡ piece_of side kind)
 
 -- A piece of the side that is not to move is off its square.
 pub record IsOff (p : Parts) (seen : List ℕ) : Type 0 where
@@ -33,20 +33,20 @@ pub record IsOff (p : Parts) (seen : List ℕ) : Type 0 where
 pub record IsOnTheWay (p : Parts) (m : Move) (seen : List ℕ) : Type 0 where
   pub nowhere_else : (s : ℕ) (kind : Kind) → s < 64 → slice_index seen s ≡ code_of_piece (other p.side) kind
       → on p.board s ≡ piece_of (other p.side) kind
-  pub theirs : (s : ℕ) (kind : Kind) → Leaves p m s (other p.side) kind → slice_index seen s ≡ code_of_piece (other p.side) kind
-  pub own : IsOff p seen → (s : ℕ) (kind : Kind) → Leaves p m s p.side kind → slice_index seen s ≡ code_of_piece p.side kind
+  pub theirs : (s : ℕ) (kind : Kind) → LeavesPiece p m s (other p.side) kind → slice_index seen s ≡ code_of_piece (other p.side) kind
+  pub own : IsOff p seen → (s : ℕ) (kind : Kind) → LeavesPiece p m s p.side kind → slice_index seen s ≡ code_of_piece p.side kind
   pub kings : HasKingsApart seen
 
 -- what may be seen up to the move: this, or a king off the board, and then whatever else shows
-abbrev pub MayCome : Parts → Move → List ℕ → Type 0
-MayCome p m seen = IsOnTheWay p m seen ⊎ LacksKing seen
+abbrev pub IsOnTheWayOrLacksKing : Parts → Move → List ℕ → Type 0
+IsOnTheWayOrLacksKing p m seen = IsOnTheWay p m seen ⊎ LacksKing seen
 
 -- The entries, in their order, show the move: any number of pictures that may be seen up to it, repeats of them too,
 -- and at the end the picture after it.
 abbrev pub ShownByHand : Parts → Move → List Entry → Type 0
 ShownByHand p m [] = ⊥
 ShownByHand p m (entry ∷ []) = entry.picture ≡ picture (after p m)
-ShownByHand p m (entry ∷ next ∷ more) = MayCome p m entry.picture × ShownByHand p m (next ∷ more)
+ShownByHand p m (entry ∷ next ∷ more) = IsOnTheWayOrLacksKing p m entry.picture × ShownByHand p m (next ∷ more)
 
 -- The lists of entries show the moves of a line, one list for each.
 abbrev pub EachShownByHand : Parts → List Move → List (List Entry) → Type 0

@@ -10,8 +10,8 @@ use Rattle.settle_core.specs.Entries.{Entry}
 use Rattle.settle_core.specs.Settling.{Line, reached}
 use Rattle.settle_core.specs.Folding.{Folds, Score, moves_of, time_of}
 use Rattle.unseen_pairs.specs.declared.pair.Recovery.{Recovery}
-use Rattle.unseen_pairs.specs.declared.pair.Told.{Told}
-use Rattle.unseen_pairs.specs.declared.pair.Told.TheVariants.{Recovered}
+use Rattle.unseen_pairs.specs.declared.pair.SeenOrRecovered.{SeenOrRecovered}
+use Rattle.unseen_pairs.specs.declared.pair.SeenOrRecovered.TheVariants.{Recovered}
 use Rattle.unseen_pairs.specs.Pairs.{root}
 use Rattle.unseen_pairs.specs.Recovering.{FoldsRecovering, TellsAs, score_told, waiting_after}
 use Rattle.unseen_pairs.specs.Recoverer.{written_after}
@@ -28,7 +28,7 @@ ConfirmNone start (entry ∷ past) = ConfirmNone start past
 abbrev pub Writes : Parts → List Entry → List Entry → Score → List Entry → Type 0
 Writes start [] written score waiting = (written ≡ []) × (score ≡ record { plies = []; sign = None }) × (waiting ≡ [])
 Writes start (entry ∷ past) written score waiting =
-    (before : Score) × (waited : List Entry) × (told : Told) × (earlier : List Entry)
+    (before : Score) × (waited : List Entry) × (told : SeenOrRecovered) × (earlier : List Entry)
     × Writes start past earlier before waited
     × TellsAs start (moves_of before.plies) waited entry.picture told
     × (written ≡ written_after entry told earlier)
@@ -123,8 +123,8 @@ AllComeFrom start (ply ∷ earlier) past =
     (WasShown start ply earlier past ⊎ WasRecovered start ply earlier past) × AllComeFrom start earlier past
 
 -- Nothing is invented: each ply was shown whole, or is one of a pair that was recovered.
-abbrev pub NothingIsInvented : Type 0
-NothingIsInvented =
+abbrev pub PliesAreShownOrRecovered : Type 0
+PliesAreShownOrRecovered =
     (start : Parts) (past : List Entry) (score : Score) (waiting : List Entry)
     → FoldsRecovering start past score waiting
     → AllComeFrom start score.plies past

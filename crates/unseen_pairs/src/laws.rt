@@ -1,7 +1,7 @@
 //! What holds of all games in which unseen pairs are recovered, each law as the contract of a function.
 ghost use Rattle.unseen_pairs.specs.HonestHands.{HonestHandsAreLeftAlone, HonestHandsConfirmNone, PlainHandsAreOnTheWay};
 ghost use Rattle.unseen_pairs.specs.HandsAtRest.{HandsAtRestAreLeftAlone, HandsAtRestConfirmNone, RestAddsNothing};
-ghost use Rattle.unseen_pairs.specs.Laws.{IsWritten, NothingConfirmed, NothingIsInvented, NothingPutIn, PliesAreLegal, RecoversOnce, WritesOnce, WrittenFolds};
+ghost use Rattle.unseen_pairs.specs.Laws.{IsWritten, NothingConfirmed, NothingPutIn, PliesAreLegal, PliesAreShownOrRecovered, RecoversOnce, WritesOnce, WrittenFolds};
 
 /// Where no pair is confirmed, entries give what they fold to without recovering, and nothing is put in.
 pub fn nothing_confirmed_nothing_put_in()
@@ -28,7 +28,7 @@ pub fn plies_are_legal()
 
 /// Nothing is invented: whatever a board shows, each ply was shown whole, or is one of a pair that was recovered.
 pub fn nothing_is_invented()
-    ensures { NothingIsInvented }
+    ensures { PliesAreShownOrRecovered }
 {}
 
 /// Honest hands are left alone: no pair is confirmed, and nothing is put in. Such hands leave the other side's pieces

@@ -17,5 +17,5 @@ mod recoverer;
 mod settled;
 mod waiting;
 
-pub use pair::{Heard, Pair, Recovery, Told};
+pub use pair::{Pair, Recovery, SeenOrFound, SeenOrRecovered};
 pub use recoverer::Recoverer;

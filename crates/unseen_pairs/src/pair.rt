@@ -37,7 +37,7 @@ pub struct Recovery {
 
 /// What a picture tells, where a pair that it confirms is put elsewhere.
 #[derive(Clone, Copy, PartialEq, Eq, Debug)]
-pub enum Heard {
+pub enum SeenOrFound {
     /// What it shows by itself.
     Shown(Seen),
     /// A pair that no picture showed ply by ply.
@@ -46,7 +46,7 @@ pub enum Heard {
 
 /// What a picture tells.
 #[derive(Clone, Copy, Debug)]
-pub enum Told {
+pub enum SeenOrRecovered {
     /// What it shows by itself.
     Shown(Seen),
     /// A pair that no picture showed ply by ply, and what goes on from it.

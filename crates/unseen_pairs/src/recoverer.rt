@@ -5,13 +5,13 @@ ghost use Rattle.chess_rules.specs.declared.parts.Parts.{Parts as PartsOf};
 ghost use Rattle.settle_core.specs.Entries.{Entry, entry_of};
 ghost use Rattle.settle_core.specs.Settler.{has_seen, position_of};
 ghost use Rattle.unseen_pairs.specs.declared.confirming.Confirmed.{Confirmed as ConfirmedOf};
-ghost use Rattle.unseen_pairs.specs.declared.pair.Told.{Told as ToldOf};
+ghost use Rattle.unseen_pairs.specs.declared.pair.SeenOrRecovered.{SeenOrRecovered as SeenOrRecoveredOf};
 ghost use Rattle.unseen_pairs.specs.Inside.Waiting.{IsOnlyOne};
-ghost use Rattle.unseen_pairs.specs.Recoverer.{HoldsOf, ReturnsTold, StandsForRecovered, written_after};
+ghost use Rattle.unseen_pairs.specs.Recoverer.{HasRecovered, HoldsOf, ReturnsTold, written_after};
 ghost use Rattle.unseen_pairs.specs.Inside.Telling.{HasTold, IsWaiting};
 
 use crate::confirming::{Candidate, Confirmed, only_one};
-use crate::pair::{Heard, Recovery, Told};
+use crate::pair::{Recovery, SeenOrFound, SeenOrRecovered};
 use crate::waiting::{add_all, copy, hides_none, keep_all};
 use chess_clock::Reading;
 use chess_rules::{Position, Square};
@@ -27,9 +27,9 @@ pub struct Recoverer {
 }
 
 impl Model for Recoverer {
-    ghost use Rattle.unseen_pairs.specs.Recoverer.{Desk};
+    ghost use Rattle.unseen_pairs.specs.Recoverer.{RecovererState};
 
-    ghost Value = { Desk };
+    ghost Value = { RecovererState };
 
     ghost view = { λ r. record { settler = r.settler; candidates = r.candidates.items } };
 }
@@ -45,7 +45,7 @@ fn agrees(mask: u64) -> bool
 impl Recoverer {
     /// A recoverer that has seen no picture. Takes no memory.
     pub fn new(alloc: Global, start: Position) -> Recoverer
-        ensures { StandsForRecovered result start [] [] }
+        ensures { HasRecovered result start [] [] }
     {
         Recoverer {
             settler: Settler::new(alloc, start),
@@ -63,28 +63,28 @@ impl Recoverer {
         alloc: Global,
         picture: &[u8; 64],
         clock: Option<Reading>,
-    ) -> Result<Told, AllocError>
+    ) -> Result<SeenOrRecovered, AllocError>
         requires { All (λ code. code < 16) picture.now }
-        ensures stands { (start : PartsOf) (past written : List Entry) → StandsForRecovered self.old start past written
-            → IfOk result (λ told. StandsForRecovered self.new start (entry_of picture.now clock ∷ past)
+        ensures stands { (start : PartsOf) (past written : List Entry) → HasRecovered self.old start past written
+            → IfOk result (λ told. HasRecovered self.new start (entry_of picture.now clock ∷ past)
             (written_after (entry_of picture.now clock) told written)) }
-        ensures answer { (start : PartsOf) (past written : List Entry) → StandsForRecovered self.old start past written
+        ensures answer { (start : PartsOf) (past written : List Entry) → HasRecovered self.old start past written
             → IfOk result (ReturnsTold start past picture.now) }
     {
         // For its clause: the start is valid.
         self.settler.start().parts();
         match self.settler.see(picture, copy(&clock))? {
-            Seen::Same => Ok(Told::Shown(Seen::Same)),
+            Seen::Same => Ok(SeenOrRecovered::Shown(Seen::Same)),
             Seen::Waits => self.wait(alloc, picture, &clock),
             seen => {
                 self.candidates.clear();
-                Ok(Told::Shown(seen))
+                Ok(SeenOrRecovered::Shown(seen))
             }
         }
     }
 
     /// Takes a picture that is the last one but for this square; one must have been seen. Where it returns
-    /// `Heard::Recovered`, the pair that the picture confirms is in `found`; else what `found` holds tells nothing.
+    /// `SeenOrFound::Recovered`, the pair that the picture confirms is in `found`; else what `found` holds tells nothing.
     /// Changes one square, and one bit of each mask; most pictures that wait cost no more.
     ///
     /// # Errors
@@ -98,16 +98,16 @@ impl Recoverer {
         square: Square,
         clock: Option<Reading>,
         found: &mut Option<Recovery>,
-    ) -> Result<Heard, AllocError>
+    ) -> Result<SeenOrFound, AllocError>
         requires seen { has_seen self.old.settler ≡ true }
         requires codes { All (λ code. code < 16) picture.now }
         ensures stands { (start : PartsOf) (before : Entry) (past written : List Entry)
-            → StandsForRecovered self.old start (before ∷ past) written
+            → HasRecovered self.old start (before ∷ past) written
             → picture.now ≡ slice_set before.picture square (slice_index picture.now square)
-            → IfOk result (λ heard. HoldsOf (λ told. StandsForRecovered self.new start (entry_of picture.now clock ∷ before ∷ past)
+            → IfOk result (λ heard. HoldsOf (λ told. HasRecovered self.new start (entry_of picture.now clock ∷ before ∷ past)
             (written_after (entry_of picture.now clock) told written)) heard found.new) }
         ensures answer { (start : PartsOf) (before : Entry) (past written : List Entry)
-            → StandsForRecovered self.old start (before ∷ past) written
+            → HasRecovered self.old start (before ∷ past) written
             → picture.now ≡ slice_set before.picture square (slice_index picture.now square)
             → IfOk result (λ heard. HoldsOf (ReturnsTold start (before ∷ past) picture.now) heard found.new) }
     {
@@ -115,17 +115,17 @@ impl Recoverer {
         self.settler.start().parts();
         let code = picture[square.number() as usize];
         match self.settler.see_field(square, code, copy(&clock))? {
-            Seen::Same => Ok(Heard::Shown(Seen::Same)),
+            Seen::Same => Ok(SeenOrFound::Shown(Seen::Same)),
             Seen::Waits => {
                 if self.idles() {
-                    Ok(Heard::Shown(Seen::Waits))
+                    Ok(SeenOrFound::Shown(Seen::Waits))
                 } else {
                     self.wait_for(alloc, picture, &clock, found)
                 }
             }
             seen => {
                 self.candidates.clear();
-                Ok(Heard::Shown(seen))
+                Ok(SeenOrFound::Shown(seen))
             }
         }
     }
@@ -135,7 +135,7 @@ impl Recoverer {
     fn idles(&self) -> bool
         ensures { IsTrue result → (start : PartsOf) (past written : List Entry) (entry : Entry)
             → IsWaiting self.now start past written entry
-            → HasTold self.now start past written entry (ToldOf.Shown Seen.Waits) }
+            → HasTold self.now start past written entry (SeenOrRecoveredOf.Shown Seen.Waits) }
     {
         // For its clause: the start is valid.
         self.settler.start().parts();
@@ -150,14 +150,14 @@ impl Recoverer {
         picture: &[u8; 64],
         clock: &Option<Reading>,
         found: &mut Option<Recovery>,
-    ) -> Result<Heard, AllocError>
+    ) -> Result<SeenOrFound, AllocError>
         requires { All (λ code. code < 16) picture.now }
         ensures { (start : PartsOf) (past written : List Entry) → IsWaiting self.old start past written (entry_of picture.now clock.now)
             → IfOk result (λ heard. HoldsOf (HasTold self.new start past written (entry_of picture.now clock.now)) heard found.new) }
     {
         if self.candidates.is_empty() {
             self.keep(alloc, picture, clock)?;
-            return Ok(Heard::Shown(Seen::Waits));
+            return Ok(SeenOrFound::Shown(Seen::Waits));
         }
         self.wait_among(alloc, picture, clock, found)
     }
@@ -170,16 +170,16 @@ impl Recoverer {
         picture: &[u8; 64],
         clock: &Option<Reading>,
         found: &mut Option<Recovery>,
-    ) -> Result<Heard, AllocError>
+    ) -> Result<SeenOrFound, AllocError>
         requires { All (λ code. code < 16) picture.now }
         ensures { (start : PartsOf) (past written : List Entry) → IsWaiting self.old start past written (entry_of picture.now clock.now)
             → IfOk result (λ heard. HoldsOf (HasTold self.new start past written (entry_of picture.now clock.now)) heard found.new) }
     {
         match self.wait(alloc, picture, clock)? {
-            Told::Shown(seen) => Ok(Heard::Shown(seen)),
-            Told::Recovered(recovery) => {
+            SeenOrRecovered::Shown(seen) => Ok(SeenOrFound::Shown(seen)),
+            SeenOrRecovered::Recovered(recovery) => {
                 *found = Some(recovery);
-                Ok(Heard::Recovered)
+                Ok(SeenOrFound::Recovered)
             }
         }
     }
@@ -190,7 +190,7 @@ impl Recoverer {
         alloc: Global,
         picture: &[u8; 64],
         clock: &Option<Reading>,
-    ) -> Result<Told, AllocError>
+    ) -> Result<SeenOrRecovered, AllocError>
         requires { All (λ code. code < 16) picture.now }
         ensures { (start : PartsOf) (past written : List Entry) → IsWaiting self.old start past written (entry_of picture.now clock.now)
             → IfOk result (HasTold self.new start past written (entry_of picture.now clock.now)) }
@@ -200,7 +200,7 @@ impl Recoverer {
             return self.put_in(&one, picture, clock);
         }
         self.keep(alloc, picture, clock)?;
-        Ok(Told::Shown(Seen::Waits))
+        Ok(SeenOrRecovered::Shown(Seen::Waits))
     }
 
     /// Shows the settler what was not seen: the pictures after each of the pair's plies, and then the last one again.
@@ -210,7 +210,7 @@ impl Recoverer {
         one: &Confirmed,
         picture: &[u8; 64],
         clock: &Option<Reading>,
-    ) -> Result<Told, AllocError>
+    ) -> Result<SeenOrRecovered, AllocError>
         requires { All (λ code. code < 16) picture.now }
         ensures { (start : PartsOf) (past written : List Entry) → IsWaiting self.old start past written (entry_of picture.now clock.now)
             → IsOnlyOne (position_of self.old.settler) self.old.candidates picture.now one.now
@@ -225,7 +225,7 @@ impl Recoverer {
             .see(&found.after.picture(), copy(&found.reading))?;
         self.settler.see(picture, copy(clock))?;
         self.candidates.clear();
-        Ok(Told::Recovered(Recovery {
+        Ok(SeenOrRecovered::Recovered(Recovery {
             pair: found.pair,
             before: found.before,
             middle: found.middle,
@@ -244,7 +244,7 @@ impl Recoverer {
     ) -> Result<(), AllocError>
         ensures { (start : PartsOf) (past written : List Entry) → IsWaiting self.old start past written (entry_of picture.now clock.now)
             → ((one : ConfirmedOf) → ¬ IsOnlyOne (position_of self.old.settler) self.old.candidates picture.now one)
-            → OnOk result (HasTold self.new start past written (entry_of picture.now clock.now) (Told.Shown Seen.Waits)) }
+            → OnOk result (HasTold self.new start past written (entry_of picture.now clock.now) (SeenOrRecovered.Shown Seen.Waits)) }
     {
         // For its clause: the start is valid.
         self.settler.start().parts();

@@ -4,7 +4,7 @@ use Rattle.dgt_frame.specs.declared.events.Message.TheVariants.{Dump, Update, Ti
 use Rattle.dgt_frame.specs.declared.events.Event.{Event}
 use Rattle.dgt_frame.specs.declared.events.Event.TheVariants.{Message, Fault}
 use Rattle.settle_core.specs.Entries.{last_picture}
-use Rattle.board_events.specs.History.{fields_of, turned}
+use Rattle.board_events.specs.History.{codes_by_field, turned}
 use Rattle.board_events.specs.Settings.{Setting}
 use Rattle.board_events.specs.Session.{entries_in}
 use Rattle.chess_text.specs.declared.placement_text.PlacementText.{PlacementText}
@@ -16,7 +16,7 @@ Draws placement setting past = (picture : List ℕ) → last_picture (entries_in
 
 -- a picture, and what a dump or an update makes of it, of a board that stands turned or not
 abbrev pub drawn : Bool → Event → List ℕ → List ℕ
-drawn rotated (Message (Dump codes)) picture = fields_of rotated codes
+drawn rotated (Message (Dump codes)) picture = codes_by_field rotated codes
 drawn rotated (Message (Update field code)) picture = slice_set picture (turned rotated field) code
 drawn rotated (Message (Time times)) picture = picture
 drawn rotated (Message (Other id size)) picture = picture

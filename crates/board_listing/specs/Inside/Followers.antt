@@ -6,13 +6,13 @@ use Rattle.dgt_frame.specs.Streams.{Timed}
 use Rattle.settle_core.specs.Entries.{deduplicated}
 use Rattle.settle_core.specs.Folding.{Folds, Score}
 use Rattle.board_events.specs.Settings.{Setting}
-use Rattle.board_events.specs.Session.{StandsFor, entries_in}
+use Rattle.board_events.specs.Session.{HasTakenEvents, entries_in}
 use Rattle.board_listing.specs.declared.follower.Follower.{Follower}
 use Rattle.board_listing.specs.GameText.{HasResult, TellsEvent}
 
 -- The follower, set up so, was given these events: its session stands for them, and it keeps the result so far.
 pub record HasFollowed (follower : Follower) (setting : Setting) (past : List Event) : Type 0 where
-  pub stands : StandsFor follower.session setting past
+  pub stands : HasTakenEvents follower.session setting past
   pub score : Score
   pub folds : Folds setting.start (deduplicated (entries_in setting past)) score
   pub told : HasResult setting.start score follower.told

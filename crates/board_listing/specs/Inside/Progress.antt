@@ -9,7 +9,7 @@ use Rattle.board_listing.specs.declared.stream.ListError.TheVariants.{Memory, Re
 use Rattle.board_listing.specs.declared.printer.Printer.{Printer}
 use Rattle.board_listing.specs.declared.listing.Listing.{Listing}
 use Rattle.board_listing.specs.Inside.Printers.{Follows}
-use Rattle.board_listing.specs.Listings.{HasLines, Leaves, WritesFront, last_line}
+use Rattle.board_listing.specs.Listings.{HasLines, LeavesOut, WritesFront, last_line}
 use Rattle.watched_streams.specs.Output.{Gathers}
 
 -- Whatever was gathered before, the lines of this event are gathered too.
@@ -32,7 +32,7 @@ pub record Broken (error : ListError) (listing : Listing) (events : List Timed) 
   pub extra : List Timed
   pub text : List ℕ
   pub parts : events ≡ taken ++ extra
-  pub leaves : Leaves listing taken extra
+  pub leaves : LeavesOut listing taken extra
   pub lines : HasLines listing taken text
   pub stops : Stops error extra begin written' text
 

@@ -19,11 +19,11 @@ use Rattle.board_session.specs.Recording.{Returns, Ends, Sends}
 use Rattle.board_events.specs.Limits.{limit}
 use Rattle.watched_streams.specs.Output.{AppendsPart}
 use Rattle.board_events.specs.Settings.{Setting}
-use Rattle.board_events.specs.Session.{StandsFor, WantsMemory}
+use Rattle.board_events.specs.Session.{HasTakenEvents, WantsMemory}
 
 -- The recorder has taken these events.
 pub record Kept (recorder : Recorder) (setting : Setting) (taken : List Timed) : Type 0 where
-  pub session : StandsFor recorder.session setting (past_of taken)
+  pub session : HasTakenEvents recorder.session setting (past_of taken)
   pub messages : recorder.messages ≡ messages_in taken
   pub faults : recorder.faults ≡ faults_in taken
 

@@ -3,8 +3,8 @@ use Rattle.std.specs.Prelude.{◌≡◌, List, ◌∷◌, Option, Some, None, if
 use Rattle.dgt_frame.specs.declared.events.Event.{Event}
 use Rattle.settle_core.specs.Entries.{Entry}
 use Rattle.unseen_pairs.specs.declared.pair.Recovery.{Recovery}
-use Rattle.unseen_pairs.specs.declared.pair.Told.TheVariants.{Recovered}
-use Rattle.unseen_pairs.specs.Recoverer.{StandsForRecovered, written_after}
+use Rattle.unseen_pairs.specs.declared.pair.SeenOrRecovered.TheVariants.{Recovered}
+use Rattle.unseen_pairs.specs.Recoverer.{HasRecovered, written_after}
 use Rattle.board_events.specs.Entries.{entry_at, is_entry}
 use Rattle.board_events.specs.History.{reading_at}
 use Rattle.board_events.specs.Settings.{Setting}
@@ -26,7 +26,7 @@ pub record Keeps (keeper : Keeper) (setting : Setting) (past : List Event) (writ
   pub reading : keeper.reading ≡ reading_at setting.first past
   pub first : keeper.first ≡ setting.first
   pub rotated : keeper.rotated ≡ setting.rotated
-  pub recoverer : StandsForRecovered keeper.recoverer setting.start (entries_in setting past) written
+  pub recoverer : HasRecovered keeper.recoverer setting.start (entries_in setting past) written
 
 -- It was given one more, at which this was recovered.
 pub record KeepsNext (keeper : Keeper) (setting : Setting) (past : List Event) (event : Event) (found : Option Recovery)

@@ -8,7 +8,7 @@ use Rattle.recovery.specs.declared.keeper.Keeper.{Keeper}
 use Rattle.recovery.specs.declared.refusal.RecoverError.{RecoverError}
 use Rattle.recovery.specs.declared.refusal.RecoverError.TheVariants.{Read, Write, Lines, TooLong, Memory}
 use Rattle.recovery.specs.Inside.Passing.{StandsForStream}
-use Rattle.recovery.specs.Streams.{BeginsLine, IsLine, RefusesNext}
+use Rattle.recovery.specs.Streams.{BeginsPairLine, IsPairLine, RefusesNext}
 use Rattle.recovery.specs.Weaving.{Recovers}
 
 -- What stands for the bytes that were given so far is what they show.
@@ -28,7 +28,7 @@ RefusesAmong decoder keeper more = (setting : Setting) (bytes woven text : List 
 
 -- What was put in at an event: nothing, or frames with their line.
 abbrev pub IsPutIn : List ℕ → List ℕ → Type 0
-IsPutIn frames line = ((frames ≡ []) × (line ≡ [])) ⊎ ((0 < length line) × IsLine line)
+IsPutIn frames line = ((frames ≡ []) × (line ≡ [])) ⊎ ((0 < length line) × IsPairLine line)
 
 -- Where that stood, these bytes were given too, the first of which has this offset: they were written with what was put
 -- in, but for those that wait, and the lines were said.
@@ -45,7 +45,7 @@ abbrev pub StopsAfter : RecoverError → List ℕ → List ℕ → Option (List 
 StopsAfter Memory more lines written written' said said' = Appends written written' more × Appends said said' lines
 StopsAfter Write more lines written written' said said' = AppendsPart written written' more × Appends said said' lines
 StopsAfter Lines more lines written written' said said' = AppendsPart written written' more
-    × ((part : List ℕ) × BeginsLine part × Appends said said' (lines ++ part))
+    × ((part : List ℕ) × BeginsPairLine part × Appends said said' (lines ++ part))
 StopsAfter Read more lines written written' said said' = ⊥
 StopsAfter TooLong more lines written written' said said' = ⊥
 

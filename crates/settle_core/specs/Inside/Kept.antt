@@ -12,7 +12,7 @@ use Rattle.settle_core.specs.Candidate.{lands}
 use Rattle.settle_core.specs.Settling.{reached, Played}
 use Rattle.settle_core.specs.Folding.{score_of}
 use Rattle.settle_core.specs.Masks.{IsDiff, IsOwned, IsShown}
-use Rattle.settle_core.specs.Settler.{Sheet}
+use Rattle.settle_core.specs.Settler.{SettlerState}
 
 -- `picture` is that of the position. `mask` has the squares on which the picture that was seen differs from it. `ours`
 -- has the squares on which the side to move has pieces, and `theirs` those on which the other side has.
@@ -59,8 +59,8 @@ pub record IsKept (start : Parts) (moves : List Move) (here : Compared) (before 
 abbrev pub last_of : Bool → List ℕ → Option (List ℕ)
 last_of seen picture = if seen then Some picture else None
 
-abbrev pub sheet_of : Parts → List Ply → Option Outcome → Bool → List ℕ → Sheet
-sheet_of start plies sign seen picture = record { start = start; score = score_of plies sign; last = last_of seen picture }
+abbrev pub settler_state : Parts → List Ply → Option Outcome → Bool → List ℕ → SettlerState
+settler_state start plies sign seen picture = record { start = start; score = score_of plies sign; last = last_of seen picture }
 
 -- this move is legal in the place of the last of these, of which the latest comes first
 abbrev pub CanReplace : Parts → List Move → Move → Type 0

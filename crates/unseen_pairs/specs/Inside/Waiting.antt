@@ -7,7 +7,7 @@ use Rattle.chess_rules.specs.Picture.{picture}
 use Rattle.settle_core.specs.declared.plies.Ply.{Ply}
 use Rattle.settle_core.specs.declared.plies.Seen.{Seen}
 use Rattle.settle_core.specs.declared.plies.Seen.TheVariants.{Waits}
-use Rattle.settle_core.specs.Settler.{Sheet}
+use Rattle.settle_core.specs.Settler.{SettlerState}
 use Rattle.settle_core.specs.Settling.{Played, reached}
 use Rattle.settle_core.specs.Folding.{SeenAs, moves_of}
 use Rattle.unseen_pairs.specs.declared.pair.TwoPlies.{TwoPlies}
@@ -125,10 +125,10 @@ pub record AreAllAdded (start : Parts) (plies : List Ply) (seen : List ℕ) (rea
   pub none : plies ≡ [] → new ≡ one
 
 -- No pair explains the last picture, if it waits.
-abbrev pub HidesNone : Sheet → Type 0
-HidesNone sheet = (seen : List ℕ) (reading : Option Reading) (old : List Candidate) → sheet.last ≡ Some seen
-    → Played sheet.start (moves_of sheet.score.plies) → SeenAs sheet.start (moves_of sheet.score.plies) seen Waits
-    → AreAllAdded sheet.start sheet.score.plies seen reading old old
+abbrev pub HidesNone : SettlerState → Type 0
+HidesNone settler = (seen : List ℕ) (reading : Option Reading) (old : List Candidate) → settler.last ≡ Some seen
+    → Played settler.start (moves_of settler.score.plies) → SeenAs settler.start (moves_of settler.score.plies) seen Waits
+    → AreAllAdded settler.start settler.score.plies seen reading old old
 
 -- The code of White's king stands in the centre.
 abbrev pub ShowsKing : List ℕ → Type 0

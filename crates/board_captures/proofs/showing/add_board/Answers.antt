@@ -4,7 +4,7 @@ use Rattle.dgt_frame.specs.declared.events.Event.{Event}
 use Rattle.dgt_frame.specs.declared.events.Event.TheVariants.{Fault}
 use Rattle.dgt_frame.specs.declared.events.FaultKind.TheVariants.{Stray}
 use Rattle.dgt_frame.specs.declared.events.Message.TheVariants.{Dump}
-use Rattle.board_events.specs.History.{fields_of}
+use Rattle.board_events.specs.History.{codes_by_field}
 use Rattle.pair_frames.specs.PutIn.{ShowsWhole, dump_of}
 use Rattle.board_captures.specs.Shown.{board_shown, time_shown}
 use Rattle.board_captures.proofs.ShownLemmas.{stray_added}
@@ -35,7 +35,7 @@ returns-clause-shows c = λ events whole.
     let f : Event = Fault Stray in
     let s1 = c.in_ok-add_time.ensures.shows events whole in
     let s2 = c.in_ok-add_dump.ensures.shows _ s1 in
-    let s3 = stray_added c.frames_are_put_in.ensures.joined out (events ++ t ∷ []) (Dump (fields_of rotated seen)) s2 in
+    let s3 = stray_added c.frames_are_put_in.ensures.joined out (events ++ t ∷ []) (Dump (codes_by_field rotated seen)) s2 in
     let e : ((events ++ t ∷ []) ++ d ∷ []) ++ f ∷ [] ≡ events ++ t ∷ d ∷ f ∷ [] =
     append_assoc (events ++ t ∷ []) (d ∷ []) (f ∷ []) ∙ append_assoc events (t ∷ []) (d ∷ f ∷ []) in
     let W : List Event → Type 0 = λ es. ShowsWhole (out ++ 0 ∷ []) es in

@@ -2,7 +2,7 @@ use Rattle.std.proofs.Common.{◌++◌, ◌∷◌, [], ℕ, List, true, ap, subs
 use Rattle.settle_core.specs.declared.plies.Ply.{Ply}
 use Rattle.chess_rules.specs.declared.parts.Parts.{Parts}
 use Rattle.watched_streams.specs.Watch.{inner_of, has_failed}
-use Rattle.pgn_book.specs.Movetext.{AreShown, tokens_of, result_text}
+use Rattle.pgn_book.specs.Movetext.{ArePliesShown, tokens_of, result_text}
 use Rattle.pgn_book.specs.Inside.Flow.{flow, Adds}
 use Rattle.pgn_book.proofs.Standing.{Adds-then, Writes-then, Writes-same}
 use Rattle.pgn_book.proofs.writing.put_movetext.Goals as goal
@@ -11,8 +11,8 @@ pub returns : goal.returns
 returns g c =
     let game = c.args.game.now in
     let moves = c.put_plies.ensures.0 in
-    let P : Parts → Type 0 = λ p. AreShown p game.plies moves in
-    let Q : List Ply → Type 0 = λ ps. AreShown c.start.result.now ps moves in
+    let P : Parts → Type 0 = λ p. ArePliesShown p game.plies moves in
+    let Q : List Ply → Type 0 = λ ps. ArePliesShown c.start.result.now ps moves in
     let shown = subst P c.start.ensures.start (subst Q c.plies.ensures.plies c.put_plies.ensures.1) in
     let mark = result_text game.result in
     let ts = tokens_of true moves in

@@ -1,5 +1,5 @@
 use Rattle.std.proofs.Common.{◌++◌, ap, ◌∙◌, append_assoc, subst}
-use Rattle.settle_core.specs.Settler.{Sheet}
+use Rattle.settle_core.specs.Settler.{SettlerState}
 use Rattle.board_listing.specs.GameText.{TellsSeen}
 use Rattle.board_listing.proofs.follower.Follower.tell.Goals as goal
 
@@ -8,10 +8,10 @@ add_seen-requires-clause-may c = rw c.settler-settler.ensures.same (c.requires.m
 
 pub returns-clause-told : goal.returns-clause-told
 returns-clause-told c other shown last waits =
-    let sheet = c.args.self.now.session.settler in
+    let settler = c.args.self.now.session.settler in
     let same = c.settler-settler.ensures.same in
     let seen = c.add_seen.ensures.told shown (rw same last) in
-    let first_is : TellsSeen c.args.offset sheet.start sheet.score shown c.args.seen seen.0 = (let P : Sheet → Type 0 = λ s. TellsSeen c.args.offset s.start s.score shown c.args.seen seen.0 in subst P same seen.1) in
+    let first_is : TellsSeen c.args.offset settler.start settler.score shown c.args.seen seen.0 = (let P : SettlerState → Type 0 = λ s. TellsSeen c.args.offset s.start s.score shown c.args.seen seen.0 in subst P same seen.1) in
     let news = c.add_new_result.ensures in
     record {
       first = seen.0;

@@ -2,7 +2,7 @@ use Rattle.std.proofs.Common.{◌≡◌, ◌<◌, ◌∷◌, ℕ, List, None, if
 use Rattle.std.proofs.lemmas.Result.{IfOk-weaker}
 use Rattle.dgt_frame.specs.declared.First.{First}
 use Rattle.settle_core.specs.Entries.{Entry, entry_of}
-use Rattle.unseen_pairs.specs.Recoverer.{Desk, StandsForRecovered}
+use Rattle.unseen_pairs.specs.Recoverer.{HasRecovered, RecovererState}
 use Rattle.board_events.specs.declared.view.Change.{Change}
 use Rattle.board_events.specs.declared.view.View.{View}
 use Rattle.board_events.specs.History.{reading_at}
@@ -21,8 +21,8 @@ returns-in-Nothing-clause-next c = λ setting past written k.
     let before : Views c.hear.new.self.view setting.rotated past = subst (λ (v : View). Views v setting.rotated past) (sym c.hear.ensures.view) k.view in
     let read : c.hear.new.self.reading ≡ reading_at setting.first (event ∷ past) =
     c.hear.ensures.reading past (k.reading ∙ ap (λ (f : First). reading_at f past) (sym k.first)) ∙ ap (λ (f : First). reading_at f (event ∷ past)) k.first in
-    let stands : StandsForRecovered c.hear.new.self.recoverer setting.start (entries_in setting past) written =
-    subst (λ (d : Desk). StandsForRecovered d setting.start (entries_in setting past) written) (sym c.hear.ensures.recoverer) k.recoverer in
+    let stands : HasRecovered c.hear.new.self.recoverer setting.start (entries_in setting past) written =
+    subst (λ (d : RecovererState). HasRecovered d setting.start (entries_in setting past) written) (sym c.hear.ensures.recoverer) k.recoverer in
     let C : Change → Type 0 = λ change. ChangesPictures change (pictures setting.rotated past) (pictures setting.rotated (event ∷ past)) in
     kept_same _ setting past event written (c.see.ensures.views setting.rotated past before) read (c.hear.ensures.first ∙ k.first) (c.hear.ensures.rotated ∙ k.rotated)
     stands (subst C c.in-Nothing.is (c.see.ensures.shown setting.rotated past before))
@@ -35,12 +35,12 @@ see_square-requires-clause-seen c =
     let k = c.requires.begun.3 in
     let event = c.args.event.now in
     let before : Views c.hear.new.self.view setting.rotated past = subst (λ (v : View). Views v setting.rotated past) (sym c.hear.ensures.view) k.view in
-    let stands : StandsForRecovered c.hear.new.self.recoverer setting.start (entries_in setting past) written =
-    subst (λ (d : Desk). StandsForRecovered d setting.start (entries_in setting past) written) (sym c.hear.ensures.recoverer) k.recoverer in
+    let stands : HasRecovered c.hear.new.self.recoverer setting.start (entries_in setting past) written =
+    subst (λ (d : RecovererState). HasRecovered d setting.start (entries_in setting past) written) (sym c.hear.ensures.recoverer) k.recoverer in
     let C : Change → Type 0 = λ change. ChangesPictures change (pictures setting.rotated past) (pictures setting.rotated (event ∷ past)) in
     let changes = subst C c.in-Square.is (c.see.ensures.shown setting.rotated past before) in
     let e = entry_before setting past changes.0 changes.1 changes.2 in
-    seen_before c.hear.new.self.recoverer setting.start e.0 e.1 written (subst (λ (es : List Entry). StandsForRecovered c.hear.new.self.recoverer setting.start es written) e.2 stands)
+    seen_before c.hear.new.self.recoverer setting.start e.0 e.1 written (subst (λ (es : List Entry). HasRecovered c.hear.new.self.recoverer setting.start es written) e.2 stands)
 
 pub returns-in-Square-clause-next : goal.returns-in-Square-clause-next
 returns-in-Square-clause-next c = λ setting past written k.
@@ -50,8 +50,8 @@ returns-in-Square-clause-next c = λ setting past written k.
     let views : Views c.see.new.self setting.rotated (event ∷ past) = c.see.ensures.views setting.rotated past before in
     let read : c.hear.new.self.reading ≡ reading_at setting.first (event ∷ past) =
     c.hear.ensures.reading past (k.reading ∙ ap (λ (f : First). reading_at f past) (sym k.first)) ∙ ap (λ (f : First). reading_at f (event ∷ past)) k.first in
-    let stands : StandsForRecovered c.hear.new.self.recoverer setting.start (entries_in setting past) written =
-    subst (λ (d : Desk). StandsForRecovered d setting.start (entries_in setting past) written) (sym c.hear.ensures.recoverer) k.recoverer in
+    let stands : HasRecovered c.hear.new.self.recoverer setting.start (entries_in setting past) written =
+    subst (λ (d : RecovererState). HasRecovered d setting.start (entries_in setting past) written) (sym c.hear.ensures.recoverer) k.recoverer in
     let last : IsLast picture (pictures setting.rotated (event ∷ past)) = c.picture.ensures.last setting.rotated (event ∷ past) views in
     let C : Change → Type 0 = λ change. ChangesPictures change (pictures setting.rotated past) (pictures setting.rotated (event ∷ past)) in
     let changes = subst C c.in-Square.is (c.see.ensures.shown setting.rotated past before) in
@@ -62,7 +62,7 @@ returns-in-Square-clause-next c = λ setting past written k.
     let shown : picture ≡ slice_set (e.0).picture c.in-Square.square (slice_index picture c.in-Square.square) =
     shown_there (e.0).picture picture c.in-Square.square c.in-Square.code inside c.see_square.ensures.squares
     (is ∙ ap (λ (xs : List ℕ). slice_set xs c.in-Square.square c.in-Square.code) (sym e.3)) in
-    let E : List Entry → Type 0 = λ es. StandsForRecovered c.hear.new.self.recoverer setting.start es written in
+    let E : List Entry → Type 0 = λ es. HasRecovered c.hear.new.self.recoverer setting.start es written in
     let sees = c.see_square.ensures.sees setting.start e.0 e.1 written (subst E e.2 stands) shown in
     let new : Keeper = record c.hear.new.self { view = c.see.new.self; recoverer = c.see_square.new.recoverer; found = c.see_square.new.found } in
     IfOk-weaker c.see_square.result (λ is. Sees new.recoverer setting.start (e.0 ∷ e.1) written (entry_of picture c.hear.new.self.reading) (if is then new.found else None))
@@ -81,8 +81,8 @@ returns-in-Picture-clause-next c = λ setting past written k.
     let views : Views c.see.new.self setting.rotated (event ∷ past) = c.see.ensures.views setting.rotated past before in
     let read : c.hear.new.self.reading ≡ reading_at setting.first (event ∷ past) =
     c.hear.ensures.reading past (k.reading ∙ ap (λ (f : First). reading_at f past) (sym k.first)) ∙ ap (λ (f : First). reading_at f (event ∷ past)) k.first in
-    let stands : StandsForRecovered c.hear.new.self.recoverer setting.start (entries_in setting past) written =
-    subst (λ (d : Desk). StandsForRecovered d setting.start (entries_in setting past) written) (sym c.hear.ensures.recoverer) k.recoverer in
+    let stands : HasRecovered c.hear.new.self.recoverer setting.start (entries_in setting past) written =
+    subst (λ (d : RecovererState). HasRecovered d setting.start (entries_in setting past) written) (sym c.hear.ensures.recoverer) k.recoverer in
     let last : IsLast picture (pictures setting.rotated (event ∷ past)) = c.picture-in-Picture.ensures.last setting.rotated (event ∷ past) views in
     let C : Change → Type 0 = λ change. ChangesPictures change (pictures setting.rotated past) (pictures setting.rotated (event ∷ past)) in
     let changes = subst C c.in-Picture.is (c.see.ensures.shown setting.rotated past before) in

@@ -8,7 +8,7 @@ use Rattle.settle_core.specs.declared.plies.Ply.{Ply}
 use Rattle.settle_core.specs.Settling.{reached}
 use Rattle.settle_core.specs.Folding.{moves_of, played, time_of}
 use Rattle.settle_core.specs.Inside.Kept.{last_of}
-use Rattle.settle_core.specs.Settler.{Sheet, position_of}
+use Rattle.settle_core.specs.Settler.{SettlerState, position_of}
 use Rattle.settle_core.proofs.settler.Settler.add.Goals as goal
 
 pub invariant_of-self-2 : goal.invariant_of-self-2
@@ -18,7 +18,7 @@ invariant_of-self-2 c =
     let line : reverse c.push.new.self.items ≡ ply ∷ reverse old = ap reverse c.in_ok-push.ensures.items ∙ reverse-append old (ply ∷ []) in
     let start : Parts = c.self.inside.start in
     let here : Parts = reached start (moves_of (reverse old)) in
-    let L : Sheet → Type 0 = λ s. Legal (position_of s) c.args.m in
+    let L : SettlerState → Type 0 = λ s. Legal (position_of s) c.args.m in
     let M : Move → Type 0 = λ m. Legal here m in
     let legal : M c.copy.result = subst M (sym c.copy.ensures) (subst L (sym c.self.view_is) c.requires) in
     record {
@@ -42,4 +42,4 @@ returns-clause-ok c =
     ap (λ (xs : List Ply). record { start = start; score = record { plies = xs; sign = None }; last = last }) line
     ∙ ap (λ (m : Move). record { start = start; score = record { plies = record { mv = m; clock = c.time_of.result } ∷ reverse old; sign = None }; last = last }) c.copy.ensures
     ∙ ap (λ t. record { start = start; score = record { plies = record { mv = c.args.m; clock = t } ∷ reverse old; sign = None }; last = last }) time
-    ∙ ap (λ (s : Sheet). record { start = s.start; score = played s.start s.score.plies c.args.clock c.args.m; last = s.last }) c.self.view_is
+    ∙ ap (λ (s : SettlerState). record { start = s.start; score = played s.start s.score.plies c.args.clock c.args.m; last = s.last }) c.self.view_is

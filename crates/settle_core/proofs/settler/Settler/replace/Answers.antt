@@ -9,13 +9,13 @@ use Rattle.settle_core.specs.declared.plies.Ply.{Ply}
 use Rattle.settle_core.specs.Settling.{reached}
 use Rattle.settle_core.specs.Folding.{moves_of, played, time_of}
 use Rattle.settle_core.specs.Inside.Kept.{CanReplace, IsLastSet, last_of}
-use Rattle.settle_core.specs.Settler.{Sheet}
+use Rattle.settle_core.specs.Settler.{SettlerState}
 use Rattle.settle_core.proofs.Steps.{before_of, can_replace, line_replaced}
 use Rattle.settle_core.proofs.settler.Settler.replace.Goals as goal
 
 pub play-requires : goal.play-requires
 play-requires c =
-    let C : Sheet → Type 0 = λ s. CanReplace s.start (moves_of s.score.plies) c.args.m in
+    let C : SettlerState → Type 0 = λ s. CanReplace s.start (moves_of s.score.plies) c.args.m in
     let can : CanReplace c.self.inside.start (moves_of (reverse c.self.inside.plies.items)) c.args.m = subst C (sym c.self.view_is) c.requires in
     let L : Parts → Type 0 = λ p. Legal p c.args.m in
     subst L (sym (before_of c.self.inside.start c.self.inside.before c.in-Some.before (reverse c.self.inside.plies.items) c.args.m c.self.invariant.before_is c.in-Some.is can))
@@ -24,7 +24,7 @@ play-requires c =
 pub invariant_of-self : goal.invariant_of-self
 invariant_of-self c =
     let plies : List Ply = reverse c.self.inside.plies.items in
-    let C : Sheet → Type 0 = λ s. CanReplace s.start (moves_of s.score.plies) c.args.m in
+    let C : SettlerState → Type 0 = λ s. CanReplace s.start (moves_of s.score.plies) c.args.m in
     let can : CanReplace c.self.inside.start (moves_of plies) c.args.m = subst C (sym c.self.view_is) c.requires in
     let ply : Ply = record { mv = c.copy.result; clock = c.time_of.result } in
     let now : List Ply = (with_items c.self.inside.plies c.set_last.new.plies).items in
@@ -47,7 +47,7 @@ invariant_of-self c =
 pub returns : goal.returns
 returns c =
     let plies : List Ply = reverse c.self.inside.plies.items in
-    let C : Sheet → Type 0 = λ s. CanReplace s.start (moves_of s.score.plies) c.args.m in
+    let C : SettlerState → Type 0 = λ s. CanReplace s.start (moves_of s.score.plies) c.args.m in
     let can : CanReplace c.self.inside.start (moves_of plies) c.args.m = subst C (sym c.self.view_is) c.requires in
     let ply : Ply = record { mv = c.copy.result; clock = c.time_of.result } in
     let now : List Ply = (with_items c.self.inside.plies c.set_last.new.plies).items in
@@ -63,4 +63,4 @@ returns c =
     ap (λ (xs : List Ply). record { start = c.self.inside.start; score = record { plies = xs; sign = None }; last = last_of c.self.inside.seen c.self.inside.picture }) (line.0)
     ∙ ap (λ (m : Move). record { start = c.self.inside.start; score = record { plies = record { mv = m; clock = c.time_of.result } ∷ drop 1 plies; sign = None }; last = last_of c.self.inside.seen c.self.inside.picture }) c.copy.ensures
     ∙ ap (λ t. record { start = c.self.inside.start; score = record { plies = record { mv = c.args.m; clock = t } ∷ drop 1 plies; sign = None }; last = last_of c.self.inside.seen c.self.inside.picture }) time
-    ∙ ap (λ (s : Sheet). record { start = s.start; score = played s.start (drop 1 s.score.plies) c.args.clock c.args.m; last = s.last }) c.self.view_is
+    ∙ ap (λ (s : SettlerState). record { start = s.start; score = played s.start (drop 1 s.score.plies) c.args.clock c.args.m; last = s.last }) c.self.view_is

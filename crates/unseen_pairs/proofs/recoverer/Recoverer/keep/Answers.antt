@@ -14,7 +14,7 @@ use Rattle.unseen_pairs.specs.declared.confirming.Candidate.{Candidate}
 use Rattle.unseen_pairs.specs.declared.confirming.Confirmed.{Confirmed}
 use Rattle.unseen_pairs.specs.Inside.Waiting.{AreAllAdded, AreKept, IsOnlyOne}
 use Rattle.settle_core.specs.Settler.{position_of}
-use Rattle.unseen_pairs.specs.Recoverer.{Desk}
+use Rattle.unseen_pairs.specs.Recoverer.{RecovererState}
 use Rattle.unseen_pairs.specs.Inside.Telling.{IsWaiting}
 use Rattle.unseen_pairs.proofs.Aging.{lists_next}
 use Rattle.unseen_pairs.proofs.Counting.{none_differ, one_picture, squares}
@@ -25,8 +25,8 @@ pub returns-then-agrees : goal.returns-then-agrees
 returns-then-agrees c = λ start past written w none.
     let seen = c.args.picture.now in
     let entry : Entry = entry_of seen c.args.clock.now in
-    let old : Desk = record { settler = c.self.inside.settler; candidates = c.self.inside.candidates.items } in
-    let W : Desk → Type 0 = λ (d : Desk). IsWaiting d start past written entry × ((one : Confirmed) → ¬ IsOnlyOne (position_of d.settler) d.candidates seen one) in
+    let old : RecovererState = record { settler = c.self.inside.settler; candidates = c.self.inside.candidates.items } in
+    let W : RecovererState → Type 0 = λ (d : RecovererState). IsWaiting d start past written entry × ((one : Confirmed) → ¬ IsOnlyOne (position_of d.settler) d.candidates seen one) in
     let both : W old = subst W (sym c.self.view_is) (w, none) in
     let here : IsWaiting old start past written entry = both.0 in
     let plies = old.settler.score.plies in
@@ -46,8 +46,8 @@ pub returns : goal.returns
 returns c = λ start past written w none.
     let seen = c.args.picture.now in
     let entry : Entry = entry_of seen c.args.clock.now in
-    let old : Desk = record { settler = c.self.inside.settler; candidates = c.self.inside.candidates.items } in
-    let W : Desk → Type 0 = λ (d : Desk). IsWaiting d start past written entry × ((one : Confirmed) → ¬ IsOnlyOne (position_of d.settler) d.candidates seen one) in
+    let old : RecovererState = record { settler = c.self.inside.settler; candidates = c.self.inside.candidates.items } in
+    let W : RecovererState → Type 0 = λ (d : RecovererState). IsWaiting d start past written entry × ((one : Confirmed) → ¬ IsOnlyOne (position_of d.settler) d.candidates seen one) in
     let both : W old = subst W (sym c.self.view_is) (w, none) in
     let here : IsWaiting old start past written entry = both.0 in
     let start_is = (here.settles).start_is in

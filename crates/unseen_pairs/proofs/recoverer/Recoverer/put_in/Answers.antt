@@ -6,10 +6,10 @@ use Rattle.settle_core.specs.Entries.{Entry, entry_of}
 use Rattle.chess_rules.specs.declared.parts.Parts.{Parts}
 use Rattle.settle_core.specs.Folding.{moves_of}
 use Rattle.settle_core.specs.Settling.{reached}
-use Rattle.settle_core.specs.Settler.{StandsFor, position_of}
-use Rattle.unseen_pairs.specs.declared.pair.Told.TheVariants.{Recovered}
+use Rattle.settle_core.specs.Settler.{HasSettled, position_of}
+use Rattle.unseen_pairs.specs.declared.pair.SeenOrRecovered.TheVariants.{Recovered}
 use Rattle.unseen_pairs.specs.Inside.Waiting.{IsOnlyOne}
-use Rattle.unseen_pairs.specs.Recoverer.{Desk}
+use Rattle.unseen_pairs.specs.Recoverer.{RecovererState}
 use Rattle.unseen_pairs.specs.Inside.Telling.{HasTold, IsWaiting}
 use Rattle.unseen_pairs.proofs.Choosing.{recovery_of}
 use Rattle.unseen_pairs.proofs.Telling.{put_in_told}
@@ -22,9 +22,9 @@ returns c = λ start past written w only.
     let one = c.args.one.now in
     let found = one.candidate in
     let entry : Entry = entry_of seen clock in
-    let old : Desk = record { settler = c.self.inside.settler; candidates = c.self.inside.candidates.items } in
-    let new : Desk = record { settler = c.see-3.new.self; candidates = c.clear.new.self.items } in
-    let W : Desk → Type 0 = λ (d : Desk). IsWaiting d start past written entry × IsOnlyOne (position_of d.settler) d.candidates seen one in
+    let old : RecovererState = record { settler = c.self.inside.settler; candidates = c.self.inside.candidates.items } in
+    let new : RecovererState = record { settler = c.see-3.new.self; candidates = c.clear.new.self.items } in
+    let W : RecovererState → Type 0 = λ (d : RecovererState). IsWaiting d start past written entry × IsOnlyOne (position_of d.settler) d.candidates seen one in
     let both : W old = subst W (sym c.self.view_is) (w, only) in
     let here : IsWaiting old start past written entry = both.0 in
     let valid : Valid start = subst Valid (c.start.ensures ∙ (here.settles).start_is) c.parts.ensures.valid in
@@ -32,7 +32,7 @@ returns c = λ start past written w only.
     let s2 = c.in_ok-see-2.ensures.stands start _ s1 in
     let s3 = c.in_ok-see-3.ensures.stands start _ s2 in
     let A : List _ → Option Reading → List _ → Option Reading → Option Reading → Type 0 = λ a x b y z.
-    StandsFor c.see-3.new.self start (entry_of seen z ∷ entry_of b y ∷ entry_of a x ∷ entry ∷ written) in
+    HasSettled c.see-3.new.self start (entry_of seen z ∷ entry_of b y ∷ entry_of a x ∷ entry ∷ written) in
     let t1 = subst (λ a. A a c.copy.result c.picture-2.result c.copy-2.result c.copy-3.result) c.picture.ensures.shown s3 in
     let t2 = subst (λ x. A (picture found.middle) x c.picture-2.result c.copy-2.result c.copy-3.result) c.copy.ensures t1 in
     let t3 = subst (λ b. A (picture found.middle) found.reading b c.copy-2.result c.copy-3.result) c.picture-2.ensures.shown t2 in

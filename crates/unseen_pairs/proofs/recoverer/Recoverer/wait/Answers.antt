@@ -4,7 +4,7 @@ use Rattle.settle_core.specs.Settler.{position_of}
 use Rattle.unseen_pairs.specs.declared.confirming.Candidate.{Candidate}
 use Rattle.unseen_pairs.specs.declared.confirming.Confirmed.{Confirmed}
 use Rattle.unseen_pairs.specs.Inside.Waiting.{AreShown, IsOnlyOne}
-use Rattle.unseen_pairs.specs.Recoverer.{Desk}
+use Rattle.unseen_pairs.specs.Recoverer.{RecovererState}
 use Rattle.unseen_pairs.proofs.recoverer.Recoverer.wait.Goals as goal
 
 pub returns : goal.returns
@@ -15,6 +15,6 @@ returns c = λ start past written w.
     let none : (one : Confirmed) → AreShown c.deref.result.now → ¬ IsOnlyOne c.position.result.now c.deref.result.now seen one = subst N c.in_default.is c.in_ok-found.ensures.none in
     let C : List Candidate → Type 0 = λ cs. (one : Confirmed) → AreShown cs → ¬ IsOnlyOne c.position.result.now cs seen one in
     let P : Parts → Type 0 = λ p. (one : Confirmed) → ¬ IsOnlyOne p c.args.self.now.candidates seen one in
-    let never = subst C (c.deref.ensures.value ∙ ap (λ (d : Desk). d.candidates) c.self.view_is) none in
+    let never = subst C (c.deref.ensures.value ∙ ap (λ (d : RecovererState). d.candidates) c.self.view_is) none in
     c.in_ok-keep.ensures start past written w
-    (subst P (c.position.ensures.reached ∙ ap (λ (d : Desk). position_of d.settler) c.self.view_is) (λ one. never one shown))
+    (subst P (c.position.ensures.reached ∙ ap (λ (d : RecovererState). position_of d.settler) c.self.view_is) (λ one. never one shown))
