@@ -362,6 +362,11 @@ class Board:
         return self._course.clock
 
     @property
+    def clock_at(self) -> float:
+        """When they came."""
+        return self._course.clock_at
+
+    @property
     def recovered(self) -> List[str]:
         """The pairs of moves that were recovered."""
         return self._course.recovered

@@ -73,7 +73,7 @@ class Shots:
     def take(self, board: Board, now: float) -> Shot:
         """The game as it is now. Returns the same shot as before if nothing is new."""
         seen = Seen.of(board)
-        clocks = self._running.look(now, board.clock, self._shot.result == "*")
+        clocks = self._running.look(now, board.clock, board.clock_at, self._shot.result == "*")
         if seen != self._seen or clocks is not self._clocks:
             self._seen, self._clocks = seen, clocks
             plies = board.plies[: max(0, len(board.fens) - 1)]

@@ -1,7 +1,9 @@
 """The running clocks of a game, as spectators see them. Pure: times are passed in.
 
 A running clock is sent once, with the time at which it showed that, and a browser counts on from there. It is sent again only
-if that would be wrong: after a move, or if a clock was stopped, set or started.
+if that would be wrong: after a move, or if a clock was stopped, set or started. A reading may come late, if this process was held
+up, but never early. So a clock that shows more than the browser's count may have been read late; if it shows less, the browser is
+behind.
 """
 
 from __future__ import annotations
@@ -12,7 +14,8 @@ from typing import List, Optional
 
 from live.game.report import Clock
 
-WRONG = 2  # seconds by which a clock may differ from the browser's count
+WRONG = 2  # seconds that a clock may show more than the browser's count
+BEHIND = 1  # seconds that it may show less
 STANDS = 3.0  # seconds without another reading, after which a clock counts as stopped
 WHITE, BLACK = "w", "b"
 OTHER = {WHITE: BLACK, BLACK: WHITE, "": ""}
@@ -49,19 +52,20 @@ class Running:
 
     told: Clocks = STANDING
     _read: Optional[Clock] = None
-    _read_at: float = 0.0
+    _came_at: float = 0.0  # when that was read
+    _heard_at: float = 0.0  # when it was first looked at
     _side: str = ""  # whose clock was running last
 
-    def look(self, now: float, read: Optional[Clock], goes_on: bool) -> Clocks:
-        """The clocks show this now, and the game is in play or over. Returns the clocks from which a browser counts."""
+    def look(self, now: float, read: Optional[Clock], came_at: float, goes_on: bool) -> Clocks:
+        """The clocks have shown this since then, and the game is in play or over. Returns the clocks from which a browser counts."""
         if read is None:
             return self.told
         if self._read is None or read != self._read:
             self._side = side_between(self._read, read) or self._side
-            self._read, self._read_at = read, now
-        runs = self._side if goes_on and now < self._read_at + STANDS else ""
-        if not counts_to(self.told, now, read, runs):
-            self.told = Clocks(read.white, read.black, runs, self._read_at if runs else 0.0)
+            self._read, self._came_at, self._heard_at = read, came_at, now
+        runs = self._side if goes_on and now < self._heard_at + STANDS else ""
+        if not counts_to(self.told, self._came_at, read, runs):
+            self.told = Clocks(read.white, read.black, runs, self._came_at if runs else 0.0)
         return self.told
 
 
@@ -80,8 +84,8 @@ def side_between(before: Optional[Clock], now: Clock) -> str:
     return OTHER[up[0]] if len(up) == 1 and not down else ""
 
 
-def counts_to(told: Clocks, now: float, read: Clock, runs: str) -> bool:
-    """Whether a browser that got this shows the new reading by now, or nearly."""
+def counts_to(told: Clocks, came_at: float, read: Clock, runs: str) -> bool:
+    """Whether a browser that got this showed the new reading when it came, or nearly."""
     if told.runs != runs:
         return False
     for side, text, before in ((WHITE, read.white, told.white), (BLACK, read.black, told.black)):
@@ -89,6 +93,6 @@ def counts_to(told: Clocks, now: float, read: Clock, runs: str) -> bool:
         if is_seconds is None or was_seconds is None or side != runs:
             if text != before:
                 return False
-        elif abs(max(0.0, was_seconds - (now - told.at)) - is_seconds) > WRONG:
+        elif not -BEHIND <= is_seconds - max(0.0, was_seconds - (came_at - told.at)) <= WRONG:
             return False
     return True

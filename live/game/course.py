@@ -33,6 +33,7 @@ class Course:
         self.recovered: List[str] = []  # the pairs that were recovered
         self.placement = ""  # what the board shows
         self.clock: Optional[Clock] = None  # what the clocks show, if it was reported
+        self.clock_at = 0.0  # when that came
         self.changed_at = -1  # the offset of the last line that changed the game
         self.has_agreed = False  # whether the board has shown the game's position
         self.stands_again: Optional[Start] = None  # what the last line means, if it is about the start
@@ -55,7 +56,7 @@ class Course:
             del self.fens[len(self.plies) :]
             self.fens.append(event.fen)
         elif isinstance(event, Clock):
-            self.clock = event
+            self.clock, self.clock_at = event, at
         elif isinstance(event, Recovered):
             self.recovered.append(event.text)
             self.news.append(event)

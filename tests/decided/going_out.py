@@ -217,7 +217,7 @@ def clocks_run() -> None:
         (60.0, "1:29:20", "1:29:57", True),
         (61.0, "1:29:20", "1:29:57", False),
     ]:
-        told.append(running.look(at, Clock(white, black), goes_on))
+        told.append(running.look(at, Clock(white, black), at, goes_on))
     same("what is told", told, [
         Clocks("1:30:00", "1:30:00"),
         Clocks("1:30:00", "1:30:00"),
@@ -227,7 +227,21 @@ def clocks_run() -> None:
         Clocks("1:29:20", "1:29:57", "b", 60.0),
         Clocks("1:29:20", "1:29:57"),
     ])  # fmt: skip
-    same("no clock", Running().look(5.0, None, True), Clocks())
+    same("no clock", Running().look(5.0, None, 0.0, True), Clocks())
+    # When it was looked at, when it had come, and White's seconds; what is told in the end, and since when it counts.
+    late: List[Tuple[str, List[Tuple[float, float, int]], Tuple[int, float]]] = [
+        ("looked at late", [(1, 1, 59), (2, 2, 58), (4.5, 3, 57)], (58, 2.0)),
+        ("the first running one was looked at late", [(1, 1, 59), (3.9, 2, 58), (4, 3, 57)], (58, 2.0)),
+        ("it came late by 1.5 s, and the next one in time", [(1, 1, 59), (3.5, 3.5, 58), (4, 4, 56)], (56, 4.0)),
+        ("it came late by less than a second", [(1, 1, 59), (2.9, 2.9, 58), (4, 4, 56)], (58, 2.9)),
+        ("a later one came late by two seconds", [(1, 1, 59), (2, 2, 58), (7, 7, 55), (8, 8, 52)], (58, 2.0)),
+        ("one came late by three seconds, and the next one in time", [(1, 1, 59), (2, 2, 58), (8, 8, 55), (8.1, 8.1, 52)], (52, 8.1)),
+    ]
+    for name, readings, wanted in late:
+        running = Running()
+        for at, came_at, seconds in readings:
+            now_told = running.look(at, Clock(f"0:00:{seconds}", "0:01:00"), came_at, True)
+        same(name, now_told, Clocks(f"0:00:{wanted[0]}", "0:01:00", "w", wanted[1]))
 
 
 def is_alive(process: int) -> bool:
