@@ -374,7 +374,8 @@ class Recorder(TakesOff, Renames, Forfeits):
         named = self._before is not None and name in (self._before.name, self.game.paths.name)
         before = self._before if self._before and name == self._before.name else None
         status, answer = self._add(words if named else text, before, sure=named, may_quit=True)
-        return status, answer + added.QUIT_TOO if answer.endswith((added.WAYS, added.ALL_WAYS)) else answer
+        is_list = answer.endswith((added.WAYS, added.ALL_WAYS))
+        return status, added.with_more(answer, *added.ONE_BOARD) if is_list else answer
 
     def add(self, text: str) -> Answer:
         """Adds what was typed. Returns an answer, with its status."""

@@ -23,7 +23,8 @@ REOPENS = "*"  # takes a typed result off
 ALONE = "type {} alone, in a line of its own"
 NOUGHTS = "0-0"  # a result, or castling typed with noughts
 BOTH_LOSE = f"{NOUGHTS}: do both lose? PGN has no such result: leave the game without one, and note it. Castling is O-O"
-QUIT_TOO = ", name White=Anna (a name put right), or q to end the recording"
+ABSENT = "+- (Black has not come; -+ White, -- both)"
+ONE_BOARD = (ABSENT, "name White=Anna (a name put right)", "or q to end the recording")  # what can be typed there too
 
 EMPTY = 0
 WHITE_KING, BLACK_KING = LETTERS.index("K"), LETTERS.index("k")
@@ -154,6 +155,12 @@ def _back(words: Sequence[str]) -> Back:
     if named is None:
         raise Refused("which ply? Type it as the screen printed it, as back 14. Bxf6 or back 14... Qd7; or back alone, or back 0")
     return Back(f"{int(named[1])}{'.' if len(named[2]) == 1 else '...'}", _move(named[3]))
+
+
+def with_more(ways: str, *more: str) -> str:
+    """A list of what can be typed, with more behind it."""
+    front, _, last = ways.rpartition(" or ")
+    return ", ".join((front, last, *more))
 
 
 def is_result(text: str) -> bool:

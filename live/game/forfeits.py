@@ -73,6 +73,8 @@ def read_typed(text: str, name: str = "") -> Union[Forfeit, added.Typed]:
     kind = typed_forfeit(text)
     if kind:
         return Forfeit(kind)
+    if in_one_word(text) == added.NOUGHTS:
+        raise added.Refused(f"{added.BOTH_LOSE}. If neither player has come, type {BOTH}")
     words = text.split()
     if len(words) > 1 and name and text.strip().endswith(f" {name}"):
         named = in_a_table(" ".join(words[: -len(name.split())]))

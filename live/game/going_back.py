@@ -19,6 +19,7 @@ from live.game.clocks import Reading
 from live.game.course import Course
 from live.game.edited import told_of_edit
 from live.game.files import Capture, Paths, existing, put_in_place, remove, sync_folder
+from live.game.forfeiting import kept_forfeit
 from live.game.game import Game, end_mark, mark_end, unmark_end
 from live.game.making_pgn import Text
 from live.game.reading import game_of
@@ -69,7 +70,8 @@ def without_result(game: Game, sent: bytes, shown: bytes = b"") -> Way:
     """All plies, without the result. Refused if there is none and the game isn't over."""
     course = game_of(game.program, game.options, sent)
     if course.result == "*" and end_mark(game.paths) is None:
-        raise added.Refused("the game has no result")
+        is_forfeited = not course.plies and kept_forfeit(game.paths)
+        raise added.Refused("the game has no result" + (": if it is played after all, just play" if is_forfeited else ""))
     return _checked(game, course, len(course.plies), sent, shown)
 
 

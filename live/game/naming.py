@@ -27,13 +27,18 @@ def read_names(text: str) -> Options:
     words: List[str] = []
     for pair in filter(None, NEXT_PAIR.split(pairs.strip())):
         try:
-            name, value = pair_of(pair)
+            name, value = pair_of(unquoted(pair))
         except Malformed as error:
             raise Refused(f"{error}. {HOW.capitalize()}") from None
         words += [OPTION_OF[name], value or UNKNOWN] if name in OPTION_OF else [TAG, f"{name}={value}"]
     if not words:
         raise Refused(HOW)
     return Options.of_words(words)
+
+
+def unquoted(pair: str) -> str:
+    """A pair whose value was put in quotes, as a shell wants it, without them."""
+    return re.sub(r"""=\s*(["'])((?:(?!\1).)*)\1\s*$""", r"=\2", pair)
 
 
 def told_of_names(now: Options, before: Options) -> str:

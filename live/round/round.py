@@ -345,7 +345,8 @@ class Round:
             return f"{row.number}: {'; '.join(parts)}"
         _, answer = row.add(" ".join(words))
         if answer == added.ALL_WAYS:
-            return f"{row.number}: behind the number, {added.ALL_WAYS.replace('Type', 'type', 1)}"
+            ways = added.with_more(added.ALL_WAYS, f"or {added.ABSENT}")
+            return f"{row.number}: behind the number, {ways.replace('Type', 'type', 1)}"
         return f"{row.number} {answer}" if answer.startswith("refused") else f"{row.number}: {answer}"
 
     def trouble(self, text: str) -> None:

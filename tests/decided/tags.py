@@ -140,6 +140,7 @@ NAMED = [
     ("name White=Anna Kern Black=Ben  Ott", ("--white", "Anna Kern", "--black", "Ben  Ott")),
     ("name Event=Club cup Round=3 Date=31.05.2024 Site=Basel",
      ("--event", "Club cup", "--round", "3", "--date", "31.05.2024", "--site", "Basel")),
+    ("""name White="Anna Kern" Black='Ben Ott' Event='64""", ("--white", "Anna Kern", "--black", "Ben Ott", "--event", "'64")),
     ("name Black=", ("--black", "?")),
     ("name WhiteElo=2050 Black=Ben", ("--tag", "WhiteElo=2050", "--black", "Ben")),
     ("name TimeControl=90+30", ("--tag", "TimeControl=5400+30")),

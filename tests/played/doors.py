@@ -10,7 +10,7 @@ import sys
 import urllib.request
 from typing import Any
 
-from live.game.added import QUIT_TOO, WAYS
+from live.game.added import ONE_BOARD, WAYS, with_more
 from played import TOP, words
 from played.boards import Cables
 from played.ports import free_port
@@ -187,12 +187,12 @@ def folded_when_typed(folder: pathlib.Path) -> None:
     live = Live(a_board(folder).device, folder / "game", terminal=True)
     begun(live)
     live.type("Nh3 and more")
-    until_line(live, "or help")
+    until_line(live, "recording")
     lines = live.lines().splitlines()
     (at,) = [at for at, line in enumerate(lines) if "refused: Nh3 and more" in line]
-    told = [lines[at], *(line for line in lines[at + 1 : at + 4] if line.startswith(" " * 10))]
+    told = [lines[at], *(line for line in lines[at + 1 : at + 6] if line.startswith(" " * 10))]
     assert max(map(len, told)) < 80, told
-    same(" ".join(part.strip() for part in told)[10:], "refused: Nh3 and more: and: neither a move nor a result. " + WAYS + QUIT_TOO)
+    same(" ".join(part.strip() for part in told)[10:], "refused: Nh3 and more: and: neither a move nor a result. " + with_more(WAYS, *ONE_BOARD))
     same(stop(live), 0)
 
 

@@ -43,6 +43,14 @@ def not_played(folder: pathlib.Path) -> None:
     until_line(live, f"3: {hall.games}/03: forfeit 0-1: it isn't played")
     live.type("4 --")
     until_line(live, f"4: {hall.games}/04: forfeit 0-0: it isn't played")
+    for text, answer in (
+        ("4 *", "4 refused: *: the game has no result: if it is played after all, just play"),
+        ("4 0-0", "4 refused: 0-0: do both lose? PGN has no such result: leave the game without one, and note it. Castling is O-O"),
+        ("4 0-0", "If neither player has come, type --"),
+        ("4 help", "* (no result), ok, or +- (Black has not come; -+ White, -- both)"),
+    ):
+        live.type(text)
+        until_line(live, answer)
     wanted = ["*", WHITE, BLACK, BOTH, "*"]
     until(lambda: texts_of(bytes_of(goes_out)) == wanted, f"{wanted} in what is published", 0.05)
     until(lambda: shown(port) == {1: "*", 2: WHITE, 3: BLACK, 4: "0-0 forfeit", 5: "*"}, "the same on the page", 0.05)
