@@ -34,6 +34,8 @@ mod settle_core_page;
 #[cfg(test)]
 mod text_subcommands_page;
 #[cfg(test)]
+mod typed_lines_page;
+#[cfg(test)]
 mod unseen_pairs_page;
 #[cfg(test)]
 mod watched_streams_page;

@@ -1,0 +1,5 @@
+pub mod Letters
+pub mod Words
+pub mod Results
+pub mod Spelling
+pub mod Lines
