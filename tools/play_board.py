@@ -47,6 +47,7 @@ class Board:
         self.cut = cut
         self.updates = 0
         self.asked_for_updates = False
+        self.last = 0  # the last request
 
     def send(self, bytes_sent: bytes) -> None:
         while bytes_sent:
@@ -62,7 +63,9 @@ class Board:
 
     def answer(self, commands: bytes) -> None:
         for command in commands:
-            print(f"board: asked {command:02X}", file=sys.stderr)
+            if command != self.last:
+                print(f"board: asked {command:02X}", file=sys.stderr)
+            self.last = command
             if command == SEND_DUMP:
                 self.send(frame(DUMP, self.codes))
             elif command == SEND_UPDATES:

@@ -29,6 +29,8 @@ time control =
 encoding =
 # Show the games to browsers: 8000 on this computer, 0.0.0.0:8000 in the whole network
 page =
+# The folder of a site of files, which any web host can serve
+web =
 # Minutes by which what goes out is late, and the command that takes it there
 delay =
 publish =
@@ -43,7 +45,7 @@ def words_of(content: bytes, round_number: int, options: Sequence[str], encoding
     known = {normal(option): option for option in options if option != TAG}
     for_all: Dict[str, str] = {}
     for_this: Dict[str, str] = {}
-    own = re.search(r"(?im)^\s*encoding\s*=\s*(\S+)", loose_text(content))
+    own = re.search(r"(?im)^[^\S\r\n]*encoding[^\S\r\n]*=[^\S\r\n]*(\S+)", loose_text(content))
     text = text_of(content, encoding or (known_encoding(own.group(1)) if own else ""))
     for number, line in enumerate(re.split("\r\n|\r|\n", text), 1):
         if not line.strip() or line.lstrip().startswith("#"):

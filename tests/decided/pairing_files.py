@@ -3,11 +3,12 @@ hall's boards that go with them. The files are written after the programs' pages
 
 from typing import Dict, List, Tuple
 
+from live.doors.dgt_round import VALUED
 from live.refused import Refused
 from live.round.encodings import ENCODING, encoding_in, known_encoding, text_of
 from live.round.joining import joined, placed
 from live.round.pairings import Pairing, Pairings, Wrong, read_pairings
-from live.round.settings import words_of
+from live.round.settings import TEMPLATE, words_of
 from live.round.trf import Head, head_of, is_report, read_report
 
 from decided.table import refused, same
@@ -324,6 +325,11 @@ def settings() -> None:
         "--recover", "--tag=BlackTeam==B=",
     ])  # fmt: skip
     same("round 1", words_of(SETTINGS.encode("utf-16"), 1, OPTIONS)[2], "--date=2024.05.30")
+    same("as --new writes them", words_of(TEMPLATE.encode(), 1, VALUED), [])
+    filled = TEMPLATE.replace("event =", "event = Coupe de Noël").replace("page =", "page = 8000")
+    same("filled in", words_of(filled.encode(), 1, VALUED), ["--event=Coupe de Noël", "--page=8000"])
+    encoded = filled.replace("encoding =", "encoding = iso-8859-2").replace("Noël", "Łódź").encode("iso-8859-2")
+    same("in another encoding", words_of(encoded, 1, VALUED), ["--event=Coupe de Łódź", "--encoding=iso-8859-2", "--page=8000"])
     for text, why in NO_SETTINGS.items():
         same(text, refused(text, Refused, words_of, text.encode(), 1, OPTIONS), why)
 
