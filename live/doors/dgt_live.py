@@ -46,7 +46,7 @@ The same NAME goes on with a game. While it records, type a result (1-0, 0-1,
 off; back 14. Bxf6: up to this one), ok when you looked at a LOOK, or help.
 
   --series           NAME-1, NAME-2, ..: the next once pieces are set up again
-  --once, --linger SECONDS   a board that is unplugged ends it; a result, then
+  --once, --linger SECONDS   an unplugged board ends it; seconds a result waits
   --page [ADDRESS:]PORT, --page-host NAME, --arbiter-page   to browsers: 8000
   --delay MINUTES, --publish COMMAND   how late it goes out, and by what
   --recover          put in moves that two hands hid (--strict: no longer)
