@@ -2,6 +2,8 @@
 #![tactic(auto)]
 
 #[cfg(test)]
+mod adding_page;
+#[cfg(test)]
 mod board_captures_page;
 #[cfg(test)]
 mod board_events_page;

@@ -1,0 +1,7 @@
+pub mod Signs
+pub mod Making
+pub mod Stays
+pub mod Verdicts
+pub mod Trials
+pub mod Answers
+pub mod Lines
