@@ -25,9 +25,9 @@ from live.refused import DONE, FAILED, REFUSED, Refused
 from live.round.display import Display
 from live.round.pairings import EXAMPLE, Pairing, Pairings, Wrong, device_twice
 from live.round.published import Published
-from live.round.row import NOT_RECORDED, Hall, Row, game_of_others
+from live.round.row import Hall, Row, game_of_others
 from live.round.sources import Source
-from live.round.table import RowView, boards_are, counted, lines_are_wrong
+from live.round.table import NOT_RECORDED, RowView, boards_are, counted, lines_are_wrong
 from live.round.tournament_files import FORFEIT, Result
 from live.terminal.terminal import Typed
 from live.web.view import round_pgn

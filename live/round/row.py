@@ -31,12 +31,11 @@ from live.game.tags import SIDES, Tags
 from live.loop import Turns
 from live.refused import REFUSED, Refused
 from live.round.pairings import Pairing
-from live.round.table import RowView
+from live.round.table import NOT_RECORDED, RowView
 from live.terminal.screen import Screen
 from live.terminal.terminal import Terminal
 
 UNSAID = ("records ", "added by hand", "acknowledged: ", " has the cable ")  # not below a table: its rows and the answers show it
-NOT_RECORDED = "NOT RECORDED"
 BEGUN_ANEW = "is begun anew"  # if its line has changed
 TURNED, OTHER = "turned round?", "other board?"  # in a row, for a hint that has no room there
 

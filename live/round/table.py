@@ -14,6 +14,7 @@ MESSAGES = 3  # lines that messages always have
 MOST_MESSAGES = 8  # lines that they have if there is room
 MOST_LISTED = 8  # boards, or ranges of boards, whose numbers are listed
 LONGEST_ROW = 3  # lines of a row that explains a trouble
+NOT_RECORDED = "NOT RECORDED"
 
 
 @dataclass(frozen=True)
@@ -31,6 +32,11 @@ class RowView:
     alarm: bool = False
     is_board: bool = True  # and not a wrong line of the file
     is_of_all: bool = False  # of the whole round, and not of a board
+
+    @property
+    def is_game(self) -> bool:
+        """Whether it is a board with its game, and not a trouble in its place."""
+        return self.is_board and not self.is_of_all and (bool(self.last) or self.state != NOT_RECORDED)
 
 
 @dataclass(frozen=True)
@@ -82,7 +88,7 @@ def row(view: RowView, now: float, width: int = WIDTH) -> List[str]:
     number = "" if view.is_of_all else "?" if view.number is None else str(view.number)
     front = f"{'!' if view.alarm else ' '}{number:>3} "
     state = view.state + ("" if view.since is None else " " + since(now - view.since)) + view.rest
-    if not view.last and view.alarm and view.since is None:
+    if not view.is_game and view.alarm and view.since is None:
         return wrapped(front + state, columns.whole, " " * len(front), LONGEST_ROW)
     parts = [fitted(view.white, columns.names), fitted(view.black, columns.names), fitted(view.last, 13)]
     if columns.clocks:
