@@ -24,6 +24,8 @@ mod dgt_frame_page;
 #[cfg(test)]
 mod dgt_replay_page;
 #[cfg(test)]
+mod going_back_page;
+#[cfg(test)]
 mod pair_frames_page;
 #[cfg(test)]
 mod pgn_book_page;

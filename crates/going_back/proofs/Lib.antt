@@ -1,0 +1,4 @@
+pub mod Fronts
+pub mod LawLemmas
+pub mod NameLemmas
+pub mod NearLemmas

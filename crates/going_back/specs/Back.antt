@@ -1,0 +1,70 @@
+-- A game that goes back to one of its plies. Plies stand in their order, events have the latest first.
+use Rattle.std.specs.Prelude.{◌≡◌, ◌⊎◌, ℕ, Bool, List, ◌∷◌, ◌++◌, Some, None}
+use Rattle.dgt_frame.specs.declared.events.Event.{Event}
+use Rattle.settle_core.specs.declared.plies.Ply.{Ply}
+use Rattle.settle_core.specs.Entries.{last_picture}
+use Rattle.settle_core.specs.GameResult.{IsResult}
+use Rattle.settle_core.specs.Settler.{SettlerState, HasSettled, plies_of, position_of}
+use Rattle.board_events.specs.History.{is_trusted, reading_at}
+use Rattle.board_events.specs.Session.{entries_in}
+use Rattle.board_events.specs.Settings.{Setting}
+use Rattle.pair_frames.specs.PutIn.{ShowsWhole}
+use Rattle.board_captures.specs.Reading.{IsRead, IsTooLong, StandAlike}
+use Rattle.board_captures.specs.Shown.{board_shown, game_shown}
+use Rattle.going_back.specs.declared.going.BackError.{BackError}
+use Rattle.going_back.specs.declared.going.BackError.TheVariants.{Unseen, Ended, Signed, Moved, Board, TooLong, Memory}
+
+-- These bytes show these plies, and then the board as it stands after these events.
+abbrev pub IsMade : Setting → List Event → List Ply → List ℕ → Type 0
+IsMade setting past stay made = (seen : List ℕ) × (last_picture (entries_in setting past) ≡ Some seen)
+    × ShowsWhole made (game_shown setting.first setting.rotated setting.start stay
+    ++ board_shown setting.first setting.rotated (reading_at setting.first past) seen (is_trusted past))
+
+-- The game has these plies and no other, and no result.
+pub record HasFrontAlone (made : SettlerState) (stay : List Ply) : Type 0 where
+  pub plies : plies_of made ≡ stay
+  pub sign : made.score.sign ≡ None
+  pub result : IsResult (position_of made) None None
+
+-- What the game has otherwise.
+abbrev pub Differs : SettlerState → List Ply → BackError → Type 0
+Differs made stay (Ended outcome) = (plies_of made ≡ stay) × IsResult (position_of made) None (Some outcome)
+Differs made stay (Signed outcome) = (plies_of made ≡ stay) × (made.score.sign ≡ Some outcome)
+Differs made stay (Moved m) = (ply : Ply) × (more : List Ply) × (plies_of made ≡ stay ++ ply ∷ more) × (ply.mv ≡ m)
+Differs made stay Board = (more : List Ply) → plies_of made ≡ stay ++ more → ⊥
+Differs made stay Unseen = ⊥
+Differs made stay TooLong = ⊥
+Differs made stay Memory = ⊥
+
+-- `record` makes the game of this capture that has these plies, with their clocks, and no other, and no result; and
+-- after it the board stands as after these events.
+pub record Gives (setting : Setting) (recovers : Bool) (past : List Event) (stay : List Ply) (made : List ℕ) : Type 0 where
+  pub events : List Event
+  pub read : IsRead setting recovers made events
+  pub settler : SettlerState
+  pub settled : HasSettled settler setting.start (entries_in setting events)
+  pub front : HasFrontAlone settler stay
+  pub board : StandAlike setting events past
+
+-- Of this capture it makes another game; or the board stands otherwise after it.
+pub record GivesOther (setting : Setting) (recovers : Bool) (past : List Event) (stay : List Ply) (made : List ℕ) (error : BackError) : Type 0 where
+  pub events : List Event
+  pub read : IsRead setting recovers made events
+  pub settler : SettlerState
+  pub settled : HasSettled settler setting.start (entries_in setting events)
+  pub why : Differs settler stay error ⊎ ((error ≡ Board) × (StandAlike setting events past → ⊥))
+
+-- What is wrong with this capture.
+abbrev pub Spoils : Setting → Bool → List Event → List Ply → List ℕ → BackError → Type 0
+Spoils setting recovers past stay made error = ((error ≡ TooLong) × IsTooLong setting recovers made)
+    ⊎ GivesOther setting recovers past stay made error
+
+-- The new capture of a game that goes back to these plies.
+abbrev pub GoesBack : Setting → Bool → List Event → List Ply → List ℕ → Type 0
+GoesBack setting recovers past stay made = IsMade setting past stay made × Gives setting recovers past stay made
+
+-- Why a game can't go back to them: memory ran out, the board has shown nothing, or the new capture won't do.
+abbrev pub Refuses : Setting → Bool → List Event → List Ply → BackError → Type 0
+Refuses setting recovers past stay error = (error ≡ Memory)
+    ⊎ (((error ≡ Unseen) × (last_picture (entries_in setting past) ≡ None))
+    ⊎ ((made : List ℕ) × IsMade setting past stay made × Spoils setting recovers past stay made error))

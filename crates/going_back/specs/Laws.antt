@@ -1,0 +1,23 @@
+-- What `record` makes of the new capture of a game that went back. Plies stand in their order, events have the latest
+-- first.
+use Rattle.std.specs.Prelude.{◌≡◌, ℕ, false, List, None}
+use Rattle.chess_rules.specs.Valid.{Valid}
+use Rattle.dgt_frame.specs.declared.events.Event.{Event}
+use Rattle.dgt_frame.specs.Streams.{Shows, Timed}
+use Rattle.settle_core.specs.declared.plies.Ply.{Ply}
+use Rattle.chess_game.specs.Games.{Content}
+use Rattle.chess_game.specs.Values.{TagValues}
+use Rattle.board_events.specs.Commands.{past_of}
+use Rattle.board_events.specs.Game.{IsGameOf}
+use Rattle.board_events.specs.Settings.{Setting}
+use Rattle.going_back.specs.Back.{GoesBack}
+
+-- The game of the events that it shows has exactly the plies that stay, with their clocks, and no result.
+abbrev pub WhatStaysIsRecorded : Type 0
+WhatStaysIsRecorded = (setting : Setting) (tags : TagValues) (game : Content) (past : List Event) (stay : List Ply)
+    (made : List ℕ) (events : List Timed) (rest : ℕ)
+    → Valid setting.start
+    → GoesBack setting false past stay made
+    → Shows made events rest
+    → IsGameOf game setting tags (past_of events)
+    → (game.plies ≡ stay) × (game.result ≡ None)

@@ -1,0 +1,4 @@
+pub mod Back
+pub mod Laws
+pub mod Naming
+pub mod Nearest

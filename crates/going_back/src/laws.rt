@@ -1,0 +1,15 @@
+//! What holds of a game that went back.
+ghost use Rattle.going_back.specs.Laws.{WhatStaysIsRecorded};
+
+use dgt_frame::laws::shows_once;
+use settle_core::laws::folds_once;
+
+/// Of the new capture `record` makes the game with exactly the plies that stay, with their clocks, and no result.
+pub fn what_stays_is_recorded()
+    ensures { WhatStaysIsRecorded }
+{
+    // For its clause: the bytes show one list of events.
+    shows_once();
+    // For its clause: the entries fold to one score.
+    folds_once();
+}

@@ -1,0 +1,43 @@
+//! The ply that is nearest to a text that names none, by its number.
+
+use chess_rules::Position;
+use chess_text::read_san;
+use going_back::nearest_ply;
+use settle_core::Settler;
+use std::alloc::Global;
+use std::process::Abort;
+
+/// The number of the ply of 1. e4 e5 2. Nf3 that is nearest; none where memory ran out.
+fn nearest_of(alloc: Global, text: &str) -> Option<usize> {
+    let mut settler = Settler::new(alloc, Position::initial());
+    for san in ["e4", "e5", "Nf3"] {
+        let Ok(m) = read_san(settler.position(), san.as_bytes()) else {
+            return None;
+        };
+        let picture = settler.position().play(m).picture();
+        if settler.see(&picture, None).is_err() {
+            return None;
+        }
+    }
+    nearest_ply(settler.start(), settler.moves(), text.as_bytes())
+}
+
+fn expect(rt: &impl Abort, alloc: Global, text: &str, number: usize) {
+    assert_eq!(rt; nearest_of(alloc, text), Some(number), "{text}");
+}
+
+#[test]
+fn the_number_tells_which_is_near(rt: HostRuntime) {
+    for (text, number) in [
+        ("1. d4", 1),
+        ("1... d5", 2),
+        ("2. Nc3", 3),
+        ("2... Nc6", 3),
+        ("14. Bxf6", 3),
+        ("99999. a3", 3),
+        ("0. e4", 1),
+        ("e4", 1),
+    ] {
+        expect(&rt, rt.alloc(), text, number);
+    }
+}
