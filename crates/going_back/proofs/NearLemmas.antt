@@ -1,12 +1,12 @@
 -- The nearest ply, ply by ply.
-use Rattle.std.proofs.Common.{◌≡◌, ◌⊎◌, inl, inr, ◌+◌, ◌-◌, ◌*◌, ◌<◌, ◌≤◌, ◌==◌, min, Bool, true, false, if◌then◌else◌, ℕ, suc, List, [], ◌∷◌, drop, length, get_or, slice_index, refl, sym, ap, subst, ◌∙◌, arith}
+use Rattle.std.proofs.Common.{Option, None, Some, IfNone, IfSome, MatchOption, ◌≡◌, ◌⊎◌, inl, inr, ◌+◌, ◌-◌, ◌*◌, ◌<◌, ◌≤◌, ◌==◌, min, Bool, true, false, if◌then◌else◌, ℕ, suc, List, [], ◌∷◌, drop, length, get_or, slice_index, refl, sym, ap, subst, ◌∙◌, arith}
 use Rattle.std.proofs.lemmas.List.{drop_more}
 use Rattle.chess_rules.specs.declared.parts.Parts.{Parts}
 use Rattle.chess_rules.specs.After.{after}
 use Rattle.settle_core.specs.declared.plies.Ply.{Ply}
 use Rattle.chess_game.proofs.Plies.{cut_at}
 use Rattle.going_back.specs.declared.nearest.Candidate.{Candidate}
-use Rattle.going_back.specs.Nearest.{IsSoFar, NoneNearer, far_from, half_asked, is_digit, is_dotted}
+use Rattle.going_back.specs.Nearest.{IsNearest, IsSoFar, NoneNearer, far_from, half_asked, is_digit, is_dotted}
 
 abbrev pub FoundFar : List ℕ → Parts → List Ply → Parts → List Ply → ℕ → Type 0
 FoundFar text start plies p rest i = (k n : ℕ) → IsSoFar text p rest (suc k) n → IsSoFar text start plies (suc (i + k)) n
@@ -98,3 +98,8 @@ number_within most one other result (inr h) a b = let W : Candidate → Type 0 =
 pub some_plies : (plies : List Ply) → (length plies == 0) ≡ false → 0 < length plies
 some_plies [] h = absurd cc
 some_plies (ply ∷ plies) h = omega arith
+
+pub nearest_or : (text : List ℕ) (start : Parts) (plies : List Ply) (number : Option ℕ) → IfNone number (plies ≡ [])
+    → IfSome number (λ k. (k ≤ length plies) × IsNearest text start plies k) → MatchOption number (plies ≡ []) (IsNearest text start plies)
+nearest_or text start plies None h k = h
+nearest_or text start plies (Some number) h k = k.1

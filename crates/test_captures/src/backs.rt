@@ -2,12 +2,13 @@
 //! time message is the identifier 0x8D, the length 10, for each side its hours, and in two digits its minutes and its
 //! seconds, and the status, 0x20 where no clock is connected.
 
-use board_captures::{Method, read_capture};
+use board_captures::Method;
 use chess_rules::Position;
 use dgt_frame::First;
 use dgt_vectors::captures::Signal::{Dump, Raw, Time};
 use dgt_vectors::captures::{INITIAL, Signal, bytes_of};
-use going_back::{BackError, go_back, plies_named};
+use going_back::{Answer, BackError, back_to};
+use settle_core::Outcome;
 use std::alloc::Global;
 use std::process::Abort;
 
@@ -36,34 +37,69 @@ fn name_of(error: BackError) -> &'static str {
     }
 }
 
-/// What becomes of a capture that goes back to this: `made`, where the new one is these signals.
+/// A board that stands with White at the bottom, from the initial position.
+fn method_of(recovers: bool) -> Method {
+    Method {
+        start: Position::initial(),
+        first: First::White,
+        rotated: false,
+        recovers,
+    }
+}
+
+/// What is answered: `made`, where the new capture is these signals.
+fn told_of(answer: &Answer, signals: &[Signal<'_>]) -> &'static str {
+    match answer {
+        Answer::Back { made, .. } => {
+            if made.as_slice() == bytes_of(signals).get() {
+                "made"
+            } else {
+                "another"
+            }
+        }
+        Answer::Unnamed { .. } => "unnamed",
+        Answer::Refused { error, .. } => name_of(*error),
+    }
+}
+
+/// What becomes of a capture that goes back to this.
 fn back_of(
     alloc: Global,
     recovers: bool,
     capture: &[Signal<'_>],
     to: &str,
-    made: &[Signal<'_>],
+    signals: &[Signal<'_>],
 ) -> &'static str {
-    let method = Method {
-        start: Position::initial(),
-        first: First::White,
-        rotated: false,
-        recovers,
-    };
-    let Ok(captured) = read_capture(alloc, &method, bytes_of(capture).get()) else {
-        return "unread";
-    };
-    let settler = captured.session.settler();
-    let Some(stays) = plies_named(settler.start(), settler.moves(), to.as_bytes()) else {
-        return "unnamed";
-    };
-    if stays > settler.moves().len() {
-        return "too many";
+    match back_to(
+        alloc,
+        &method_of(recovers),
+        bytes_of(capture).get(),
+        to.as_bytes(),
+    ) {
+        Ok(answer) => told_of(&answer, signals),
+        Err(_) => "unread",
     }
-    match go_back(alloc, &method, &captured, stays) {
-        Ok(bytes) if bytes.as_slice() == bytes_of(made).get() => "made",
-        Ok(_) => "another",
-        Err(error) => name_of(error),
+}
+
+/// How many plies stay and go, and the result before; or the number of the ply that is near, and 0.
+fn numbers_of(
+    alloc: Global,
+    capture: &[Signal<'_>],
+    to: &str,
+) -> Option<(usize, usize, Option<Outcome>)> {
+    let method = method_of(false);
+    let Ok(answer) = back_to(alloc, &method, bytes_of(capture).get(), to.as_bytes()) else {
+        return None;
+    };
+    match answer {
+        Answer::Back {
+            stays,
+            gone,
+            result,
+            ..
+        } => Some((stays, gone, result)),
+        Answer::Unnamed { nearest } => Some((nearest?, 0, None)),
+        Answer::Refused { .. } => None,
     }
 }
 
@@ -126,4 +162,17 @@ fn a_result_goes_and_updates_count_as_before(rt: HostRuntime) {
     let lost = [Dump(INITIAL), Dump(KINGS), Dump(INITIAL), Raw(&[0x00])];
     let still_lost = [NO_CLOCK, Dump(INITIAL), Raw(&[0x00])];
     expect(&rt, rt.alloc(), &lost, "*", &still_lost, "made");
+}
+
+#[test]
+fn what_stays_and_goes_is_told(rt: HostRuntime) {
+    let two = [Dump(INITIAL), Dump(E4), Dump(E4_E5), Dump(E4)];
+    assert_eq!(&rt; numbers_of(rt.alloc(), &two, ""), Some((1, 1, None)));
+    assert_eq!(&rt; numbers_of(rt.alloc(), &two, "2. d4"), Some((2, 0, None)));
+    let ended = [Dump(INITIAL), Dump(KINGS), Dump(INITIAL)];
+    assert_eq!(&rt;
+        numbers_of(rt.alloc(), &ended, "*"),
+        Some((0, 0, Some(Outcome::WhiteWins)))
+    );
+    assert_eq!(&rt; numbers_of(rt.alloc(), &ended, ""), None);
 }
