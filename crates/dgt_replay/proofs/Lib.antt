@@ -1,3 +1,5 @@
+pub mod AddLemmas
+pub mod AddedLemmas
 pub mod AgreementLemmas
 pub mod DoesLemmas
 pub mod EndLemmas

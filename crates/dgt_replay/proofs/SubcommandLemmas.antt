@@ -8,12 +8,13 @@ use Rattle.clap.specs.Simple.{subcommand_of}
 use Rattle.board_events.specs.declared.setup.Setup.{Setup}
 use Rattle.board_events.specs.Settings.{Setting}
 use Rattle.replay_arguments.specs.declared.arguments.Subcommand.{Subcommand}
-use Rattle.replay_arguments.specs.declared.arguments.Subcommand.TheVariants.{Show, Pictures, Record, Follow, Watch, Recover, Check, Moves, Positions}
+use Rattle.replay_arguments.specs.declared.arguments.Subcommand.TheVariants.{Show, Pictures, Record, Follow, Watch, Recover, Add, Check, Moves, Positions}
 use Rattle.replay_arguments.specs.declared.arguments.BoardArguments.{BoardArguments}
+use Rattle.replay_arguments.specs.declared.arguments.EditArguments.{EditArguments}
 use Rattle.replay_arguments.specs.declared.arguments.RecordArguments.{RecordArguments}
 use Rattle.replay_arguments.specs.Command.{replay}
 use Rattle.replay_arguments.specs.Subcommands.{Asks, AsksForPictures, AsksToCheck, AsksToShow, AsksFor, AsksToFollow, AsksToRecord, AsksToRecover, AsksToWatch, Chooses, IsRefused, is_subcommand}
-use Rattle.replay_arguments.specs.Setups.{Meets, MeetsBoard, Wants, WantsBoard}
+use Rattle.replay_arguments.specs.Setups.{Meets, MeetsBoard, Wants, WantsBoard, WantsEdit}
 use Rattle.chess_text.specs.Start.{given}
 use Rattle.dgt_replay.proofs.SetupLemmas.{meets, meets_board}
 
@@ -99,6 +100,13 @@ pub chooses_recover : (arguments : List Text) (setting : Setting) (subcommand : 
 chooses_recover arguments setting subcommand (rows, asks, sets) asked =
     let found = recover_chosen arguments rows subcommand asks asked in
     (found.0, found.1, meets_board rows found.0 setting found.2 sets)
+
+-- `add` asks what a line adds as its options say
+pub add_chosen : (arguments : List Text) (rows : List Row) (subcommand : Subcommand) → Asks arguments (codes "add") rows → AsksFor arguments subcommand
+    → (options : EditArguments) × (subcommand ≡ Add options) × WantsEdit (codes "line") rows options
+add_chosen arguments rows subcommand asks asked =
+    let found = (chosen arguments (codes "add") rows subcommand asks asked).add refl in
+    (found.0, found.1, found.2)
 
 -- `moves` asks for those of the position that its option says
 pub moves_chosen : (arguments : List Text) (rows : List Row) (subcommand : Subcommand) → Asks arguments (codes "moves") rows → AsksFor arguments subcommand

@@ -1,3 +1,5 @@
+pub mod Add
+pub mod Added
 pub mod Agreement
 pub mod Does
 pub mod Laws

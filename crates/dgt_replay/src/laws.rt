@@ -1,4 +1,5 @@
 //! What one subcommand's output has to do with another's, each law as the contract of a function that does nothing.
+ghost use Rattle.dgt_replay.specs.Added.{AddedLinesAreRecorded};
 ghost use Rattle.dgt_replay.specs.Agreement.{FollowTellsTheGame, RecordsRecovered, RecordsShownOrTold, WatchTellsTheGame};
 ghost use Rattle.dgt_replay.specs.Laws.{WrittenTextsAreWithin, WrittenTextsPass};
 
@@ -51,4 +52,15 @@ pub fn recovered_games_are_recorded()
     folds_once();
     // For its clause: each ply was shown, or its pair has a line.
     plies_are_shown_or_told();
+}
+
+/// Of a capture with the bytes that a typed line adds, `record` writes the plies of the capture and those that were
+/// typed, without clocks; or the plies of the capture and the result.
+pub fn added_lines_are_recorded()
+    ensures { AddedLinesAreRecorded }
+{
+    // For its clause: the bytes show one list of events.
+    shows_once();
+    // For its clause: the entries fold to one score.
+    folds_once();
 }

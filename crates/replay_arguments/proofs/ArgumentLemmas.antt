@@ -65,6 +65,12 @@ pub flag_reads : (found : Found) (result rotated : Bool) → (one_text found (co
 flag_reads found result true set unset given = set (flag_given found (codes "rotated") (codes "true") given)
 flag_reads found result false set unset given = unset (flag_given found (codes "rotated") (codes "false") given)
 
+-- the same of any flag
+pub flag_of_reads : (found : Found) (id : Text) (result flag : Bool) → (one_text found id ≡ Some (codes "true") → result ≡ true) → (one_text found id ≡ Some (codes "false") → result ≡ false)
+    → one_of id (rows_of found) ≡ Some (flag_text flag) → result ≡ flag
+flag_of_reads found id result true set unset given = set (flag_given found id (codes "true") given)
+flag_of_reads found id result false set unset given = unset (flag_given found id (codes "false") given)
+
 pub side_known : {A : Type 0} (found : Found) (options : Option A) → is_some options ≡ is_some (side_in (first_value found (codes "first")))
     → is_some options ≡ is_some (side_in (first_of (codes "first") (rows_of found)))
 side_known found options known = known ∙ ap (λ text. is_some (side_in text)) (first_value-rows found (codes "first"))

@@ -14,6 +14,10 @@ use Rattle.clap.specs.declared.builder.action.ArgAction.TheVariants.{SetTrue}
 abbrev pub rotated_rule : Rule
 rotated_rule = record (new_rule (codes "rotated")) { long = Some (codes "rotated"); action = Some SetTrue }
 
+-- another flag
+abbrev pub recover_rule : Rule
+recover_rule = record (new_rule (codes "recover")) { long = Some (codes "recover"); action = Some SetTrue }
+
 -- an option with a text
 abbrev pub text_rule : Text → Rule
 text_rule name = record (new_rule name) { long = Some name; value_names = 1 }
@@ -60,6 +64,13 @@ watch_app = with_board (new_app (codes "watch"))
 abbrev pub recover_app : App
 recover_app = with_board (new_app (codes "recover"))
 
+-- how a board stands, where its game starts, whether it is recovered first, and an option with a text
+abbrev pub with_edit : Text → App → App
+with_edit name app = with_text (with_rule (with_board app) recover_rule) name
+
+abbrev pub add_app : App
+add_app = with_edit (codes "line") (new_app (codes "add"))
+
 -- a version, and a subcommand that must be given
 abbrev pub with_version : App → App
 with_version app = record app { top = record app.top { has_version = true; subcommand_required = true } }
@@ -69,13 +80,17 @@ abbrev pub with_board_subcommands : App → App
 with_board_subcommands app = with_subcommand (with_subcommand (with_subcommand (with_subcommand (with_subcommand (with_subcommand app
     show_app.top) pictures_app.top) record_app.top) follow_app.top) watch_app.top) recover_app.top
 
+-- with those that change a capture
+abbrev pub with_edit_subcommands : App → App
+with_edit_subcommands app = with_subcommand app add_app.top
+
 -- with those that read texts, or nothing
 abbrev pub with_text_subcommands : App → App
 with_text_subcommands app = with_subcommand (with_subcommand (with_subcommand app check_app.top) moves_app.top) positions_app.top
 
 -- the command with its subcommands
 abbrev pub replay : App
-replay = with_text_subcommands (with_board_subcommands (with_version (new_app (codes "dgt_replay"))))
+replay = with_text_subcommands (with_edit_subcommands (with_board_subcommands (with_version (new_app (codes "dgt_replay")))))
 
 -- The command is read so by a parse.
 pub record IsApp (command : Command) (app : App) : Type 0 where

@@ -1,4 +1,4 @@
--- What the options of `record`, `follow`, `watch` and `recover` set up.
+-- What the options of the subcommands that read what a board sends set up.
 use Rattle.std.specs.Prelude.{◌≡◌, ◌⊎◌, Bool, List, ◌∷◌, ◌++◌, All, ℕ, codes, Option, Some, None, MatchOption, unwrap_or, true, false, if◌then◌else◌, ⊤}
 use Rattle.std.specs.Str.{bytes_eq}
 use Rattle.clap.specs.Walk.{Row, Text, first_of, one_of}
@@ -20,6 +20,7 @@ use Rattle.replay_arguments.specs.declared.setup.Refusal.{Refusal}
 use Rattle.replay_arguments.specs.declared.setup.Refusal.TheVariants.{Fen, Tag as OfTag}
 use Rattle.replay_arguments.specs.declared.arguments.BoardArguments.{BoardArguments}
 use Rattle.replay_arguments.specs.declared.arguments.RecordArguments.{RecordArguments}
+use Rattle.replay_arguments.specs.declared.arguments.EditArguments.{EditArguments}
 
 -- the text of a flag
 abbrev pub flag_text : Bool → Text
@@ -83,6 +84,12 @@ pub record WantsBoard (rows : List Row) (options : BoardArguments) : Type 0 wher
 pub record Wants (rows : List Row) (options : RecordArguments) : Type 0 where
   pub board : WantsBoard rows options.board
   pub tags : (tag : Tag) → tag_text options tag ≡ first_of (option_of tag) rows
+
+-- So are those of the arguments by which a capture is changed; its text is that of this option.
+pub record WantsEdit (name : Text) (rows : List Row) (options : EditArguments) : Type 0 where
+  pub board : WantsBoard rows options.board
+  pub recovers : (recovers : Bool) → one_of (codes "recover") rows ≡ Some (flag_text recovers) → options.recovers ≡ recovers
+  pub text : given options.text ≡ first_of name rows
 
 -- The tags have the values that are given.
 abbrev pub HasValues : RecordArguments → TagValues → Type 0

@@ -8,7 +8,7 @@ ghost use Rattle.clap.specs.Simple.{app_of, subcommand_rows_of};
 ghost use Rattle.clap.specs.Walk.{first_of, rows_of};
 ghost use Rattle.replay_arguments.specs.Command.{replay};
 ghost use Rattle.replay_arguments.specs.Subcommands.{AsksFor, Chooses, IsRefused};
-ghost use Rattle.replay_arguments.specs.Setups.{Wants, WantsBoard, side_in};
+ghost use Rattle.replay_arguments.specs.Setups.{Wants, WantsBoard, WantsEdit, side_in};
 ghost use Rattle.chess_text.specs.Start.{given};
 ghost use Rattle.replay_arguments.specs.TagOptions.{option_of};
 
@@ -35,6 +35,8 @@ pub enum Subcommand<'a> {
     Watch(BoardArguments<'a>),
     /// The bytes of a stream, and between them those that recover its hidden moves.
     Recover(BoardArguments<'a>),
+    /// The bytes that a typed line adds to a capture.
+    Add(EditArguments<'a>),
     /// Whether a text is PGN in export form.
     Check,
     /// The legal moves of a position.
@@ -52,6 +54,17 @@ pub struct BoardArguments<'a> {
     pub first: First,
     /// The position at the start, or none for the initial position.
     pub fen: Option<&'a str>,
+}
+
+/// How a capture is to be changed.
+#[derive(Clone, Copy)]
+pub struct EditArguments<'a> {
+    /// How its board stands, and where its game starts.
+    pub board: BoardArguments<'a>,
+    /// Whether the moves that no picture showed are recovered first.
+    pub recovers: bool,
+    /// The line that was typed, if any.
+    pub text: Option<&'a str>,
 }
 
 /// How a game is to be recorded.
@@ -132,6 +145,21 @@ fn record_arguments_of<'a>(matches: &ArgMatches<'a>) -> Option<RecordArguments<'
     })
 }
 
+/// How a capture is to be changed, by the text of this option.
+fn edit_arguments_of<'a>(name: &str, matches: &ArgMatches<'a>) -> Option<EditArguments<'a>>
+    ensures wants { IfSome result (λ options. WantsEdit name.now (rows_of (found_of matches.now)) options) }
+    ensures known { is_some result ≡ is_some (side_in (first_value (found_of matches.now) (codes "first"))) }
+{
+    let Some(board) = board_arguments_of(matches) else {
+        return None;
+    };
+    Some(EditArguments {
+        board,
+        recovers: matches.get_flag("recover"),
+        text: matches.get_str(name),
+    })
+}
+
 fn subcommand_named<'a>(name: &str, matches: &ArgMatches<'a>) -> Option<Subcommand<'a>>
     ensures { Chooses name.now (rows_of (found_of matches.now)) result }
 {
@@ -154,6 +182,10 @@ fn subcommand_named<'a>(name: &str, matches: &ArgMatches<'a>) -> Option<Subcomma
         },
         "recover" => match board_arguments_of(matches) {
             Some(recover) => Some(Subcommand::Recover(recover)),
+            None => None,
+        },
+        "add" => match edit_arguments_of("line", matches) {
+            Some(add) => Some(Subcommand::Add(add)),
             None => None,
         },
         "check" => Some(Subcommand::Check),

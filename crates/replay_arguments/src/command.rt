@@ -1,7 +1,7 @@
 //! The command line of the program, as `clap` parses it.
 ghost use Rattle.std.specs.Prelude.{◌≡◌, IfOk};
 ghost use Rattle.clap.specs.Simple.{App, app_of, new_app};
-ghost use Rattle.replay_arguments.specs.Command.{AddsRule, AddsApp, IsApp, Makes, check_app, follow_app, moves_app, pictures_app, positions_app, record_app, recover_app, replay, rotated_rule, show_app, text_rule, watch_app, with_board, with_board_subcommands, with_tags, with_text_subcommands};
+ghost use Rattle.replay_arguments.specs.Command.{AddsRule, AddsApp, IsApp, Makes, add_app, check_app, follow_app, moves_app, pictures_app, positions_app, record_app, recover_app, recover_rule, replay, rotated_rule, show_app, text_rule, watch_app, with_board, with_board_subcommands, with_edit, with_edit_subcommands, with_tags, with_text_subcommands};
 
 use crate::tag_options::{option_help, option_name};
 use chess_game::Tag;
@@ -159,6 +159,53 @@ fn recover<'a>(alloc: Global) -> Result<Command<'a>, AllocError>
     with_board(alloc, Ok(command))
 }
 
+/// The command with the flag that a capture is recovered first.
+fn with_recover<'a>(
+    alloc: Global,
+    command: Result<Command<'a>, AllocError>,
+) -> Result<Command<'a>, AllocError>
+    ensures { AddsRule command.entry recover_rule result }
+{
+    let command = command?;
+    let recover = Arg::new(alloc, "recover")
+        .long("recover")
+        .action(ArgAction::SetTrue)
+        .help("Read the capture with the moves that recover puts in");
+    command.arg(recover)
+}
+
+/// The command with the options of a board, the flag, and an option more, which has a value.
+fn with_edit<'a>(
+    alloc: Global,
+    command: Result<Command<'a>, AllocError>,
+    name: &'a str,
+    value: &'a str,
+    help: &'a str,
+) -> Result<Command<'a>, AllocError>
+    ensures { (app : App) → Makes command.entry app → Makes result (with_edit name.entry.now app) }
+{
+    let command = with_board(alloc, command);
+    let command = with_recover(alloc, command);
+    with_text(alloc, command, name, value, help)
+}
+
+fn add<'a>(alloc: Global) -> Result<Command<'a>, AllocError>
+    ensures { IfOk result (λ command. IsApp command add_app) }
+{
+    let command = named(
+        alloc,
+        "add",
+        "Writes the bytes that add typed moves, or a result, to a capture on standard input",
+    );
+    with_edit(
+        alloc,
+        Ok(command),
+        "line",
+        "TEXT",
+        "What was typed: moves, or a result",
+    )
+}
+
 fn check<'a>(alloc: Global) -> Command<'a>
     ensures { IsApp result check_app }
 {
@@ -208,6 +255,16 @@ fn with_board_subcommands<'a>(
     with_subcommand(command, recover(alloc))
 }
 
+/// The command with the subcommands that change a capture.
+fn with_edit_subcommands<'a>(
+    alloc: Global,
+    command: Result<Command<'a>, AllocError>,
+) -> Result<Command<'a>, AllocError>
+    ensures { (app : App) → Makes command.entry app → Makes result (with_edit_subcommands app) }
+{
+    with_subcommand(command, add(alloc))
+}
+
 /// The command with the subcommands that read texts, or nothing.
 fn with_text_subcommands<'a>(
     alloc: Global,
@@ -231,5 +288,6 @@ pub fn command<'a>(alloc: Global) -> Result<Command<'a>, AllocError>
     )
     .version(VERSION)
     .subcommand_required(true);
-    with_text_subcommands(alloc, with_board_subcommands(alloc, Ok(command)))
+    let command = with_board_subcommands(alloc, Ok(command));
+    with_text_subcommands(alloc, with_edit_subcommands(alloc, command))
 }

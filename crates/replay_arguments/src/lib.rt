@@ -10,5 +10,5 @@ pub mod laws;
 mod setup;
 mod tag_options;
 
-pub use arguments::{BoardArguments, RecordArguments, Subcommand, read_arguments};
+pub use arguments::{BoardArguments, EditArguments, RecordArguments, Subcommand, read_arguments};
 pub use setup::{Refusal, setup_of};

@@ -13,6 +13,7 @@ mod playing;
 mod printing;
 
 pub use checking::{TEXT_LIMIT, check};
-pub use messages::{put_answer, refused, refused_fen, refused_tag};
+pub use input::{TextError, read_text};
+pub use messages::{put_answer, refused, refused_fen, refused_run, refused_tag};
 pub use playing::{LINE_LIMIT, positions};
 pub use printing::moves;

@@ -20,6 +20,9 @@ returns-in-Watch-clause-does g c = rw c.in-Watch.is (c.follow-in-Watch.ensures.l
 pub returns-in-Recover-clause-does : goal.returns-in-Recover-clause-does
 returns-in-Recover-clause-does g c = rw c.in-Recover.is (c.recover.ensures.recovers, c.recover.ensures.refuses)
 
+pub returns-in-Add-clause-does : goal.returns-in-Add-clause-does
+returns-in-Add-clause-does g c = rw c.in-Add.is (c.add.ensures.adds, c.add.ensures.refuses)
+
 pub returns-in-Check-clause-does : goal.returns-in-Check-clause-does
 returns-in-Check-clause-does g c =
     let ends = c.check.ensures in

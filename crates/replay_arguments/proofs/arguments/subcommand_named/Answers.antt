@@ -4,7 +4,7 @@ use Rattle.std.specs.Prelude.{is_some}
 use Rattle.clap.specs.Matches.{found_of}
 use Rattle.clap.specs.Walk.{rows_of}
 use Rattle.replay_arguments.specs.declared.arguments.Subcommand.TheVariants.{Pictures}
-use Rattle.replay_arguments.specs.Setups.{Wants, WantsBoard}
+use Rattle.replay_arguments.specs.Setups.{Wants, WantsBoard, WantsEdit}
 use Rattle.replay_arguments.proofs.ArgumentLemmas.{flag_reads, if_some_at, named_once, side_known, text_given}
 use Rattle.replay_arguments.proofs.arguments.subcommand_named.Goals as goal
 
@@ -16,6 +16,7 @@ returns-in-show c = record {
   follow = search rules;
   watch = search rules;
   recover = search rules;
+  add = search rules;
   check = search rules;
   moves = search rules;
   positions = search rules;
@@ -30,6 +31,7 @@ returns-in-pictures c = record {
   follow = λ e. named_once c.in-pictures.is e refl;
   watch = λ e. named_once c.in-pictures.is e refl;
   recover = λ e. named_once c.in-pictures.is e refl;
+  add = λ e. named_once c.in-pictures.is e refl;
   check = λ e. named_once c.in-pictures.is e refl;
   moves = λ e. named_once c.in-pictures.is e refl;
   positions = λ e. named_once c.in-pictures.is e refl;
@@ -44,6 +46,7 @@ returns-in-Some c = record {
   follow = λ e. named_once c.in-record.is e refl;
   watch = λ e. named_once c.in-record.is e refl;
   recover = λ e. named_once c.in-record.is e refl;
+  add = λ e. named_once c.in-record.is e refl;
   check = λ e. named_once c.in-record.is e refl;
   moves = λ e. named_once c.in-record.is e refl;
   positions = λ e. named_once c.in-record.is e refl;
@@ -58,6 +61,7 @@ returns-in-None c = record {
   follow = λ e. named_once c.in-record.is e refl;
   watch = λ e. named_once c.in-record.is e refl;
   recover = λ e. named_once c.in-record.is e refl;
+  add = λ e. named_once c.in-record.is e refl;
   check = λ e. named_once c.in-record.is e refl;
   moves = λ e. named_once c.in-record.is e refl;
   positions = λ e. named_once c.in-record.is e refl;
@@ -72,6 +76,7 @@ returns-in-moves c = record {
   follow = λ e. absurd (c.in-moves.not-follow e);
   watch = λ e. absurd (c.in-moves.not-watch e);
   recover = λ e. absurd (c.in-moves.not-recover e);
+  add = λ e. absurd (c.in-moves.not-add e);
   check = λ e. absurd (c.in-moves.not-check e);
   moves = λ e. (c.get_str.result, refl, text_given (found_of c.args.matches.now) (codes "fen") c.get_str.result c.get_str.ensures);
   positions = λ e. named_once c.in-moves.is e refl;
@@ -86,6 +91,7 @@ returns-in-positions c = record {
   follow = λ e. absurd (c.in-positions.not-follow e);
   watch = λ e. absurd (c.in-positions.not-watch e);
   recover = λ e. absurd (c.in-positions.not-recover e);
+  add = λ e. absurd (c.in-positions.not-add e);
   check = λ e. absurd (c.in-positions.not-check e);
   moves = λ e. absurd (c.in-positions.not-moves e);
   positions = λ e. (c.get_str-in-positions.result, refl, text_given (found_of c.args.matches.now) (codes "fen") c.get_str-in-positions.result c.get_str-in-positions.ensures);
@@ -100,6 +106,7 @@ returns-in-Some-board_arguments_of c = record {
   follow = λ e. (c.in-Some-board_arguments_of.follow, refl, if_some_at (WantsBoard (rows_of (found_of c.args.matches.now))) c.board_arguments_of.result c.in-Some-board_arguments_of.follow c.in-Some-board_arguments_of.is c.board_arguments_of.ensures.wants);
   watch = λ e. named_once c.in-follow.is e refl;
   recover = λ e. named_once c.in-follow.is e refl;
+  add = λ e. named_once c.in-follow.is e refl;
   check = λ e. named_once c.in-follow.is e refl;
   moves = λ e. named_once c.in-follow.is e refl;
   positions = λ e. named_once c.in-follow.is e refl;
@@ -114,6 +121,7 @@ returns-in-None-board_arguments_of c = record {
   follow = λ e. tt;
   watch = λ e. named_once c.in-follow.is e refl;
   recover = λ e. named_once c.in-follow.is e refl;
+  add = λ e. named_once c.in-follow.is e refl;
   check = λ e. named_once c.in-follow.is e refl;
   moves = λ e. named_once c.in-follow.is e refl;
   positions = λ e. named_once c.in-follow.is e refl;
@@ -128,6 +136,7 @@ returns-in-Some-board_arguments_of-2 c = record {
   follow = λ e. absurd (c.in-watch.not-follow e);
   watch = λ e. (c.in-Some-board_arguments_of-2.watch, refl, if_some_at (WantsBoard (rows_of (found_of c.args.matches.now))) c.board_arguments_of-in-watch.result c.in-Some-board_arguments_of-2.watch c.in-Some-board_arguments_of-2.is c.board_arguments_of-in-watch.ensures.wants);
   recover = λ e. named_once c.in-watch.is e refl;
+  add = λ e. named_once c.in-watch.is e refl;
   check = λ e. named_once c.in-watch.is e refl;
   moves = λ e. named_once c.in-watch.is e refl;
   positions = λ e. named_once c.in-watch.is e refl;
@@ -142,6 +151,7 @@ returns-in-None-board_arguments_of-2 c = record {
   follow = λ e. absurd (c.in-watch.not-follow e);
   watch = λ e. tt;
   recover = λ e. named_once c.in-watch.is e refl;
+  add = λ e. named_once c.in-watch.is e refl;
   check = λ e. named_once c.in-watch.is e refl;
   moves = λ e. named_once c.in-watch.is e refl;
   positions = λ e. named_once c.in-watch.is e refl;
@@ -156,6 +166,7 @@ returns-in-Some-board_arguments_of-3 c = record {
   follow = λ e. absurd (c.in-recover.not-follow e);
   watch = λ e. absurd (c.in-recover.not-watch e);
   recover = λ e. (c.in-Some-board_arguments_of-3.recover, refl, if_some_at (WantsBoard (rows_of (found_of c.args.matches.now))) c.board_arguments_of-in-recover.result c.in-Some-board_arguments_of-3.recover c.in-Some-board_arguments_of-3.is c.board_arguments_of-in-recover.ensures.wants);
+  add = λ e. named_once c.in-recover.is e refl;
   check = λ e. named_once c.in-recover.is e refl;
   moves = λ e. named_once c.in-recover.is e refl;
   positions = λ e. named_once c.in-recover.is e refl;
@@ -170,8 +181,39 @@ returns-in-None-board_arguments_of-3 c = record {
   follow = λ e. absurd (c.in-recover.not-follow e);
   watch = λ e. absurd (c.in-recover.not-watch e);
   recover = λ e. tt;
+  add = λ e. named_once c.in-recover.is e refl;
   check = λ e. named_once c.in-recover.is e refl;
   moves = λ e. named_once c.in-recover.is e refl;
   positions = λ e. named_once c.in-recover.is e refl;
   known = rw c.in-recover.is (ap is_some (sym c.in-None-board_arguments_of-3.is) ∙ side_known (found_of c.args.matches.now) c.board_arguments_of-in-recover.result c.board_arguments_of-in-recover.ensures.known);
+}
+
+pub returns-in-Some-edit_arguments_of : goal.returns-in-Some-edit_arguments_of
+returns-in-Some-edit_arguments_of c = record {
+  show = λ e. absurd (c.in-add.not-show e);
+  pictures = λ rotated e given. absurd (c.in-add.not-pictures e);
+  record_is = λ e. absurd (c.in-add.not-record e);
+  follow = λ e. absurd (c.in-add.not-follow e);
+  watch = λ e. absurd (c.in-add.not-watch e);
+  recover = λ e. absurd (c.in-add.not-recover e);
+  add = λ e. (c.in-Some-edit_arguments_of.add, refl, if_some_at (WantsEdit (codes "line") (rows_of (found_of c.args.matches.now))) c.edit_arguments_of.result c.in-Some-edit_arguments_of.add c.in-Some-edit_arguments_of.is c.edit_arguments_of.ensures.wants);
+  check = λ e. named_once c.in-add.is e refl;
+  moves = λ e. named_once c.in-add.is e refl;
+  positions = λ e. named_once c.in-add.is e refl;
+  known = rw c.in-add.is (ap is_some (sym c.in-Some-edit_arguments_of.is) ∙ side_known (found_of c.args.matches.now) c.edit_arguments_of.result c.edit_arguments_of.ensures.known);
+}
+
+pub returns-in-None-edit_arguments_of : goal.returns-in-None-edit_arguments_of
+returns-in-None-edit_arguments_of c = record {
+  show = λ e. absurd (c.in-add.not-show e);
+  pictures = λ rotated e given. absurd (c.in-add.not-pictures e);
+  record_is = λ e. absurd (c.in-add.not-record e);
+  follow = λ e. absurd (c.in-add.not-follow e);
+  watch = λ e. absurd (c.in-add.not-watch e);
+  recover = λ e. absurd (c.in-add.not-recover e);
+  add = λ e. tt;
+  check = λ e. named_once c.in-add.is e refl;
+  moves = λ e. named_once c.in-add.is e refl;
+  positions = λ e. named_once c.in-add.is e refl;
+  known = rw c.in-add.is (ap is_some (sym c.in-None-edit_arguments_of.is) ∙ side_known (found_of c.args.matches.now) c.edit_arguments_of.result c.edit_arguments_of.ensures.known);
 }
