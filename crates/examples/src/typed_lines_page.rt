@@ -26,10 +26,17 @@ fn moves_are_recognised(rt: HostRuntime) {
     assert!(rt; says_to_type(rt.alloc(), "Sf3", "Nf3"));
 }
 
-/// The SAN that is to be typed instead, where one move may be meant.
+/// Whether one move may be meant, and this is the SAN that is to be typed instead.
 fn says_to_type(alloc: Global, line: &str, san: &str) -> bool {
     match read_line(alloc, &Position::initial(), line.as_bytes()) {
-        Ok(Typed::Meant(_, _, text)) => text.as_str() == san,
+        Ok(typed) => is_meant(&typed, san),
+        Err(_) => false,
+    }
+}
+
+fn is_meant(typed: &Typed<'_>, san: &str) -> bool {
+    match typed {
+        Typed::Meant(_, _, text) => text.as_str() == san,
         _ => false,
     }
 }
