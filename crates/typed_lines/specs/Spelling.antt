@@ -34,7 +34,7 @@ piece_text Piece kind s = piece_letter kind
 piece_text WithFile kind s = piece_letter kind ++ file_byte s ∷ []
 piece_text WithRank kind s = piece_letter kind ++ rank_byte s ∷ []
 piece_text WithSquare kind s = piece_letter kind ++ square_text s
-piece_text Squares kind s = square_text s
+piece_text Squares _ s = square_text s
 
 -- where it goes, and what a pawn becomes if that is said
 abbrev pub target_text : Bool → Move → List ℕ
