@@ -16,6 +16,7 @@ from live.terminal.columns import width_of
 PLAYERS = [("Иванов, Пётр", "王浩然"), ("Γεωργίου, Νίκος", "이세돌"), ("Jörg Müller", "Åse Lund")]
 CORRECTED = [("Jorg Muller", "Ben Oto"), ("Jörg Müller", "Ben Ott")]  # one is recorded in other letters, the other as it is
 ROW = "   1 Иванов, Пётр 王浩然       1. e4"
+ROWS = ("   1 ", "   2 ", "   3 ")  # how the rows of the table begin
 
 
 def names_as_written(folder: pathlib.Path) -> None:
@@ -52,9 +53,14 @@ def names_as_written(folder: pathlib.Path) -> None:
     write(*PLAYERS)
     live = hall.record(terminal=True, environment={"TERM": "xterm"})
     until(lambda: ROW in words.plain(live.told.read()), f"'{ROW}' on the terminal")
-    lines = words.plain(live.told.read()).splitlines()
-    head = next(line for line in lines if "Last move" in line)
-    for line in [line for line in lines if line[:5] in ("   1 ", "   2 ", "   3 ")]:
+
+    def with_moves() -> "list[str]":
+        """The rows in which a game's move stands: a game that is being opened has none yet."""
+        return [line for line in words.plain(live.told.read()).splitlines() if line[:5] in ROWS and "1. " in line]
+
+    until(lambda: {line[:5] for line in with_moves()} == set(ROWS), "a move in each row")
+    head = next(line for line in words.plain(live.told.read()).splitlines() if "Last move" in line)
+    for line in with_moves():
         before, _, _ = line.partition("1. ")
         same((line, width_of(before)), (line, head.index("Last move")))
     same(stop(live), 0)
