@@ -4,6 +4,8 @@
 #[cfg(test)]
 mod adding_page;
 #[cfg(test)]
+mod board_asking_page;
+#[cfg(test)]
 mod board_captures_page;
 #[cfg(test)]
 mod board_events_page;

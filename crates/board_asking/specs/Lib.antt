@@ -1,0 +1,9 @@
+pub mod Lasting
+pub mod Line
+pub mod Pace
+pub mod Starting
+pub mod Silence
+pub mod Whose
+pub mod Serial
+pub mod Asking
+pub mod Laws

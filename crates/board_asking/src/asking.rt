@@ -1,0 +1,117 @@
+//! The machine: it takes what happens on a board's line, and says when to ask the board, and what.
+ghost use Rattle.std.specs.Prelude.{◌≡◌, ◌<◌, ◌≤◌, ◌∷◌, [], ℕ, List, IfSome};
+ghost use Rattle.board_asking.specs.declared.line.Event.{Event as EventOf};
+ghost use Rattle.board_asking.specs.Pace.{AsksAlike, asks};
+ghost use Rattle.board_asking.specs.Silence.{is_silent};
+ghost use Rattle.board_asking.specs.Whose.{HandledAlike, handling_at, own_number};
+ghost use Rattle.board_asking.specs.Asking.{StandsFor, next_request, request_at, with_request};
+
+use crate::line::{Event, Happening, Request};
+use crate::pace::Pace;
+use crate::silence::Silence;
+use crate::starting::Starting;
+use crate::whose::{Handling, Whose};
+
+/// Says when to ask a board and what, whether it is silent, and what is done with what it sends.
+#[derive(Clone, Copy)]
+pub struct Asking {
+    pace: Pace,
+    starting: Starting,
+    silence: Silence,
+    whose: Whose,
+}
+
+impl Asking {
+    /// Nothing has happened.
+    pub fn new() -> Asking
+        ensures { StandsFor result [] }
+    {
+        Asking {
+            pace: Pace::new(),
+            starting: Starting::new(),
+            silence: Silence::new(),
+            whose: Whose::new(),
+        }
+    }
+
+    /// Takes what happens.
+    pub fn take(&mut self, event: Event)
+        ensures { (past : List EventOf) → StandsFor self.old past → StandsFor self.new (event ∷ past) }
+    {
+        self.pace.take(event);
+        self.starting.take(event);
+        self.silence.take(event);
+        self.whose.take(event);
+    }
+
+    /// What the next request is.
+    fn next_request(&self) -> Request
+        ensures { (past : List EventOf) → StandsFor self.now past → result ≡ next_request past }
+    {
+        if self.pace.is_unanswered() || self.starting.is_start() {
+            return Request::Start;
+        }
+        if self.whose.is_asked() {
+            Request::Numbered
+        } else {
+            Request::Dump
+        }
+    }
+
+    /// The request that is to be sent now, if any.
+    fn request(&self, now: u64) -> Option<Request>
+        ensures { (past : List EventOf) → StandsFor self.now past → result ≡ request_at now past }
+    {
+        if self.pace.asks(now) {
+            Some(self.next_request())
+        } else {
+            None
+        }
+    }
+
+    /// The request that is to be sent now, if any. It counts as sent.
+    pub fn wake(&mut self, now: u64) -> Option<Request>
+        ensures request { (past : List EventOf) → StandsFor self.old past → result ≡ request_at now past }
+        ensures stands { (past : List EventOf) → StandsFor self.old past → StandsFor self.new (with_request now result past) }
+    {
+        let request = self.request(now);
+        if let Some(request) = request {
+            self.take(Event {
+                at: now,
+                what: Happening::Asks(request),
+            });
+        }
+        request
+    }
+
+    /// When to wake, if nothing happens: none of what is said here changes before, once `wake` was called. None: never.
+    pub fn due(&self, now: u64) -> Option<u64>
+        ensures later { IfSome result (λ d. now < d) }
+        ensures asks { (past : List EventOf) → StandsFor self.now past → AsksAlike now past result }
+        ensures handling { (past : List EventOf) → StandsFor self.now past → HandledAlike now past result }
+    {
+        let due = self.whose.due(now);
+        self.pace.due(now, due)
+    }
+
+    /// Whether the board sends no dump, though it was asked for 5 s.
+    pub fn is_silent(&self) -> bool
+        ensures { (past : List EventOf) → StandsFor self.now past → result ≡ is_silent past }
+    {
+        self.silence.is_silent()
+    }
+
+    /// The serial number of the game's board, if it is known.
+    pub fn serial(&self) -> Option<[u8; 5]>
+        ensures { (past : List EventOf) → StandsFor self.now past → result ≡ own_number past }
+    {
+        self.whose.own()
+    }
+
+    /// What is done now with what the board sends.
+    pub fn handling(&self, now: u64) -> Handling
+        ensures { (past : List EventOf) → StandsFor self.now past → result ≡ handling_at now past }
+    {
+        self.whose.handling(now)
+    }
+}

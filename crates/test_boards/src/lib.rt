@@ -1,0 +1,7 @@
+//! Tests of the public calls of `board_asking`: what a board is sent when, and what is done with what it sends.
+#![tactic(auto)]
+
+#[cfg(test)]
+mod histories;
+#[cfg(test)]
+mod requests;
