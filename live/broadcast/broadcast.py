@@ -41,6 +41,15 @@ class HearsBroadcast(Protocol):
         """An error that should never happen, and where."""
 
 
+class Others(Protocol):
+    """Other files that are made of what goes out."""
+
+    written: Callable[[], None]  # called when one of them has changed
+
+    def finish(self) -> None:
+        """Writes them a last time."""
+
+
 class OneGame:
     """A game as it goes out."""
 
@@ -94,7 +103,7 @@ class Broadcast:
     ) -> None:
         self._loop, self._out, self._place, self._games, self._paths, self._hears = loop, out, place, games, folder, hears
         self.on_news: Optional[Callable[[], None]] = None  # called when what the page shows has changed; None if there is no page
-        self.write_others: Callable[[], None] = lambda: None  # writes a last time what else the command carries away
+        self._others: List[Others] = []
         self._of: Dict[int, OneGame] = {}
         self.boards: Tuple[SpectatorBoard, ...] = ()
         self._is_known = False  # whether the games have been looked at
@@ -242,8 +251,12 @@ class Broadcast:
 
     # How it is carried away.
 
-    def carry(self) -> None:
-        """Something else that the command carries away has changed."""
+    def take_along(self, others: Others) -> None:
+        """The command carries these files away too: it runs when they have changed, and its last run comes after their last text."""
+        self._others.append(others)
+        others.written = self._other_written
+
+    def _other_written(self) -> None:
         if self._publisher:
             self._publisher.changed()
 
@@ -270,7 +283,8 @@ class Broadcast:
                 self._look()
             if self._file and self.boards:  # without a game there is no text
                 self._file.close()
-            self.write_others()
+            for other in self._others:
+                self._finish(other)
             if self._publisher:
                 ends.append(self._publisher)
                 self._publisher.finish(done)
@@ -278,6 +292,13 @@ class Broadcast:
         self._guard.call(finishes)
         if not ends:
             self._loop.after(0, done)
+
+    def _finish(self, other: Others) -> None:
+        """Has them written a last time. An error keeps nothing else from going out."""
+        try:
+            other.finish()
+        except Exception as error:
+            self._hears.trouble(traced(error))
 
     def close(self) -> List[str]:
         """Lets nothing further go out. Returns what was wrong at the end."""

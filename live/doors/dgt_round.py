@@ -242,13 +242,15 @@ def files_of(tournament: Tournament, loop: Loop, games: Round) -> TournamentFile
         (tournament.all_games, lambda: all_text(others, tournament.number, games.broadcast.text())),
         (pathlib.Path(tournament.games) / RESULTS, lambda: results_text(games.results())),
     )
-    return TournamentFiles(loop, texts, games.say, games.trouble)
+    kept = TournamentFiles(loop, texts, games.say, games.trouble)
+    games.broadcast.take_along(kept)
+    return kept
 
 
 def site_of(folder: str, loop: Loop, games: Round, title: Title) -> SiteFiles:
     """The static site, which has what is broadcast."""
     site = SiteFiles(loop, pathlib.Path(folder), title, lambda: games.broadcast.boards, games.say, games.trouble)
-    site.written, games.broadcast.write_others = games.broadcast.carry, site.finish
+    games.broadcast.take_along(site)
     return site
 
 

@@ -45,7 +45,7 @@ def all_text(others: Iterable[Tuple[int, bytes]], number: int, published: bytes)
 
 
 class TournamentFiles:
-    """Keeps files up to date, each with its requested text."""
+    """Keeps files up to date, each with its requested text. `written` is called when one has changed, also by `finish`."""
 
     def __init__(
         self,
@@ -55,6 +55,7 @@ class TournamentFiles:
         trouble: Callable[[str], None],
     ) -> None:
         self._loop, self._texts, self._says, self._trouble = loop, list(texts), says, trouble
+        self.written: Callable[[], None] = lambda: None
         self._files: List[Published] = []
         self._closed = False
         self._begin()
@@ -63,6 +64,7 @@ class TournamentFiles:
         self._guard = Guard(self._loop, self._broke, lambda error: self._trouble(traced(error)))
         self._files = [Published(self._guard, path, text, self._says) for path, text in self._texts]
         for file in self._files:
+            file.on_written = lambda: self.written()
             self._guard.opened(file.stop)
         self._guard.after(LOOK, self._look)
 
@@ -80,9 +82,16 @@ class TournamentFiles:
         for file in self._files:
             file.changed()
 
-    def close(self) -> List[str]:
-        """Writes them a last time. Returns what can't be written."""
+    def finish(self) -> None:
+        """Writes them a last time."""
         self._closed = True
-        troubles = [(file.path, file.close()) for file in self._files]
+        for file in self._files:
+            file.close()
+        self._guard.end()
+
+    def close(self) -> List[str]:
+        """Writes once more what has changed since then or couldn't be written. Returns what can't be written."""
+        self._closed = True
+        troubles = [(file.path, "" if file.is_written else file.close()) for file in self._files]
         self._guard.end()
         return [f"{path} can't be written ({trouble}): is the disk full?" for path, trouble in troubles if trouble]

@@ -5,14 +5,16 @@ import csv
 import pathlib
 import re
 import subprocess
-from typing import Dict, List
+import sys
+from typing import Dict, List, Sequence
 
 import outside
 from emulated.board import Board
 from emulated.room import stopwatch
 from play_board import INITIAL
+from played import TOP
 from played.recorder import Live
-from played.stage import Skipped, Stage, bytes_of, check, refuses, same, stop, until, until_line
+from played.stage import Skipped, Stage, bytes_of, check, ended, refuses, same, stop, until, until_line
 from rounds.hall import ROUND, games_of
 from rounds.large import said_by
 from rounds.swapped import Seat
@@ -72,13 +74,13 @@ class Cup:
         (self.folder / "tournament.txt").write_text(SETTINGS, encoding="utf-8")
         (self.folder / "boards.csv").write_text(BOARDS.format(cables=cables), encoding="utf-8")
 
-    def round(self, number: int, *options: str) -> Live:
+    def round(self, number: int, *options: str, start: Sequence[object] = ()) -> Live:
         """Plays a round: the pieces are set up."""
         for seat in self.seats.values():
             seat.cable.board = seat.board = Board(serial=seat.board.serial, seed=number)
             seat._codes, seat.plies = list(INITIAL), 0
         environment = {"DGT_LIVE_SERIAL": str(self._serial)}
-        return Live(self.folder, str(number), *options, program=ROUND, typed=True, environment=environment)
+        return Live(self.folder, str(number), *options, program=ROUND, typed=True, environment=environment, start=start)
 
     def play(self, live: Live, of: int, plies: int, results: Dict[int, str]) -> None:
         """So many plies on these boards, and a result for each; what was recorded and published of the round."""
@@ -195,6 +197,61 @@ def three_rounds(folder: pathlib.Path) -> None:
     same(whole, cup.published(1) + cup.published(2) + cup.published(3))
     refuses(cup.round(4), 1, "has no pairs of round 4: it has rounds 1 to 3")
     read_elsewhere(folder, whole)
+
+
+# Starts the recorder so that it looks at the tournament's files each so many seconds, and publishes quickly.
+LOOKS_EACH = """
+import runpy, sys
+sys.dont_write_bytecode = True
+seconds, sys.argv = float(sys.argv[1]), sys.argv[2:]
+sys.path.insert(0, {top!r})
+from live.broadcast import publishing
+from live.round import tournament_files
+tournament_files.LOOK, publishing.EACH = seconds, 0.1
+runpy.run_path(sys.argv[0], run_name="__main__")
+"""
+CARRIES = """\
+#!/bin/sh
+for file in all.pgn round1/results.csv; do
+  cp "{cup}/$file" '{carried}/new' && mv '{carried}/new' "{carried}/${{file##*/}}"
+done
+exit 0
+"""
+
+
+def all_carried_away(folder: pathlib.Path) -> None:
+    """The command carries all.pgn and results.csv away too: it runs when they have changed, which is after broadcast.pgn has; and a
+    last time when they have the last result."""
+    cup, carried, script, start = Cup(folder), folder / "carried", folder / "carry", folder / "start.py"
+    carried.mkdir()
+    script.write_text(CARRIES.format(cup=cup.folder, carried=carried))
+    script.chmod(0o755)
+    start.write_text(LOOKS_EACH.format(top=str(TOP)))
+    (cup.folder / "round1.csv").write_text("board;white;black\n1;Anna;Ben\n3;Carl;Dora\n")
+
+    def round_1(seconds: str) -> Live:
+        live = cup.round(1, "--publish", str(script), start=[sys.executable, start, seconds])
+        until_line(live, "  3  agrees")
+        return live
+
+    def are_carried(*results: str) -> bool:
+        """The results of boards 1 and 3 in what was carried away."""
+        games = games_of(bytes_of(carried / "all.pgn"))
+        rows = bytes_of(carried / "results.csv").decode("utf-8-sig").splitlines()
+        wanted = [f"1;Anna;Ben;{results[0].strip('*')};", f"3;Carl;Dora;{results[1].strip('*')};"]
+        return [game.split()[-1].decode() for game in games] == list(results) and rows[1:] == wanted
+
+    live = round_1("3")
+    until(lambda: are_carried("*", "*"), "both games without a result, carried away")
+    live.type("1 1-0")
+    until(lambda: are_carried("1-0", "*"), "the result of board 1, carried away")
+    same(stop(live), 0)
+
+    live = round_1("1000")
+    live.type("3 0-1")
+    live.type("q")
+    same(ended(live), 0)
+    assert are_carried("1-0", "0-1"), [bytes_of(carried / name) for name in ("all.pgn", "results.csv")]
 
 
 def read_elsewhere(folder: pathlib.Path, whole: bytes) -> None:
