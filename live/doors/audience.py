@@ -8,7 +8,7 @@ from typing import Sequence, Tuple
 
 from live.board.single import QUITS, Single
 from live.broadcast.broadcast import Broadcast
-from live.broadcast.going_out import GoingOut, delay_of, has_delay, minutes
+from live.broadcast.going_out import GoingOut, delay_of, has_delay, keep_delay, minutes
 from live.broadcast.late import is_hidden, is_unseen
 from live.broadcast.leaving import Leaving, clock_in, hold
 from live.doors.calls import Call
@@ -39,7 +39,7 @@ class Audience:
         where, are_kept = pages_of(paths, call.pages)
         self._pages = TwoPages(loop, where, are_kept)
         self._to_keep = None if are_kept else call.pages
-        self._delay = delay_of(paths, call.delay, [paths])
+        self._delay = delay_of(paths, None, [paths]) if call.delay is None else call.delay
         self._late = minutes(self._delay) if self._delay else ""
         self._event = os.path.basename(call.name)
         self._title = Title(given.event or self._event, given.round or "", self._late)
@@ -56,6 +56,8 @@ class Audience:
         self._pages.show(self._title, ArbiterView(self._event, lambda: [single], single.trouble), broadcast)
 
         def opened() -> None:
+            if call.delay is not None:  # not sooner: a call that is refused keeps none
+                keep_delay(paths, call.delay, [paths])
             try:
                 if self._to_keep:
                     keep_pages(paths, self._to_keep)

@@ -271,3 +271,23 @@ def game_of_a_series(folder: pathlib.Path) -> None:
     live = game.record(delay="--delay 0")
     game.until_shown(RUY_TEXT)
     same(stop(live), 0)
+
+
+def refused_with_a_delay(folder: pathlib.Path) -> None:
+    """A call that is refused leaves the delay, and what it hides, as they were; also a call for a game that is over."""
+    game = Game(folder)
+    live = game.record()
+    game.play(live)
+    kill(live)
+    files = [pathlib.Path(f"{game.name}.{ending}") for ending in ("delay", "delayed")]
+    before = [bytes_of(path) for path in files]
+    same(before[0], b"15\n")
+    for delay in ("--delay 5", "--delay 0"):
+        refuses(game.record("--fen", "4k3/8/8/8/8/8/4P3/4K3 w - - 0 1", delay=delay), 1, "was begun with other options")
+        same([bytes_of(path) for path in files], before)
+    live = game.record(delay="--delay 0")
+    game.until_shown(RUY_TEXT)
+    same((stop(live), [path.exists() for path in files]), (0, [False, False]))
+    same(ended(Live("", game.name, "--add", "1-0")), 0)
+    refuses(game.record(delay="--delay 5"), 1, "is over: choose another name")
+    same([path.exists() for path in files], [False, False])
