@@ -40,8 +40,8 @@ class HearsCable(Protocol):
     def lends(self, number: str, heard: Heard) -> bool:
         """The board with this number has sent this. Returns whether another game takes it."""
 
-    def gone(self, message: str, is_busy: bool) -> None:
-        """The board has gone away and isn't waited for, or another process has its line."""
+    def gone(self, message: str, was_there: bool) -> None:
+        """The board isn't there and isn't waited for, or another process has its line."""
 
 
 class Cable:
@@ -193,7 +193,7 @@ class Cable:
         if self._hears.standing:
             self._hears.standing.unplugged()
         if self._once:
-            self._hears.gone(f"{self._device} has gone away", False)
+            self._hears.gone(self._gone_for_good(), self._was_plugged)
 
     def _gone(self) -> str:
         """What to do so that it is there again."""
@@ -207,6 +207,14 @@ class Cable:
         else:
             what = f"plug it in. Is it another device? {screen.other_device()}"
         return f"{self.name} isn't there{f' ({printable(why)})' if why else ''}: {what}"
+
+    def _gone_for_good(self) -> str:
+        """Why it isn't there, if it isn't waited for; and what to do if it never was."""
+        why = f" ({printable(self._connection.why)})" if self._connection.why else ""
+        if self._was_plugged:
+            return f"{self._device} has gone away{why}"
+        looks = "look at the serial server, its power, its network and its address"
+        return f"{self._device} isn't there{why}: {looks if why else 'plug it in; dgt_live --devices lists what is there'}"
 
     def silence(self, silent: bool) -> None:
         """The board sends no dumps, or sends them again."""
@@ -223,7 +231,7 @@ class Cable:
 
     def busy(self) -> None:
         """Another process has the line."""
-        self._hears.gone(f"{self._device} {ANOTHER_CALL}", True)
+        self._hears.gone(f"{self._device} {ANOTHER_CALL}", False)
 
 
 def keep(kept: List[Heard], heard: Heard) -> None:

@@ -342,9 +342,9 @@ class Recorder(TakesOff, Renames, Forfeits):
         is_found = bool(owner and self._plan.serial)
         return bool(other) and not is_found and may_take(owner, bool(self.course.plies))
 
-    def gone(self, message: str, is_busy: bool) -> None:
-        """The board has gone away and isn't waited for, or another process has its line."""
-        self._fail(message if is_busy else f"{message}; what was played is in {self.game.paths.pgn}")
+    def gone(self, message: str, was_there: bool) -> None:
+        """The board isn't there and isn't waited for, or another process has its line."""
+        self._fail(f"{message}; what was played is in {self.game.paths.pgn}" if was_there else message)
 
     def _look_at(self, now: Union[Recording, SettingUp]) -> None:
         """From now on this takes the board's bytes and the cable's state."""

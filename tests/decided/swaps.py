@@ -112,7 +112,7 @@ class Hears:
     def lends(self, number: str, heard: Heard) -> bool:
         return False
 
-    def gone(self, message: str, is_busy: bool) -> None:
+    def gone(self, message: str, was_there: bool) -> None:
         self.told.append(message)
 
 

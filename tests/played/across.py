@@ -290,6 +290,26 @@ def server_goes_away(folder: pathlib.Path) -> None:
     same(stop(live), 0)
 
 
+def not_waited_for(folder: pathlib.Path) -> None:
+    """With --once a server that was never reached isn't said to have gone away, nor is a device that isn't plugged in: the line says
+    why, and what to look at. One that was there has gone away, and the line says why."""
+    board = Served(folder)
+    board.pull()
+    live = Live(board.device, folder / "game", "--once")
+    refuses(live, 3, f"{board.device} isn't there (connection refused): look at the serial server, its power, its network and its address\n")
+    assert words.GONE_AWAY not in live.complaint() + live.lines(), live.complaint()
+    board.plug()
+    live = Live(board.device, folder / "game", "--once")
+    begun(live)
+    board.play("e2e4")
+    until_game(live.name, "1. e4 *")
+    board.pull()
+    refuses(live, 3, f"{board.device} {words.GONE_AWAY} (it has hung up); what was played is in {live.name}.pgn\n")
+    live = Live(folder / "nowhere", folder / "game", "--once")
+    refuses(live, 3, f"{folder}/nowhere isn't there: plug it in; dgt_live --devices lists what is there\n")
+    same(movetext(live.name), "1. e4 *")
+
+
 def garbage(folder: pathlib.Path) -> None:
     """A server that sends text, or bytes by the megabyte: nothing of it is in the capture before a board has answered, and little
     afterwards. A server without a board is SILENT, and its text is no board's. The game goes on."""
@@ -441,6 +461,7 @@ CASES = [
     garbage,
     server_stops,
     server_goes_away,
+    not_waited_for,
     line_in_use,
     behind_ser2net,
     behind_socat,
