@@ -10,11 +10,10 @@ from __future__ import annotations
 from dataclasses import dataclass
 from typing import Optional
 
-from live.game.looks import Look
+from live.game.looks import OVER, Look
 from live.device.protocol import Picture
 from live.game import ending, report
 
-ABOUT = "over"
 SURE = 2  # moves
 WHATEVER = 3  # moves, though all of them bring pieces home
 
@@ -40,4 +39,4 @@ class AfterTheEnd:
         self._played = self._played or not ending.goes_home(event, self.start)
         if self.count < SURE or not (self._played or self.count >= WHATEVER):
             return None
-        return Look(f"after {self.after}", f"{self.count} moves were made, and the game is over: {self.result}", ABOUT)
+        return Look(f"after {self.after}", f"{self.count} moves were made, and the game is over: {self.result}", OVER)

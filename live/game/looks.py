@@ -5,6 +5,8 @@ from __future__ import annotations
 from dataclasses import dataclass
 from typing import Container, Iterable, List, Tuple
 
+OVER = "over"  # what an alarm about moves after a result is about
+
 
 @dataclass(frozen=True)
 class Look:
@@ -24,6 +26,10 @@ class Look:
         """In full."""
         return f"{self.short}: {self.why}"
 
+    def is_about(self, settled: Container[str]) -> bool:
+        """Whether it is about one of these. Moves after a result are settled if the last ply before it is: then it is gone too."""
+        return self.what in settled or (self.about == OVER and self.what.replace("after ", "at ", 1) in settled)
+
 
 @dataclass(frozen=True)
 class Looks:
@@ -38,7 +44,7 @@ class Looks:
 
     def without(self, settled: Container[str]) -> "Looks":
         """Without those about something that is settled."""
-        return Looks(tuple(look for look in self.open if look.what not in settled))
+        return Looks(tuple(look for look in self.open if not look.is_about(settled)))
 
     @property
     def short(self) -> str:

@@ -3,7 +3,7 @@
 from typing import List, Tuple
 
 from live.game.doubts import AFTER_GAP, SIDES, Doubts, Gap, elsewhere, is_late
-from live.game.looks import Look, Looks
+from live.game.looks import OVER, Look, Looks
 from live.device.protocol import SQUARES, picture_of_placement
 from live.game.report import Event, Move, event_of
 
@@ -103,6 +103,9 @@ def kept() -> None:
     same("two", both.short, "LOOK at 4... Qg4+ and 1 more")
     more = Look("since 38. Kf2", "3 moves", "clock")
     same("the clock again", both.with_one_more(more).open, (queen, more))
+    over, hidden = Look("after 38. Kf2", "why", OVER), Look("after 38. Kf2", "why")
+    for gone, left in ((["at 38. Kf2"], [hidden]), (["at 37... Kf7", "since 38. Kf2"], [over, hidden]), (["after 38. Kf2"], [])):
+        same(f"settled: {gone}", list(Looks((over, hidden)).without(gone).open), left)
     same("in full", both.all, "LOOK at 4... Qg4+: why; LOOK since 38. Kf2: 2 moves")
     same("read again", Looks.of_content(both.content()), both)
     same("an old file", Looks.of_content(b"what is this?\n").short, "LOOK at the game")

@@ -100,6 +100,32 @@ def result_of_another_board(folder: pathlib.Path) -> None:
     same(stop(live), 0)
 
 
+def result_gone_with_its_plies(folder: pathlib.Path) -> None:
+    """Moves are made after a typed result, and then the pieces are set up. All plies are taken off, and the result with them: nobody
+    need look at it any more, and the game begins anew."""
+    hall = Hall(folder, 1)
+    live = hall.record(typed=True)
+    hall.begun(live)
+    hall.play(0, 2)
+    live.type("1 1-0")
+    hall.until_over(live, 1, "1-0")
+    until_dumped(hall.boards[0], hall.name(1))
+    for move in ("g1f3", "b8c6"):
+        hall.boards[0].play(move)
+        rest(0.3)
+    says(live, 1, "LOOK after 1... e5; over 1-0; ")
+    for _ in hall.boards[0].homecoming():
+        rest(0.05)
+    until(lambda: not has_open(live.process.pid, hall.boards[0].device), "that the device is free")
+    live.type("1 back 0")
+    until_line(live, "back to the start; taken off: 1. e4 e5; the result 1-0 is gone. Settled: LOOK after 1... e5. ")
+    says(live, 1, "agrees; ")
+    same(bytes_of(hall.name(1) + ".look"), b"")
+    hall.boards[0].play("e2e4")
+    hall.until_text(1, "1. e4 *")
+    same(stop(live), 0)
+
+
 def kings_in_the_centre(folder: pathlib.Path) -> None:
     """The kings stood in the centre by mistake, and that ended a game; the players go on: LOOK says so until the game goes on
     with their moves. While the kings stand there, it can't. The pieces of another board are set up: nothing is said."""
