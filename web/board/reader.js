@@ -18,7 +18,7 @@ export class Reader {
     this.hears = hears;
     this.epoch = 0; // how often it began anew
     this.known = 0; // lines that were heard
-    this.isReading = false;
+    this.reading = null; // a promise that ends when all is read
     this.readsAgain = false;
     this.readsLater = null;
     this.took = 0; // seconds that the last reading took; it ended at `readAt`
@@ -60,18 +60,21 @@ export class Reader {
     });
   }
 
-  /** Reads what is new, and again if more has come meanwhile. */
-  async read() {
+  /** Reads what is new, and again if more has come meanwhile. The promise ends when all lines of it have been heard. */
+  read() {
     this.readsAgain = true;
-    if (this.isReading) return;
-    this.isReading = true;
-    try {
-      while (this.readsAgain && !this.guard.ended) {
-        this.readsAgain = false;
-        await this.readOnce();
-      }
-    } finally {
-      this.isReading = false;
+    if (!this.reading) {
+      this.reading = this.readAll().finally(() => {
+        this.reading = null;
+      });
+    }
+    return this.reading;
+  }
+
+  async readAll() {
+    while (this.readsAgain && !this.guard.ended) {
+      this.readsAgain = false;
+      await this.readOnce();
     }
   }
 
@@ -96,7 +99,7 @@ export class Reader {
       if (line) this.hears.hear(line);
       if (epoch !== this.epoch) return;
     }
-    await this.hears.heardAll();
+    this.hears.heardAll();
   }
 
   /** Gives the program the capture, if it was begun anew and has none. */

@@ -1,8 +1,7 @@
 // The games of one board while it is recorded. What came is kept first, then reported, and the PGN is made anew when
 // the game has changed.
 
-import { DUMP_ID, SIZES, dump, joined, same } from '../device/protocol.js';
-import { Refused, STRAY } from '../game/added.js';
+import { DUMP_ID, SIZES, STRAY, dump, joined, same } from '../device/protocol.js';
 import { AfterTheEnd } from '../game/after_the_end.js';
 import { Alarms, acknowledged } from '../game/alarms.js';
 import { reached } from '../game/back.js';
@@ -11,6 +10,7 @@ import { textOfLook } from '../game/looks.js';
 import { dayOf } from '../game/names.js';
 import { gameOf, newCourse } from '../game/reading.js';
 import { codesOf, shortOf, shownOf } from '../game/report.js';
+import { Refused } from '../game/typed.js';
 import { Capture, LARGEST } from '../kept/capture.js';
 import { spread, withMore } from '../kept/spread.js';
 import { Cable } from './cable.js';
@@ -24,15 +24,15 @@ const LATE = 1.0; // seconds by which a timer is late if the page was stopped me
 const SETTLES = 0.2; // seconds after which all lines of a byte have been heard
 const SURELY_SETTLES = 1.0; // the same, if a late line would be taken for another one
 const TICK = 1.0; // seconds between two looks at what waits
-const ROOM = 1 << 20; // bytes for what `recover` adds: the program reads no more than LARGEST
+const ROOM = 1 << 20; // bytes that are left for what `recover` adds: the program reads no more than LARGEST
 const SAID = [Kind.WRONG, Kind.NO_START]; // states that are reported as lines too
 const TOLD = ['move', 'result', 'differs', 'agrees'];
 
 const Reason = {
   RESULT: 'it has a result',
-  TYPED: 'its result was typed',
   SET_UP: 'the pieces are at the start again',
   LIMIT: 'its capture has 64 MiB, and none may have more',
+  LIMIT_OF_RECOVER: 'its capture has 63 MiB, and with Recover moves none may have more',
   NEXT: 'the next one was asked for',
 };
 
@@ -45,6 +45,7 @@ export class Recorder {
    */
   constructor(hall, guard, kept, hears) {
     this.program = hall.program;
+    this.arbiter = hall.typing; // the program, for what an arbiter types
     this.database = hall.database;
     this.guard = guard;
     this.hears = hears;
@@ -92,6 +93,11 @@ export class Recorder {
     return this.game.end !== null;
   }
 
+  /** Where the last bytes end that somebody has typed; 0 if there are none. */
+  get typedTo() {
+    return this.game.typedTo || 0;
+  }
+
   // Reading the capture.
 
   /** Everything is read again: at the beginning, with other options, or from another capture. */
@@ -119,9 +125,10 @@ export class Recorder {
   }
 
   /** All lines have been heard. */
-  async heardAll() {
+  heardAll() {
     if (this.isOld) this.tellOld();
-    if (this.isOver && this.starts.length > 0) await this.tryNext();
+    if (this.isOver && this.starts.length === 0 && this.endsAtStart) this.starts.push(this.startAt);
+    if (this.isOver && this.starts.length > 0) this.guard.call(() => this.tryNext());
     this.hears.changed();
   }
 
@@ -192,7 +199,8 @@ export class Recorder {
   /** The board has sent this. */
   heard({ bytes, ended }) {
     if (this.typing.holds({ bytes, ended })) return;
-    if (this.capture.size + bytes.length > LARGEST) return; // the game is over, and nobody has begun another one
+    const room = LARGEST - this.capture.size;
+    if (room <= 0) return; // the game is over, and nobody has begun another one
     const now = this.guard.now();
     const unheard = this.guard.away() - this.away;
     const silence = Math.max(now - this.heardAt, unheard);
@@ -207,9 +215,16 @@ export class Recorder {
     this.wasAway = false;
     this.isRestart = false;
     if (ended.time.length > 0) this.alarms.time(now, ended.time, this.capture.size);
-    this.capture.append(bytes, now);
+    this.capture.append(bytes.slice(0, room), now);
     if (ended.dumped) this.dumped();
-    if (this.capture.size >= LARGEST - ROOM && !this.isOver) this.end(Reason.LIMIT);
+    this.lookAtLimit();
+  }
+
+  /** A game is over when its capture has as many bytes as the program reads. */
+  lookAtLimit() {
+    if (this.isOver) return;
+    if (this.options.recover && this.capture.size >= LARGEST - ROOM) this.end(Reason.LIMIT_OF_RECOVER);
+    else if (this.capture.size >= LARGEST) this.end(Reason.LIMIT);
   }
 
   sayUnheard(seconds) {
@@ -426,6 +441,16 @@ export class Recorder {
     this.lingering = null;
   }
 
+  /** Whether the board shows the start again, and it is not decided yet what that means. */
+  get isAtStart() {
+    return !this.isOver && this.course.standsAgain && !this.course.standsAtStart;
+  }
+
+  /** Whether the start is the last picture of the game itself, which is over: plies were taken off after it was shown. */
+  get endsAtStart() {
+    return this.startAt !== null && this.startAt < this.game.end && this.course.standsAgain && !this.course.standsAtStart;
+  }
+
   /**
    * The pieces are at the start after a set-up. That ends a game that isn't at its start; but if the board has never
    * shown the game's position, a reported move was part of the set-up.
@@ -440,7 +465,7 @@ export class Recorder {
   end(reason) {
     if (this.isOver) return;
     let end = this.capture.size;
-    if (reason === Reason.RESULT) end = this.course.changedAt + 1;
+    if (reason === Reason.RESULT) end = Math.max(this.course.changedAt + 1, this.typedTo);
     if (reason === Reason.SET_UP) end = this.endBeforeSetUp();
     this.alarms.end(end);
     this.closeGame(end, reason);
@@ -457,6 +482,7 @@ export class Recorder {
   endBeforeSetUp() {
     const lines = this.course.lines();
     const found = gameEnd(lines, this.course.start);
+    if (found.size < this.typedTo) return endingWithSign(lines, this.typedTo); // what was typed is no set-up
     if (found.dropped.length > 0) this.hears.says(`taken for setting up, and not for moves: ${found.dropped.join('; ')}`);
     if (!found.sure) this.hears.says(`LOOK at the last moves of ${this.game.name}: where the game ended isn't sure`);
     return endingWithSign(lines, found.size);
@@ -504,6 +530,7 @@ export class Recorder {
    */
   async nextGame(given = {}, takesMove = false) {
     await this.typing.exclusively(async () => {
+      if (!this.isOver && this.course.result !== '*') this.end(Reason.RESULT);
       const dump = this.lastDump();
       const { plies } = await gameOf(this.program, given.options || this.options, dump);
       if (plies.length > 0 && !takesMove) {
@@ -566,21 +593,32 @@ export class Recorder {
   async add(put) {
     this.byHand = [this.capture.size, this.capture.size + put.length];
     this.capture.append(put, this.guard.now());
+    this.game = { ...this.game, typedTo: this.capture.size };
+    this.keepGame();
     this.cable.added(put);
     await this.capture.write();
   }
 
-  /** Ends the game with a typed result: at the end of what was added last. */
-  endTyped() {
-    this.closeGame(this.byHand[1], Reason.TYPED);
+  /** Refuses a result for a game that has only begun: it is meant for the one before. */
+  refuseAtBegin(outcome) {
+    const before = this.course.plies.length === 0 ? this.hears.gameBefore : null;
+    if (!before) return;
+    const how = before.isUnended ? `. If it is the result of ${before.name}, press ${outcome} beside that name` : '';
+    throw new Refused(`${this.game.name} has no move yet, so it has no result${how}`);
   }
 
-  /** The capture is this from now on; the old one is kept beside it, if wanted. */
+  /** The capture is this from now on; the old one is kept beside it, if wanted. Up to `typedTo` it is what was typed. */
   async renew(content, keepsBefore, changes = {}) {
+    this.cancelLingering();
     const chunks = spread(content, this.guard.now());
     const before = { game: this.game.id, name: this.game.name, at: this.guard.now(), bytes: this.capture.bytes() };
-    const game = { ...this.game, hasBefore: this.game.hasBefore || keepsBefore, ...changes };
-    await this.database.renew(game, chunks, keepsBefore ? before : null);
+    const game = { ...this.game, hasBefore: this.game.hasBefore || keepsBefore, typedTo: 0, ...changes };
+    try {
+      await this.database.renew(game, chunks, keepsBefore ? before : null);
+    } catch (error) {
+      this.hearResult(this.course.result, true);
+      throw error;
+    }
     if (keepsBefore) this.hears.keeps(before);
     const { trouble } = this.capture;
     this.takeGame(game, chunks);
@@ -598,7 +636,9 @@ export class Recorder {
     await this.typing.exclusively(async () => {
       const content = withMore(this.capture.bytes(), this.opened, longer);
       if (!content) return;
-      await this.renew(content, false);
+      const { opened } = this;
+      const more = this.typedTo > opened ? content.length - this.capture.size : 0;
+      await this.renew(content, false, { typedTo: this.typedTo + more });
       this.hears.says(`${name} in the folder has more of ${this.game.name} than the browser had kept: the game goes on with it`);
     });
   }

@@ -9,6 +9,7 @@ export const DUMP_ID = 0x86;
 const UPDATE_ID = 0x8e;
 export const TIME_ID = 0x8d;
 const SERIAL_ID = 0x91;
+export const STRAY = Uint8Array.of(0x00); // in no frame: a fault, after which no update counts until the next dump
 export const SIZES = { [DUMP_ID]: 67, [UPDATE_ID]: 5, [TIME_ID]: 10 };
 export const HEADER = 3; // bytes of a frame before its data
 const HIGHEST_CODE = 15;

@@ -3,10 +3,10 @@
 // The rules of settling are the same, and nothing is cut out of a capture. The new one shows the positions of the game
 // one after the other, each one legal move from the one before, as a board would; then the board as it is now.
 
-import { dump, joined, pictureOfPlacement } from '../device/protocol.js';
-import { Refused, STRAY } from './added.js';
+import { STRAY, dump, joined, pictureOfPlacement } from '../device/protocol.js';
 import { timeMessage } from './clocks.js';
 import { shortOf } from './report.js';
+import { Refused } from './typed.js';
 
 const WITHOUT_A_QUESTION = 2; // plies that may go without a question
 const SAME_MOVE = 4; // plies by which the same move counts as nearer
@@ -35,6 +35,17 @@ export function captureOf({ plies, fens, present, board }, rotated, blackFirst) 
   const stands = board === null ? [] : [dump(board, rotated)];
   const start = plies.length > 0 || board === null ? [pictures[0]] : [];
   return joined(...start, ...game, timeMessage(present, blackFirst), ...stands, STRAY);
+}
+
+const PLY = /^([0-9]{1,4})(\.+) (.+)$/u;
+const WHICH = 'which ply? Type it as the screen printed it, as back 14. Bxf6 or back 14... Qd7; or back alone, or back 0';
+
+/** A ply that is named after `back`; none, or all, if it is empty or 0. */
+export function plyNamed(to) {
+  if (to === '' || to === '0') return { number: '', san: '', all: to === '0' };
+  const [, number, stops, san] = PLY.exec(to) || [];
+  if (!san || san.includes(' ')) throw new Refused(WHICH);
+  return { number: Number(number) + (stops.length === 1 ? '.' : '...'), san: san.replace(/[!?]+$/, '').replace(/^0-0/, 'O-O'), all: false };
 }
 
 /** How many stay. Refused if there is nothing to take off, or if the game has no such ply: then with the nearest one. */

@@ -1,11 +1,13 @@
 // Takes plies or a result off a game, checked by the program. The capture is made anew; the old one is kept beside it.
 
-import { Asked, Refused } from './added.js';
-import { isSame, sansOf } from './adding.js';
 import { captureOf, notSo, pliesThatStay, question, reached, wordsOfBack } from './back.js';
 import { readingOfClock } from './clocks.js';
 import { sideOf } from './options.js';
 import { gameOf, movetextOf } from './reading.js';
+import { Asked, Refused } from './typed.js';
+
+const sansOf = (plies) => plies.map((ply) => ply.san);
+const isSame = (one, other) => one.length === other.length && one.every((word, at) => word === other[at]);
 
 /**
  * Back to the typed ply, in the game of the bytes `sent`, which may be over; the game goes on with a board that has
@@ -16,7 +18,7 @@ export async function wayBack(program, options, { sent, shown, isOver }, typed, 
   const course = await gameOf(program, options, sent);
   const stays = pliesThatStay(course.plies, typed);
   if (stays === course.plies.length && course.result === '*' && !isOver) {
-    throw new Refused(`the game ends with ${reached(course.plies)} already`);
+    throw new Refused(stays > 0 ? `the game ends with ${reached(course.plies)} already` : 'the game has no move');
   }
   const way = await checked(program, options, { sent, shown }, course, stays);
   const asks = question(course.plies.slice(stays));

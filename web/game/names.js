@@ -1,7 +1,7 @@
 // Typed names and dates, changed to what a PGN text allows: a tag's value has at most 100 characters, all printable
 // ASCII. A date is `2024.05.31`, with `?` for each unknown digit.
 
-import { printable } from './added.js';
+import { printable } from './typed.js';
 
 const LONGEST_NAME = 100; // characters of a tag's value
 

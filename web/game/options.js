@@ -27,6 +27,11 @@ export function ofBoard(options) {
   return [...(options.rotated ? ['--rotated'] : []), ...valued(options, ['first', 'fen'])];
 }
 
+/** The options that `add` and `back` have. */
+export function ofTyping(options) {
+  return [...ofBoard(options), ...(options.recover ? ['--recover'] : [])];
+}
+
 /** The options that `record` has. */
 export function ofRecord(options) {
   const dated = { ...options, date: options.date || options.began };

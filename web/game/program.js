@@ -1,6 +1,6 @@
 // Calls of the program, which runs in the worker.
 
-import { ofBoard, ofRecord } from './options.js';
+import { ofBoard, ofRecord, ofTyping } from './options.js';
 
 /** The program can't be run, or has ended as it shouldn't. */
 export class ProgramError extends Error {}
@@ -26,10 +26,22 @@ export class Program {
     this.count = 0;
     this.calls = new Map();
     this.worker = null;
+    this.begun = null; // a promise that ends when it is compiled
     this.epoch = 0; // how often it was begun; each time it knows no capture
   }
 
-  /** Has it compiled. */
+  /** Has it compiled, unless it is. */
+  ready() {
+    if (!this.begun) {
+      this.begun = this.begin().catch((error) => {
+        this.begun = null;
+        throw error;
+      });
+    }
+    return this.begun;
+  }
+
+  /** Has it compiled, in a new worker. */
   async begin() {
     this.epoch += 1;
     const url = URL.createObjectURL(new Blob([this.code], { type: 'text/javascript' }));
@@ -92,6 +104,12 @@ export class Program {
   }
 
   // Bytes that are given.
+
+  /** What `add` makes of a line that was typed for the game of these bytes: { status, output, errors }. */
+  async add(options, sent, line) {
+    await this.ready();
+    return this.run(['add', ...ofTyping(options), `--line=${line}`], sent);
+  }
 
   /** Calls it: { status, output, errors }. */
   run(words, input = new Uint8Array(0)) {

@@ -32,6 +32,7 @@ export class Hall {
     this.hears = hears;
     this.loop = new Loop();
     this.program = new Program(code, module);
+    this.typing = new Program(code, module); // in a worker of its own, so that a typed line holds up no board
     this.database = null;
     this.seats = new Map(); // by their numbers
     this.locks = new Map(); // what releases each board's lock

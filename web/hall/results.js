@@ -2,7 +2,7 @@
 // anybody has given it.
 
 import { joined } from '../device/protocol.js';
-import { addition } from '../game/adding.js';
+import { readAnswer, refuse } from '../game/answers.js';
 import { textOf } from '../game/reading.js';
 import { spread } from '../kept/spread.js';
 
@@ -15,7 +15,9 @@ export function unended(finished) {
 /** Gives a result to a game that is over. Throws Refused if the game can't have it. */
 export async function giveResult(hall, game, outcome) {
   const sent = game.bytes.slice(0, game.end);
-  const { put } = await addition(hall.program, game.options, sent, { kind: 'result', outcome });
+  const said = readAnswer('add', await hall.typing.add(game.options, sent, outcome));
+  const { put } = said;
+  if (!put) throw refuse(said, outcome, '');
   const bytes = joined(sent, put, game.bytes.slice(game.end));
   const end = sent.length + put.length;
   const text = await textOf(hall.program, game.options, bytes.slice(0, end));

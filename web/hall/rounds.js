@@ -63,10 +63,10 @@ export class Rounds {
 
   /** The boards whose games end without a result, and those whose games have begun and only get other names. */
   get inPlay() {
-    const playing = this.seats().filter((seat) => seat.hasMoves && !seat.isOver);
+    const begun = this.seats().filter((seat) => seat.hasMoves && !seat.isOver);
     const again = this.repeated();
-    const goOn = playing.filter((seat) => again.some(({ id }) => id === seat.game.id));
-    return { end: playing.filter((seat) => !goOn.includes(seat)), goOn };
+    const goOn = begun.filter((seat) => again.some(({ id }) => id === seat.game.id));
+    return { end: begun.filter((seat) => seat.isInPlay && !goOn.includes(seat)), goOn };
   }
 
   /**

@@ -147,6 +147,11 @@ export class Seat {
     return this.recorder.isOver;
   }
 
+  /** Whether its game has moves and no result, and isn't over. */
+  get isInPlay() {
+    return this.hasMoves && !this.isOver && this.recorder.course.result === '*';
+  }
+
   get isStopped() {
     return this.recorder.isStopped;
   }
@@ -161,6 +166,12 @@ export class Seat {
   /** The game before the one that is on, if it has no result; else null. */
   get unended() {
     return unended(this.finished);
+  }
+
+  /** The game before the one that is on, { name, isUnended }; null if there is none. */
+  get gameBefore() {
+    const last = this.finished[this.finished.length - 1];
+    return last ? { name: last.name, isUnended: this.unended !== null } : null;
   }
 
   bytes() {

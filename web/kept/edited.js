@@ -1,17 +1,24 @@
 // Whether somebody has edited the PGN of a game by hand. Pure.
 
-/** The tag pairs except the result, and the words of the moves without the result after them. */
+/** The tag pairs but the result's, the result that they give, the words of the moves, and the result after them. */
 function partsOf(pgn) {
   const end = pgn.indexOf('\n\n');
-  const head = pgn.slice(0, Math.max(0, end)).split('\n').filter((line) => !line.startsWith('[Result '));
-  return { tags: head.join('\n'), words: pgn.slice(end + 2).split(/\s+/).filter((word) => word).slice(0, -1) };
+  const lines = pgn.slice(0, Math.max(0, end)).split('\n');
+  const words = pgn.slice(end + 2).split(/\s+/).filter((word) => word);
+  const [, named = '*'] = /^\[Result "(.*)"\]$/m.exec(pgn) || [];
+  return { tags: lines.filter((line) => !line.startsWith('[Result ')).join('\n'), named, words: words.slice(0, -1), result: words[words.length - 1] };
 }
 
-/** Whether a text found instead of this one is an earlier text of the same game: replacing it loses nobody's work. */
+/**
+ * Whether a text found instead of this one is an earlier text of the same game, with fewer moves and no result: replacing it
+ * loses nobody's work.
+ */
 export function isEarlier(found, now) {
   if (!found) return true;
   const [before, after] = [partsOf(found), partsOf(now)];
-  return before.tags === after.tags && before.words.every((word, at) => word === after.words[at]);
+  const isFront = before.tags === after.tags && before.words.every((word, at) => word === after.words[at]);
+  if (!isFront || before.named !== before.result) return false;
+  return before.words.length < after.words.length ? before.result === '*' : before.result === after.result;
 }
 
 /** The name of the file that keeps an edited text: `game.edited.pgn`, `game.edited-2.pgn`. */

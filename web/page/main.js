@@ -56,7 +56,7 @@ async function begin() {
     cards.show(hall);
     return;
   }
-  hall.program.begin().catch((error) => messages.notice('module', `The recorder can't be begun: ${error.message}`, [], true));
+  hall.program.ready().catch((error) => messages.notice('module', `The recorder can't be begun: ${error.message}`, [], true));
   await hall.begin();
   hall.changed();
   for (const id of ['folder', 'save-round', 'sample', 'open']) at(id).disabled = false;

@@ -196,7 +196,7 @@ export class Panel {
   /** A game in play ends only if the button is pressed twice. */
   nextGame() {
     const { seat } = this;
-    if (seat.hasMoves && !seat.isOver && !this.ends) {
+    if (seat.isInPlay && !this.ends) {
       this.ends = true;
       this.show(seat);
       return;

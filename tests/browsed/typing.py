@@ -1,0 +1,287 @@
+"""What an arbiter types: in order, once for each line, while the board goes on, and what is refused."""
+
+import pathlib
+import time
+from typing import Tuple
+
+from browsed.folders import Chosen, begin_in, until_text
+from browsed.games import QUEENS, QUEENS_SANS, RUY, RUY_SANS, answered, begin, of_record, play, until_agrees
+from browsed.hall import Hall, Port
+from browsed.page import Page
+from browsed.series import movetext_of
+from browsed.stage import with_chromium
+from played.stage import same
+
+MIB = 2**20  # bytes
+# Counts the calls of the program for typed lines, and holds back the answer to the first one while `isHeld`.
+HELD = """
+window.isHeld = false;
+window.typedCalls = [];
+window.letGo = [];
+const post = Worker.prototype.postMessage;
+Worker.prototype.postMessage = function (message) {
+  const words = message?.name === 'run' ? message.given.words : [];
+  if (words[0] !== 'add' && words[0] !== 'back') return post.call(this, message);
+  window.typedCalls.push(words.at(-1));
+  if (!window.isHeld) return post.call(this, message);
+  window.isHeld = false;
+  window.letGo.push(() => post.call(this, message));
+};
+"""
+# The capture of the first board gets bytes that are no frames, until it has so many.
+FILLED = """
+(async () => {
+  const answer = (request) => new Promise((done, failed) => {
+    request.onsuccess = () => done(request.result);
+    request.onerror = () => failed(request.error);
+  });
+  const database = await answer(indexedDB.open('dgt_recorder'));
+  const change = database.transaction(['boards', 'chunks'], 'readwrite');
+  const { game } = await answer(change.objectStore('boards').get(1));
+  const chunks = await answer(change.objectStore('chunks').getAll(IDBKeyRange.bound([game, 0], [game, Infinity])));
+  const last = chunks.at(-1);
+  const size = chunks.reduce((sum, { bytes }) => sum + bytes.length, 0);
+  await answer(change.objectStore('chunks').put({ game, number: last.number + 1000, at: last.at, bytes: new Uint8Array(TOTAL - size) }));
+  database.close();
+})()
+"""
+# How many bytes of the first board's game are on the disk.
+SIZE = FILLED[: FILLED.index("  await answer(change.objectStore('chunks').put")] + "  database.close();\n  return size;\n})()"
+
+
+def held(stage: Hall) -> Tuple[Page, Port]:
+    """A page with one board, whose calls for typed lines are counted and can be held back."""
+    port = stage.board()
+    page = stage.tab([HELD])
+    stage.add(page, port)
+    stage.enlarge(page, 1)
+    until_agrees(stage, page)
+    return page, port
+
+
+@with_chromium
+def help_is_given(folder: pathlib.Path) -> None:
+    """`help`, `?` and `undo` are answered with what can be typed, and that is no refusal; what no line has is asked about."""
+    with Hall(folder) as stage:
+        page, port = begin(stage)
+        until_agrees(stage, page)
+        for text in ("help", "?", "undo"):
+            answered(stage, page, text, "Type 1-0, 0-1, 1/2-1/2, moves (Nf3 Nc6)")
+            same(page.text("#answer").startswith("Type"), True)
+            same(page.value("document.querySelector('#answer').classList.contains('refused')"), False)
+            answered(stage, page, "q", "press Stop recording")
+        answered(stage, page, "back 0", "the game has no move")
+        answered(stage, page, "back", "no ply that could be taken off")
+        answered(stage, page, "back 1", "which ply? Type it as the screen printed it")
+        for text, part in {"nf3": "write Nf3", "g1f3": "write Nf3", "5 Nf3": "leave out the number in front"}.items():
+            answered(stage, page, text, part)
+        same(page.moves, [])
+
+
+@with_chromium
+def result_stands(folder: pathlib.Path) -> None:
+    """A typed result stands ten seconds before the game is over, as mate does: until then it is taken off, or replaced."""
+    with Hall(folder) as stage:
+        page, port = begin(stage)
+        until_agrees(stage, page)
+        play(stage, page, port, RUY[:4], RUY_SANS[:4])
+        answered(stage, page, "1-0", "added by hand: the result 1-0")
+        stage.rest(3)
+        assert not page.text("#state").startswith("over"), page.describe()
+        answered(stage, page, "*", "no ply is taken off; the result 1-0 is gone")
+        stage.rest(9)
+        assert not page.text("#state").startswith("over"), page.describe()
+        play(stage, page, port, RUY[4:6], RUY_SANS[4:6])
+        typed_at = time.monotonic()
+        answered(stage, page, "0-1", "added by hand: the result 0-1")
+        stage.until(lambda: page.text("#state").startswith("over"), "the end of the game")
+        assert time.monotonic() - typed_at > 9, "the game ended at once"
+        game, capture = stage.saved(page, "#save-game"), stage.saved(page, "#save-capture")
+        same(movetext_of(game), "1. e4 e5 2. Nf3 Nc6 3. Bb5 a6 0-1")
+        same(game, of_record(game, capture))
+
+
+@with_chromium
+def result_and_set_up(folder: pathlib.Path) -> None:
+    """A result is typed, and the pieces are set up before the ten seconds are over: the game has its result and all its moves, and
+    the next one begins. A result that is typed then is refused, since that game has no move."""
+    with Hall(folder) as stage:
+        chosen = Chosen(stage)
+        page, port = begin_in(stage, chosen)
+        page.type("Anna", "#white")
+        page.type("Ben", "#black")
+        chosen.choose(stage, page)
+        play(stage, page, port, RUY[:4], RUY_SANS[:4])
+        answered(stage, page, "1-0", "added by hand: the result 1-0")
+        port.board.set_up([])
+        stage.until_moves(page, [])
+        until_agrees(stage, page)
+        until_text(stage, chosen, "Anna - Ben.pgn", "1. e4 e5 2. Nf3 Nc6 1-0")
+        answered(stage, page, "0-1", "Anna - Ben-2 has no move yet")
+        stage.rest(1)
+        same(page.text("#at").count("1"), 0)
+        play(stage, page, port, QUEENS[:2], QUEENS_SANS[:2])
+        until_text(stage, chosen, "Anna - Ben-2.pgn", "1. d4 d5 *")
+        until_text(stage, chosen, "Anna - Ben.pgn", "1. e4 e5 2. Nf3 Nc6 1-0")
+
+
+@with_chromium
+def typed_at_start(folder: pathlib.Path) -> None:
+    """Moves are typed while the start is shown after a game, and nobody has decided yet whether that ends it: they are refused, or
+    they are in a game. Many times, since it is a matter of a fifth of a second."""
+    with Hall(folder) as stage:
+        page, port = begin(stage)
+        until_agrees(stage, page)
+        kept = []
+        for count in range(6):
+            play(stage, page, port, RUY[:4], RUY_SANS[:4])
+            page.fill("Bb5 a6", "#typed")
+            port.board.set_up([])
+            for _ in range(4 * count):
+                stage.turn()
+            page.tab.press("Enter")
+            stage.until(lambda: page.text("#answer"), "an answer")
+            said = page.text("#answer")
+            assert said.startswith(("refused", "added by hand: Bb5 a6")), said
+            kept.append(said.startswith("added"))
+            stage.until_moves(page, [])
+            until_agrees(stage, page)
+            page.value("document.querySelector('#answer').textContent = ''")
+        texts = stage.saved(page, "#save-round").decode().split("[Event ")[1:]
+        same(["Bb5 a6" in text for text in texts], kept)
+
+
+@with_chromium
+def board_goes_on(folder: pathlib.Path) -> None:
+    """While the program reads a typed line, the board plays the same move: that is kept at once, and the line is read anew, since it
+    would play the move a second time. Lines are answered in the order in which they were typed, each with one call."""
+    with Hall(folder) as stage:
+        page, port = held(stage)
+        play(stage, page, port, RUY[:3], RUY_SANS[:3])
+        page.value("window.isHeld = true")
+        page.type("Nc6")
+        stage.until(lambda: page.value("window.letGo.length") == 1, "the call for the line")
+        port.board.play(RUY[3])
+        stage.until_moves(page, RUY_SANS[:4])
+        stage.until(lambda: port.board.update(18) in page.kept(1), "the move to be kept")
+        same(page.text("#answer"), "")
+        page.value("window.letGo.pop()()")
+        stage.until_part(page, "#answer", "Nc6 is no legal move: White is to move, after 2... Nc6")
+        same(page.moves, RUY_SANS[:4])
+        stage.rest(1)
+        before = page.value("window.typedCalls.length")
+        page.value("""
+        for (const text of ['Bb5', 'hello', 'a6', 'ok', 'Ba4 Nf6']) {
+          document.querySelector('#typed').value = text;
+          document.querySelector('#say').requestSubmit();
+        }
+        """)
+        stage.until_moves(page, [*RUY_SANS[:6], "Ba4", "Nf6"])
+        calls = page.value("window.typedCalls")
+        order = [line for at, line in enumerate(calls[before:]) if line not in calls[before : before + at]]
+        same(order, ["--line=Bb5", "--line=hello", "--line=a6", "--line=Ba4 Nf6"])
+
+
+@with_chromium
+def answered_is_kept(folder: pathlib.Path) -> None:
+    """The tab is killed as soon as moves are answered: opened again, it has them."""
+    with Hall(folder) as stage:
+        page, port = begin(stage)
+        until_agrees(stage, page)
+        shown = RUY_SANS[:2]
+        play(stage, page, port, RUY[:2], shown)
+        for number, line in enumerate(("Nf3 Nc6", "Bb5", "a6 Bxc6 dxc6")):
+            page.type(line)
+            stage.until(lambda: line in page.text("#answer"), f"an answer to {line}")
+            stage.crash(page)
+            shown = [*shown, *line.split()]
+            page = stage.tab()
+            stage.enlarge(page, 1)
+            stage.until_moves(page, shown)
+            assert number < 3
+
+
+@with_chromium
+def edited_result(folder: pathlib.Path) -> None:
+    """Somebody writes a result into a file while the page is closed: his text is kept beside it when the page writes its own."""
+    with Hall(folder) as stage:
+        chosen = Chosen(stage)
+        page, port = begin_in(stage, chosen)
+        chosen.choose(stage, page)
+        play(stage, page, port, RUY[:3], RUY_SANS[:3])
+        until_text(stage, chosen, "board 1.pgn", "1. e4 e5 2. Nf3 *")
+        until_text(stage, chosen, "round.pgn", "1. e4 e5 2. Nf3 *")
+        stage.close(page)
+        edited = chosen.files["board 1.pgn"].replace(b'"*"', b'"1-0"').replace(b"Nf3 *", b"Nf3 1-0")
+        chosen.files["board 1.pgn"] = edited
+        page = stage.tab([chosen.script()])
+        stage.until(lambda: page in port.holders, "the board to be opened by itself")
+        stage.enlarge(page, 1)
+        stage.until_moves(page, RUY_SANS[:3])
+        play(stage, page, port, RUY[3:4], RUY_SANS[3:4])
+        until_text(stage, chosen, "board 1.pgn", "1. e4 e5 2. Nf3 Nc6 *")
+        same(chosen.files.get("board 1.edited.pgn"), edited)
+        same(sorted(name for name in chosen.files if "edited" in name), ["board 1.edited.pgn"])
+
+
+@with_chromium
+def look_is_settled(folder: pathlib.Path) -> None:
+    """`back` over a ply with an alarm settles the alarm: what it was about is gone."""
+    with Hall(folder) as stage:
+        page, port = begin(stage)
+        until_agrees(stage, page)
+        play(stage, page, port, RUY[:2], RUY_SANS[:2])
+        stage.pull(port)
+        stage.until(lambda: page.text("#state").startswith("UNPLUGGED"), "the alarm of an unplugged board")
+        stage.rest(4)
+        port.board.play(RUY[2])
+        stage.plug(port)
+        stage.until_moves(page, RUY_SANS[:3])
+        stage.until_part(page, "#state", "LOOK at 2. Nf3")
+        port.board.lift("e1")
+        stage.until_dumped(page, port)
+        answered(stage, page, "back 1... e5", "back to 1... e5; taken off: 2. Nf3. Settled: LOOK at 2. Nf3.")
+        stage.until(lambda: "LOOK" not in page.text("#state"), "no alarm any more")
+        same(page.moves, RUY_SANS[:2])
+
+
+def fill(stage: Hall, page: Page, total: int) -> None:
+    """The capture of the first board has so many bytes when the page is opened again."""
+    stage.leave(page)
+    page.value(FILLED.replace("TOTAL", str(total)))
+    stage.open(page)
+    stage.enlarge(page, 1)
+
+
+@with_chromium
+def limits(folder: pathlib.Path) -> None:
+    """A game may have 64 MiB; with Recover moves 63, since that needs room. The page says which, and keeps all that is within."""
+    with Hall(folder) as stage:
+        page, port = begin(stage)
+        until_agrees(stage, page)
+        play(stage, page, port, RUY[:2], RUY_SANS[:2])
+        fill(stage, page, 63 * MIB)
+        stage.until_moves(page, RUY_SANS[:2])
+        stage.until(lambda: page in port.holders, "the board to be opened again")
+        play(stage, page, port, RUY[2:3], RUY_SANS[2:3])
+        stage.rest(1)
+        same([line for line in page.messages if "MiB" in line], [])
+        fill(stage, page, 64 * MIB - 150)
+        stage.until(lambda: any("its capture has 64 MiB, and none may have more" in line for line in page.messages), "the limit")
+        stage.until(lambda: page.value(SIZE) == 64 * MIB, "a capture that is full")
+        stage.until_moves(page, RUY_SANS[:3])
+
+
+@with_chromium
+def limit_of_recover(folder: pathlib.Path) -> None:
+    """With Recover moves a game may have 63 MiB, since that needs room."""
+    with Hall(folder) as stage:
+        page, port = begin(stage)
+        until_agrees(stage, page)
+        play(stage, page, port, RUY[:2], RUY_SANS[:2])
+        page.click("#recover")
+        stage.rest(0.5)
+        fill(stage, page, 63 * MIB - 150)
+        what = "its capture has 63 MiB, and with Recover moves none may have more"
+        stage.until(lambda: any(what in line for line in page.messages), "the limit with Recover moves")
+        stage.until_moves(page, RUY_SANS[:2])

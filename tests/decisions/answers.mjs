@@ -1,0 +1,44 @@
+/** What is typed in a line; what the program answers to it, and the sentences for that. */
+import { meaning, readAnswer, refuse, whoseMove } from "/web/game/answers.js";
+import { ALL_WAYS, BOTH_LOSE, readWords } from "/web/game/typed.js";
+
+const ON_HELP = ["1-0", "Nf3 Nc6", "back", "14. Bxf6", "*", "ok"];
+
+function answer(status, said) {
+  return readAnswer("add", { status, errors: new TextEncoder().encode(said), output: new Uint8Array(0) });
+}
+
+export function words(counts, cases) {
+  for (const [text, expected] of cases("typed")) {
+    counts.same(text, readWords(text), expected);
+  }
+  for (const text of cases("helps")) {
+    counts.same(text, readWords(text), { kind: "helped" });
+  }
+  counts.same("all ways", ON_HELP.filter((part) => ALL_WAYS.includes(part)), ON_HELP);
+  counts.same("in one line", ALL_WAYS.length < 100, true);
+  for (const text of cases("noughts")) {
+    counts.same(text, counts.refused(text, "Refused", () => readWords(text)), BOTH_LOSE);
+  }
+  for (const text of cases("which ply")) {
+    counts.same(text, counts.refused(text, "Refused", () => readWords(text)).startsWith("which ply? Type it as"), true);
+  }
+}
+
+export function sentences(counts, cases) {
+  for (const [said, text, place, expected] of cases("sentences")) {
+    counts.same(said, refuse(answer(1, `add: ${said}\n`), text, place).message, expected);
+  }
+  for (const [said, text, expected] of cases("added")) {
+    counts.same(said, meaning(answer(0, `add: ${said}\n`), text), expected);
+  }
+  for (const [fen, played, text, before, expected] of cases("whose move")) {
+    counts.same(`${text} after ${played}`, whoseMove(fen, played, text, before), expected);
+  }
+}
+
+export function failures(counts, cases) {
+  for (const [status, said] of cases("no answer")) {
+    counts.refused(`${status} ${said}`, "ProgramError", () => answer(status, said));
+  }
+}

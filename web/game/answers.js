@@ -1,0 +1,75 @@
+// What the program answers to a typed line: the bytes to add, or why nothing is added; and the sentences for it. Pure: docs/FORMATS.md
+// has the lines.
+
+import { ProgramError } from './program.js';
+import { Refused, WAYS, shortened } from './typed.js';
+
+const TOO_LONG = 'input: too long';
+const NUMBERED = /^[0-9]+\s+[A-Za-z*]/; // a line that begins as in a round
+const NUMBER = /^[0-9]+\.+/; // of a move
+
+const NOTHING_ADDED = 'Nothing was added';
+const SENTENCES = {
+  mixed: 'a result among other words. Type the moves, and then the result alone, in a line of its own',
+  ended: `the game has ended on the board, by mate or stalemate: that is its result. ${NOTHING_ADDED}`,
+  board: 'what the board shows would change the game. Set the pieces as they stand after what you typed, and type it again',
+  long: `the capture is full. ${NOTHING_ADDED}`,
+};
+const LETTERS_OF_PIECES = 'in English letters: pieces are K, Q, R, B and N, in capitals, and squares a1 to h8';
+const BY_LETTER = "the piece's letter and where it goes";
+const PROMOTED = 'with the piece that the pawn becomes';
+
+/**
+ * The answer of a command: { kind, words, put } with what a sentence needs, and the bytes, if there are any. Throws
+ * ProgramError if it gave none.
+ */
+export function readAnswer(command, { status, errors, output }) {
+  const said = new TextDecoder().decode(errors).trim();
+  const [front, rest] = said.startsWith(`${command}: `) ? ['', said.slice(command.length + 2)] : [said, ''];
+  const [kind, ...words] = rest.split(/\s+/u).slice(0, 4);
+  if (kind && status === 0) return { kind, words, put: output };
+  if (kind && status === 1) return { kind, words, put: null };
+  if (front === TOO_LONG && status === 1) return { kind: 'long', words, put: null };
+  throw new ProgramError(`${command} ended with status ${status}: ${said}`);
+}
+
+/** What is added, in words. */
+export function meaning({ kind, words }, line) {
+  return kind === 'result' ? `the result ${words[0]}` : line.trim().split(/\s+/u).join(' ');
+}
+
+/** Why a line adds nothing. `place` says who is to move, where a move isn't legal. */
+export function refuse({ kind, words }, line, place) {
+  if (NUMBERED.test(line.trim()) && ['unknown', 'mixed'].includes(kind)) return new Refused(`leave out the number in front. ${WAYS}`);
+  if (Object.hasOwn(SENTENCES, kind)) return new Refused(SENTENCES[kind]);
+  if (kind === 'illegal') return new Refused(`${words[1]} is no legal move: ${place}. ${NOTHING_ADDED}`);
+  if (kind === 'meant') return new Refused(`${writtenSo(words[1], words[2])}. ${NOTHING_ADDED}`);
+  if (kind === 'unknown') return new Refused(`${shortened(words[1])}: neither a move nor a result. ${WAYS}`);
+  return new Refused(`${shortened(line)}: no move. ${WAYS}`);
+}
+
+/** The message that a move is to be written otherwise. */
+export function writtenSo(word, meant) {
+  return `${word}: write ${meant}, ${howWritten(word, meant)}`;
+}
+
+function howWritten(word, meant) {
+  if (meant.startsWith('O-O')) return 'with letters';
+  if (word.replace(/[^0-9]/g, '').length > 1) return BY_LETTER; // it has both squares
+  return meant.includes('=') && /[0-9]$/.test(word) ? PROMOTED : LETTERS_OF_PIECES;
+}
+
+/**
+ * Who is to move after the plies of a game from this start, and after so many moves of a line: `Black is to move, after 2.
+ * Nf3`.
+ */
+export function whoseMove(fen, played, line, before) {
+  const words = line.split(/\s+/u).map((word) => word.replace(NUMBER, '')).filter((word) => word && !/^[0-9]+$/.test(word));
+  const sans = [...played, ...words.slice(0, before)];
+  const fields = (fen || '').split(' ').filter((field) => field);
+  const first = 2 * (Number(fields[5]) || 1) + (fields[1] === 'b' ? 1 : 0);
+  const whose = `${(first + sans.length) % 2 === 1 ? 'Black' : 'White'} is to move`;
+  if (sans.length === 0) return whose;
+  const last = first + sans.length - 1;
+  return `${whose}, after ${Math.floor(last / 2)}${last % 2 === 1 ? '...' : '.'} ${sans[sans.length - 1]}`;
+}

@@ -1,0 +1,66 @@
+// What somebody types in a line, as far as the page itself obeys it: its commands. What else a line says, moves or a result,
+// is for the program to read, which also says why it can't be. Pure.
+
+export const WAYS = 'Type 1-0, 0-1, 1/2-1/2, moves as Nf3 Nc6, back, *, ok or help';
+export const ALL_WAYS = 'Type 1-0, 0-1, 1/2-1/2, moves (Nf3 Nc6), back (a ply off), back 14. Bxf6, * (no result) or ok';
+export const BOTH_LOSE =
+  '0-0: do both lose? PGN has no such result: leave the game without one, and note it. Castling is O-O';
+const WHICH_PLY = 'which ply? Type it as the screen printed it, as back 14. Bxf6 or back 14... Qd7; or back alone, or back 0';
+const NOUGHTS = '0-0'; // a result, or castling typed with noughts
+const HELPS = ['help', '?', 'undo'];
+const SHOWN = 60; // characters of what was typed that an answer repeats
+const SHORT = 20; // characters of a word that it repeats
+
+/** What was typed isn't done. Its message says why, and what to type. */
+export class Refused extends Error {}
+
+/** What was typed would remove a lot: it is done if it is typed again. */
+export class Asked extends Refused {}
+
+/**
+ * What is asked for: { kind: 'back', to } with the ply that the program is to go back to, { kind: 'added', line } with a
+ * line for the program, or the kind 'nothing', 'quit', 'acknowledged', 'helped' or 'reopened': a result is to be taken off.
+ */
+export function readWords(text) {
+  const words = text.split(/\s+/u).filter((word) => word);
+  if (words.length === 0) return { kind: 'nothing' };
+  const first = words[0].toLowerCase();
+  if (HELPS.includes(first)) return { kind: 'helped' };
+  if (first === 'back') return { kind: 'back', to: plyOf(words.slice(1).join(' ')) };
+  const alone = words.length === 1 ? first : '';
+  if (alone === 'q' || alone === 'quit') return { kind: 'quit' };
+  if (alone === 'ok') return { kind: 'acknowledged' };
+  if (alone === '*') return { kind: 'reopened' };
+  if ([...words, words.join('')].some((word) => withAHyphen(word) === NOUGHTS)) throw new Refused(BOTH_LOSE);
+  return { kind: 'added', line: text.trim() };
+}
+
+/** A score with one kind of dash. */
+const withAHyphen = (word) => word.replace(/[–—−:]/g, '-');
+
+/** A ply as the program takes it: `14.Bxf6` is `14. Bxf6`. A number alone would be taken for a number of plies. */
+function plyOf(text) {
+  if (/^[0-9]+$/.test(text) && text !== '0') throw new Refused(WHICH_PLY);
+  const [, number, stops, san] = /^0*([0-9]+)((?: ?[.…])+) ?(.*)$/u.exec(text) || [];
+  if (!number) return text;
+  const isWhite = stops.trim() === '.';
+  return `${number}${isWhite ? '.' : '...'} ${san}`.trim();
+}
+
+/** The text with `?` for each character that can't be printed. */
+export function printable(text) {
+  return [...text].map((letter) => (/^(?:[\p{L}\p{M}\p{N}\p{P}\p{S}]| )$/u.test(letter) ? letter : '?')).join('');
+}
+
+/** The beginning of a text, with only what can be printed. */
+export function shortened(text) {
+  const shown = [...printable(text.trim())];
+  return shown.length <= SHORT ? shown.join('') : `${shown.slice(0, SHORT).join('')}..`;
+}
+
+/** The answer to what was typed, if that isn't done, or not yet. */
+export function refusal(text, error) {
+  if (error instanceof Asked) return error.message;
+  if (error.message.includes(text)) return `refused: ${error.message}`;
+  return `refused: ${printable([...text].slice(0, SHOWN).join(''))}: ${error.message}`;
+}
