@@ -1,9 +1,9 @@
 #!/usr/bin/env python3
 """Results and moves that an arbiter adds, tried on captures of random games at random moments, through the real program.
 
-To each capture the bytes of live/game/added.py are appended, and then what a board may send after them. The moves that `record` gives
-must be those of before and the added ones, the result the added one, and nothing else; `follow` must tell the same. Boards lie
-both ways; the capture ends after a whole move, with a picture that waits, with a piece in a hand, inside a frame, after a fault.
+To each capture the bytes that `add` gives are appended, and then what a board may send after them. The moves that `record` gives
+must be those of before and the added ones, the result the added one, and nothing else; `follow` must tell the same. Where `add`
+refuses, since the board shows what would change the game, that is counted. Boards lie both ways; the capture ends after a whole move, with a picture that waits, with a piece in a hand, inside a frame, after a fault.
 Last line: 'N passed, M failed'.  additions.py [--games N] [--seed N] [--positions COMMAND]
 """
 
@@ -16,12 +16,14 @@ import subprocess
 import sys
 from concurrent.futures import ProcessPoolExecutor
 from dataclasses import dataclass
-from typing import List, Optional, Tuple
+from typing import List, Tuple
 
 from hands import EMPTY, PROGRAM, Game, Way, hand, movetext, moves_of, program
 
-from live.game.added import STRAY, check_result, dumps_of_moves, dumps_of_result  # noqa: E402  (hands has put its folder on the path)
-from live.device.protocol import Picture, dump, picture_of_placement  # noqa: E402
+from live.device.protocol import dump, picture_of_placement  # noqa: E402  (hands has put its folder on the path)
+from live.game.answers import BOARD, ENDED, Said, add  # noqa: E402
+from live.game.options import Options  # noqa: E402
+from live.game.program import Program  # noqa: E402
 
 INITIAL_FEN = "rnbqkbnr/pppppppp/8/8/8/8/PPPPPPPP/RNBQKBNR w KQkq - 0 1"
 # Kings and other pieces in the centre; each side has moves for a while.
@@ -153,65 +155,73 @@ def added_moves(chance: random.Random, command: List[str], fen: str, most: int) 
     return moves, fens
 
 
-def one(arguments: Tuple[str, str, bool, str, str]) -> List[str]:
-    """What is wrong with what was added at one moment: nothing, mostly."""
+def one(arguments: Tuple[str, str, bool, str, str]) -> Tuple[int, List[str]]:
+    """How many lines were refused because of what the board shows, and what is wrong with what was added at one moment: nothing,
+    mostly."""
     seed, start, rotated, kind, command_line = arguments
     chance = random.Random(seed)
     command = shlex.split(command_line)
-    options = (["--fen", start] if start != INITIAL_FEN else []) + (["--rotated"] if rotated else [])
+    fen_given = start if start != INITIAL_FEN else None
+    options = (["--fen", start] if fen_given else []) + (["--rotated"] if rotated else [])
     board = list(picture_of_placement(start))
     played = Played(options, rotated, bytearray(dump(tuple(board), rotated)), board)
     game = play(played, game_at(start), chance, chance.choice([0, 1, 2, 5, 12, 30]))
     before = told(options, bytes(played.sent))
     end(played, game, chance, kind)
-    moves, result = told(options, bytes(played.sent))
+    sent = bytes(played.sent)
+    moves, result = told(options, sent)
     fen = positions(command, start, moves)[-1]
-    shown = program(["pictures", *(["--rotated"] if rotated else [])], bytes(played.sent)).splitlines()
-    last: Optional[Picture] = picture_of_placement(shown[-1])
-    if chance.random() < 0.3:
-        last = None
+    shown = dump(picture_of_placement(program(["pictures", *(["--rotated"] if rotated else [])], sent).splitlines()[-1]), rotated)
+    refused: List[str] = []
     wrong: List[str] = []
 
-    def expect(name: str, sent: bytes, expected: Tuple[List[str], str]) -> None:
-        seen = told(options, sent)
+    def expect(name: str, after: bytes, expected: Tuple[List[str], str]) -> None:
+        seen = told(options, after)
         if seen != expected:
             wrong.append(f"{name}: {arguments} {fen}: seen {seen}, expected {expected}, before the end {before}")
 
-    legal_moves = program(["moves", "--fen", fen], b"").split()
-    sent = bytes(played.sent)
-    if not legal_moves:
-        try:
-            check_result(legal_moves)
+    def added(capture: bytes, line: str) -> Said:
+        said = add(Program(PROGRAM), Options(rotated, fen=fen_given), capture, line)
+        if said.kind == BOARD:
+            refused.append(line)
+        elif not said.put and said.kind != ENDED:
+            wrong.append(f"{line}: {arguments} {fen}: {said}")
+        return said
+
+    if not program(["moves", "--fen", fen], b"").split():
+        if added(sent, "1-0").kind != ENDED:
             wrong.append(f"a result after the end: {arguments}")
-        except Exception:
-            return wrong
+        return 0, wrong
     for outcome in OUTCOMES:
-        with_result = sent + dumps_of_result(outcome, fen, last, rotated)
-        expect(f"{outcome}", with_result, (moves, outcome))
-        expect(f"{outcome}, the rest of the frame", with_result + played.rest, (moves, outcome))
+        put = added(sent, outcome).put
+        if not put:
+            continue
+        expect(outcome, sent + put, (moves, outcome))
+        expect(f"{outcome}, the rest of the frame", sent + put + played.rest, (moves, outcome))
         if kind != "after a fault":  # else the board may stand otherwise than the program has seen
             unseen = played.rest if kind != "inside an update" else b""
-            as_seen = dump(picture_of_placement(shown[-1]), rotated)
-            expect(f"{outcome}, the board again", with_result + unseen + as_seen, (moves, outcome))
+            expect(f"{outcome}, the board again", sent + put + unseen + shown, (moves, outcome))
     words, fens = added_moves(chance, command, fen, chance.randrange(1, 5))
-    with_moves = sent + dumps_of_moves(fens, rotated) + STRAY
+    put = added(sent, " ".join(words)).put
+    if not put:
+        return len(refused), wrong
     mated = not program(["moves", "--fen", fens[-1]], b"").split()
+    with_moves = sent + put
     outcome = told(options, with_moves)[1] if mated else "*"
     expect("moves", with_moves, (moves + words, outcome))
     expect("moves, the rest of the frame", with_moves + played.rest, (moves + words, outcome))
+    expect("moves, and the board as it stood", with_moves + played.rest + shown, (moves + words, outcome))
     stands = with_moves + played.rest + dump(picture_of_placement(fens[-1]), rotated)
     expect("moves, and they stand on the board", stands, (moves + words, outcome))
-    if len(words) <= 2:  # more of them may lead back to what the board shows, which then looks like one move more
-        as_before = with_moves + played.rest + dump(picture_of_placement(shown[-1]), rotated)
-        expect("moves, and the board as it stood", as_before, (moves + words, outcome))
     if not mated:
         further, after = added_moves(chance, command, fens[-1], 1)
         played_on = stands + dump(picture_of_placement(after[0]), rotated)
         marker = told(options, played_on)[1]
         expect("moves, and it goes on", played_on, (moves + words + further, marker))
-        then = with_moves + dumps_of_result("1/2-1/2", fens[-1], None, rotated)
-        expect("moves, then a result", then, (moves + words, "1/2-1/2"))
-    return wrong
+        then = added(with_moves, "1/2-1/2").put
+        if then:
+            expect("moves, then a result", with_moves + then, (moves + words, "1/2-1/2"))
+    return len(refused), wrong
 
 
 def main() -> int:
@@ -228,10 +238,11 @@ def main() -> int:
         for number in range(words.games)
     ]
     with ProcessPoolExecutor(4) as pool:
-        wrong = list(pool.map(one, cases))
-    for line in sum(wrong, []):
+        answers = list(pool.map(one, cases))
+    for line in [line for _, lines in answers for line in lines]:
         print(line)
-    failed = sum(bool(lines) for lines in wrong)
+    failed = sum(bool(lines) for _, lines in answers)
+    print(f"{sum(refused for refused, _ in answers)} lines refused because of what the board shows")
     print(f"{len(cases) - failed} passed, {failed} failed")
     return 1 if failed else 0
 

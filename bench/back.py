@@ -26,12 +26,12 @@ from additions import ENDS, INITIAL_FEN, STARTS, Played, end, game_at, legal
 from hands import PROGRAM, hand, movetext, program
 
 from live.device.protocol import dump, picture_of_placement  # noqa: E402  (hands has put its folder on the path)
-from live.game import added  # noqa: E402
 from live.game.files import Capture, Paths  # noqa: E402
 from live.game.game import Game  # noqa: E402
 from live.game.going_back import way_back  # noqa: E402
 from live.game.options import Options  # noqa: E402
 from live.game.program import Program  # noqa: E402
+from live.game.typed import Asked, Back, Refused  # noqa: E402
 
 CUTS = 5  # of a game
 EVERY = 12  # from one call before which a recorder is killed to the next
@@ -89,13 +89,13 @@ def one(arguments: Tuple[str, str, bool, str, str, str]) -> Tuple[int, List[str]
             stays = chance.randrange(len(plies))
             course = program(["follow", *options.of_board()], sent).splitlines()
             named = [line.split()[2] for line in course if line.split()[1] == "move"]
-            typed = added.Back(all=True) if stays == 0 else added.Back(named[stays - 1], plies[stays - 1])
+            typed = Back("0") if stays == 0 else Back(f"{named[stays - 1]} {plies[stays - 1]}")
             try:
                 try:
                     way = way_back(game, typed, sent, sent)
-                except added.Asked:
+                except Asked:
                     way = way_back(game, typed, sent, sent)
-            except added.Refused as refused:
+            except Refused as refused:
                 if "still shows" not in str(refused) and "another one" not in str(refused):
                     wrong.append(f"{arguments} {typed}: {refused}")
                 continue

@@ -4,6 +4,7 @@ from __future__ import annotations
 
 import contextlib
 import dataclasses
+import functools
 import math
 from dataclasses import dataclass
 from typing import Callable, List, Optional, Protocol, Tuple
@@ -14,10 +15,11 @@ from live.board.cable import Heard
 from live.board.plan import Plan
 from live.board.recorder import Recorder
 from live.board.state import State
+from live.board.typed_lines import Line, TypedLines
 from live.board.whose import Owner
 from live.game import files
-from live.game.adding import Answer, add_by_name, reason_of, refusal
 from live.game.alarms import kept_looks
+from live.game.changing import add_by_name
 from live.game.course import Course
 from live.game.forfeiting import forfeit_of
 from live.game.files import Paths
@@ -29,9 +31,11 @@ from live.game.options import Options
 from live.game.program import Program
 from live.game.reading import new_course
 from live.game.report import Clock, Move
+from live.game.typed import Answer, reason_of, refusal
 from live.guard import Guard, traced
 from live.loop import Timer, Turns
-from live.refused import DONE, Refused
+from live.refused import DONE, FAILED, Refused
+from live.steps import Steps, beside
 from live.terminal.screen import Screen
 
 PAUSES = (2.0, 5.0, 10.0, 20.0, 40.0, 60.0)  # seconds between tries to record a board
@@ -89,12 +93,17 @@ class Board:
         self._tries = 0
         self._begun_at = math.inf  # when it was last recorded
         self.cable = ""  # the cable's name, which stays when the device's name changes
+        self._lines = TypedLines(self._refuses)
+        self._is_changed = False  # whether its game, which isn't recorded, is just being changed by a typed line
         self._read_pgn()
 
     # Recording it, if possible.
 
     def begin(self) -> None:
         """Records it, now or as soon as it can."""
+        if self._is_changed:
+            self._lines.then(self.begin)
+            return
         if self._again:
             self._again.cancel()
             self._again = None
@@ -155,11 +164,14 @@ class Board:
 
     def _leave(self) -> None:
         """Stops recording."""
+        was_recorded = self._recorder is not None
         if self._recorder:
             game = self._recorder.game
             self.course, self._paths, self._options, self.cable = self._recorder.course, game.paths, game.options, self._recorder.cable
             self._number = self._recorder.number
         self._guard = self._recorder = None
+        if was_recorded:
+            self._lines.drop(Refused(FAILED, f"{ENDED}. Type it again"))
 
     def _put_off(self, why: str, error: Optional[Exception]) -> None:
         """Not recorded, for this reason. It is tried again later unless it is ending."""
@@ -198,7 +210,10 @@ class Board:
         self.placed()
 
     def stopped(self, refused: Optional[Refused]) -> None:
-        """The recording has ended."""
+        """The recording has ended. The line that is being obeyed gets its answer first."""
+        self._lines.then(functools.partial(self._release_soon, refused))
+
+    def _release_soon(self, refused: Optional[Refused]) -> None:
         if self._guard:
             self._guard.after(0, lambda: self._release(refused))
 
@@ -236,7 +251,10 @@ class Board:
         return True
 
     def end(self, done: Callable[[], None]) -> None:
-        """Ends its recording in order, then calls this."""
+        """Ends its recording in order, after the lines that were typed, then calls this."""
+        self._lines.when_idle(lambda: self._end(done))
+
+    def _end(self, done: Callable[[], None]) -> None:
         if self._again:
             self._again.cancel()
             self._again = None
@@ -260,31 +278,56 @@ class Board:
 
     # Typed lines.
 
-    def typed(self, text: str) -> Answer:
-        """A line of the terminal of a single board."""
-        return self._answered(text, self._recorder.typed) if self._recorder else self.add(text)
+    def typed(self, text: str, answered: Callable[[Answer], None]) -> None:
+        """A line of the terminal of a single board, which gets an answer."""
+        self._lines.take(Line(text, lambda: self._obeys(text, is_typed=True), answered))
 
-    def add(self, text: str) -> Answer:
-        """Adds a result or moves. Returns an answer."""
-        answer = self._answered(text, self._recorder.add if self._recorder else self._add_to_closed)
-        self._hears.changed()
-        return answer
+    def add(self, text: str, answered: Callable[[Answer], None], begins: Callable[[], None] = lambda: None) -> None:
+        """A line that was typed elsewhere, which gets an answer; `begins` is called when the lines before it are answered."""
 
-    def _answered(self, text: str, call: Callable[[str], Answer]) -> Answer:
-        """The answer of a call. An error becomes an answer too: a typed line ends nothing."""
-        try:
-            return call(text)
-        except Exception as error:
-            self._note(error)
-            return refusal(text, error)
+        def obeys() -> Steps[Answer]:
+            begins()
+            return self._obeys(text, is_typed=False)
 
-    def _add_to_closed(self, text: str) -> Answer:
+        def then(answer: Answer) -> None:
+            self._hears.changed()
+            answered(answer)
+
+        self._lines.take(Line(text, obeys, then))
+
+    def asked(self, text: str, answered: Callable[[Answer], None]) -> None:
+        """What another call asks for."""
+
+        def then(answer: Answer) -> None:
+            if answer[0] != DONE:
+                self._screen.note(answer[1])
+            answered(answer)
+
+        self.add(text, then)
+
+    def _obeys(self, text: str, is_typed: bool) -> Steps[Answer]:
+        recorder = self._recorder
+        if recorder is None:
+            return (yield from self._add_to_closed(text))
+        return (yield from (recorder.typed(text) if is_typed else recorder.add(text)))
+
+    def _refuses(self, text: str, error: Exception) -> Answer:
+        """The answer to a line that raised an error: it ends nothing."""
+        self._note(error)
+        return refusal(text, error)
+
+    def _add_to_closed(self, text: str) -> Steps[Answer]:
         """Adds to a game that isn't recorded now, and reads its new state."""
-        answer = add_by_name(self._program, self.paths, text, 0)
+        worker, self._is_changed = Worker(self._loop), True
+        try:
+            answer = yield from beside(worker, functools.partial(add_by_name, self._program, self.paths, text, 0))
+        finally:
+            worker.close()
+            self._is_changed = False
         if answer[0] == DONE:
             self._read_pgn()
             self.is_over = self.is_over or self.result != "*"
-            self.try_at_once()
+            self._lines.then(self.try_at_once)
             self._hears.remade()
         return answer
 

@@ -66,6 +66,7 @@ class Listening:
         self._source = Heard()
         task = Task(game.program, ("watch", *words), self._source)
         self._watch = Listing(guard, task, self._heard, self)
+        self._is_paused = False
         self._tick = guard.after(TICK, self._each_second)
 
     def came(self, sent: bytes) -> None:
@@ -81,7 +82,8 @@ class Listening:
 
     def _each_second(self) -> None:
         self._tick = self._guard.after(TICK, self._each_second)
-        self._game.capture.write()
+        if not self._is_paused:
+            self._game.capture.write()
         self._watch.wake()
         self._watch.feed()
 
@@ -107,6 +109,14 @@ class Listening:
         except OSError as error:
             self._screen.say(f"{self._game.paths.look} can't be written ({text_of(error)})")
         self._hears.looked()
+
+    def pause(self) -> None:
+        """The capture isn't used: it is just being changed."""
+        self._is_paused = True
+
+    def go_on(self) -> None:
+        """It is used again."""
+        self._is_paused = False
 
     def ends_with(self, result: str) -> None:
         """Another result was typed."""

@@ -4,12 +4,13 @@ from __future__ import annotations
 
 import os
 from dataclasses import dataclass
-from typing import Optional, Protocol
+from typing import Callable, Optional, Protocol
 
 from live.board.cable import Heard
 from live.board.recording import Rules
 from live.board.whose import Owner
 from live.game.files import Paths
+from live.game.typed import Answer
 from live.refused import Refused
 
 
@@ -56,6 +57,9 @@ class HearsRecorder(Protocol):
 
     def reopened(self) -> None:
         """A game that was over goes on."""
+
+    def asked(self, text: str, answered: Callable[[Answer], None]) -> None:
+        """Another call asks for this, and gets the answer."""
 
     def stopped(self, refused: Optional[Refused]) -> None:
         """The recording has ended; with the reason if that was an error."""

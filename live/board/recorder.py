@@ -12,20 +12,18 @@ from live.board.asked_first import AskedFirst
 from live.board.cable import Cable, Heard
 from live.board.forfeited import Forfeits
 from live.board.game_over import Listening
+from live.board.lingering import Lingering
 from live.board.plan import HearsRecorder, Plan, numbered
 from live.board.recording import Reason, Recording
 from live.board.renaming import Renames
 from live.board.setting_up import SettingUp
 from live.board.standing import Standing
-from live.board.taking_off import TakesOff
 from live.board.whose import another, back, may_take
-from live.game import added
-from live.game.adding import Answer, add_by_name, add_to_closed, reason_of, refusal
 from live.game.alarms import acknowledge, carry_over, keep_looks, kept_looks
 from live.game.control import Control
 from live.game.files import Capture, Log, Paths, put_in_place, text_of
 from live.game.forfeits import Forfeit, read_typed
-from live.game.game import Game, end_mark, keep_options, keep_other, keep_serial, kept_other, kept_serial, mark_end
+from live.game.game import Game, end_mark, keep_options, keep_other, keep_serial, kept_other, kept_serial, mark_end, mebibytes
 from live.game.going_back import forget_question
 from live.game.looks import Look, Looks
 from live.game.making_pgn import Text
@@ -33,14 +31,17 @@ from live.game.names import today
 from live.game.naming import is_naming
 from live.game.opening import Opened
 from live.game.options import Options
-from live.game.reading import game_of, nothing_old
+from live.game.reading import nothing_old
+from live.game.typed import ALL_WAYS, ONE_BOARD, WAYS, Acknowledged, Answer, Nothing, Quit, reason_of, refusal, with_more
+from live.game.typed import Refused as NotDone
 from live.guard import Guard
 from live.loop import Callback
 from live.refused import DONE, FAILED, Broken, Refused
+from live.steps import Resume, Steps
 from live.terminal.screen import Screen
 
 
-class Recorder(TakesOff, Renames, Forfeits):
+class Recorder(Renames, Forfeits):
     """Records the games of one board, one after the other, until it is ended."""
 
     def __init__(
@@ -53,6 +54,9 @@ class Recorder(TakesOff, Renames, Forfeits):
         self._reason: Optional[Reason] = None  # why the game is over
         self._ending = self._closing = False
         self._begins_anew = False  # whether the start begins this game, and not the next one
+        self._held, self._ends_later = None, False
+        self._closes: Optional[Resume] = None  # a typed line that waits until its game is closed
+        self._waits_to_end = Lingering(guard, plan.rules.linger, self.end)
         number = plan.serial or kept_serial(opened.game.paths)
         self._cable = Cable(guard, screen, plan.device, plan.once, number, self, asked)
         self._now: Union[Recording, SettingUp, Listening, None] = None  # what takes the board's bytes
@@ -74,7 +78,7 @@ class Recorder(TakesOff, Renames, Forfeits):
         self._listen()
 
     def _listen(self) -> None:
-        control = Control(self._guard, self.game.capture.number, self._asked, self._plan.board)
+        control = Control(self._guard, self.game.capture.number, self._hears.asked, self._plan.board)
         self._close_control = self._guard.opened(control.close)
 
     def restored(self) -> None:
@@ -92,6 +96,7 @@ class Recorder(TakesOff, Renames, Forfeits):
 
     def _record(self, opened: Opened, says: bool = True) -> None:
         self._reason = None
+        self._waits_to_end.cancel()
         ends = "" if self._plan.board else "; Ctrl-C ends it"  # an error there would end all boards
         paths = self.game.paths
         if says:
@@ -105,7 +110,8 @@ class Recorder(TakesOff, Renames, Forfeits):
         self._reason = reason
         if reason is Reason.LIMIT and not self._plan.rules.series:
             capture = self.game.paths.capture
-            why = f"{capture} has 64 MiB, and none may have more: go on under another name, with --fen"
+            most = mebibytes(self.game.options)
+            why = f"{capture} has {most} MiB, and none may have more: go on under another name, with --fen"
             self._refused = Refused(FAILED, why)
         self._guard.after(0, self._close_game)
 
@@ -113,7 +119,7 @@ class Recorder(TakesOff, Renames, Forfeits):
         if self._ending or self._closing or not isinstance(self._now, Recording):
             return
         self._closing = True
-        listens = self._plan.rules.listens and self._reason in (Reason.TYPED, Reason.RESULT)
+        listens = self._reason is Reason.TYPED or (self._plan.rules.listens and self._reason is Reason.RESULT)
         if not self._plan.rules.series and not listens:
             self._ending = True
             self._cable.last_words()
@@ -136,10 +142,32 @@ class Recorder(TakesOff, Renames, Forfeits):
             self._hears.over()
         else:
             self._end_with(written)
+        closes, self._closes = self._closes, None
+        if closes:
+            closes(lambda: None)
+
+    def _wait_until_closed(self, resume: Resume) -> None:
+        """The game has ended, and the next typed line finds it closed."""
+        self._closes = resume
 
     def _await_moves(self) -> None:
         """The game is over: moves that are still made are reported."""
         self._now = Listening(self._guard, self._screen, self.game, self.course, self)
+        self._lingers()
+
+    def _go_on_listening(self) -> None:
+        """The game is over, and its board is watched as before."""
+        if self._plan.rules.series:
+            self._look_for_start(self._end())
+        else:
+            self._await_moves()
+
+    def _lingers(self) -> None:
+        """The recording of a single board ends soon after its result was typed. Until then that can be taken off."""
+        if not self._plan.rules.listens:
+            seconds, reopens = self._plan.rules.linger, self._screen.reopens()
+            self._screen.say(f"the recording ends in {seconds} seconds; if the result was typed by mistake, type {reopens}")
+            self._waits_to_end.begin()
 
     def set_up(self) -> None:
         """The pieces were set up again after a game."""
@@ -285,6 +313,8 @@ class Recorder(TakesOff, Renames, Forfeits):
 
     def heard(self, heard: Heard) -> None:
         """The board has sent this, on its own cable or on another one."""
+        if self._holds(heard):
+            return
         sent, ended = heard
         if self._now:
             self._now.came(sent)
@@ -344,6 +374,9 @@ class Recorder(TakesOff, Renames, Forfeits):
 
     def gone(self, message: str, was_there: bool) -> None:
         """The board isn't there and isn't waited for, or another process has its line."""
+        if isinstance(self._now, Listening) and not self._plan.board:
+            self._guard.after(0, self.end)
+            return
         self._fail(f"{message}; what was played is in {self.game.paths.pgn}" if was_there else message)
 
     def _look_at(self, now: Union[Recording, SettingUp]) -> None:
@@ -368,48 +401,46 @@ class Recorder(TakesOff, Renames, Forfeits):
 
     # Typed lines.
 
-    def typed(self, text: str) -> Answer:
+    def typed(self, text: str) -> Steps[Answer]:
         """A line of the terminal. It may end with the name of this game or of the one before."""
         words, _, name = text.rpartition(" ")
         named = self._before is not None and name in (self._before.name, self.game.paths.name)
         before = self._before if self._before and name == self._before.name else None
-        status, answer = self._add(words if named else text, before, sure=named, may_quit=True)
-        is_list = answer.endswith((added.WAYS, added.ALL_WAYS))
-        return status, added.with_more(answer, *added.ONE_BOARD) if is_list else answer
+        status, answer = yield from self._obeyed(words if named else text, before, sure=named, may_quit=True)
+        is_list = answer.endswith((WAYS, ALL_WAYS))
+        return status, with_more(answer, *ONE_BOARD) if is_list else answer
 
-    def add(self, text: str) -> Answer:
-        """Adds what was typed. Returns an answer, with its status."""
-        return self._add(text, None, sure=True, may_quit=False)
+    def add(self, text: str) -> Steps[Answer]:
+        """A line that was typed elsewhere. Returns an answer, with its status."""
+        return (yield from self._obeyed(text, None, sure=True, may_quit=False))
 
-    def _asked(self, text: str) -> Answer:
-        """What another call asks for."""
+    def _obeyed(self, text: str, before: Optional[Paths], sure: bool, may_quit: bool) -> Steps[Answer]:
         try:
-            status, answer = self.add(text)
-        except Exception as error:  # a typed line ends nothing
-            status, answer = refusal(text, error)
-        if status != DONE:
-            self._screen.note(answer)
-        return status, answer
+            answer = yield from self._obeys(text, before, sure, may_quit)
+        except (NotDone, OSError, Refused) as error:
+            answer = refusal(text, error)
+        except Exception:
+            self._let_go()
+            raise
+        self._let_go()
+        return answer
 
-    def _add(self, text: str, before: Optional[Paths], sure: bool, may_quit: bool) -> Answer:
-        try:
-            if is_naming(text):
-                return self._rename(text)
-            typed = read_typed(text, os.path.basename(self.game.paths.name))
-            if isinstance(typed, added.Nothing):
-                return DONE, ""
-            if isinstance(typed, Forfeit):
-                return self._add_before(before, text) if before else self._forfeit(typed)
-            if isinstance(typed, added.Quit) and may_quit:
-                self.end()
-                return DONE, "it ends"
-            if isinstance(typed, added.Acknowledged):
-                return self._acknowledge(before)
-            if before:
-                return self._add_before(before, text)
-            return self._plays_on(typed, sure)
-        except (added.Refused, OSError, Refused) as error:
-            return refusal(text, error)
+    def _obeys(self, text: str, before: Optional[Paths], sure: bool, may_quit: bool) -> Steps[Answer]:
+        if is_naming(text):
+            return (yield from self._rename(text))
+        typed = read_typed(text, os.path.basename(self.game.paths.name))
+        if isinstance(typed, Nothing):
+            return DONE, ""
+        if isinstance(typed, Forfeit):
+            return (yield from (self._add_before(before, text) if before else self._forfeit(typed)))
+        if isinstance(typed, Quit) and may_quit:
+            self.end()
+            return DONE, "it ends"
+        if isinstance(typed, Acknowledged):
+            return self._acknowledge(before)
+        if before:
+            return (yield from self._add_before(before, text))
+        return (yield from self._plays_on(typed, sure))
 
     def _acknowledge(self, before: Optional[Paths]) -> Answer:
         """Acknowledges the alarms of this game and of the one before it."""
@@ -430,53 +461,17 @@ class Recorder(TakesOff, Renames, Forfeits):
             seen = f"{seen}; the board with serial number {self.number} is recorded here"
         return DONE, seen
 
-    def _add_before(self, paths: Paths, text: str) -> Answer:
-        """Adds to the game before this one."""
-        status, answer = add_by_name(self.game.program, paths, text, 0)
-        if status == DONE:
-            self._screen.say(answer.replace("added to", "added by hand to", 1))
-        return status, answer
-
-    def _add_last(self, typed: added.Typed) -> Answer:
-        """Adds to the game that is over while the pieces are set up."""
-        if isinstance(self._now, Listening) and not self.game.capture.full:
-            return self._add_after(self._now, typed)
-        if not isinstance(self._now, SettingUp) or self._begins_anew or self.game.capture.full:
-            raise added.Refused("nothing can be added just now. Type it again")
-        name = self.game.paths.name
-        try:
-            what = add_to_closed(self.game, typed)
-        finally:  # the capture may be another file, even after an error
-            self._now.close()
-            self.restored()
-            self._look_for_start(self._end())
-        self._screen.say(f"added by hand to {name}: {what}")
-        return DONE, f"added to {name}: {what}"
-
-    def _add_after(self, listening: Listening, typed: added.Typed) -> Answer:
-        """Adds to the game that is over and whose board is watched."""
-        name = self.game.paths.name
-        try:
-            what = add_to_closed(self.game, typed)
-        finally:  # the capture may be another file, even after an error
-            self.restored()
-        self._screen.say(f"added by hand to {name}: {what}")
-        self._hears.placed()
-        if isinstance(typed, added.Result):
-            listening.ends_with(typed.outcome)
-        else:
-            listening.close()
-            self.course = game_of(self.game.program, self.game.options, self.game.capture.bytes(0, self._end()))
-            self._await_moves()
-        return DONE, f"added to {name}: {what}"
-
     # Ending.
 
     def end(self) -> None:
         """Ends everything in order. A second call does nothing."""
         if self._ending:
             return
+        if self._held is not None:
+            self._ends_later = True  # files are just being put in place
+            return
         self._ending = True
+        self._waits_to_end.cancel()
         self._cable.last_words()
         if self._closing:
             return  # the game is being closed, and everything after it

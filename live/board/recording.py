@@ -2,7 +2,6 @@
 
 from __future__ import annotations
 
-import contextlib
 import enum
 import functools
 import itertools
@@ -13,16 +12,16 @@ from typing import Callable, List, Optional, Protocol, Sequence
 from live.beside import Worker
 from live.board.arrivals import Arrivals
 from live.board.disk import Disk
+from live.board.lingering import Lingering
 from live.board.standing import Standing
 from live.board.state import DISK_FULL, NOT_WRITTEN, lasting
 from live.device.protocol import Picture as Codes
-from live.game import added, back, ending
-from live.game.adding import Addition, Answer
+from live.game import back, ending
 from live.game.alarms import Alarms, acknowledged
 from live.game.course import Start
 from live.game.edited import told_of_edit
-from live.game.files import LARGEST, text_of
-from live.game.game import Game, mark_end
+from live.game.files import text_of
+from live.game.game import Game, largest, mark_end, mebibytes
 from live.game.going_back import forget_question
 from live.game.looks import Look, Looks
 from live.game.making_pgn import Made, Maker
@@ -31,16 +30,14 @@ from live.game.report import Clock, Fault, Line, Move, Picture, Position, Recove
 from live.game.watching import Watching
 from live.guard import Guard
 from live.loop import Timer
-from live.refused import DONE
+from live.steps import Resume, Steps
 from live.terminal.screen import Screen
 
 TICK = 1.0  # seconds between two looks at what waits
 PATIENCE = 5.0  # seconds that the last lines may take
-LATE = 1.0  # seconds by which a timer is late if this process was stopped meanwhile
 SETTLES = 0.2  # seconds after which all lines of a byte have been heard
 SURELY_SETTLES = 1.0  # the same, if a late line would be taken for another one
 LARGE = 48 * 1024 * 1024  # bytes of a capture, at which somebody may still look at its board
-ROOM = 1024 * 1024  # bytes for what `recover` puts in, some 5,000 pairs: no call of the program reads more than LARGEST
 
 
 class Reason(enum.Enum):
@@ -49,7 +46,7 @@ class Reason(enum.Enum):
     RESULT = "it has a result"
     TYPED = "its result was typed"
     SET_UP = "the pieces are at the start again"
-    LIMIT = "its capture has 64 MiB, and none may have more"
+    LIMIT = "its capture is full"
 
 
 @dataclass(frozen=True)
@@ -88,36 +85,6 @@ class HearsRecording(Protocol):
         """The capture was removed, and is written anew."""
 
 
-class Lingering:
-    """Ends the game when a result has stood long enough."""
-
-    def __init__(self, guard: Guard, seconds: float, ends: Callable[[], None]) -> None:
-        self._guard, self._seconds, self._ends = guard, seconds, ends
-        self._timer: Optional[Timer] = None
-
-    def begin(self) -> None:
-        """There is a result now, or it has changed."""
-        self.cancel()
-        self._wait(self._seconds)
-
-    def _wait(self, seconds: float) -> None:
-        due = self._guard.now() + seconds
-
-        def comes() -> None:
-            if self._guard.now() - due > LATE:
-                self._wait(LATE)  # this process was stopped: first report what came meanwhile
-            else:
-                self._ends()
-
-        self._timer = self._guard.after(seconds, comes)
-
-    def cancel(self) -> None:
-        """The result is gone, or somebody else ends the game."""
-        if self._timer:
-            self._timer.cancel()
-            self._timer = None
-
-
 class Recording:
     """A game on a board, from its first byte to its text. What came before this call was reported then."""
 
@@ -152,8 +119,9 @@ class Recording:
         self._by_hand = range(0)  # the bytes that were added last
         self.standing.board.look = self.looks.short
         self._disk = Disk(screen, self.standing, self.game.capture, self)
-        if self.game.options.recover:
-            self.game.capture.limit = LARGEST - ROOM
+        self.game.capture.limit = largest(self.game.options)
+        self._put_waits: Optional[Resume] = None  # what waits until the program has reported what was added last
+        self._is_put: Optional[bool] = None  # whether the game has it, once that is known
         self._tick = guard.after(TICK, self._each_second)
         if opened.old.lines:
             self._tell_old()
@@ -205,8 +173,9 @@ class Recording:
         self._arrivals.came(self._guard.now(), self.game.capture.size)
         if self.game.capture.size >= LARGE and not self._is_large:
             self._is_large = True
-            what = f"{self.game.paths.capture} has 48 MiB, and none may have more than 64: does a piece stand badly, and its square"
-            self._screen.say(f"{what} chatter?", "At 64 MiB the recording ends; the game can go on under another name, with --fen")
+            most = mebibytes(self.game.options)
+            what = f"{self.game.paths.capture} has 48 MiB, and none may have more than {most}: does a piece stand badly, and its square chatter?"
+            self._screen.say(what, f"At {most} MiB the recording ends; the game can go on under another name, with --fen")
         self._watching.feed()
         if self.game.capture.at_limit:
             self._end(Reason.LIMIT)
@@ -284,6 +253,8 @@ class Recording:
                 means = means or self.course.stands_again
         if means:
             self._is_at_start(means)
+        if self._is_put is None and any(line.offset in self._by_hand for line in lines):
+            self._put_ends(not self._is_over)
         return is_news
 
     def _is_at_start(self, means: Start) -> None:
@@ -357,7 +328,7 @@ class Recording:
 
     def _hear_result(self, result: str) -> None:
         self._lingering.cancel()
-        if result != "*" and not self._is_over:
+        if result not in ("*", self._typed) and not self._is_over:
             self._screen.say(f"ends in {self._rules.linger} seconds, unless the result changes")
             self._lingering.begin()
 
@@ -402,25 +373,44 @@ class Recording:
 
     # What an arbiter adds.
 
-    def add(self, typed: added.Typed) -> Answer:
-        """Adds a result, which ends the game, or moves. Refused if that can't be done."""
-        if self._is_over:
-            raise added.Refused("the game is just being ended. Type it again")
-        if self.game.capture.full:
-            raise added.Refused("the disk is full, and nothing can be added. Make room, and type it again")
-        put, what = Addition(self.game, self.game.capture.bytes()).of(typed)
+    def put(self, put: bytes, outcome: str) -> None:
+        """These bytes are in the capture from now on, after all that the board has sent: moves, or a result, with which the game
+        ends."""
         self._by_hand = range(self.game.capture.size, self.game.capture.size + len(put))
+        self._is_put = True if outcome == self.course.result else None  # then there is nothing to report
+        if outcome:
+            self._typed, self.end = outcome, self._by_hand.stop
         self._append(put)
-        with contextlib.suppress(OSError):  # if the disk has a fault, its text says so
-            self.game.capture.sync()  # the board doesn't show it again
-        forget_question(self.game.paths)
-        self._screen.say(f"added by hand: {what}")
         self._hears.asks(put)
-        if isinstance(typed, added.Result) and not self._is_over:
-            self._typed = typed.outcome
-            self.end = self.game.capture.size
-            self._end(Reason.TYPED)
-        return DONE, f"added to {self.game.paths.name}: {what}"
+
+    def reports_put(self) -> Steps[bool]:
+        """Waits until the program has reported what was added last. Returns whether the game has it: what came before it may have
+        ended the game."""
+        if self._is_put is None:
+            timer = self._guard.after(PATIENCE, lambda: self._put_ends(not self._is_over))
+            yield self._wait_for_put
+            timer.cancel()
+        return bool(self._is_put)
+
+    def _wait_for_put(self, resume: Resume) -> None:
+        self._put_waits = resume
+
+    def _put_ends(self, is_put: bool) -> None:
+        """What was added last belongs to the game, or came after its end."""
+        if self._is_put is None:
+            self._is_put = is_put
+        waits, self._put_waits = self._put_waits, None
+        if waits:
+            waits(lambda: None)
+
+    def ends_with_put(self) -> None:
+        """The game ends with the result that was added last."""
+        self._end(Reason.TYPED)
+
+    @property
+    def is_over(self) -> bool:
+        """Whether the game has ended."""
+        return self._is_over
 
     # How it ends.
 
@@ -431,8 +421,11 @@ class Recording:
             self.end = self.course.changed_at + 1
         elif reason is Reason.SET_UP:
             self._end_before_set_up()
+        if reason is not Reason.TYPED:
+            self._typed = ""
         self._marks = self._rules.marks(reason)
         self._is_over = True
+        self._put_ends(False)
         self._hears.over(reason)
 
     def _end_before_set_up(self) -> None:
@@ -482,6 +475,7 @@ class Recording:
 
     def close(self) -> None:
         """Ends everything under way. The capture stays open."""
+        self._put_ends(False)
         self._tick.cancel()
         self._lingering.cancel()
         if self._watchdog:

@@ -3,43 +3,47 @@
 from __future__ import annotations
 
 import dataclasses
-from typing import Union
+import functools
 
-from live.board.game_over import Listening
+from live.board.obeying import Obeys
 from live.board.plan import HearsRecorder, Plan
 from live.board.recording import Recording
-from live.board.setting_up import SettingUp
-from live.game import added
-from live.game.adding import Answer
 from live.game.game import Game, keep_options
 from live.game.naming import IN_A_TABLE, read_names, told_of_names
 from live.game.opening import checked
+from live.game.options import Options
+from live.game.typed import Answer, Refused
 from live.refused import DONE
+from live.steps import Steps
 from live.terminal.screen import Screen
 
 
-class Renames:
+class Renames(Obeys):
     """What a recorder does with `name White=Anna`."""
 
-    game: Game
     _plan: Plan
     _screen: Screen
     _hears: HearsRecorder
-    _now: Union[Recording, SettingUp, Listening, None]
 
-    def _rename(self, text: str) -> Answer:
+    def _rename(self, text: str) -> Steps[Answer]:
         """The recorded game has these tags from now on; its text follows. Those of a round come from its table."""
         if self._plan.board:
-            raise added.Refused(IN_A_TABLE)
+            raise Refused(IN_A_TABLE)
         if not isinstance(self._now, Recording):
             name = self.game.paths.name
-            raise added.Refused(f"no game is recorded just now. For the one that is over: dgt_live --white Anna {name}")
-        before = self.game.options
-        options = before.with_given(checked(self.game.program, read_names(text)))
-        keep_options(self.game.paths, options)
+            raise Refused(f"no game is recorded just now. For the one that is over: dgt_live --white Anna {name}")
+        now, before = self._now, self.game.options
+        options = yield from self._beside(functools.partial(_kept, self.game, text))
         self.game = dataclasses.replace(self.game, options=options)
-        self._now.renamed(self.game)
+        now.renamed(self.game)
         told = told_of_names(options, before)
         self._screen.say(told)
         self._hears.placed()
         return DONE, f"{self.game.paths.name}: {told}"
+
+
+def _kept(game: Game, text: str) -> Options:
+    """The options of a game with the tags that a line gives, when they are kept beside it."""
+    options = game.options.with_given(checked(game.program, read_names(text)))
+    keep_options(game.paths, options)
+    return options

@@ -106,6 +106,18 @@ class SettingUp:
         if not self._hears.ready(protocol.dump(self._start, self._game.options.rotated) + after):
             self._tries = self._guard.after(TICK, lambda: self._begin(self._end))
 
+    def pause(self) -> None:
+        """The capture isn't used: it is just being changed."""
+        self._tick.cancel()
+        if self._tries:
+            self._tries.cancel()
+        self._watch.close()
+
+    def go_on(self) -> None:
+        """It is used again: looks for the start from the game's end on."""
+        self._tick = self._guard.after(TICK, self._each_second)
+        self._begin(self._end)
+
     def says(self, text: str) -> None:
         """A child process has ended, and is started again."""
         self._screen.say(text)
@@ -123,8 +135,6 @@ class SettingUp:
         self._hears.restored()
 
     def close(self) -> None:
-        self._tick.cancel()
-        if self._tries:
-            self._tries.cancel()
+        """Stops looking."""
+        self.pause()
         self.standing.close()
-        self._watch.close()

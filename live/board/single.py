@@ -11,16 +11,16 @@ from live.board.board import Board, Wanted
 from live.board.plan import Plan
 from live.board.state import Kind
 from live.device.line import check, check_free
-from live.game.adding import reason_of, refusal
-from live.game.files import LARGEST, Paths, size_of
-from live.game.game import end_mark
+from live.game.files import Paths, size_of
+from live.game.game import end_mark, largest, mebibytes
 from live.game.opening import Chooses, Chosen, Opening, added_to_kept
 from live.game.options import Options, as_typed
 from live.game.program import Program
 from live.game.tags import Tags
+from live.game.typed import Answer, reason_of, refusal
 from live.guard import traced
 from live.loop import Loop
-from live.refused import FAILED, REFUSED, Broken, Refused
+from live.refused import DONE, FAILED, REFUSED, Broken, Refused
 from live.terminal.screen import Screen
 
 QUITS = ("q", "quit")
@@ -83,7 +83,7 @@ class Single:
             added = added_to_kept(choice.given, paths.name, choice.told, is_over)
 
             def chooses(kept: Optional[Options], has_moves: Callable[[], bool]) -> Chosen:
-                over = None if plan.rules.series or shows else why_over(paths, choice.given)
+                over = None if plan.rules.series or shows else why_over(paths, choice.given, kept or Options())
                 return Chosen(kept or Options(), refused=over) if over else added(kept, has_moves)
 
             return chooses
@@ -135,9 +135,12 @@ class Single:
         if text in QUITS and not self.board.is_recorded:
             self.end()
             return
-        status, answer = self.board.typed(text)
-        if status:
-            self._screen.say(answer)
+        self.board.typed(text, self._answered)
+
+    def _answered(self, answer: Answer) -> None:
+        """A typed line is answered. What was done is said already."""
+        if answer[0] != DONE:
+            self._screen.say(answer[1])
 
     def refuses(self, text: str, error: Exception) -> None:
         """A line of the terminal raised an error."""
@@ -182,7 +185,7 @@ class Single:
         return dict(self.board.options.tags)
 
 
-def why_over(paths: Paths, given: Options) -> Optional[Refused]:
+def why_over(paths: Paths, given: Options, kept: Options) -> Optional[Refused]:
     """The refusal of a game that is over, or whose capture is full; None if it goes on."""
     if end_mark(paths) is not None:
         what = [
@@ -193,6 +196,7 @@ def why_over(paths: Paths, given: Options) -> Optional[Refused]:
         if reading:
             what.append(f"For --first, --recover and --strict leave the device out: dgt_live {reading} {paths.name}")
         return Refused(REFUSED, *what)
-    if size_of(paths.capture) >= LARGEST:
-        return Refused(REFUSED, f"{paths.capture} has 64 MiB, and none may have more: choose another name")
+    options = kept.with_given(given)
+    if size_of(paths.capture) >= largest(options):
+        return Refused(REFUSED, f"{paths.capture} has {mebibytes(options)} MiB, and none may have more: choose another name")
     return None

@@ -6,9 +6,9 @@ from dataclasses import dataclass
 from typing import TYPE_CHECKING, Dict, List, Optional, Sequence, Tuple
 
 from live.broadcast.going_out import read_command, read_delay
-from live.game.added import BACK
 from live.game.options import PLAIN, RECOVER, SEE_HELP, STRICT, TAG, VALUED, Options
 from live.game.options import assigned, no_option, typed_tag, typed_value
+from live.game.typed import BACK
 from live.refused import ARGUMENTS, Refused
 
 if TYPE_CHECKING:

@@ -16,7 +16,7 @@ from live.doors import calls
 from live.doors.calls import Call
 from live.doors.door import Outcome, through
 from live.game import control, files, refusal
-from live.game.adding import Answer, add_by_name
+from live.game.changing import add_by_name
 from live.game.file_names import check_name
 from live.game.files import LOCK_PATIENCE, Paths
 from live.game.game import kept_tags
@@ -25,6 +25,7 @@ from live.game.naming import line_of
 from live.game.opening import Opening, checked, read_otherwise
 from live.game.options import Options
 from live.game.program import Program
+from live.game.typed import Answer
 from live.loop import Loop, Signals
 from live.refused import DONE, FAILED, REFUSED, Refused, printable
 from live.terminal.screen import Screen

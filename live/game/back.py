@@ -10,9 +10,10 @@ from dataclasses import dataclass
 from typing import List, Optional, Sequence
 
 from live.device.protocol import Picture, dump, picture_of_placement
-from live.game.added import STRAY, Back, Refused
+from live.game.added import STRAY, Named
 from live.game.clocks import Reading, time_message
 from live.game.report import Move
+from live.game.typed import Refused
 
 WITHOUT_A_QUESTION = 2  # plies that may go without a question
 SAME_MOVE = 4  # plies by which the same move counts as nearer
@@ -59,7 +60,7 @@ def end_of_capture(board: Picture, rotated: bool) -> bytes:
     return dump(board, rotated) + STRAY
 
 
-def plies_that_stay(plies: Sequence[Move], typed: Back) -> int:
+def plies_that_stay(plies: Sequence[Move], typed: Named) -> int:
     """How many stay. Refused if there is nothing to take off, or if the game has no such ply: then with the nearest one."""
     if typed.all:
         return 0
@@ -85,7 +86,7 @@ def _half_moves(number: str) -> int:
     return 2 * int(number.rstrip(".")) + number.endswith("...")
 
 
-def _distance(ply: Move, typed: Back) -> int:
+def _distance(ply: Move, typed: Named) -> int:
     """The distance of a ply from the typed one, in plies. A number is mistyped more often than a move."""
     far = abs(_half_moves(ply.number) - _half_moves(typed.number))
     return far - SAME_MOVE if _bare(ply.san) == _bare(typed.san) else far

@@ -8,24 +8,27 @@ from one of them or from the owner of the capture.
 from __future__ import annotations
 
 import contextlib
+import functools
 import os
 import socket
 import struct
-from typing import Callable, Dict, Optional, Tuple
+from typing import Callable, Dict, Optional, Set
 
 from live.game.files import open_regular
+from live.game.typed import NO_TEXT, Answer
 from live.loop import Turns
 from live.refused import DONE, REFUSED, printable
 
 LONGEST = 4096  # bytes of a request, and of an answer
 WHO = "\0"  # asks who records the game: no argument has such a byte
-PATIENCE = 10.0  # seconds that an answer may take
+PATIENCE = 10.0  # seconds that a request may take
+LONGEST_ANSWER = 120.0  # seconds that its answer may take: lines before it are answered first
 MOST_CALLS = 8  # at once
 
 CREDENTIALS = struct.Struct("3i")  # of a process: its number, its user, its group
 ADMINISTRATOR = 0
 
-Answer = Tuple[int, str]  # a status, and its message
+Asked = Callable[[str, Callable[[Answer], None]], None]  # obeys a line, and passes on its answer
 
 
 def address(capture: int) -> bytes:
@@ -43,10 +46,10 @@ def user_of(call: socket.socket) -> int:
 class Control:
     """Waits for additions to a game that is being recorded, on this `board` of a round, or on none."""
 
-    def __init__(self, loop: Turns, capture: int, asked: Callable[[str], Answer], board: str) -> None:
+    def __init__(self, loop: Turns, capture: int, asked: Asked, board: str) -> None:
         self._loop, self._asked, self._board = loop, asked, board
         self._calls: Dict[int, socket.socket] = {}
-        self._answering: Optional[int] = None  # the call that is being answered: its request may close this
+        self._answering: Set[socket.socket] = set()  # the calls that wait for an answer, also once this is closed
         self._socket: Optional[socket.socket] = socket.socket(socket.AF_UNIX, socket.SOCK_SEQPACKET)
         self._socket.setblocking(False)
         try:
@@ -75,30 +78,50 @@ class Control:
         self._loop.after(PATIENCE, lambda: self._hang_up(number, call))
 
     def _hear(self, number: int) -> None:
-        call, self._answering = self._calls[number], number
+        call = self._calls[number]
         try:
-            words = call.recv(LONGEST).decode("utf-8", "replace")
-            if words:
-                status, text = (DONE, self._board) if words == WHO else self._asked(words)
-                call.send(bytes([status]) + text.encode("utf-8", "replace")[:LONGEST])
+            asked = call.recv(LONGEST)
         except BlockingIOError:
             return
         except OSError:
-            pass
-        finally:
-            self._answering = None
-        self._hang_up(number, call)
+            asked = b""
+        self._loop.forget(number)  # one request a call
+        self._answering.add(call)
+        answered = functools.partial(self._answer, number, call)
+        if not asked:
+            answered(None)
+            return
+        try:
+            words = asked.decode("utf-8")
+        except UnicodeDecodeError:
+            answered((REFUSED, f"refused: {NO_TEXT}"))
+            return
+        if words == WHO:
+            answered((DONE, self._board))
+        else:
+            self._asked(words, answered)
+
+    def _answer(self, number: int, call: socket.socket, answer: Optional[Answer]) -> None:
+        """Answers a call, if there is an answer, and hangs up."""
+        self._answering.discard(call)
+        if answer:
+            status, text = answer
+            with contextlib.suppress(OSError):
+                call.send(bytes([status]) + text.encode("utf-8", "replace")[:LONGEST])
+        if self._calls.get(number) is call:
+            del self._calls[number]
+        call.close()
 
     def _hang_up(self, number: int, call: socket.socket) -> None:
-        if self._calls.get(number) is call:
+        """Hangs up, unless the call waits for an answer."""
+        if self._calls.get(number) is call and call not in self._answering:
             self._loop.forget(number)
             del self._calls[number]
             call.close()
 
     def close(self) -> None:
         for number, call in list(self._calls.items()):
-            if number != self._answering:
-                self._hang_up(number, call)
+            self._hang_up(number, call)
         if self._socket:
             self._loop.forget(self._socket.fileno())
             self._socket.close()
@@ -114,10 +137,11 @@ def ask(capture: str, words: str) -> Optional[Answer]:
             call.connect(address(file.fileno()))
             if user_of(call) not in believed:
                 return None
-            asked = words.encode("utf-8", "replace")
+            asked = words.encode("utf-8", "surrogateescape")
             if len(asked) > LONGEST:
                 return REFUSED, f"refused: {printable(words[:60])}: more than {LONGEST:,} bytes. Nothing of it counts"
             call.send(asked)
+            call.settimeout(LONGEST_ANSWER)
             answer = call.recv(LONGEST + 1)
             if answer:
                 return answer[0], printable(answer[1:].decode("utf-8", "replace"))

@@ -290,6 +290,10 @@ class Capture:
     def at_limit(self) -> bool:
         return self.limit is not None and self.size >= self.limit
 
+    def has_room(self, count: int) -> bool:
+        """Whether so many bytes more are within the limit."""
+        return self.limit is None or self.size + count < self.limit
+
     def append(self, sent: bytes) -> None:
         """Appends to the file, or keeps this for the next try if that fails. What is past the limit is dropped."""
         room = MEMORY - len(self.pending)

@@ -10,11 +10,11 @@ import re
 from dataclasses import dataclass
 from typing import Dict, Union
 
-from live.game import added
-from live.game.added import BLACK_WINS, WHITE_WINS
+from live.game.typed import BOTH_LOSE as NO_SCORE
+from live.game.typed import NOUGHTS, REOPENS, Refused, Typed, read_words, refuse_no_text
 
 WHITE, BLACK, BOTH = "+-", "-+", "--"  # White wins, Black wins, nobody does
-SCORES: Dict[str, str] = {WHITE: WHITE_WINS, BLACK: BLACK_WINS, BOTH: "0-0"}
+SCORES: Dict[str, str] = {WHITE: "1-0", BLACK: "0-1", BOTH: NOUGHTS}
 NO_RESULT = "*"
 TERMINATION = "rules infraction"
 SPELT: Dict[str, str] = {"+--": WHITE, "--+": BLACK}  # +:- and + - -, as pairing programs write them
@@ -68,19 +68,20 @@ def typed_forfeit(text: str) -> str:
     return BOTH if in_one_word(text) in (BOTH, "---") and len(text.split()) < 4 else in_a_table(text)
 
 
-def read_typed(text: str, name: str = "") -> Union[Forfeit, added.Typed]:
+def read_typed(text: str, name: str = "") -> Union[Forfeit, Typed]:
     """What was typed in one line. Refused if it makes no sense."""
+    refuse_no_text(text)
     kind = typed_forfeit(text)
     if kind:
         return Forfeit(kind)
-    if in_one_word(text) == added.NOUGHTS:
-        raise added.Refused(f"{added.BOTH_LOSE}. If neither player has come, type {BOTH}")
+    if in_one_word(text) == NOUGHTS:
+        raise Refused(f"{NO_SCORE}. If neither player has come, type {BOTH}")
     words = text.split()
     if len(words) > 1 and name and text.strip().endswith(f" {name}"):
         named = in_a_table(" ".join(words[: -len(name.split())]))
         if named:
-            raise added.Refused(ALONE.format(SCORES[named]))
-    return added.read_words(text, name)
+            raise Refused(ALONE.format(SCORES[named]))
+    return read_words(text)
 
 
 def is_unplayed(pgn: bytes) -> bool:
@@ -97,6 +98,6 @@ def refuse_played(plies: int, result: str, typed: Forfeit) -> None:
     """Refused if a game with so many plies and this result can't be the one that is forfeited: it has a result as others have."""
     if plies:
         how = BOTH_LOSE if typed.kind == BOTH else f"type {typed.result}"
-        raise added.Refused(f"the game has moves, so it isn't a forfeit: {how}")
+        raise Refused(f"the game has moves, so it isn't a forfeit: {how}")
     if typed.result == NO_RESULT and result != NO_RESULT:
-        raise added.Refused(f"the game has the result {result}: take that off first, with {added.REOPENS}")
+        raise Refused(f"the game has the result {result}: take that off first, with {REOPENS}")

@@ -19,6 +19,19 @@ LONGEST_SERIAL = 80  # bytes of the file with a board's number, whoever wrote it
 LONGEST_MARK = 18  # digits of the mark of an end
 
 
+ROOM = 1024 * 1024  # bytes for what `recover` puts in, some 5,000 pairs: no call of the program reads more than LARGEST
+
+
+def largest(options: Options) -> int:
+    """The bytes that the capture of a game may have."""
+    return LARGEST - ROOM if options.recover else LARGEST
+
+
+def mebibytes(options: Options) -> int:
+    """The same in MiB."""
+    return largest(options) // (1024 * 1024)
+
+
 @dataclass
 class Written:
     """The text that last replaced NAME.pgn; None if that isn't known."""
@@ -100,7 +113,7 @@ def keep_serial(paths: Paths, number: str) -> None:
 def is_over(game: Game) -> bool:
     """Whether it has ended: its end is marked, its text has a result, or its capture is full."""
     text = existing(game.paths.pgn)
-    return end_mark(game.paths) is not None or (bool(text) and result_of(text) != "*") or game.capture.at_limit
+    return end_mark(game.paths) is not None or (bool(text) and result_of(text) != "*") or game.capture.size >= largest(game.options)
 
 
 def kept_options(paths: Paths) -> Optional[Options]:

@@ -12,7 +12,8 @@ import os
 from dataclasses import dataclass
 from typing import Callable, List, Sequence
 
-from live.game import added, back
+from live.game import back
+from live.game.added import named
 from live.game.alarms import keep_looks, kept_looks
 from live.game.back import Stays
 from live.game.clocks import Reading
@@ -24,6 +25,7 @@ from live.game.game import Game, end_mark, mark_end, unmark_end
 from live.game.making_pgn import Text
 from live.game.reading import game_of
 from live.game.report import Move
+from live.game.typed import Asked, Back, Refused
 
 NO_LINKS = (errno.EPERM, errno.EOPNOTSUPP, errno.EMLINK)  # a file system without hard links
 
@@ -52,17 +54,17 @@ class Way:
         return back.settled(self.course.plies, self.stays)
 
 
-def way_back(game: Game, typed: added.Back, sent: bytes, shown: bytes = b"") -> Way:
+def way_back(game: Game, typed: Back, sent: bytes, shown: bytes = b"") -> Way:
     """Back to the typed ply, in the game of the bytes `sent`; the game goes on with a board that has sent `shown`, or with none.
     Refused with what to type; or with a question, if many plies would go and that wasn't just asked."""
     course = game_of(game.program, game.options, sent)
-    stays = back.plies_that_stay(course.plies, typed)
+    stays = back.plies_that_stay(course.plies, named(typed.to.split()))
     if stays == len(course.plies) and course.result == "*" and end_mark(game.paths) is None:
-        raise added.Refused(f"the game ends with {back.reached(course.plies)} already" if stays else "the game has no move")
+        raise Refused(f"the game ends with {back.reached(course.plies)} already" if stays else "the game has no move")
     way = _checked(game, course, stays, sent, shown)
     asked = back.question(course.plies[stays:])
     if asked and _is_new(game.paths, asked):
-        raise added.Asked(asked)
+        raise Asked(asked)
     return way
 
 
@@ -71,7 +73,7 @@ def without_result(game: Game, sent: bytes, shown: bytes = b"") -> Way:
     course = game_of(game.program, game.options, sent)
     if course.result == "*" and end_mark(game.paths) is None:
         is_forfeited = not course.plies and kept_forfeit(game.paths)
-        raise added.Refused("the game has no result" + (": if it is played after all, just play" if is_forfeited else ""))
+        raise Refused("the game has no result" + (": if it is played after all, just play" if is_forfeited else ""))
     return _checked(game, course, len(course.plies), sent, shown)
 
 
@@ -85,11 +87,11 @@ def _checked(game: Game, course: Course, stays: int, sent: bytes, shown: bytes) 
     if (_sans(after.plies), after.result) != (_sans(plies), "*"):
         without_board = game_of(game.program, game.options, _capture_of(game, Stays(plies, fens, present, None)))
         if without_board.result != "*":
-            raise added.Refused(f"the game ends with {back.reached(plies)} on the board: that is its result")
-        raise added.Refused(back.not_so(course.plies, stays, after.plies, after.result))
+            raise Refused(f"the game ends with {back.reached(plies)} on the board: that is its result")
+        raise Refused(back.not_so(course.plies, stays, after.plies, after.result))
     front = movetext(_recorded(game, content))[:-1]
     if front != movetext(_recorded(game, sent))[: len(front)]:
-        raise added.Refused("the game made anew would have other clocks. Nothing was changed")
+        raise Refused("the game made anew would have other clocks. Nothing was changed")
     return Way(course, stays, content)
 
 
@@ -160,15 +162,15 @@ def _settle(paths: Paths, way: Way) -> str:
     return f"Settled: {', '.join(look.short for look in before.open if look not in left.open)}. "
 
 
-def go_back_closed(game: Game, typed: added.Back, listens: bool = False) -> str:
+def go_back_closed(game: Game, typed: Back, listens: bool = False) -> str:
     """Takes plies off a game that nobody records now, and makes its text. A game that was over goes on: with the board as it is
     now, if the board is watched. Returns what was done."""
     sent = game.capture.bytes(0, end_mark(game.paths))
-    stood = listens or typed.all or _has_no_result(game, sent)
+    stood = listens or typed.to == "0" or _has_no_result(game, sent)
     return _put_closed(game, _with_board(game, lambda shown: way_back(game, typed, sent, shown), stood, listens))
 
 
-def go_back_over(game: Game, typed: added.Back) -> str:
+def go_back_over(game: Game, typed: Back) -> str:
     """Takes plies off a game that nobody records now and that stays over. Returns what was done."""
     sent = game.capture.bytes(0, end_mark(game.paths))
     return _put_closed(game, way_back(game, typed, sent), is_over=True)
@@ -192,9 +194,9 @@ def _with_board(game: Game, way_with: Callable[[bytes], Way], stood: bool, liste
     if stood:
         try:
             return way_with(game.capture.bytes())
-        except added.Asked:
+        except Asked:
             raise
-        except added.Refused:
+        except Refused:
             if listens:
                 raise
     return way_with(b"")

@@ -66,13 +66,17 @@ class Program:
         """Its version."""
         return self.run("--version").stdout.decode("ascii", "replace").split()[-1]
 
-    def run(self, *words: str, given: bytes = b"") -> subprocess.CompletedProcess[bytes]:
-        """Calls it and waits: for calls of a few milliseconds."""
+    def run(self, *words: str, given: bytes = b"", patience: Optional[float] = None) -> subprocess.CompletedProcess[bytes]:
+        """Calls it and waits: for calls of a few milliseconds. After so many seconds it is killed."""
         with _deaf_children():
             child = subprocess.Popen(
                 [self.path, *words], stdin=subprocess.PIPE, stdout=subprocess.PIPE, stderr=subprocess.PIPE
             )
-        output, error = child.communicate(given)
+        try:
+            output, error = child.communicate(given, patience)
+        except subprocess.TimeoutExpired:
+            child.kill()
+            output, error = child.communicate()
         return subprocess.CompletedProcess(list(words), child.returncode, output, error)
 
     def lines(self, *words: str, given: bytes = b"") -> List[str]:

@@ -3,8 +3,10 @@
 from __future__ import annotations
 
 import datetime
+import functools
 import os
 import pathlib
+import re
 import shlex
 from typing import Callable, Dict, List, Optional, Sequence, Set, Tuple, Union
 
@@ -15,10 +17,15 @@ from live.broadcast.broadcast import NOT_PUBLISHED, Broadcast
 from live.broadcast.games import Game, written_name
 from live.broadcast.leaving import clock_in
 from live.device.line import same_line
-from live.game import added
-from live.game.adding import printable, refusal
+from live.game import answers
+from live.game.answers import ILLEGAL, MEANT, MOVES, RESULT, UNKNOWN, Said, moves_in
 from live.game.files import ROUND, Log, Paths, logged_at, text_of
 from live.game.forfeits import NO_RESULT, score_of, typed_forfeit
+from live.game.options import Options
+from live.game.program import Program
+from live.game.typed import ABSENT, ALL_WAYS, HELPS, Acknowledged, Answer, Back, Reopened
+from live.game.typed import printable, read_words, refusal, refuse_no_text, with_more
+from live.game.typed import Refused as NotDone
 from live.guard import traced
 from live.loop import Loop
 from live.refused import DONE, FAILED, REFUSED, Refused
@@ -34,6 +41,7 @@ from live.web.view import round_pgn
 
 OPENS = 5.0  # seconds that all games may take to be opened
 HIGHEST = 6  # digits of a number that may be a board's
+SCORE = re.compile(r"\d\s*[-–—−:/]\s*\d", re.ASCII)  # and not a board's number
 
 
 def first_pairings(source: Source) -> Pairings:
@@ -114,22 +122,33 @@ def all_ways(numbers: Sequence[int]) -> str:
     return f"type {here}, {number} (the state of board {number}), r (read the file again) or q (end)"
 
 
-def ways(text: str, numbers: Sequence[int]) -> str:
-    """What to type instead of a text that doesn't begin with a board's number."""
+def ways(text: str, numbers: Sequence[int], said: Said = Said(UNKNOWN)) -> str:
+    """What to type instead of a text that doesn't begin with a board's number, given what the program says of it."""
     number = example(numbers)
-    if typed_forfeit(text):
-        return f"of which board? Type its number first, as {number} {' '.join(text.split())}"
+    line = " ".join(text.split())
+    if said.kind == RESULT:
+        line = said.outcome
+    elif said.kind in (MOVES, ILLEGAL, MEANT):
+        line = moves_in(text)[0]
+    elif not is_command(text):
+        return all_ways(numbers)
+    return f"of which board? Type its number first, as {number} {line}"
+
+
+def is_command(text: str) -> bool:
+    """Whether a text without a board's number would be a command for a board, and no moves or result."""
     try:
-        typed = added.read_words(text)
-    except added.Refused:
-        typed = added.Nothing()
-    if isinstance(typed, added.Result):
-        return f"of which board? Type its number first, as {number} {typed.outcome}"
-    if isinstance(typed, added.Moves):
-        return f"of which board? Type its number first, as {number} {typed.words[0]}"
-    if isinstance(typed, (added.Back, added.Reopened, added.Acknowledged)):
-        return f"of which board? Type its number first, as {number} {' '.join(text.split())}"
-    return all_ways(numbers)
+        return bool(typed_forfeit(text)) or isinstance(read_words(text), (Back, Reopened, Acknowledged))
+    except NotDone:
+        return False
+
+
+def said_of(program: Program, text: str) -> Said:
+    """What the program says of a text that is typed to a game without moves."""
+    try:
+        return answers.add(program, Options(), b"", text)
+    except OSError:
+        return Said(UNKNOWN)
 
 
 class Round:
@@ -148,6 +167,7 @@ class Round:
         self._opens_until = loop.now() + OPENS
         loop.after(OPENS, self.remade)
         self._looker: Optional[Worker] = None  # finds out which boards are plugged in
+        self._asker: Optional[Worker] = None  # asks the program about lines without a board's number
         self._finder = Finder(loop, lambda: [row.board for row in self.boards()], self.trouble)
         self._ending = self._was_asked = False
         self._is_over = False  # all games are, and that was said
@@ -319,12 +339,12 @@ class Round:
                 return
         elif words[0].lower() == "r" and len(words) == 1:
             self.say(self.read_again())
-        elif words[0].lower() in added.HELPS:
+        elif words[0].lower() in HELPS:
             self.say(all_ways(sorted(self.rows)).replace("type", "Type", 1))
-        elif words[0].isascii() and words[0].isdigit() and not added.is_result(text):
-            self.say(self._of_board(words[0], words[1:]))
+        elif words[0].isascii() and words[0].isdigit() and not SCORE.fullmatch(text.strip()):
+            self._of_board(words[0], words[1:])
         else:
-            self.say(f"refused: {printable(text)}: {ways(text, sorted(self.rows))}")
+            self._of_no_board(text)
         self.changed()
 
     def refuses(self, text: str, error: Exception) -> None:
@@ -333,21 +353,45 @@ class Round:
         if not isinstance(error, Refused):
             self.trouble(traced(error))
 
-    def _of_board(self, number: str, words: List[str]) -> str:
+    def _of_board(self, number: str, words: List[str]) -> None:
         row = self.rows.get(int(number)) if len(number) <= HIGHEST else None
         if row is None:
-            return f"refused: there is no board {printable(number)}: {boards_are(sorted(self.rows))}"
-        if not words:
+            self.say(f"refused: there is no board {printable(number)}: {boards_are(sorted(self.rows))}")
+        elif words:
+            row.add(" ".join(words), functools.partial(self._answered, row))
+        else:
             board = row.board
             looks = [look.text for look in board.looks.open]
             places = ", ".join(filter(None, (row.pairing.device, row.serial, str(board.paths.capture))))
             parts = [row.whole_standing(), *looks, *board.recovered, places]
-            return f"{row.number}: {'; '.join(parts)}"
-        _, answer = row.add(" ".join(words))
-        if answer == added.ALL_WAYS:
-            ways = added.with_more(added.ALL_WAYS, f"or {added.ABSENT}")
-            return f"{row.number}: behind the number, {ways.replace('Type', 'type', 1)}"
-        return f"{row.number} {answer}" if answer.startswith("refused") else f"{row.number}: {answer}"
+            self.say(f"{row.number}: {'; '.join(parts)}")
+
+    def _answered(self, row: Row, given: Answer) -> None:
+        """What was typed for a board is answered."""
+        _, answer = given
+        if answer == ALL_WAYS:
+            everything = with_more(ALL_WAYS, f"or {ABSENT}")
+            self.say(f"{row.number}: behind the number, {everything.replace('Type', 'type', 1)}")
+        else:
+            self.say(f"{row.number} {answer}" if answer.startswith("refused") else f"{row.number}: {answer}")
+
+    def _of_no_board(self, text: str) -> None:
+        """Says what to type instead. What isn't a command may be moves or a result: the program knows, and is asked beside the
+        loop."""
+
+        def says(said: Said) -> None:
+            self.say(f"refused: {printable(text)}: {ways(text, sorted(self.rows), said)}")
+
+        try:
+            refuse_no_text(text)
+        except NotDone as error:
+            self.say(refusal(text, error)[1])
+            return
+        if is_command(text):
+            says(Said(UNKNOWN))
+            return
+        self._asker = self._asker or Worker(self._loop)
+        self._asker.do(functools.partial(said_of, self._hall.program, text), says)
 
     def trouble(self, text: str) -> None:
         """Writes an error that should never happen, and where, to the round's log."""
@@ -401,6 +445,8 @@ class Round:
     def close(self) -> Tuple[int, List[str]]:
         """Writes the last round.pgn and the last lines, after the loop has stopped. Returns a status and complaints."""
         self._typed.close()
+        if self._asker:
+            self._asker.close()
         complaints = [f"board {row.number}: {row.board.trouble}" for row in self.boards() if row.board.trouble]
         trouble = self._published.close()
         if trouble:

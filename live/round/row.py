@@ -16,8 +16,6 @@ from live.broadcast.going_out import GoingOut
 from live.device.line import check
 from live.device.protocol import SQUARES
 from live.game import files
-from live.game.adding import Answer, refusal
-from live.game.added import REOPENS
 from live.game.course import clocks_of
 from live.game.files import Paths
 from live.game.forfeits import Forfeit
@@ -28,6 +26,7 @@ from live.game.options import PLAYERS, UNKNOWN, Options
 from live.game.program import Program
 from live.game.reading import game_of
 from live.game.tags import SIDES, Tags
+from live.game.typed import REOPENS, Answer, refusal
 from live.loop import Turns
 from live.refused import REFUSED, Refused
 from live.round.pairings import Pairing
@@ -91,17 +90,16 @@ class RowScreen(Screen):
         else:
             self._held.append(text)
 
-    def answered(self, obey: Callable[[], Answer]) -> Answer:
-        """Obeys a typed line. Of what is said meanwhile, only what the answer doesn't have is shown below the table."""
+    def obeys(self) -> None:
+        """A typed line is obeyed from now on: what is said meanwhile is held back."""
         self._held = []
-        try:
-            answer = obey()
-        finally:
-            held, self._held = self._held, None
-        for text in held:
+
+    def answers(self, answer: Answer) -> None:
+        """It is answered. Of what was said meanwhile, only what the answer doesn't have is shown below the table."""
+        held, self._held = self._held, None
+        for text in held or ():
             if text not in answer[1]:
                 self._below(text)
-        return answer
 
     def _print(self, line: str) -> None:
         super()._print(f"{line[:10]}{self._number:>3}  {line[10:]}")
@@ -272,13 +270,19 @@ class Row:
             if self.board.result != "*":
                 self._hears.say(f"{self.number}: its line has {wanted}, and the game ended {self.board.result}: it stays so")
             else:
-                self._hears.say(f"{self.number}: {self.add(wanted)[1]}")
+                self.add(wanted, lambda answer: self._hears.say(f"{self.number}: {answer[1]}"))
 
-    def add(self, text: str) -> Answer:
-        """Adds a result or moves that were typed. Returns an answer."""
+    def add(self, text: str, answered: Callable[[Answer], None]) -> None:
+        """Adds a result or moves that were typed, and passes on the answer."""
+
+        def answers(answer: Answer) -> None:
+            self._screen.answers(answer)
+            answered(answer)
+
         if is_naming(text):
-            return refusal(text, Refused(REFUSED, IN_A_TABLE))
-        return self._screen.answered(lambda: self.board.add(text))
+            answered(refusal(text, Refused(REFUSED, IN_A_TABLE)))
+        else:
+            self.board.add(text, answers, self._screen.obeys)
 
     # What others see.
 

@@ -6,9 +6,9 @@ import collections
 import datetime
 from typing import Callable, Deque, Optional
 
-from live.game.added import OK, REOPENS
 from live.game.files import Log, logged_at
 from live.game.options import NOT_ROTATED, ROTATED
+from live.game.typed import OK, REOPENS
 from live.refused import printable
 from live.terminal.terminal import INDENT, Terminal
 

@@ -239,11 +239,12 @@ class Typed:
         *lines, self._text = (self._text + part).split(b"\n")
         self._text = self._text[: LONGEST + 1]  # if there is more of it, none of it counts
         for line in lines:
-            self._hear(line.decode("utf-8", "replace").strip(), len(line) > LONGEST)
+            self._hear(line)
 
-    def _hear(self, text: str, is_long: bool) -> None:
+    def _hear(self, line: bytes) -> None:
+        text = line.decode("utf-8", "surrogateescape").strip()
         try:
-            if is_long:
+            if len(line) > LONGEST:
                 raise Refused(REFUSED, f"a line has at most {LONGEST:,} bytes. Nothing of it counts")
             self._heard(text)
         except Exception as error:

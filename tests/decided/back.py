@@ -5,11 +5,12 @@ from typing import List, Optional
 
 from live.device.protocol import picture_of_placement
 from live.game import back
-from live.game.added import Back, Refused
+from live.game.added import Named as Back
 from live.game.back import Stays
 from live.game.clocks import Reading, time_message, without_clock
 from live.game.looks import Look, Looks
 from live.game.report import Clock, Move
+from live.game.typed import Refused
 
 from decided.cases import bytes_of, cases
 from decided.table import refused, same

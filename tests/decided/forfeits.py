@@ -2,8 +2,8 @@
 
 from typing import Dict
 
-from live.game import added
 from live.game.forfeits import Forfeit, fits, in_a_table, is_unplayed, read_typed, refuse_played, typed_forfeit
+from live.game.typed import Added, Refused
 from live.round.pairings import result_of
 from live.round.trf import outcome_of
 
@@ -32,11 +32,12 @@ def how_it_is_written() -> None:
         same(f"{text!r} typed", typed_forfeit(text), typed)
         if typed:
             same(f"{text!r} read", read_typed(text), Forfeit(typed))
-    for text, expected in (("Nf3 +-", "neither a move nor a result"), ("+", "neither a move nor a result"), ("0-0", "PGN has no such result")):
-        same(f"{text} isn't done", str(expected in refused(text, added.Refused, read_typed, text)), "True")
-    named = refused("with a name", added.Refused, read_typed, "1-0 FF b4", "b4")
+    for text in ("Nf3 +-", "+"):
+        same(f"{text} is for the program to refuse", read_typed(text), Added(text))
+    same("0-0 isn't done", "PGN has no such result" in refused("0-0", Refused, read_typed, "0-0"), True)
+    named = refused("with a name", Refused, read_typed, "1-0 FF b4", "b4")
     same("with a name", named, "type 1-0 FF alone, in a line of its own")
-    same("a result", read_typed("1-0"), added.Result("1-0"))
+    same("a result", read_typed("1-0"), Added("1-0"))
 
 
 def in_tables() -> None:
@@ -83,7 +84,7 @@ def what_counts() -> None:
         (1, "1-0", BOTH, "the game has moves, so it isn't a forfeit: PGN has no result for two players who lose. Leave it without one, and note it"),
         (0, "1-0", BOTH, "the game has the result 1-0: take that off first, with *"),
     ):
-        same(why, refused(kind, added.Refused, refuse_played, plies, result, Forfeit(kind)), why)
+        same(why, refused(kind, Refused, refuse_played, plies, result, Forfeit(kind)), why)
     for result, kind in (("*", WHITE), ("1-0", BLACK), ("*", BOTH), ("0-1", BLACK)):
         accepted(f"{kind} after {result}", refuse_played, 0, result, Forfeit(kind))
 

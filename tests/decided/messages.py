@@ -13,6 +13,7 @@ from live.board.disk import Disk, HearsDisk
 from live.board.standing import Standing
 from live.board.state import DISK_FULL, NOT_WRITTEN
 from live.game import files
+from live.game.answers import Said
 from live.game.file_names import check_name
 from live.game.files import Capture, Log, plain
 from live.game.options import Options
@@ -60,18 +61,30 @@ BOARDS: List[Tuple[List[int], str]] = [
     ([1, 2, 3, 4, 7, 9, 10, 11], "the boards are 1 to 4, 7 and 9 to 11"),
     (list(range(1, 20, 2)), "the boards are 1, 3, 5, 7, 9, 11, .. and 19"),
 ]
-# What is typed in a round of these boards without a number, and what is told.
+# What is typed in a round of these boards without a number, and what is told; what the program says of the lines that are no commands.
 NO_BOARD = [
     ("1-0", [1, 2], "of which board? Type its number first, as 2 1-0"),
     ("1 - 0", [1, 2, 3, 4], "of which board? Type its number first, as 3 1-0"),
     ("½", [7], "of which board? Type its number first, as 7 1/2-1/2"),
     ("12. Nf3 Nc6", [1, 2], "of which board? Type its number first, as 2 Nf3"),
+    ("17. Qxf7", [1, 2], "of which board? Type its number first, as 2 Qxf7"),
+    ("sf3", [1, 2], "of which board? Type its number first, as 2 sf3"),
+    ("+-", [1, 2], "of which board? Type its number first, as 2 +-"),
     ("back", [1, 2], "of which board? Type its number first, as 2 back"),
     ("back  2... Nc6", [1, 2], "of which board? Type its number first, as 2 back 2... Nc6"),
     ("*", [1, 2], "of which board? Type its number first, as 2 *"),
     ("hello", [1, 2], "type 2 1-0, 2 Nf3 Nc6, 2 back, 2 help, 2 (the state of board 2), r (read the file again) or q (end)"),
     ("Nf3 1-0", [1, 2, 3], "type 3 1-0, 3 Nf3 Nc6, 3 back, 3 help, 3 (the state of board 3), r (read the file again) or q (end)"),
 ]
+SAID = {
+    "1-0": Said("result", ("1-0",)),
+    "1 - 0": Said("result", ("1-0",)),
+    "½": Said("result", ("1/2-1/2",)),
+    "12. Nf3 Nc6": Said("moves", ("2",)),
+    "17. Qxf7": Said("illegal", ("0", "Qxf7")),
+    "sf3": Said("meant", ("0", "sf3", "Nf3")),
+    "Nf3 1-0": Said("mixed"),
+}
 FOLDERS = {
     "round3": "round4",
     "club/round09": "club/round10",
@@ -240,7 +253,7 @@ def rounds() -> None:
     for numbers, said in BOARDS:
         same(said, boards_are(numbers), said)
     for text, numbers, said in NO_BOARD:
-        same(f"{text} of {numbers}", ways(text, numbers), said)
+        same(f"{text} of {numbers}", ways(text, numbers, SAID.get(text, Said("unknown"))), said)
     for folder, other in FOLDERS.items():
         same(folder, another_folder(folder), other)
 

@@ -1,6 +1,6 @@
 """Tags: which values they may have, and the text of a game as it is published. With the options that keep them."""
 
-from live.game.added import Refused as NotNamed
+from live.game.typed import Refused as NotNamed
 from live.game.naming import is_naming, line_of, read_names, told_of_names
 from live.game.opening import added_to_kept, read_otherwise, recordable, strictly
 from live.game.options import Options

@@ -119,13 +119,14 @@ def typed_in_other_letters(folder: pathlib.Path) -> None:
         "Sf6": "refused: Sf6: write Nf6",
         "g8f6": "refused: g8f6: write Nf6",
         "Ng8f6": "refused: Ng8f6: write Nf6",
-        "Nf6 f3e5 Dxe5": "refused: Nf6 f3e5 Dxe5: Dxe5: write Qxe5",
+        "Nf6 f3e5 Dxe5": "refused: Nf6 f3e5 Dxe5: f3e5: write Nxe5",
+        "Nf6 Dxe5": "Dxe5 is no legal move: White is to move, after 2... Nf6",
         "Nf6 f3e5": "refused: Nf6 f3e5: f3e5: write Nxe5, the piece's letter and where it goes. Nothing was added",
         "Nf6 Bc4 Bc5 e1g1": "e1g1: write O-O, with letters. Nothing was added",
         "f7f8": "refused: f7f8 is no legal move",
         "Nf6 bb5": "bb5: write Bb5",
         "e5e4": "refused: e5e4 is no legal move",
-        "g8-f6": "refused: g8-f6: write the piece's letter and where it goes, as Nf3",
+        "g8-f6": "refused: g8-f6: write Nf6, the piece's letter and where it goes",
     }
     for text, part in asked.items():
         said = len(live.lines())

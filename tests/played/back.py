@@ -10,7 +10,7 @@ import time
 from typing import List, Tuple
 
 from live.device.protocol import picture_of_placement
-from live.game.adding import add_by_name
+from live.game.changing import add_by_name
 from live.game.files import Paths
 from live.game.program import Program
 from live.refused import DONE

@@ -10,7 +10,7 @@ import sys
 import urllib.request
 from typing import Any
 
-from live.game.added import ONE_BOARD, WAYS, with_more
+from live.game.typed import ONE_BOARD, WAYS, with_more
 from played import TOP, words
 from played.boards import Cables
 from played.ports import free_port

@@ -188,9 +188,9 @@ def with_a_device(folder: pathlib.Path) -> None:
     for answer in [Live("", live.name, *option) for option in (["--first", "black"], ["--recover"], ["--strict"])]:
         refuses(answer, 1, f"{live.name} {words.IS_RECORDED}")
     live.type("1-0 g3")
-    until_line(live, "refused: 1-0 g3: type 1-0 alone, in a line of its own")
+    until_line(live, "refused: 1-0 g3: a result among other words. Type the moves, and then the result alone, in a line of its own")
     live.type("Nc6 1-0 Bb5")
-    until_line(live, "refused: Nc6 1-0 Bb5: moves and a result in one line. Type the moves, and then 1-0 in a line of its own")
+    until_line(live, "refused: Nc6 1-0 Bb5: a result among other words. Type the moves, and then the result alone, in a line of its own")
     same(movetext(live.name), RUY_TEXT)
     live.type("1-0")
     same(ended(live), 0)

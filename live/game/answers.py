@@ -1,0 +1,119 @@
+"""What the program answers to a typed line: the bytes to add, or why nothing is added; and the sentences for it."""
+
+from __future__ import annotations
+
+import re
+from dataclasses import dataclass
+from typing import List, Optional, Sequence, Tuple
+
+from live.game.options import RECOVER, Options
+from live.game.program import Program, ending_of
+from live.game.typed import WAYS, Refused
+
+SLOWEST = 60.0  # seconds that a call may take
+TOO_LONG = "input: too long"
+MOVES, RESULT = "moves", "result"  # the kinds of what is added
+NOTHING, MIXED, ILLEGAL, MEANT, UNKNOWN, ENDED, BOARD, LONG = "nothing", "mixed", "illegal", "meant", "unknown", "ended", "board", "long"
+NUMBERED = re.compile(r"\d+\s+[A-Za-z*]", re.ASCII)  # a line that begins as in a round
+NUMBER = re.compile(r"\d+\.+", re.ASCII)  # of a move
+
+NOTHING_ADDED = "Nothing was added"
+SENTENCES = {
+    MIXED: "a result among other words. Type the moves, and then the result alone, in a line of its own",
+    ENDED: f"the game has ended on the board, by mate or stalemate: that is its result. {NOTHING_ADDED}",
+    BOARD: "what the board shows would change the game. Set the pieces as they stand after what you typed, and type it again",
+    LONG: f"the capture is full. {NOTHING_ADDED}",
+}
+LETTERS_OF_PIECES = "in English letters: pieces are K, Q, R, B and N, in capitals, and squares a1 to h8"
+BY_LETTER = "the piece's letter and where it goes"
+PROMOTED = "with the piece that the pawn becomes"
+
+
+@dataclass(frozen=True)
+class Said:
+    """What the program says of a typed line: a kind, and what a sentence needs; with the bytes, if something is added."""
+
+    kind: str
+    words: Tuple[str, ...] = ()
+    put: bytes = b""
+
+    @property
+    def outcome(self) -> str:
+        """The result that is added; empty if none is."""
+        return self.words[0] if self.kind == RESULT else ""
+
+
+def add(program: Program, options: Options, sent: bytes, line: str) -> Said:
+    """What the program answers to a line that is typed to the game of these bytes. Raises OSError if it fails."""
+    recovers = (RECOVER,) if options.recover else ()
+    answer = program.run("add", *options.of_board(), *recovers, f"--line={line}", given=sent, patience=SLOWEST)
+    return read_answer("add", answer.returncode, answer.stderr.decode("utf-8", "replace"), answer.stdout)
+
+
+def read_answer(command: str, status: int, line: str, output: bytes) -> Said:
+    """The answer of a command, by its line on standard error. Raises OSError if it gave none."""
+    front, _, rest = line.rstrip("\n").partition(f"{command}: ")
+    kind, *words = rest.split(" ")
+    if status == 0 and not front and kind:
+        return Said(kind, tuple(words), output)
+    if status == 1 and not front and kind:
+        return Said(kind, tuple(words))
+    if status == 1 and front == TOO_LONG:
+        return Said(LONG)
+    raise OSError(f"{command} {ending_of(status)}")
+
+
+def meaning(said: Said, line: str) -> str:
+    """What is added, in words."""
+    return f"the result {said.outcome}" if said.kind == RESULT else " ".join(line.split())
+
+
+def refuse(said: Said, line: str, place: str) -> Refused:
+    """Why a line adds nothing. `place` says who is to move, where a move isn't legal."""
+    if NUMBERED.match(line.strip()) and said.kind in (UNKNOWN, MIXED):
+        return Refused(f"leave out the number in front. {WAYS}")
+    if said.kind in SENTENCES:
+        return Refused(SENTENCES[said.kind])
+    if said.kind == ILLEGAL:
+        return Refused(f"{said.words[1]} is no legal move: {place}. {NOTHING_ADDED}")
+    if said.kind == MEANT:
+        return Refused(f"{written_so(*said.words[1:])}. {NOTHING_ADDED}")
+    if said.kind == UNKNOWN:
+        return Refused(f"{shortened(said.words[1])}: neither a move nor a result. {WAYS}")
+    return Refused(f"{shortened(line)}: no move. {WAYS}")
+
+
+def written_so(word: str, meant: str) -> str:
+    """The message that a move is to be written otherwise."""
+    if meant.startswith("O-O"):
+        how = "with letters"
+    elif sum(letter.isdigit() for letter in word) > 1:  # both squares
+        how = BY_LETTER
+    else:
+        how = PROMOTED if "=" in meant and word[-1:].isdigit() else LETTERS_OF_PIECES
+    return f"{word}: write {meant}, {how}"
+
+
+def shortened(text: str) -> str:
+    """The beginning of a text, with only what can be printed."""
+    shown = "".join(letter if letter.isprintable() else "?" for letter in text.strip())
+    return shown if len(shown) <= 20 else shown[:20] + ".."
+
+
+def moves_in(line: str) -> List[str]:
+    """The words of a line of moves, without their numbers."""
+    words = [NUMBER.sub("", word, 1) for word in line.split()]
+    return [word for word in words if word]
+
+
+def whose_move(fen: Optional[str], played: Sequence[str], line: str, before: int) -> str:
+    """Who is to move after the plies of a game from this start, and after so many moves of a line; `Black is to move, after 2. Nf3`."""
+    sans = [*played, *moves_in(line)[:before]]
+    fields = (fen or "").split()
+    black_begins = fields[1:2] == ["b"]
+    first = 2 * (int(fields[5]) if len(fields) > 5 and fields[5].isdigit() else 1) + black_begins
+    side = "Black" if (first + len(sans)) % 2 else "White"
+    if not sans:
+        return f"{side} is to move"
+    last = first + len(sans) - 1
+    return f"{side} is to move, after {last // 2}{'...' if last % 2 else '.'} {sans[-1]}"

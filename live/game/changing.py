@@ -1,0 +1,159 @@
+"""Changes that are typed to a game that nobody records now: what is added is put in its place on the disk, and the text is made."""
+
+from __future__ import annotations
+
+import os
+from dataclasses import replace
+from typing import Tuple
+
+from live.game import added, answers, back
+from live.game.alarms import acknowledge
+from live.game.answers import ILLEGAL, Said, meaning, whose_move
+from live.game.course import Course
+from live.game.edited import told_of_edit
+from live.game.files import Paths, log_once, open_game, text_of
+from live.game.forfeiting import drop_forfeit, keep_forfeit
+from live.game.forfeits import NO_RESULT, Forfeit, read_typed, refuse_played
+from live.game.game import Game, end_mark, keep_options, kept_options, mark_end, result_in, unmark_end
+from live.game.going_back import forget_question, go_back_closed, take_result_off
+from live.game.making_pgn import Made, Text, told_of_result
+from live.game.naming import is_naming, read_names, told_of_names
+from live.game.opening import checked
+from live.game.options import Options
+from live.game.program import Program
+from live.game.reading import game_of
+from live.game.typed import Acknowledged, Answer, Back, Nothing, Quit, Refused, Reopened, WAYS, refusal
+from live.refused import DONE, FAILED
+
+
+def add_to_closed(game: Game, line: str) -> Said:
+    """Adds to a game that nobody records now, after its last byte; what came after that byte stays after it. Returns what was
+    added. Refused if nothing was; OSError if a file can't be written."""
+    mark = end_mark(game.paths)
+    end = game.capture.size if mark is None else mark
+    sent = game.capture.bytes(0, end)
+    said = answers.add(game.program, game.options, sent, line)
+    if not said.put:
+        played = game_of(game.program, game.options, sent).plies if said.kind == ILLEGAL else []
+        place = whose_move(game.options.fen, [ply.san for ply in played], line, int(said.words[0])) if said.kind == ILLEGAL else ""
+        raise answers.refuse(said, line, place)
+    Text(game).look(mark)
+    game.capture.renew(sent + said.put + game.capture.bytes(end))
+    forget_question(game.paths)
+    if mark is not None or said.outcome:
+        mark_end(game.paths, game.capture, end + len(said.put))
+    return said
+
+
+def add_and_make(game: Game, line: str) -> Tuple[str, str]:
+    """Adds to a game that nobody records now, and makes its text. Returns in words what was added, and the result if it is one."""
+    before = result_in(game.paths)
+    said = add_to_closed(game, line)
+    made = _made(game, Text(game).make(end_mark(game.paths)))
+    gone = "" if said.outcome else "".join(f"; {told}" for told in told_of_result(before, result_in(game.paths)))
+    return meaning(said, line) + gone + made, said.outcome
+
+
+def _made(game: Game, made: Made) -> str:
+    """What is added to a message about a text that was made. Raises OSError if it couldn't be made."""
+    if made.trouble:
+        raise OSError(made.trouble)
+    return f"; {told_of_edit(game.paths.pgn, made.edited)}" if made.edited else ""
+
+
+def reopen(game: Game, listens: bool = False) -> str:
+    """Takes the result off a game; if that result ended it, what was played after it belongs to the game from now on. Returns the
+    message. Refused if the game has no result and isn't over, if it ended by mate, or if the board itself shows the result and
+    is watched; OSError if a file can't be written."""
+    mark = end_mark(game.paths)
+    sent = game.capture.bytes(0, mark)
+    course = game_of(game.program, game.options, sent)
+    front = sent
+    while True:
+        shorter = added.without_typed_result(front, course.position, game.options.rotated)
+        if shorter == front:
+            break
+        front = shorter
+    if mark is None or course.result == "*" or (front == sent and not _went_on(game, course)):
+        return f"{game.paths.name} goes on: {take_result_off(game, listens)}"
+    text = Text(game)
+    text.look(mark)
+    if front != sent:
+        game.capture.renew(front + game.capture.bytes(mark))
+    unmark_end(game.paths)
+    return f"{game.paths.name} goes on, without the result" + _made(game, text.make(None))
+
+
+def _went_on(game: Game, course: Course) -> bool:
+    """Whether the board has taken a result back after the game's end, as kings do when they leave the centre."""
+    whole = game_of(game.program, game.options, game.capture.bytes())
+    return back.went_on(course.plies, course.result, whole.plies, whole.result)
+
+
+def add_by_name(program: Program, paths: Paths, text: str, patience: float) -> Answer:
+    """Adds what was typed to the game of this name, which nobody records now, and writes that to its log. Refused if its capture
+    can't be opened."""
+    capture = open_game(paths, patience)
+    try:
+        if is_naming(text):
+            return DONE, rename_closed(Game(program, paths, capture, kept_options(paths) or Options()), text)
+        typed = read_typed(text, os.path.basename(paths.name))
+        if isinstance(typed, Acknowledged):
+            seen = acknowledge(paths)
+            log_once(paths, seen)
+            return DONE, seen
+        game = Game(program, paths, capture, kept_options(paths) or Options())
+        if isinstance(typed, Forfeit):
+            told = forfeit_closed(game, typed)
+            log_once(paths, told)
+            return DONE, f"{paths.name}: {told}"
+        if isinstance(typed, Reopened):
+            told = reopen(game)
+            drop_forfeit(paths)
+            log_once(paths, told)
+            return DONE, told
+        if isinstance(typed, Back):
+            done = go_back_closed(game, typed)
+            drop_forfeit(paths)
+            log_once(paths, done)
+            return DONE, f"{paths.name}: {done}"
+        if isinstance(typed, (Quit, Nothing)):
+            raise Refused(WAYS)
+        what, _ = add_and_make(game, typed.line)
+        drop_forfeit(paths)
+    except Refused as refused:
+        return refusal(text, refused)
+    except OSError as error:
+        return FAILED, cannot_be_written(paths, text_of(error))
+    finally:
+        capture.close()
+    log_once(paths, f"added by hand: {what}")
+    return DONE, f"added to {paths.name}: {what}"
+
+
+def forfeit_closed(game: Game, typed: Forfeit) -> str:
+    """A game that nobody records now isn't played. Returns the message. Refused if it has moves."""
+    course = game_of(game.program, game.options, game.capture.bytes(0, end_mark(game.paths)))
+    refuse_played(len(course.plies), course.result, typed)
+    keep_forfeit(game.paths, typed.kind)
+    if typed.result not in (NO_RESULT, course.result):
+        add_and_make(game, typed.result)
+    return f"{typed.words}: it isn't played"
+
+
+def rename_closed(game: Game, text: str) -> str:
+    """A game that nobody records now gets these tags. Returns the message. Refused if it can't have them."""
+    options = game.options.with_given(checked(game.program, read_names(text)))
+    told = told_of_names(options, game.options)
+    made_before = Text(game)
+    made_before.look(end_mark(game.paths))
+    keep_options(game.paths, options)
+    renamed = replace(game, options=options)
+    told += _made(game, Text(renamed).make(end_mark(game.paths)))
+    log_once(game.paths, told)
+    return f"{game.paths.name}: {told}"
+
+
+def cannot_be_written(paths: Paths, why: str) -> str:
+    """The message for a game's file that can't be written."""
+    return f"{paths.name} can't be written ({why}): is the disk full?"

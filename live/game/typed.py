@@ -1,0 +1,151 @@
+"""What somebody types in a line, as far as the recorder itself obeys it: its commands. What else a line says, moves or a result,
+is for the program to read, which also says why it can't be."""
+
+from __future__ import annotations
+
+import os
+import re
+from dataclasses import dataclass
+from typing import Tuple, Union
+
+from live import refused
+from live.refused import REFUSED
+
+WAYS = "Type 1-0, 0-1, 1/2-1/2, moves as Nf3 Nc6, back, *, ok or help"
+ALL_WAYS = "Type 1-0, 0-1, 1/2-1/2, moves (Nf3 Nc6), back (a ply off), back 14. Bxf6, * (no result) or ok"
+HELPS = ("help", "?", "undo")
+QUITS = (["q"], ["quit"])
+BACK = "back"
+OK = "ok"  # acknowledges the alarms
+REOPENS = "*"  # takes a typed result off
+NOUGHTS = "0-0"  # a result, or castling typed with noughts
+BOTH_LOSE = f"{NOUGHTS}: do both lose? PGN has no such result: leave the game without one, and note it. Castling is O-O"
+ABSENT = "+- (Black has not come; -+ White, -- both)"
+ONE_BOARD = (ABSENT, "name White=Anna (a name put right)", "or q to end the recording")  # what can be typed there too
+NO_TEXT = "it is no text in UTF-8, so nothing of it counts. Type it again; a terminal in another encoding must be set to UTF-8"
+WHICH_PLY = "which ply? Type it as the screen printed it, as back 14. Bxf6 or back 14... Qd7; or back alone, or back 0"
+OF_A_PLY = re.compile(r"(\d{1,4})((?: ?\.)+) ?", re.ASCII)  # its number, and one full stop for White or more for Black
+SHOWN = 60  # characters of a line that an answer shows
+Answer = Tuple[int, str]  # a status, and its message
+
+
+class Refused(Exception):
+    """What was typed isn't done. The text says why, and what to type."""
+
+
+class Asked(Refused):
+    """What was typed would remove a lot: it is done if it is typed again."""
+
+
+class Helped(Refused):
+    """Somebody asks what can be typed."""
+
+
+@dataclass(frozen=True)
+class Added:
+    """Moves, a result, or something that the program refuses."""
+
+    line: str
+
+
+@dataclass(frozen=True)
+class Quit:
+    """Ends the recording."""
+
+
+@dataclass(frozen=True)
+class Acknowledged:
+    """Acknowledges the alarms."""
+
+
+@dataclass(frozen=True)
+class Reopened:
+    """The result was typed for the wrong board: the game goes on."""
+
+
+@dataclass(frozen=True)
+class Back:
+    """Plies are taken off: the last one, or as far as the text says."""
+
+    to: str = ""
+
+
+@dataclass(frozen=True)
+class Nothing:
+    """An empty line."""
+
+
+Typed = Union[Added, Acknowledged, Reopened, Back, Quit, Nothing]
+
+
+def read_words(text: str) -> Typed:
+    """What was typed in one line. Refused if somebody asks what can be typed, or if it is no text."""
+    refuse_no_text(text)
+    words = text.split()
+    if not words:
+        return Nothing()
+    if words in QUITS:
+        return Quit()
+    if [word.lower() for word in words] == [OK]:
+        return Acknowledged()
+    if words == [REOPENS]:
+        return Reopened()
+    if words[0].lower() == BACK:
+        return Back(ply_of(" ".join(words[1:])))
+    if words[0].lower() in HELPS:
+        raise Helped(ALL_WAYS)
+    if NOUGHTS in map(with_a_hyphen, (*words, "".join(words))):
+        raise Refused(BOTH_LOSE)
+    return Added(text.strip())
+
+
+def ply_of(text: str) -> str:
+    """What follows `back`, as the program takes it: `014.Bxf6` is `14. Bxf6`. A number alone would be one of plies."""
+    if text.isdigit() and text != "0":
+        raise Refused(WHICH_PLY)
+    text = text.replace("…", "...")
+    found = OF_A_PLY.match(text)
+    if found is None:
+        return text
+    stops = "." if found[2].count(".") == 1 else "..."
+    return f"{int(found[1])}{stops} {text[found.end() :]}".strip()
+
+
+def refuse_no_text(text: str) -> None:
+    """Refused if it was no text in UTF-8, or has a character with which no argument can be given to the program."""
+    if any("\ud800" <= letter <= "\udfff" for letter in text) or "\0" in text:
+        raise Refused(NO_TEXT)
+
+
+def with_a_hyphen(word: str) -> str:
+    """A score with one kind of dash."""
+    for dash in "–—−:":
+        word = word.replace(dash, "-")
+    return word
+
+
+def with_more(ways: str, *more: str) -> str:
+    """A list of what can be typed, with more behind it."""
+    front, _, last = ways.rpartition(" or ")
+    return ", ".join((front, last, *more))
+
+
+def printable(text: str) -> str:
+    """The beginning of what was typed, with only what can be printed."""
+    return refused.printable(text[:SHOWN])
+
+
+def reason_of(error: Exception) -> str:
+    """The message for an error."""
+    if isinstance(error, OSError):
+        name = f"{os.fsdecode(error.filename)}: " if isinstance(error.filename, (str, bytes)) else ""
+        return name + (error.strerror or str(error))
+    return error.lines[0] if isinstance(error, refused.Refused) else str(error)
+
+
+def refusal(text: str, error: Exception) -> Answer:
+    """The answer to what was typed, if that isn't done, or not yet."""
+    if isinstance(error, (Asked, Helped)):
+        return REFUSED, str(error)
+    reason = reason_of(error)
+    return REFUSED, f"refused: {reason}" if text in reason else f"refused: {printable(text)}: {reason}"

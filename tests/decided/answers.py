@@ -1,0 +1,71 @@
+"""Typed lines: which are commands, and what is answered, given what the program says. The words are those of USING; who is to move
+is counted by hand."""
+
+import dataclasses
+import json
+from typing import Any, Dict
+
+from live.game.answers import Said, meaning, read_answer, refuse, whose_move
+from live.game.typed import ALL_WAYS, BOTH_LOSE, NO_TEXT, WHICH_PLY, Asked, Back, Helped, Refused, Typed, read_words, refusal, with_more
+from live.refused import REFUSED
+
+from decided.cases import cases
+from decided.table import refused, same
+
+ON_HELP = ("1-0", "Nf3 Nc6", "back", "14. Bxf6", "*", "ok")
+
+
+def told(typed: Typed) -> Dict[str, Any]:
+    """What was typed, as JSON has it."""
+    told_so: Dict[str, Any] = json.loads(json.dumps({"kind": type(typed).__name__.lower(), **dataclasses.asdict(typed)}))
+    return told_so
+
+
+def said_of(text: str) -> Said:
+    """What the program says, as it writes it behind `add: `."""
+    return read_answer("add", 0 if text.startswith(("moves", "result")) else 1, f"add: {text}\n", b"")
+
+
+def commands() -> None:
+    """What is typed in a line."""
+    for text, expected in cases("answers", "typed"):
+        same(repr(text), told(read_words(text)), expected)
+    for text in cases("answers", "noughts"):
+        same(text, refused(text, Refused, read_words, text), BOTH_LOSE)
+    for text, to in cases("answers", "plies"):
+        same(f"back {text}", read_words(f"back {text}"), Back(to))
+    for text in cases("answers", "which ply"):
+        same(text, refused(text, Refused, read_words, text), WHICH_PLY)
+    for text in ("Nf3 \udcff", "\udcc3", "1-0\0", "\0"):
+        same(repr(text), refused(repr(text), Refused, read_words, text), NO_TEXT)
+    same("the start of it is shown", refusal("e4 \x1b[2J" + 99 * "N", Refused("why")), (REFUSED, "refused: e4 ?[2J" + 53 * "N" + ": why"))
+    same("a question is no refusal", refusal("back 0", Asked("takes off 5 plies")), (REFUSED, "takes off 5 plies"))
+
+
+def helps() -> None:
+    """All that can be typed, in one line."""
+    for text in cases("answers", "helps"):
+        said = refused(text, Refused, read_words, text)
+        same(text, [part in said for part in ON_HELP], [True] * len(ON_HELP))
+        same(f"{text} in one line", len(said) < 100, True)
+        same(f"{text} is no mistake", refusal(text, Helped(said)), (REFUSED, said))
+    same("with more", with_more("Type 1, 2 or 3", "4", "or 5"), "Type 1, 2, 3, 4, or 5")
+    same("all of them", with_more(ALL_WAYS, "q").endswith("* (no result), ok, q"), True)
+
+
+def sentences() -> None:
+    """What is answered."""
+    for said, line, place, expected in cases("answers", "sentences"):
+        answer = str(refuse(said_of(said), line, place))
+        same(f"{said}, {line!r}", answer, expected)
+        same(f"{answer[:20]!r} can be printed", answer.isprintable(), True)
+    for said, line, expected in cases("answers", "added"):
+        same(line, meaning(said_of(said), line), expected)
+    for fen, played, line, before, expected in cases("answers", "whose move"):
+        same(f"{line} after {played}", whose_move(fen, played, line, before), expected)
+    for status, text in cases("answers", "no answer"):
+        refused(f"{status} {text}", OSError, read_answer, "add", status, f"{text}\n", b"")
+    same("too long", read_answer("add", 1, "input: too long\n", b"").kind, "long")
+
+
+TABLES = [commands, helps, sentences]
