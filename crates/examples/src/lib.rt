@@ -38,6 +38,8 @@ mod replay_arguments_page;
 #[cfg(test)]
 mod settle_core_page;
 #[cfg(test)]
+mod square_runs_page;
+#[cfg(test)]
 mod text_subcommands_page;
 #[cfg(test)]
 mod typed_lines_page;

@@ -1,0 +1,3 @@
+pub mod Due
+pub mod Moments
+pub mod Squares
