@@ -8,18 +8,19 @@ _dgt() {
     COMPREPLY=()
     case $command,$before in
         *,--first) words='white black' ;;
-        *,--fen | *,--event | *,--site | *,--date | *,--round | *,--white | *,--black | *,--tag | *,--add | *,--back | *,--line) return ;;
+        *,--fen | *,--event | *,--site | *,--date | *,--round | *,--white | *,--black | *,--tag | *,--add | *,--back | *,--line | *,--to) return ;;
         *,--linger | *,--page | *,--page-host | *,--arbiter-page | *,--delay | *,--publish | *,--encoding | *,--embed) return ;;
         dgt_live,*) words="--series --once --add --back --devices $game $tags $shown" ;;
         dgt_round,*) words="--new --encoding --embed --web --event --site --date --round $shown" ;;
         dgt_replay,*)
             if [ "$COMP_CWORD" -eq 1 ]; then
-                words='record follow watch recover add show pictures check moves positions help --help --version'
+                words='record follow watch recover add back show pictures check moves positions help --help --version'
             else
                 case ${COMP_WORDS[1]} in
                     record) words="$game $tags --help" ;;
                     follow | watch | recover) words="$game --help" ;;
                     add) words="$game --recover --line --help" ;;
+                    back) words="$game --recover --to --help" ;;
                     pictures) words='--rotated --help' ;;
                     moves | positions) words='--fen --help' ;;
                     *) words='--help' ;;

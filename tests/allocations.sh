@@ -16,7 +16,7 @@ if ! command -v rt > /dev/null; then
     exit
 fi
 cd crates/test_allocations
-calls=18
+calls=20
 runs=980
 folder=$(mktemp -d)
 trap 'rm -rf "$folder"' EXIT

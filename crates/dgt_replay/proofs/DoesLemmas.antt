@@ -13,13 +13,15 @@ use Rattle.board_listing.specs.declared.listing.Listing.TheVariants.{Game, Watch
 use Rattle.dgt_frame.specs.Streams.{Timed}
 use Rattle.chess_game.specs.declared.values.Tag.{Tag}
 use Rattle.replay_arguments.specs.declared.arguments.Subcommand.{Subcommand}
-use Rattle.replay_arguments.specs.Subcommands.{Asks, AsksFor, AsksForPictures, AsksToAdd, AsksToCheck, AsksToFollow, AsksToRecord, AsksToRecover, AsksToShow, AsksToWatch}
+use Rattle.replay_arguments.specs.Subcommands.{Asks, AsksFor, AsksForPictures, AsksToAdd, AsksToCheck, AsksToFollow, AsksToGoBack, AsksToRecord, AsksToRecover, AsksToShow, AsksToWatch}
 use Rattle.replay_arguments.specs.Setups.{SetsUpNothing, tag_text}
 use Rattle.chess_text.specs.Start.{HasNoStart, StartsAt, given}
 use Rattle.replay_arguments.specs.TagOptions.{option_of}
 use Rattle.text_subcommands.specs.Checked.{RefusesPgn, text_limit, Checks}
-use Rattle.dgt_replay.specs.Add.{AddsLine, typed_in}
-use Rattle.dgt_replay.proofs.AddLemmas.{adds_memory}
+use Rattle.dgt_replay.specs.Add.{AddsLine}
+use Rattle.dgt_replay.specs.Back.{TakesBack}
+use Rattle.dgt_replay.specs.Edit.{Edits, text_in}
+use Rattle.dgt_replay.proofs.EditLemmas.{puts_memory}
 use Rattle.dgt_replay.specs.Does.{Does, Lists, Records, RecoversPairs, WritesText}
 use Rattle.text_subcommands.specs.Played.{Plays, RefusesMoves, line_limit}
 use Rattle.text_subcommands.specs.Printed.{Prints}
@@ -31,7 +33,7 @@ use Rattle.dgt_replay.proofs.EndLemmas.{ends_for_memory, none_read, not_both}
 use Rattle.text_subcommands.proofs.MessageLemmas.{tells_alike, tells_memory}
 use Rattle.dgt_replay.proofs.RefusalLemmas.{refuses_alike}
 use Rattle.dgt_replay.proofs.SetupLemmas.{meets_nothing, meets_board}
-use Rattle.dgt_replay.proofs.SubcommandLemmas.{add_chosen, chooses_check, chooses_follow, chooses_pictures, chooses_record, chooses_recover, chooses_show, chooses_watch, follow_chosen, moves_chosen, positions_chosen, record_chosen, recover_chosen, watch_chosen}
+use Rattle.dgt_replay.proofs.SubcommandLemmas.{add_chosen, back_chosen, chooses_check, chooses_follow, chooses_pictures, chooses_record, chooses_recover, chooses_show, chooses_watch, follow_chosen, moves_chosen, positions_chosen, record_chosen, recover_chosen, watch_chosen}
 
 -- Memory ran out before anything was read, or written to the output.
 pub record LacksMemory (status : ℕ) (s : Streams) : Type 0 where
@@ -90,9 +92,9 @@ recovers_memory setting status s lacks =
       read = λ e. not_both s.reader_failed e lacks.reading;
     }
 
-pub adds_line_memory : (setting : Setting) (recovers : Bool) (line : List ℕ) (status : ℕ) (s : Streams) → LacksMemory status s → AddsLine setting recovers line status s
-adds_line_memory setting recovers line status s lacks = record {
-  adds = λ e. adds_memory setting recovers line s.input status s.written s.written' s.said s.said' s.out_failed s.err_failed lacks.untouched.1 (inl (lacks.four, lacks.says));
+pub edits_memory : (Answers : List ℕ → Option (List ℕ) → List ℕ → Type 0) (IsLong : List ℕ → Type 0) (status : ℕ) (s : Streams) → LacksMemory status s → Edits Answers IsLong status s
+edits_memory Answers IsLong status s lacks = record {
+  puts = λ e. puts_memory Answers IsLong s.input status s.written s.written' s.said s.said' s.out_failed s.err_failed lacks.untouched.1 (inl (lacks.four, lacks.says));
   unread = λ e. not_both s.reader_failed e lacks.reading;
   bounded = none_read limit s.input s.input' lacks.untouched.0;
 }
@@ -225,20 +227,37 @@ does_refuse_recover arguments subcommand status s asked does rows asks none =
     refuses_start (given chosen.0.fen) rows status s chosen.2.fen (does_as subcommand _ status s chosen.1 does).1 none
 
 pub does_add : (arguments : List Text) (subcommand : Subcommand) (status : ℕ) (s : Streams) → AsksFor arguments subcommand → Does subcommand status s
-    → (setting : Setting) (recovers : Bool) (line : Option Text) → AsksToAdd arguments setting recovers line → AddsLine setting recovers (typed_in line) status s
+    → (setting : Setting) (recovers : Bool) (line : Option Text) → AsksToAdd arguments setting recovers line → AddsLine setting recovers (text_in line) status s
 does_add arguments subcommand status s asked does setting recovers line (rows, asks, sets, flag, text) =
     let found = add_chosen arguments rows subcommand asks asked in
     let options = found.0 in
     let wants = found.2 in
     let adds = (does_as subcommand _ status s found.1 does).0 setting (meets_board rows options.board setting wants.board sets) in
-    let R : Bool → Type 0 = λ b. AddsLine setting b (typed_in (given options.text)) status s in
-    let T : Option Text → Type 0 = λ t. AddsLine setting recovers (typed_in t) status s in
+    let R : Bool → Type 0 = λ b. AddsLine setting b (text_in (given options.text)) status s in
+    let T : Option Text → Type 0 = λ t. AddsLine setting recovers (text_in t) status s in
     subst T (wants.text ∙ text) (subst R (wants.recovers recovers flag) adds)
 
 pub does_refuse_add : (arguments : List Text) (subcommand : Subcommand) (status : ℕ) (s : Streams) → AsksFor arguments subcommand → Does subcommand status s
     → (rows : List Row) → Asks arguments (codes "add") rows → HasNoStart (first_of (codes "fen") rows) → Refuses (RefusesStart (first_of (codes "fen") rows)) status s
 does_refuse_add arguments subcommand status s asked does rows asks none =
     let found = add_chosen arguments rows subcommand asks asked in
+    refuses_start (given found.0.board.fen) rows status s found.2.board.fen (does_as subcommand _ status s found.1 does).1 none
+
+pub does_back : (arguments : List Text) (subcommand : Subcommand) (status : ℕ) (s : Streams) → AsksFor arguments subcommand → Does subcommand status s
+    → (setting : Setting) (recovers : Bool) (to : Option Text) → AsksToGoBack arguments setting recovers to → TakesBack setting recovers (text_in to) status s
+does_back arguments subcommand status s asked does setting recovers to (rows, asks, sets, flag, text) =
+    let found = back_chosen arguments rows subcommand asks asked in
+    let options = found.0 in
+    let wants = found.2 in
+    let takes = (does_as subcommand _ status s found.1 does).0 setting (meets_board rows options.board setting wants.board sets) in
+    let R : Bool → Type 0 = λ b. TakesBack setting b (text_in (given options.text)) status s in
+    let T : Option Text → Type 0 = λ t. TakesBack setting recovers (text_in t) status s in
+    subst T (wants.text ∙ text) (subst R (wants.recovers recovers flag) takes)
+
+pub does_refuse_back : (arguments : List Text) (subcommand : Subcommand) (status : ℕ) (s : Streams) → AsksFor arguments subcommand → Does subcommand status s
+    → (rows : List Row) → Asks arguments (codes "back") rows → HasNoStart (first_of (codes "fen") rows) → Refuses (RefusesStart (first_of (codes "fen") rows)) status s
+does_refuse_back arguments subcommand status s asked does rows asks none =
+    let found = back_chosen arguments rows subcommand asks asked in
     refuses_start (given found.0.board.fen) rows status s found.2.board.fen (does_as subcommand _ status s found.1 does).1 none
 
 pub does_moves : (arguments : List Text) (subcommand : Subcommand) (status : ℕ) (s : Streams) → AsksFor arguments subcommand → Does subcommand status s

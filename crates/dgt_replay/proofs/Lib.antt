@@ -1,7 +1,7 @@
-pub mod AddLemmas
 pub mod AddedLemmas
 pub mod AgreementLemmas
 pub mod DoesLemmas
+pub mod EditLemmas
 pub mod EndLemmas
 pub mod FaultLemmas
 pub mod RecordedLemmas
@@ -10,4 +10,5 @@ pub mod RefusalLemmas
 pub mod SetupLemmas
 pub mod SubcommandLemmas
 pub mod TextLemmas
+pub mod WentBackLemmas
 pub mod WrittenLemmas

@@ -8,7 +8,7 @@ use Rattle.clap.specs.Simple.{subcommand_of}
 use Rattle.board_events.specs.declared.setup.Setup.{Setup}
 use Rattle.board_events.specs.Settings.{Setting}
 use Rattle.replay_arguments.specs.declared.arguments.Subcommand.{Subcommand}
-use Rattle.replay_arguments.specs.declared.arguments.Subcommand.TheVariants.{Show, Pictures, Record, Follow, Watch, Recover, Add, Check, Moves, Positions}
+use Rattle.replay_arguments.specs.declared.arguments.Subcommand.TheVariants.{Show, Pictures, Record, Follow, Watch, Recover, Add, Back, Check, Moves, Positions}
 use Rattle.replay_arguments.specs.declared.arguments.BoardArguments.{BoardArguments}
 use Rattle.replay_arguments.specs.declared.arguments.EditArguments.{EditArguments}
 use Rattle.replay_arguments.specs.declared.arguments.RecordArguments.{RecordArguments}
@@ -106,6 +106,13 @@ pub add_chosen : (arguments : List Text) (rows : List Row) (subcommand : Subcomm
     → (options : EditArguments) × (subcommand ≡ Add options) × WantsEdit (codes "line") rows options
 add_chosen arguments rows subcommand asks asked =
     let found = (chosen arguments (codes "add") rows subcommand asks asked).add refl in
+    (found.0, found.1, found.2)
+
+-- `back` asks how far a game goes back as its options say
+pub back_chosen : (arguments : List Text) (rows : List Row) (subcommand : Subcommand) → Asks arguments (codes "back") rows → AsksFor arguments subcommand
+    → (options : EditArguments) × (subcommand ≡ Back options) × WantsEdit (codes "to") rows options
+back_chosen arguments rows subcommand asks asked =
+    let found = (chosen arguments (codes "back") rows subcommand asks asked).back refl in
     (found.0, found.1, found.2)
 
 -- `moves` asks for those of the position that its option says

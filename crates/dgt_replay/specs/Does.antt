@@ -14,11 +14,13 @@ use Rattle.board_listing.specs.declared.listing.Listing.{Listing}
 use Rattle.board_listing.specs.declared.listing.Listing.TheVariants.{Game, Watched}
 use Rattle.recovery.specs.Streams.{RecoversAll, RecoversFirst, RecoversFront, RecoversRead, RecoversSome}
 use Rattle.replay_arguments.specs.declared.arguments.Subcommand.{Subcommand}
-use Rattle.replay_arguments.specs.declared.arguments.Subcommand.TheVariants.{Show, Pictures, Record, Follow, Watch, Recover, Add, Check, Moves, Positions}
+use Rattle.replay_arguments.specs.declared.arguments.Subcommand.TheVariants.{Show, Pictures, Record, Follow, Watch, Recover, Add, Back, Check, Moves, Positions}
 use Rattle.replay_arguments.specs.Setups.{Meets, MeetsBoard, MeetsNothing, tag_text}
 use Rattle.chess_text.specs.Start.{HasNoStart, StartsAt, given}
 use Rattle.text_subcommands.specs.Messages.{IsTooLong, Says, Tells}
-use Rattle.dgt_replay.specs.Add.{AddsLine, typed_in}
+use Rattle.dgt_replay.specs.Add.{AddsLine}
+use Rattle.dgt_replay.specs.Back.{TakesBack}
+use Rattle.dgt_replay.specs.Edit.{text_in}
 use Rattle.dgt_replay.specs.Recorded.{EndsFor, Fails, RecordsAndTells}
 use Rattle.dgt_replay.specs.Refusals.{RefusesSetup}
 use Rattle.text_subcommands.specs.Refusals.{RefusesStart, Refuses, Untouched}
@@ -89,7 +91,9 @@ Does (Watch options) status s = ((setting : Setting) → MeetsBoard options sett
     × (HasNoStart (given options.fen) → Refuses (RefusesStart (given options.fen)) status s)
 Does (Recover options) status s = ((setting : Setting) → MeetsBoard options setting → RecoversPairs setting status s)
     × (HasNoStart (given options.fen) → Refuses (RefusesStart (given options.fen)) status s)
-Does (Add options) status s = ((setting : Setting) → MeetsBoard options.board setting → AddsLine setting options.recovers (typed_in (given options.text)) status s)
+Does (Add options) status s = ((setting : Setting) → MeetsBoard options.board setting → AddsLine setting options.recovers (text_in (given options.text)) status s)
+    × (HasNoStart (given options.board.fen) → Refuses (RefusesStart (given options.board.fen)) status s)
+Does (Back options) status s = ((setting : Setting) → MeetsBoard options.board setting → TakesBack setting options.recovers (text_in (given options.text)) status s)
     × (HasNoStart (given options.board.fen) → Refuses (RefusesStart (given options.board.fen)) status s)
 Does Check status s = Checks status s
 Does (Moves fen) status s = Prints (given fen) status s

@@ -1,9 +1,13 @@
 pub mod Add
 pub mod Added
 pub mod Agreement
+pub mod Back
 pub mod Does
+pub mod Edit
+pub mod Inside
 pub mod Laws
 pub mod Messages
 pub mod Recorded
 pub mod Refusals
 pub mod Status
+pub mod WentBack

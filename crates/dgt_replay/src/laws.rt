@@ -2,10 +2,12 @@
 ghost use Rattle.dgt_replay.specs.Added.{AddedLinesAreRecorded};
 ghost use Rattle.dgt_replay.specs.Agreement.{FollowTellsTheGame, RecordsRecovered, RecordsShownOrTold, WatchTellsTheGame};
 ghost use Rattle.dgt_replay.specs.Laws.{WrittenTextsAreWithin, WrittenTextsPass};
+ghost use Rattle.dgt_replay.specs.WentBack.{WentBackIsRecorded};
 
 use board_listing::laws::{lines_give_the_game, watch_lines_give_the_game};
 use board_session::laws::moves_take_ten_bytes;
 use dgt_frame::laws::shows_once;
+use going_back::laws::what_stays_is_recorded;
 use pgn_book::laws::texts_are_short;
 use recovery::laws::plies_are_shown_or_told;
 use settle_core::laws::folds_once;
@@ -63,4 +65,13 @@ pub fn added_lines_are_recorded()
     shows_once();
     // For its clause: the entries fold to one score.
     folds_once();
+}
+
+/// Of the new capture of a game that goes back, `record` writes exactly the plies that stay, with their clocks, and no
+/// result.
+pub fn went_back_is_recorded()
+    ensures { WentBackIsRecorded }
+{
+    // For its clause: the game of a new capture.
+    what_stays_is_recorded();
 }

@@ -1,11 +1,11 @@
 //! The subcommands of the program, over any streams.
 //!
-//! Begin with `program.rt`, which has `run`. `record.rt`, `recover.rt` and `add.rt` are the subcommands of these names;
-//! `check`, `moves` and `positions` stand in `text_subcommands`. A call marked `For its clause` changes nothing: the proof needs
-//! what its contract says.
+//! Begin with `program.rt`, which has `run`. `record.rt` and `recover.rt` are the subcommands of these names, `edit.rt` has
+//! `add` and `back`; `check`, `moves` and `positions` stand in `text_subcommands`. A call marked `For its clause` changes
+//! nothing: the proof needs what its contract says.
 #![tactic(auto)]
 
-mod add;
+mod edit;
 pub mod laws;
 mod program;
 mod record;

@@ -9,7 +9,7 @@ ghost use Rattle.clap.specs.Values.{kind_of};
 ghost use Rattle.clap.specs.Walk.{Row, first_of};
 ghost use Rattle.watched_streams.specs.Watch.{IsFlushed, inner_of, has_failed};
 ghost use Rattle.replay_arguments.specs.declared.arguments.BoardArguments.{BoardArguments as BoardOptions};
-ghost use Rattle.replay_arguments.specs.Subcommands.{AreMistaken, Asks, AsksForHelp, AsksForVersion, AsksToAdd, AsksToFollow, AsksToRecord, AsksToRecover, AsksToWatch, IsCheck, IsPictures, IsRefused, IsShow};
+ghost use Rattle.replay_arguments.specs.Subcommands.{AreMistaken, Asks, AsksForHelp, AsksForVersion, AsksToAdd, AsksToFollow, AsksToGoBack, AsksToRecord, AsksToRecover, AsksToWatch, IsCheck, IsPictures, IsRefused, IsShow};
 ghost use Rattle.board_listing.specs.declared.listing.Listing.{Listing};
 ghost use Rattle.board_listing.specs.EventLines.{rest_line};
 ghost use Rattle.board_listing.specs.OneText.{event_lines, no_line, picture_lines};
@@ -17,8 +17,10 @@ ghost use Rattle.replay_arguments.specs.Setups.{MeetsBoard, SetsUpNothing};
 ghost use Rattle.chess_text.specs.Start.{HasNoStart, StartsAt, given};
 ghost use Rattle.replay_arguments.specs.TagOptions.{option_of};
 ghost use Rattle.text_subcommands.specs.Checked.{Checks};
-ghost use Rattle.dgt_replay.specs.Add.{AddsLine, typed_in};
+ghost use Rattle.dgt_replay.specs.Add.{AddsLine};
+ghost use Rattle.dgt_replay.specs.Back.{TakesBack};
 ghost use Rattle.dgt_replay.specs.Does.{Does, Lists, Records, RecoversPairs, WritesText, game_listing};
+ghost use Rattle.dgt_replay.specs.Edit.{text_in};
 ghost use Rattle.text_subcommands.specs.Played.{Plays};
 ghost use Rattle.text_subcommands.specs.Printed.{Prints};
 ghost use Rattle.text_subcommands.specs.Refusals.{Refuses, RefusesStart};
@@ -27,7 +29,7 @@ ghost use Rattle.dgt_replay.specs.Messages.{GivesText, RefusesArguments};
 ghost use Rattle.text_subcommands.specs.Messages.{Says};
 ghost use Rattle.text_subcommands.specs.Streams.{streams};
 
-use crate::add::add;
+use crate::edit::{EditKind, edit};
 use crate::record::record_game;
 use crate::recover::recover;
 use board_listing::{Listing, list_stream};
@@ -203,7 +205,8 @@ fn dispatch<R: Read, O: Write, E: Write>(
         Subcommand::Follow(options) => follow(alloc, false, options, reader, out, err),
         Subcommand::Watch(options) => follow(alloc, true, options, reader, out, err),
         Subcommand::Recover(options) => recover(alloc, options, reader, out, err),
-        Subcommand::Add(options) => add(alloc, options, reader, out, err),
+        Subcommand::Add(options) => edit(alloc, EditKind::Add, options, reader, out, err),
+        Subcommand::Back(options) => edit(alloc, EditKind::Back, options, reader, out, err),
         Subcommand::Check => check(alloc, reader, out, err),
         Subcommand::Moves { fen } => moves(alloc, *fen, out, err),
         Subcommand::Positions { fen } => positions(alloc, *fen, reader, out, err),
@@ -268,8 +271,16 @@ pub fn run<R: Read, O: Write, E: Write>(
     // `add` with any options: the bytes that the typed line adds to the capture, or why it adds nothing. Where no position
     // has the FEN, the reason is said.
     ensures add { (setting : Setting) (recovers : Bool) (line : Option (List ℕ)) → AsksToAdd (map string_bytes arguments.now) setting recovers line
-        → AddsLine setting recovers (typed_in line) result (streams R.remaining O.contents E.contents reader.old reader.new out.old out.new err.old err.new) }
+        → AddsLine setting recovers (text_in line) result (streams R.remaining O.contents E.contents reader.old reader.new out.old out.new err.old err.new) }
     ensures add_refuses { (rows : List Row) → Asks (map string_bytes arguments.now) (codes "add") rows → HasNoStart (first_of (codes "fen") rows)
+        → Refuses (RefusesStart (first_of (codes "fen") rows)) result
+        (streams R.remaining O.contents E.contents reader.old reader.new out.old out.new err.old err.new) }
+
+    // `back` with any options: the capture of a game that goes back as far as the text says, or why it doesn't. Where no
+    // position has the FEN, the reason is said.
+    ensures back { (setting : Setting) (recovers : Bool) (to : Option (List ℕ)) → AsksToGoBack (map string_bytes arguments.now) setting recovers to
+        → TakesBack setting recovers (text_in to) result (streams R.remaining O.contents E.contents reader.old reader.new out.old out.new err.old err.new) }
+    ensures back_refuses { (rows : List Row) → Asks (map string_bytes arguments.now) (codes "back") rows → HasNoStart (first_of (codes "fen") rows)
         → Refuses (RefusesStart (first_of (codes "fen") rows)) result
         (streams R.remaining O.contents E.contents reader.old reader.new out.old out.new err.old err.new) }
 

@@ -1,7 +1,7 @@
 //! The example on the page of `going_back`.
 
-use board_captures::{CaptureError, Method, read_capture};
-use going_back::{go_back, plies_named};
+use board_captures::{CaptureError, Method};
+use going_back::tell_back;
 use std::alloc::Global;
 
 /// How many bytes a capture has without the last ply of its game; none if it can't be taken off.
@@ -10,16 +10,9 @@ fn size_without_last(
     method: &Method,
     bytes: &[u8],
 ) -> Result<Option<usize>, CaptureError> {
-    let captured = match read_capture(alloc, method, bytes) {
-        Ok(captured) => captured,
-        Err(error) => return Err(error),
-    };
-    let settler = captured.session.settler();
-    let Some(stays) = plies_named(settler.start(), settler.moves(), b"") else {
-        return Ok(None);
-    };
-    match go_back(alloc, method, &captured, stays) {
-        Ok(made) => Ok(Some(made.len())),
-        Err(_) => Ok(None),
+    let told = tell_back(alloc, method, bytes, b"")?;
+    match &told.made {
+        Some(made) => Ok(Some(made.len())),
+        None => Ok(None),
     }
 }

@@ -39,7 +39,7 @@ pub enum Answer {
 }
 
 /// What becomes of what was captured.
-fn answer_of(alloc: Global, method: &Method, captured: &Captured, to: &[u8]) -> Answer
+pub fn answer_of(alloc: Global, method: &Method, captured: &Captured, to: &[u8]) -> Answer
     ensures { (past : List EventOf) → StandsForCapture captured.now (setting_of method.now) past
         → IsAnswerOf (setting_of method.now) method.now.recovers past captured.now.session.settler to.now result }
 {

@@ -44,7 +44,8 @@ fn is_same(ply: &Ply, other: &Ply) -> bool
     *ply == *other
 }
 
-fn ply_at(plies: &[Ply], at: usize) -> &Ply
+/// The ply at this place, which is 0 for the first.
+pub fn ply_at(plies: &[Ply], at: usize) -> &Ply
     requires { at < length plies.now }
     ensures { result.now ≡ slice_index_or plies.now at result.now }
 {

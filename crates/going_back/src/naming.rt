@@ -6,6 +6,7 @@ ghost use Rattle.pgn_book.specs.Movetext.{number_token};
 ghost use Rattle.settle_core.specs.Folding.{moves_of};
 ghost use Rattle.settle_core.specs.Settling.{Line};
 ghost use Rattle.going_back.specs.Naming.{IsNameOf, NamesPly, Names, is_marked, unmarked};
+ghost use Rattle.going_back.specs.Telling.{IsWrittenSo};
 
 use chess_rules::{Move, Position, Side};
 use chess_text::write_san;
@@ -53,6 +54,16 @@ fn write_number(name: &mut Lines, position: &Position)
         Side::White => add(name, b"."),
         Side::Black => add(name, b"..."),
     }
+}
+
+/// Replaces what `name` holds by the number and the SAN of a move in this position.
+pub fn write_name(name: &mut Lines, position: &Position, mv: Move)
+    requires { Legal position.now mv }
+    ensures { IsWrittenSo position.now mv name.new.items }
+{
+    write_number(name, position);
+    add(name, b" ");
+    add(name, write_san(position, mv).as_str().as_bytes());
 }
 
 /// Whether the text names the ply that is made in this position: its number; or its number, a blank and its SAN, of

@@ -71,6 +71,9 @@ with_edit name app = with_text (with_rule (with_board app) recover_rule) name
 abbrev pub add_app : App
 add_app = with_edit (codes "line") (new_app (codes "add"))
 
+abbrev pub back_app : App
+back_app = with_edit (codes "to") (new_app (codes "back"))
+
 -- a version, and a subcommand that must be given
 abbrev pub with_version : App → App
 with_version app = record app { top = record app.top { has_version = true; subcommand_required = true } }
@@ -82,7 +85,7 @@ with_board_subcommands app = with_subcommand (with_subcommand (with_subcommand (
 
 -- with those that change a capture
 abbrev pub with_edit_subcommands : App → App
-with_edit_subcommands app = with_subcommand app add_app.top
+with_edit_subcommands app = with_subcommand (with_subcommand app add_app.top) back_app.top
 
 -- with those that read texts, or nothing
 abbrev pub with_text_subcommands : App → App

@@ -13,7 +13,7 @@ use Rattle.chess_rules.specs.declared.parts.Parts.{Parts}
 use Rattle.board_events.specs.declared.setup.Setup.{Setup}
 use Rattle.board_events.specs.Settings.{Setting}
 use Rattle.replay_arguments.specs.declared.arguments.Subcommand.{Subcommand}
-use Rattle.replay_arguments.specs.declared.arguments.Subcommand.TheVariants.{Show, Pictures, Record, Follow, Watch, Recover, Add, Check, Moves, Positions}
+use Rattle.replay_arguments.specs.declared.arguments.Subcommand.TheVariants.{Show, Pictures, Record, Follow, Watch, Recover, Add, Back, Check, Moves, Positions}
 use Rattle.replay_arguments.specs.declared.arguments.BoardArguments.{BoardArguments}
 use Rattle.replay_arguments.specs.declared.arguments.RecordArguments.{RecordArguments}
 use Rattle.replay_arguments.specs.declared.arguments.EditArguments.{EditArguments}
@@ -23,7 +23,7 @@ use Rattle.chess_text.specs.Start.{StartsAt, given}
 
 -- whether the subcommand is one of the program's, and the side after `--first`, if there is one, is white or black
 abbrev pub is_subcommand : Text → List Row → Bool
-is_subcommand name rows = if bytes_eq name (codes "record") || bytes_eq name (codes "follow") || bytes_eq name (codes "watch") || bytes_eq name (codes "recover") || bytes_eq name (codes "add") then is_some (side_in (first_of (codes "first") rows))
+is_subcommand name rows = if bytes_eq name (codes "record") || bytes_eq name (codes "follow") || bytes_eq name (codes "watch") || bytes_eq name (codes "recover") || bytes_eq name (codes "add") || bytes_eq name (codes "back") then is_some (side_in (first_of (codes "first") rows))
     else (bytes_eq name (codes "show") || bytes_eq name (codes "pictures") || bytes_eq name (codes "check") || bytes_eq name (codes "moves") || bytes_eq name (codes "positions"))
 
 -- what a subcommand with these arguments asks for
@@ -35,6 +35,7 @@ pub record Chooses (name : Text) (rows : List Row) (subcommand : Option Subcomma
   pub watch : name ≡ codes "watch" → IfSome subcommand (λ chosen. (options : BoardArguments) × (chosen ≡ Watch options) × WantsBoard rows options)
   pub recover : name ≡ codes "recover" → IfSome subcommand (λ chosen. (options : BoardArguments) × (chosen ≡ Recover options) × WantsBoard rows options)
   pub add : name ≡ codes "add" → IfSome subcommand (λ chosen. (options : EditArguments) × (chosen ≡ Add options) × WantsEdit (codes "line") rows options)
+  pub back : name ≡ codes "back" → IfSome subcommand (λ chosen. (options : EditArguments) × (chosen ≡ Back options) × WantsEdit (codes "to") rows options)
   pub check : name ≡ codes "check" → subcommand ≡ Some Check
   pub moves : name ≡ codes "moves" → (fen : Option (Bor Text)) × (subcommand ≡ Some (Moves fen)) × (given fen ≡ first_of (codes "fen") rows)
   pub positions : name ≡ codes "positions" → (fen : Option (Bor Text)) × (subcommand ≡ Some (Positions fen)) × (given fen ≡ first_of (codes "fen") rows)
@@ -102,6 +103,12 @@ AsksToRecover arguments setting = (rows : List Row) × Asks arguments (codes "re
 abbrev pub AsksToAdd : List Text → Setting → Bool → Option Text → Type 0
 AsksToAdd arguments setting recovers line = (rows : List Row) × Asks arguments (codes "add") rows × SetsBoardUp rows setting
     × (one_of (codes "recover") rows ≡ Some (flag_text recovers)) × (first_of (codes "line") rows ≡ line)
+
+-- The arguments ask that a game go back as far as a text says, if there is one, of a capture whose game is set up so, and
+-- which is recovered first or not.
+abbrev pub AsksToGoBack : List Text → Setting → Bool → Option Text → Type 0
+AsksToGoBack arguments setting recovers to = (rows : List Row) × Asks arguments (codes "back") rows × SetsBoardUp rows setting
+    × (one_of (codes "recover") rows ≡ Some (flag_text recovers)) × (first_of (codes "to") rows ≡ to)
 
 -- The arguments ask for the moves of this position.
 abbrev pub AsksForMoves : List Text → Parts → Type 0

@@ -37,6 +37,8 @@ pub enum Subcommand<'a> {
     Recover(BoardArguments<'a>),
     /// The bytes that a typed line adds to a capture.
     Add(EditArguments<'a>),
+    /// A capture whose game goes back to one of its plies.
+    Back(EditArguments<'a>),
     /// Whether a text is PGN in export form.
     Check,
     /// The legal moves of a position.
@@ -63,7 +65,7 @@ pub struct EditArguments<'a> {
     pub board: BoardArguments<'a>,
     /// Whether the moves that no picture showed are recovered first.
     pub recovers: bool,
-    /// The line that was typed, if any.
+    /// The line that was typed, or how far the game goes back; if any.
     pub text: Option<&'a str>,
 }
 
@@ -186,6 +188,10 @@ fn subcommand_named<'a>(name: &str, matches: &ArgMatches<'a>) -> Option<Subcomma
         },
         "add" => match edit_arguments_of("line", matches) {
             Some(add) => Some(Subcommand::Add(add)),
+            None => None,
+        },
+        "back" => match edit_arguments_of("to", matches) {
+            Some(back) => Some(Subcommand::Back(back)),
             None => None,
         },
         "check" => Some(Subcommand::Check),

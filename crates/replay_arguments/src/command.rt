@@ -1,7 +1,7 @@
 //! The command line of the program, as `clap` parses it.
 ghost use Rattle.std.specs.Prelude.{◌≡◌, IfOk};
 ghost use Rattle.clap.specs.Simple.{App, app_of, new_app};
-ghost use Rattle.replay_arguments.specs.Command.{AddsRule, AddsApp, IsApp, Makes, add_app, check_app, follow_app, moves_app, pictures_app, positions_app, record_app, recover_app, recover_rule, replay, rotated_rule, show_app, text_rule, watch_app, with_board, with_board_subcommands, with_edit, with_edit_subcommands, with_tags, with_text_subcommands};
+ghost use Rattle.replay_arguments.specs.Command.{AddsRule, AddsApp, IsApp, Makes, add_app, back_app, check_app, follow_app, moves_app, pictures_app, positions_app, record_app, recover_app, recover_rule, replay, rotated_rule, show_app, text_rule, watch_app, with_board, with_board_subcommands, with_edit, with_edit_subcommands, with_tags, with_text_subcommands};
 
 use crate::tag_options::{option_help, option_name};
 use chess_game::Tag;
@@ -206,6 +206,23 @@ fn add<'a>(alloc: Global) -> Result<Command<'a>, AllocError>
     )
 }
 
+fn back<'a>(alloc: Global) -> Result<Command<'a>, AllocError>
+    ensures { IfOk result (λ command. IsApp command back_app) }
+{
+    let command = named(
+        alloc,
+        "back",
+        "Writes a new capture, in which the game of a capture on standard input goes back to one of its plies",
+    );
+    with_edit(
+        alloc,
+        Ok(command),
+        "to",
+        "PLY",
+        "The last ply that stays, or how many stay; without it, all but the last",
+    )
+}
+
 fn check<'a>(alloc: Global) -> Command<'a>
     ensures { IsApp result check_app }
 {
@@ -262,7 +279,8 @@ fn with_edit_subcommands<'a>(
 ) -> Result<Command<'a>, AllocError>
     ensures { (app : App) → Makes command.entry app → Makes result (with_edit_subcommands app) }
 {
-    with_subcommand(command, add(alloc))
+    let command = with_subcommand(command, add(alloc));
+    with_subcommand(command, back(alloc))
 }
 
 /// The command with the subcommands that read texts, or nothing.

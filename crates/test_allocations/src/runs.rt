@@ -2,7 +2,7 @@
 
 use crate::Outcome;
 use dgt_vectors::bytes::Bytes;
-use dgt_vectors::captures::Signal::{self, Dump, Lift, Put};
+use dgt_vectors::captures::Signal::{self, Dump, Lift, Put, Raw, Time};
 use dgt_vectors::captures::{INITIAL, bytes_of};
 use dgt_vectors::streams::{Sink, Source};
 use dgt_vectors::texts::{GameText, NO_MOVE, ONE_MOVE, with_game};
@@ -21,7 +21,9 @@ pub struct Case<'a> {
     text: Option<GameText<'a>>,
     /// The lines of the output.
     out: &'a str,
-    /// The text behind the lines.
+    /// The signals behind the lines.
+    made: &'a [Signal<'a>],
+    /// The text behind them.
     game: Option<GameText<'a>>,
     err: &'a str,
     /// The lines where the first ply was refused; the text has no move then.
@@ -37,13 +39,20 @@ const PLAIN: Case<'static> = Case {
     moves: "",
     text: None,
     out: "",
+    made: &[],
     game: None,
     err: "",
     without_ply: "",
     ply_refused: "",
 };
 
-pub static CASES: [Case<'static>; 7] = [
+const E4: &str = "rnbqkbnr/pppppppp/8/8/4P3/8/PPPP1PPP/RNBQKBNR";
+
+const E4_E5: &str = "rnbqkbnr/pppp1ppp/8/4p3/4P3/8/PPPP1PPP/RNBQKBNR";
+
+const NO_CLOCK: Signal<'static> = Time([0x00, 0x00, 0x00, 0x00, 0x00, 0x00, 0x20]);
+
+pub static CASES: [Case<'static>; 9] = [
     Case {
         name: "record",
         arguments: &["record"],
@@ -92,6 +101,22 @@ pub static CASES: [Case<'static>; 7] = [
         ..PLAIN
     },
     Case {
+        name: "add",
+        arguments: &["add", "--line=e4"],
+        input: &[Dump(INITIAL)],
+        made: &[NO_CLOCK, Dump(E4), NO_CLOCK, Dump(INITIAL), Raw(&[0x00])],
+        err: "add: moves 1\n",
+        ..PLAIN
+    },
+    Case {
+        name: "back",
+        arguments: &["back"],
+        input: &[Dump(INITIAL), Dump(E4), Dump(E4_E5), Dump(E4)],
+        made: &[Dump(INITIAL), NO_CLOCK, Dump(E4), NO_CLOCK, Dump(E4)],
+        err: "back: plies 1, gone 1, result *\n",
+        ..PLAIN
+    },
+    Case {
         name: "check",
         arguments: &["check"],
         text: Some(ONE_MOVE),
@@ -130,7 +155,12 @@ fn run_of(alloc: Global, case: &Case<'_>) -> Option<Left> {
 
 fn is_done(case: &Case<'_>, left: &Left) -> bool {
     left.status == 0
-        && left.out.get() == with_game(&[case.out.as_bytes()], &case.game).get()
+        && left.out.get()
+            == with_game(
+                &[case.out.as_bytes(), bytes_of(case.made).get()],
+                &case.game,
+            )
+            .get()
         && left.err.get() == case.err.as_bytes()
 }
 

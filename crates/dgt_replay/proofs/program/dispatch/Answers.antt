@@ -21,7 +21,10 @@ pub returns-in-Recover-clause-does : goal.returns-in-Recover-clause-does
 returns-in-Recover-clause-does g c = rw c.in-Recover.is (c.recover.ensures.recovers, c.recover.ensures.refuses)
 
 pub returns-in-Add-clause-does : goal.returns-in-Add-clause-does
-returns-in-Add-clause-does g c = rw c.in-Add.is (c.add.ensures.adds, c.add.ensures.refuses)
+returns-in-Add-clause-does g c = rw c.in-Add.is (c.edit.ensures.edits, c.edit.ensures.refuses)
+
+pub returns-in-Back-clause-does : goal.returns-in-Back-clause-does
+returns-in-Back-clause-does g c = rw c.in-Back.is (c.edit-in-Back.ensures.edits, c.edit-in-Back.ensures.refuses)
 
 pub returns-in-Check-clause-does : goal.returns-in-Check-clause-does
 returns-in-Check-clause-does g c =

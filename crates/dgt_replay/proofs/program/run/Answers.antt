@@ -8,10 +8,13 @@ use Rattle.board_listing.specs.EventLines.{rest_line}
 use Rattle.board_listing.specs.OneText.{event_lines, no_line, picture_lines}
 use Rattle.board_listing.specs.declared.listing.Listing.TheVariants.{Game, Watched}
 use Rattle.replay_arguments.specs.TagOptions.{option_of}
-use Rattle.dgt_replay.specs.Add.{typed_in}
+use Rattle.board_captures.specs.Reading.{IsTooLong}
+use Rattle.dgt_replay.specs.Add.{AnswersLine}
+use Rattle.dgt_replay.specs.Back.{AnswersBack}
+use Rattle.dgt_replay.specs.Edit.{text_in}
 use Rattle.dgt_replay.specs.Refusals.{RefusesSetup}
 use Rattle.text_subcommands.specs.Refusals.{RefusesStart}
-use Rattle.dgt_replay.proofs.DoesLemmas.{adds_line_memory, checks_memory, does_add, does_refuse_add, does_check, does_follow, does_moves, does_pictures, does_positions, does_record, does_recover, does_refuse_positions, does_refuse_recover, does_refuse_setup, does_refuse_start, does_refuse_watch, does_show, does_watch, lacks_memory, lists_memory, plays_memory, prints_memory, records_memory, recovers_memory, refuses_memory, text_memory}
+use Rattle.dgt_replay.proofs.DoesLemmas.{checks_memory, does_add, does_back, does_refuse_add, does_refuse_back, edits_memory, does_check, does_follow, does_moves, does_pictures, does_positions, does_record, does_recover, does_refuse_positions, does_refuse_recover, does_refuse_setup, does_refuse_start, does_refuse_watch, does_show, does_watch, lacks_memory, lists_memory, plays_memory, prints_memory, records_memory, recovers_memory, refuses_memory, text_memory}
 use Rattle.dgt_replay.proofs.FaultLemmas.{mistaken_asks_nothing, mistaken_kind, one_fault, one_kind, text_out_of_memory}
 use Rattle.dgt_replay.proofs.SubcommandLemmas.{check_unrefused, follow_unrefused, moves_chosen, or_refused, pictures_unrefused, record_unrefused, recover_chosen, recover_unrefused, show_unrefused, unrefused, watch_unrefused}
 use Rattle.dgt_replay.proofs.program.run.Goals as goal
@@ -119,7 +122,7 @@ returns-in-Ok-clause-recover_refuses g c rows asks none =
 pub returns-in-Err-clause-add : goal.returns-in-Err-clause-add
 returns-in-Err-clause-add g c setting recovers line asks =
     let arguments = map string_bytes c.args.arguments.now in
-    adds_line_memory setting recovers (typed_in line) _ _ (lacks_memory _ _ (Keeps-refl (g.R.Read.remaining (inner_of c.args.reader.now))) c.requires.reading (c.refused_arguments.ensures.memory (or_refused c.in-Err.ensures.refused (unrefused arguments (codes "add") asks.0 asks.1))))
+    edits_memory (AnswersLine setting recovers (text_in line)) (IsTooLong setting recovers) _ _ (lacks_memory _ _ (Keeps-refl (g.R.Read.remaining (inner_of c.args.reader.now))) c.requires.reading (c.refused_arguments.ensures.memory (or_refused c.in-Err.ensures.refused (unrefused arguments (codes "add") asks.0 asks.1))))
 
 pub returns-in-Ok-clause-add : goal.returns-in-Ok-clause-add
 returns-in-Ok-clause-add g c setting recovers line asks =
@@ -135,6 +138,26 @@ pub returns-in-Ok-clause-add_refuses : goal.returns-in-Ok-clause-add_refuses
 returns-in-Ok-clause-add_refuses g c rows asks none =
     let arguments = map string_bytes c.args.arguments.now in
     does_refuse_add arguments c.in-Ok.subcommand c.dispatch.result _ c.in-Ok.ensures.chooses c.dispatch.ensures.does rows asks none
+
+pub returns-in-Err-clause-back : goal.returns-in-Err-clause-back
+returns-in-Err-clause-back g c setting recovers to asks =
+    let arguments = map string_bytes c.args.arguments.now in
+    edits_memory (AnswersBack setting recovers (text_in to)) (IsTooLong setting recovers) _ _ (lacks_memory _ _ (Keeps-refl (g.R.Read.remaining (inner_of c.args.reader.now))) c.requires.reading (c.refused_arguments.ensures.memory (or_refused c.in-Err.ensures.refused (unrefused arguments (codes "back") asks.0 asks.1))))
+
+pub returns-in-Ok-clause-back : goal.returns-in-Ok-clause-back
+returns-in-Ok-clause-back g c setting recovers to asks =
+    let arguments = map string_bytes c.args.arguments.now in
+    does_back arguments c.in-Ok.subcommand c.dispatch.result _ c.in-Ok.ensures.chooses c.dispatch.ensures.does setting recovers to asks
+
+pub returns-in-Err-clause-back_refuses : goal.returns-in-Err-clause-back_refuses
+returns-in-Err-clause-back_refuses g c rows asks none =
+    let arguments = map string_bytes c.args.arguments.now in
+    refuses_memory (RefusesStart (first_of (codes "fen") rows)) _ _ (lacks_memory _ _ (Keeps-refl (g.R.Read.remaining (inner_of c.args.reader.now))) c.requires.reading (c.refused_arguments.ensures.memory (or_refused c.in-Err.ensures.refused (unrefused arguments (codes "back") rows asks))))
+
+pub returns-in-Ok-clause-back_refuses : goal.returns-in-Ok-clause-back_refuses
+returns-in-Ok-clause-back_refuses g c rows asks none =
+    let arguments = map string_bytes c.args.arguments.now in
+    does_refuse_back arguments c.in-Ok.subcommand c.dispatch.result _ c.in-Ok.ensures.chooses c.dispatch.ensures.does rows asks none
 
 pub returns-in-Err-clause-check : goal.returns-in-Err-clause-check
 returns-in-Err-clause-check g c is =

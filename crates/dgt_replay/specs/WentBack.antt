@@ -1,0 +1,27 @@
+-- What `record` makes of the new capture of a game that went back. Plies stand in their order.
+use Rattle.std.specs.Prelude.{◌≡◌, ℕ, List, Option, None, Some, false, take}
+use Rattle.chess_game.specs.Games.{Content}
+use Rattle.chess_rules.specs.Valid.{Valid}
+use Rattle.dgt_frame.specs.declared.events.Event.{Event}
+use Rattle.settle_core.specs.Settler.{SettlerState, HasSettled, plies_of}
+use Rattle.board_captures.specs.Reading.{IsRead}
+use Rattle.board_events.specs.declared.setup.Setup.{Setup}
+use Rattle.board_events.specs.Session.{entries_in}
+use Rattle.board_events.specs.Settings.{Setting, setting_of}
+use Rattle.board_session.specs.declared.report.Report.{Report}
+use Rattle.board_session.specs.Recording.{RecordsGame}
+use Rattle.going_back.specs.Naming.{Names}
+use Rattle.dgt_replay.specs.Back.{AnswersBack}
+
+-- This game has exactly the plies of the capture's game up to the one that the text names, with their clocks, and no
+-- result.
+abbrev pub HasStayed : Setting → List ℕ → List ℕ → Content → Type 0
+HasStayed setting capture to recorded = (past : List Event) × (game : SettlerState) × (k : ℕ) × IsRead setting false capture past
+    × HasSettled game setting.start (entries_in setting past) × Names game.start (plies_of game) to k
+    × (recorded.plies ≡ take k (plies_of game)) × (recorded.result ≡ None)
+
+-- Of the new capture `record` writes that game.
+abbrev pub WentBackIsRecorded : Type 0
+WentBackIsRecorded = (setup : Setup) (report : Report) (capture to made line : List ℕ) (sent sent' written written' : Option (List ℕ)) → Valid setup.start
+    → AnswersBack (setting_of setup) false to capture (Some made) line
+    → (r : RecordsGame setup report made sent sent' written written') → HasStayed (setting_of setup) capture to r.game
