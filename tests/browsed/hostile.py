@@ -59,7 +59,7 @@ ODD = {  # what is typed, and what stands between the quotes of a tag then
     "-bye- ": "-bye-",
 }
 REFUSED = ("a\u2028b", "\ud800", "x" * 256)  # no tag can have these
-NO_MOVES = ("-", "--", "-1", "-bye-", "--white", "=x", "\\", '"', "x" * 101, "a\u2028b", "\ud800")
+NO_MOVES = ("-", "----", "-1", "-bye-", "--white", "=x", "\\", '"', "x" * 101, "a\u2028b", "\ud800")
 
 
 def put(page: Page, where: str, text: str) -> str:

@@ -12,6 +12,9 @@ from browsed.series import movetext_of
 from browsed.stage import with_chromium
 from played.stage import same
 
+BLACK_PAWN = 7  # by the protocol
+KNIGHTS = ["e2e4", "e7e5", "g1f3", "a7a6", "d2d4", "d7d6", "f3g1", "a6a5"]  # one of which goes home
+KNIGHTS_SANS = ["e4", "e5", "Nf3", "a6", "d4", "d6", "Ng1", "a5"]
 MIB = 2**20  # bytes
 # Counts the calls of the program for typed lines, and holds back the answer to the first one while `isHeld`.
 HELD = """
@@ -169,6 +172,20 @@ def board_goes_on(folder: pathlib.Path) -> None:
         stage.until_part(page, "#answer", "Nc6 is no legal move: White is to move, after 2... Nc6")
         same(page.moves, RUY_SANS[:4])
         stage.rest(1)
+        page.value("window.isHeld = true")
+        page.type("back")
+        stage.until(lambda: page.value("window.letGo.length") == 1, "the call for the line")
+        port.board.lift("a7")
+        port.board.lift("h7")
+        stage.until_dumped(page, port)
+        page.value("window.letGo.pop()()")
+        stage.until_part(page, "#answer", "back to 2. Nf3; taken off: 2... Nc6")
+        stage.until_moves(page, RUY_SANS[:3])
+        for square in ("a7", "h7"):
+            port.board.put(square, BLACK_PAWN)
+        stage.until_moves(page, RUY_SANS[:4])
+        until_agrees(stage, page)
+        stage.rest(1)
         before = page.value("window.typedCalls.length")
         page.value("""
         for (const text of ['Bb5', 'hello', 'a6', 'ok', 'Ba4 Nf6']) {
@@ -222,6 +239,146 @@ def edited_result(folder: pathlib.Path) -> None:
         until_text(stage, chosen, "board 1.pgn", "1. e4 e5 2. Nf3 Nc6 *")
         same(chosen.files.get("board 1.edited.pgn"), edited)
         same(sorted(name for name in chosen.files if "edited" in name), ["board 1.edited.pgn"])
+
+
+@with_chromium
+def asked_twice(folder: pathlib.Path) -> None:
+    """Many plies are taken off only if that is typed twice, with nothing else between. The tab is killed as soon as it is answered:
+    opened again, the game has the plies that stay."""
+    with Hall(folder) as stage:
+        page, port = begin(stage)
+        until_agrees(stage, page)
+        play(stage, page, port, RUY[:6], RUY_SANS[:6])
+        port.board.lift("e1")
+        stage.until_dumped(page, port)
+        question = "takes off 4 plies, from 2. Nf3: type it again"
+        answered(stage, page, "back 1... e5", question)
+        answered(stage, page, "back 3. Bb5 Nf6", "The nearest is 3. Bb5: type back 3. Bb5")
+        answered(stage, page, "back 1...e5", question)
+        same(page.moves, RUY_SANS[:6])
+        answered(stage, page, "back 1... e5", "back to 1... e5; taken off: 2. Nf3 Nc6 3. Bb5 a6. What the board had sent is kept")
+        stage.crash(page)
+        page = stage.tab()
+        stage.enlarge(page, 1)
+        stage.until_moves(page, RUY_SANS[:2])
+
+
+@with_chromium
+def result_of_another_board(folder: pathlib.Path) -> None:
+    """A result was typed for the wrong board and has ended its game; the players go on. `*` takes it off, and the game has their moves;
+    `back` while it is over takes off plies of the game, and none that came after it."""
+    with Hall(folder) as stage:
+        page, port = begin(stage)
+        until_agrees(stage, page)
+        play(stage, page, port, RUY[:4], RUY_SANS[:4])
+        answered(stage, page, "1-0", "added by hand")
+        stage.until(lambda: page.text("#state").startswith("over"), "the end of the game")
+        for move in RUY[4:6]:
+            port.board.play(move)
+            stage.until_dumped(page, port)
+        stage.until_part(page, "#state", "LOOK after 2... Nc6")
+        same(page.moves, RUY_SANS[:4])
+        answered(stage, page, "*", "board 1 goes on, without the result")
+        page.click("#ok")
+        stage.until_moves(page, RUY_SANS[:6])
+        play(stage, page, port, RUY[6:8], RUY_SANS[6:8])
+        answered(stage, page, "0-1", "added by hand")
+        stage.until(lambda: page.text("#state").startswith("over"), "the end of the game")
+        port.board.play(RUY[8])
+        stage.until_dumped(page, port)
+        answered(stage, page, "back", "back to 4. Bxc6; taken off: 4... dxc6; the result 0-1 is gone. What the board had sent is kept")
+        stage.until_moves(page, RUY_SANS[:7])
+        game, capture = stage.saved(page, "#save-game"), stage.saved(page, "#save-capture")
+        same((movetext_of(game), game), ("1. e4 e5 2. Nf3 Nc6 3. Bb5 a6 4. Bxc6 *", of_record(game, capture)))
+
+
+@with_chromium
+def start_after_back(folder: pathlib.Path) -> None:
+    """Plies are taken off while the board is away, and when it comes back its pieces are at the start: the game is over with all
+    plies that stay, also with a piece that went home last, and the next one begins."""
+    with Hall(folder) as stage:
+        page, port = begin(stage)
+        until_agrees(stage, page)
+        play(stage, page, port, KNIGHTS, KNIGHTS_SANS)
+        port.board.lift("e1")
+        stage.until_dumped(page, port)
+        stage.pull(port)
+        stage.until(lambda: page.text("#state").startswith("UNPLUGGED"), "the alarm of an unplugged board")
+        answered(stage, page, "back 4. Ng1", "back to 4. Ng1; taken off: 4... a5")
+        port.board.set_up([])
+        stage.plug(port)
+        stage.until_moves(page, [])
+        until_agrees(stage, page)
+        play(stage, page, port, QUEENS[:2], QUEENS_SANS[:2])
+        texts = stage.saved(page, "#save-round").decode().replace("\n", " ")
+        assert "1. e4 e5 2. Nf3 a6 3. d4 d6 4. Ng1 *" in texts and "1. d4 d5 *" in texts, texts
+
+
+@with_chromium
+def back_between_games(folder: pathlib.Path) -> None:
+    """The game is over and the board still shows the ply that is taken off: the game stays over without it, and the next one begins
+    when the pieces are set up. Then its result is given."""
+    with Hall(folder) as stage:
+        chosen = Chosen(stage)
+        page, port = begin_in(stage, chosen)
+        page.type("Anna", "#white")
+        page.type("Ben", "#black")
+        chosen.choose(stage, page)
+        play(stage, page, port, RUY[:6], RUY_SANS[:6])
+        answered(stage, page, "1-0", "added by hand")
+        stage.until(lambda: page.text("#state").startswith("over"), "the end of the game")
+        answered(stage, page, "back", "back to 3. Bb5; taken off: 3... a6; the result 1-0 is gone. The board still shows it, so the game stays over")
+        stage.until_moves(page, RUY_SANS[:5])
+        stage.rest(2)
+        assert page.text("#state").startswith("over") and page.moves == RUY_SANS[:5], page.describe()
+        until_text(stage, chosen, "Anna - Ben.pgn", "1. e4 e5 2. Nf3 Nc6 3. Bb5 *")
+        port.board.set_up([])
+        stage.until_moves(page, [])
+        until_agrees(stage, page)
+        page.click("[data-before='0-1']")
+        until_text(stage, chosen, "Anna - Ben.pgn", "1. e4 e5 2. Nf3 Nc6 3. Bb5 0-1")
+        play(stage, page, port, QUEENS[:2], QUEENS_SANS[:2])
+        until_text(stage, chosen, "Anna - Ben-2.pgn", "1. d4 d5 *")
+
+
+@with_chromium
+def forfeited(folder: pathlib.Path) -> None:
+    """A player doesn't come: the game has a result, no move and the tag that says so, on the card, in the folder and in round.pgn, also
+    when the page is opened again; a new round leaves it as it is. If both don't come it has no result."""
+    with Hall(folder) as stage:
+        chosen = Chosen(stage)
+        page, port = begin_in(stage, chosen)
+        page.type("Anna", "#white")
+        page.type("Ben", "#black")
+        chosen.choose(stage, page)
+        for text, part in {"0-0": "If neither player has come, type --", "help": "+- (Black has not come"}.items():
+            answered(stage, page, text, part)
+        answered(stage, page, "--", "forfeit 0-0: it isn't played")
+        stage.until_part(page, "#state", "forfeit 0-0")
+        until_text(stage, chosen, "Anna - Ben.pgn", "*")
+        answered(stage, page, "*", "if it is played after all, just play")
+        answered(stage, page, "-+", "forfeit 0-1: it isn't played")
+        answered(stage, page, "*", "no ply is taken off; the result 0-1 is gone")
+        until_agrees(stage, page)
+        answered(stage, page, "1-0 FF", "forfeit 1-0: it isn't played")
+        until_text(stage, chosen, "Anna - Ben.pgn", "1-0")
+        assert b'[Termination "rules infraction"]' in chosen.files["Anna - Ben.pgn"], chosen.files["Anna - Ben.pgn"]
+        stage.until_part(page, "#at", "1\u20130 forfeit")
+        page.click("#back")
+        stage.until_part(page, "a.tile[href='#1']", "1\u20130 forfeit")
+        stage.open(page)
+        stage.until_part(page, "a.tile[href='#1']", "1\u20130 forfeit")
+        page.click("#new-round")
+        page.fill("Carl; Dora", "#round-pairs")
+        stage.begin_round(page)
+        stage.enlarge(page, 1)
+        stage.until(lambda: page.field("#white") == "Carl", "the next game")
+        until_agrees(stage, page)
+        play(stage, page, port, RUY[:2], RUY_SANS[:2])
+        answered(stage, page, "+-", "the game has moves, so it isn't a forfeit: type 1-0")
+        texts = stage.saved(page, "#save-round").decode()
+        assert "Termination" in texts.split("[Event ")[1] and "1-0" in texts.split("[Event ")[1], texts
+        assert "1. e4 e5 *" in texts.split("[Event ")[2] and "Termination" not in texts.split("[Event ")[2], texts
 
 
 @with_chromium

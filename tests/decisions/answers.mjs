@@ -18,7 +18,10 @@ export function words(counts, cases) {
   counts.same("all ways", ON_HELP.filter((part) => ALL_WAYS.includes(part)), ON_HELP);
   counts.same("in one line", ALL_WAYS.length < 100, true);
   for (const text of cases("noughts")) {
-    counts.same(text, counts.refused(text, "Refused", () => readWords(text)), BOTH_LOSE);
+    counts.same(text, counts.refused(text, "Refused", () => readWords(text)).startsWith(BOTH_LOSE), true);
+  }
+  for (const [text, to] of cases("plies")) {
+    counts.same(`back ${text}`, readWords(`back ${text}`), { kind: "back", to });
   }
   for (const text of cases("which ply")) {
     counts.same(text, counts.refused(text, "Refused", () => readWords(text)).startsWith("which ply? Type it as"), true);

@@ -1,42 +1,26 @@
-/** The way back: which ply is meant, what is asked and told, and the capture that is made anew. */
-import { pictureOfPlacement } from "/web/device/protocol.js";
-import { captureOf, notSo, pliesThatStay, question, readings, settled, wentOn, wordsOfBack } from "/web/game/back.js";
-import { readingOfClock, timeMessage, withoutClock } from "/web/game/clocks.js";
-import { Looks } from "/web/game/looks.js";
-import { bytesOf } from "./table.mjs";
-
-const FRONT = "8d 00 0a "; // of a time message
+/** The way back: what is asked and told. The program finds the ply and makes the capture anew. */
+import { question, readBack, refuseBack, refuseNothing, settled, wordsOfBack } from "/web/game/back.js";
+import { Looks, OVER } from "/web/game/looks.js";
 
 const moveOf = ([number, san, clock]) => ({ kind: "move", number, san, clock, corrects: false });
-const back = (ply) => ({ kind: "back", ...ply });
-const reading = (times) => times && { white: times[0], black: times[1] };
 
 export function plies(counts, cases) {
   const game = cases("plies").map(moveOf);
-  for (const [typed, stay] of cases("stay")) {
-    counts.same(JSON.stringify(typed), pliesThatStay(game, back(typed)), stay);
-  }
-  for (const [typed, nearest] of cases("nearest")) {
-    const told = counts.refused(JSON.stringify(typed), "Refused", () => pliesThatStay(game, back(typed)));
-    counts.same(`${JSON.stringify(typed)}: the nearest`, told.endsWith(`: type back ${nearest}`), true);
-  }
-  const last = back({ number: "", san: "", all: false });
-  counts.refused("no ply", "Refused", () => pliesThatStay([], last));
-  counts.refused("no such ply", "Refused", () => pliesThatStay([], back({ number: "1.", san: "e4", all: false })));
-  counts.same("all of none", pliesThatStay([], { ...last, all: true }), 0);
   for (const [stays, asked] of cases("questions")) {
     counts.same(`${stays} stay`, question(game.slice(stays)), asked);
   }
   for (const [stays, result, expected] of cases("told")) {
     counts.same(expected, wordsOfBack(game, stays, result), expected);
   }
-  for (const [ended, result, has, after, expected] of cases("went on")) {
-    const name = `${ended} ${result}, ${has} ${after}`;
-    counts.same(name, wentOn(game.slice(0, ended), result, game.slice(0, has), after), expected);
-  }
-  counts.same("another game", wentOn(game.slice(0, 2), "1-0", game.slice(1, 5), "*"), false);
   for (const [stays, has, result, expected] of cases("not so")) {
-    counts.same(expected.slice(0, 40), notSo(game, stays, game.slice(0, has), result), expected);
+    const still = result === "*" ? "board" : "signed";
+    const said = has > stays ? { kind: "moved", stays, rest: `${game[stays].number} ${game[stays].san}` } : { kind: still, stays, rest: result };
+    counts.same(expected.slice(0, 40), refuseBack(said, "", game).message, expected);
+  }
+  for (const [typed, nearest] of cases("nearest")) {
+    const to = `${typed.number} ${typed.san}`;
+    const { message } = refuseBack({ kind: "nearest", stays: 0, rest: nearest }, to, game);
+    counts.same(to, message, `${to} is no ply of the game. The nearest is ${nearest}: type back ${nearest}`);
   }
 }
 
@@ -46,26 +30,42 @@ export function looks(counts, cases) {
     const left = new Looks(before.map((what) => ({ what, why: "why", about: "" }))).without(settled(game, stays));
     counts.same(`${stays} plies stay`, left.open.map((look) => look.what), after);
   }
+  const [over, hidden] = [{ what: "after 6. Nf3", why: "why", about: OVER }, { what: "after 6. Nf3", why: "why", about: "" }];
+  for (const [gone, left] of [[["at 6. Nf3"], [hidden]], [["at 5... Qd4", "since 6. Nf3"], [over, hidden]], [["after 6. Nf3"], []]]) {
+    counts.same(`settled: ${gone}`, new Looks([over, hidden]).without(gone).open, left);
+  }
 }
 
-export function clocks(counts, cases) {
-  for (const [reported, shown] of cases("reported")) {
-    const clock = reported && { kind: "clock", white: reported[0], black: reported[1] };
-    counts.same(`as it is reported: ${reported}`, readingOfClock(clock), reading(shown));
-  }
-  for (const [shown, blackFirst, expected] of cases("clocks")) {
-    counts.same(`${shown} ${blackFirst}`, timeMessage(reading(shown), blackFirst), bytesOf(FRONT + expected));
-  }
-  for (const [put, shown, blackFirst, expected] of cases("without a clock")) {
-    counts.same(`put in while the clocks show ${shown}`, withoutClock(bytesOf(put), reading(shown), blackFirst), bytesOf(expected));
-  }
-  counts.same("of plies", readings(cases("plies").slice(0, 4).map(moveOf)), cases("readings").map(reading));
-}
-
-export function captures(counts, cases) {
+export function nothing(counts, cases) {
   const game = cases("plies").map(moveOf);
-  for (const [name, stays, fens, shown, board, rotated, expected] of cases("captures")) {
-    const kept = { plies: game.slice(0, stays), fens, present: reading(shown), board: board && pictureOfPlacement(board) };
-    counts.same(name, captureOf(kept, rotated, false), bytesOf(expected));
+  for (const [name, plies, stays, result, to, expected] of [
+    ["all stay", game, 12, "*", "6...", "the game ends with 6... Qxe4+ already"],
+    ["there is none", [], 0, "*", "0", "the game has no move"],
+    ["no result", game, 12, "*", "*", "the game has no result"],
+  ]) {
+    counts.same(name, counts.refused(name, "Refused", () => refuseNothing(plies, stays, result, to)), expected);
+  }
+  counts.same("a result goes", refuseNothing(game, 12, "1-0", "*"), undefined);
+  counts.same("a ply goes", refuseNothing(game, 11, "*", ""), undefined);
+}
+
+export function answers(counts) {
+  const read = (status, said) => readBack({ status, errors: new TextEncoder().encode(`${said}\n`), output: new Uint8Array(2) });
+  for (const [status, said, expected] of [
+    [0, "back: plies 27, gone 3, result 1-0", { kind: "back", stays: 27, put: [0, 0] }],
+    [0, "back: plies 0, gone 0, result *", { kind: "back", stays: 0, put: [0, 0] }],
+    [1, "back: nearest 14. Bxf6+", { kind: "nearest", stays: 0, rest: "14. Bxf6+" }],
+    [1, "back: none", { kind: "none", stays: 0, rest: "" }],
+    [1, "back: moved 27 14... Qd7", { kind: "moved", stays: 27, rest: "14... Qd7" }],
+    [1, "back: ended 27 0-1", { kind: "ended", stays: 27, rest: "0-1" }],
+    [1, "back: signed 27 1-0", { kind: "signed", stays: 27, rest: "1-0" }],
+    [1, "back: board 27", { kind: "board", stays: 27, rest: "" }],
+    [1, "back: unseen 0", { kind: "unseen", stays: 0, rest: "" }],
+    [1, "input: too long", { kind: "long", stays: 0, rest: "" }],
+  ]) {
+    counts.same(said, read(status, said), expected);
+  }
+  for (const [status, said] of [[3, "read fault"], [4, "memory"], [0, "back: none"], [1, "add: nothing"], [2, "back: none"], [1, ""]]) {
+    counts.refused(`${status} ${said}`, "ProgramError", () => read(status, said));
   }
 }

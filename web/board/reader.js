@@ -1,5 +1,6 @@
 // Reads a capture with the program each time bytes come: its report, line by line, and its PGN.
 
+import { tagsOfForfeit } from '../game/forfeits.js';
 import { News, Newsworthy } from '../game/newsworthy.js';
 import { lineOf } from '../game/report.js';
 import { published } from '../game/tags.js';
@@ -8,7 +9,7 @@ const PAUSES = 2; // between two readings that can wait, for each board: this ma
 
 export class Reader {
   /**
-   * `hears` has options (of the game), and gets hear(line) for each new line, heardAll() after them, and reread() if
+   * `hears` has options and forfeit (of the game), and gets hear(line) for each new line, heardAll() after them, and reread() if
    * lines have changed that were heard before.
    */
   constructor(hall, guard, hears) {
@@ -114,6 +115,6 @@ export class Reader {
   async text(limit) {
     const { options } = this.hears;
     await this.teach();
-    return published(await this.program.record(this.key, limit, options), options.tags);
+    return published(await this.program.record(this.key, limit, options), options.tags, tagsOfForfeit(this.hears.forfeit));
   }
 }

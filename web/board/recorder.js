@@ -6,11 +6,12 @@ import { AfterTheEnd } from '../game/after_the_end.js';
 import { Alarms, acknowledged } from '../game/alarms.js';
 import { reached } from '../game/back.js';
 import { endingWithSign, gameEnd } from '../game/ending.js';
+import { countingForfeit } from '../game/forfeits.js';
 import { textOfLook } from '../game/looks.js';
 import { dayOf } from '../game/names.js';
 import { gameOf, newCourse } from '../game/reading.js';
 import { codesOf, shortOf, shownOf } from '../game/report.js';
-import { Refused } from '../game/typed.js';
+import { ABSENT, Refused } from '../game/typed.js';
 import { Capture, LARGEST } from '../kept/capture.js';
 import { spread, withMore } from '../kept/spread.js';
 import { Cable } from './cable.js';
@@ -59,6 +60,7 @@ export class Recorder {
     this.gap = null; // how long it wasn't heard, while the report is read anew
     this.isUnkept = false; // whether the game's record couldn't be kept
     this.isLate = false; // whether the next game couldn't be begun
+    this.nextTry = null; // when that is tried again
     this.typing = new Typing(this);
     this.reader = new Reader(hall, guard, this);
     this.cable = new Cable(guard, kept.board.serial || '', this);
@@ -96,6 +98,11 @@ export class Recorder {
   /** Where the last bytes end that somebody has typed; 0 if there are none. */
   get typedTo() {
     return this.game.typedTo || 0;
+  }
+
+  /** Where the game ended before plies were taken off it, if it stays over; else 0. */
+  get overTo() {
+    return this.game.overTo || 0;
   }
 
   // Reading the capture.
@@ -141,7 +148,7 @@ export class Recorder {
     const now = this.capture.times.of(offset); // when it came: the report may be late
     if (event.kind === 'picture' && same(codesOf(event.placement), this.course.start)) this.startAt = offset;
     if (this.isOver && offset >= this.game.end) {
-      this.hearAfter(line, isOld);
+      if (offset >= this.overTo) this.hearAfter(line, isOld);
       return;
     }
     this.course.take(line, now);
@@ -174,6 +181,16 @@ export class Recorder {
     if (!this.after) this.after = new AfterTheEnd(this.course.start, reached(this.course.plies), this.course.result);
     const look = this.after.take(event);
     if (!isOld) this.tellLook(look ? this.alarms.add(look) : null);
+  }
+
+  /** Whether the game, which is over, was gone on with: moves were made, or the kings have left the centre. */
+  get wentOn() {
+    return this.after !== null && this.after.wentOn;
+  }
+
+  /** Whether the game is over, and its last move was another one after that. */
+  get isAltered() {
+    return this.isOver && this.after !== null && this.after.isAltered;
   }
 
   /** Takes over what was played earlier, and the board's last state until the board shows itself. */
@@ -332,9 +349,9 @@ export class Recorder {
 
   // Keeping.
 
-  /** Keeps the game's record. If that fails, it is tried again. */
+  /** Keeps the game's record. If that fails, it is tried again. The promise ends in any case. */
   keepGame() {
-    this.database.putGame(this.game).then(
+    return this.database.putGame(this.game).then(
       () => {
         this.isUnkept = false;
       },
@@ -471,6 +488,22 @@ export class Recorder {
     this.closeGame(end, reason);
   }
 
+  /** The game is not over any more. */
+  goOn() {
+    this.game = { ...this.game, end: null, overTo: 0 };
+    this.isPutBack = true;
+    this.reread();
+    return this.keepGame();
+  }
+
+  /** The game stays over, and ends with this ply; what came up to its earlier end counts no more. */
+  endWith(stays, looks) {
+    const end = stays > 0 ? this.course.settledAt[stays - 1] + 1 : 0;
+    this.game = { ...this.game, end, overTo: Math.max(this.game.end, this.overTo), looks };
+    this.reread();
+    return this.keepGame();
+  }
+
   closeGame(end, reason) {
     this.cancelLingering();
     this.game = { ...this.game, end, looks: this.alarms.looks.open };
@@ -520,7 +553,12 @@ export class Recorder {
     } catch (error) {
       if (!this.isLate) this.hears.says(`the next game can't be begun (${error.message}). Make room: it is tried again`);
       this.isLate = true;
-      this.guard.after(TICK, () => this.heardAll());
+      if (!this.nextTry) {
+        this.nextTry = this.guard.after(TICK, () => {
+          this.nextTry = null;
+          this.heardAll();
+        });
+      }
     }
   }
 
@@ -594,9 +632,22 @@ export class Recorder {
     this.byHand = [this.capture.size, this.capture.size + put.length];
     this.capture.append(put, this.guard.now());
     this.game = { ...this.game, typedTo: this.capture.size };
-    this.keepGame();
     this.cable.added(put);
-    await this.capture.write();
+    await Promise.all([this.capture.write(), this.keepGame()]);
+  }
+
+  /** How the game was forfeited; empty if it is played. */
+  get forfeit() {
+    return countingForfeit(this.game.forfeit || '', this.course.plies.length, this.course.result);
+  }
+
+  /** The game is forfeited so from now on, or is played after all. */
+  async forfeits(kind) {
+    if (kind === (this.game.forfeit || '')) return;
+    this.game = { ...this.game, forfeit: kind };
+    this.wantText();
+    this.hears.changed();
+    await this.keepGame();
   }
 
   /** Refuses a result for a game that has only begun: it is meant for the one before. */
@@ -604,7 +655,7 @@ export class Recorder {
     const before = this.course.plies.length === 0 ? this.hears.gameBefore : null;
     if (!before) return;
     const how = before.isUnended ? `. If it is the result of ${before.name}, press ${outcome} beside that name` : '';
-    throw new Refused(`${this.game.name} has no move yet, so it has no result${how}`);
+    throw new Refused(`${this.game.name} has no move yet, so it has no result${how}. If a player hasn't come, type ${ABSENT}`);
   }
 
   /** The capture is this from now on; the old one is kept beside it, if wanted. Up to `typedTo` it is what was typed. */
@@ -612,7 +663,7 @@ export class Recorder {
     this.cancelLingering();
     const chunks = spread(content, this.guard.now());
     const before = { game: this.game.id, name: this.game.name, at: this.guard.now(), bytes: this.capture.bytes() };
-    const game = { ...this.game, hasBefore: this.game.hasBefore || keepsBefore, typedTo: 0, ...changes };
+    const game = { ...this.game, hasBefore: this.game.hasBefore || keepsBefore, typedTo: 0, overTo: 0, ...changes };
     try {
       await this.database.renew(game, chunks, keepsBefore ? before : null);
     } catch (error) {
@@ -638,7 +689,7 @@ export class Recorder {
       if (!content) return;
       const { opened } = this;
       const more = this.typedTo > opened ? content.length - this.capture.size : 0;
-      await this.renew(content, false, { typedTo: this.typedTo + more });
+      await this.renew(content, false, { typedTo: this.typedTo + more, overTo: this.overTo });
       this.hears.says(`${name} in the folder has more of ${this.game.name} than the browser had kept: the game goes on with it`);
     });
   }

@@ -2,17 +2,19 @@
 // answers come into the capture.
 
 import { joined } from '../device/protocol.js';
-import { withoutTypedResult } from '../game/added.js';
 import { meaning, readAnswer, refuse, whoseMove } from '../game/answers.js';
-import { plyNamed, settled, wentOn } from '../game/back.js';
-import { wayBack, withoutResult } from '../game/going_back.js';
+import { isStillShown, question, reached, readBack, refuseBack, refuseNothing, settled, wordsOfBack } from '../game/back.js';
+import { BOTH, resultOf, whyPlayed, wordsOfForfeit } from '../game/forfeits.js';
 import { shortOfLook } from '../game/looks.js';
-import { gameOf } from '../game/reading.js';
-import { ALL_WAYS, Refused, readWords, refusal } from '../game/typed.js';
+import { ABSENT, ALL_WAYS, Asked, Refused, readWords, refusal } from '../game/typed.js';
 
 const TRIES = 4; // calls for one line, if the board sends something while each of them runs; the last one lets it wait
+const REOPENS = Symbol('a result is to be taken off');
 const AGAIN = Symbol('the board has sent something meanwhile');
 const ENDING = 'the pieces are at the start, so the game is just being ended. Nothing was done: look, and type it again';
+const JUST_PLAY = 'the game has no result: if it is played after all, just play';
+const STAYS_OVER = 'The board still shows it, so the game stays over';
+const KEPT = 'What the board had sent is kept';
 const FULL = 'the disk is full, and nothing can be changed. Make room, and type it again';
 const UNKEPT = '. The browser can\'t keep it yet: don\'t reload this page, and make room on the disk';
 
@@ -63,16 +65,37 @@ export class Typing {
     try {
       const typed = readWords(text);
       if (typed.kind === 'nothing') return { done: true, said: '' };
-      if (typed.kind === 'helped') return { done: true, said: ALL_WAYS };
+      if (typed.kind === 'helped') return { done: true, said: `${ALL_WAYS}, ${ABSENT}` };
       if (typed.kind === 'quit') throw new Refused('press Stop recording to end the recording');
       if (typed.kind === 'acknowledged') return { done: true, said: recorder.acknowledge() };
       if (recorder.capture.trouble) throw new Refused(FULL);
-      const said = typed.kind === 'added' ? await this.add(text) : await this.exclusively(() => this.takeOff(typed));
+      const said = await this.does(typed);
       recorder.hears.says(said);
       return { done: true, said: said + (recorder.capture.trouble ? UNKEPT : '') };
     } catch (error) {
       return { done: false, said: refusal(text, error) };
     }
+  }
+
+  /** Does what changes the game. */
+  async does(typed) {
+    if (typed.kind === 'forfeit') return this.forfeit(typed.forfeit);
+    const said = await (typed.kind === 'added' ? this.add(typed.line) : this.takeOff(typed.kind === 'reopened' ? '*' : typed.to));
+    await this.recorder.forfeits('');
+    return said;
+  }
+
+  /** The game isn't played. The result ends it as if it had been typed; if both players are absent, it has none. */
+  async forfeit(kind) {
+    const { recorder } = this;
+    await recorder.reader.read();
+    const { plies, result } = recorder.course;
+    const why = whyPlayed(kind, plies.length, result);
+    if (why) throw new Refused(why);
+    const outcome = resultOf(kind);
+    await recorder.forfeits(kind); // before the result, with which it counts
+    if (outcome !== '*' && outcome !== result) await this.add(outcome, true);
+    return `${wordsOfForfeit(kind)}: it isn't played`;
   }
 
   /**
@@ -81,12 +104,14 @@ export class Typing {
    */
   async decided(decide, put) {
     for (let count = 1; count < TRIES; count += 1) {
+      await this.recorder.reader.read();
       const seen = this.seen();
       const answer = await decide(seen);
       const done = await this.exclusively(() => (this.isStill(seen) ? this.putIn(seen, answer, put) : AGAIN));
       if (done !== AGAIN) return done;
     }
     return this.exclusively(async () => {
+      await this.recorder.reader.read();
       const seen = this.seen();
       return this.putIn(seen, await decide(seen), put);
     });
@@ -112,73 +137,80 @@ export class Typing {
     return put(answer);
   }
 
-  /** Moves or a result, as the program reads the line. */
-  add(text) {
+  /** Moves or a result, as the program reads the line; or the result of a game that isn't played. */
+  async add(text, isForfeit = false) {
     const { recorder } = this;
     this.asked = '';
-    const decide = ({ capture, size, end }) => recorder.arbiter.add(recorder.options, capture.bytes(end === null ? size : end), text);
-    return this.decided(decide, async (answer) => {
+    const decide = ({ capture, size, end }) =>
+      recorder.arbiter.add(recorder.options, capture.bytes(end === null ? size : end), text);
+    const done = await this.decided(decide, async (answer) => {
       const said = readAnswer('add', answer);
       const { plies, result } = recorder.course;
       const { put } = said;
-      if (said.kind === 'reopen') return this.takeOff({ kind: 'reopened' });
-      if (!put) throw refuse(said, text, whoseMove(recorder.options.fen, plies.map(({ san }) => san), text, Number(said.words[0])));
-      if (said.kind === 'result') recorder.refuseAtBegin(said.words[0]);
+      if (said.kind === 'reopen') return REOPENS;
+      const played = plies.map(({ san }) => san);
+      if (!put) throw refuse(said, text, whoseMove(recorder.options.fen, played, text, Number(said.words[0])));
+      if (said.kind === 'result' && !isForfeit) recorder.refuseAtBegin(said.words[0]);
       if (recorder.isOver) {
         const { end } = recorder.game;
         const bytes = recorder.capture.bytes();
-        await recorder.renew(joined(bytes.slice(0, end), put, bytes.slice(end)), false, { end: end + put.length, typedTo: end + put.length });
+        const typedTo = end + put.length;
+        const overTo = Math.max(recorder.overTo + put.length, typedTo);
+        await recorder.renew(joined(bytes.slice(0, end), put, bytes.slice(end)), false, { end: typedTo, typedTo, overTo });
       } else {
         await recorder.add(put);
       }
       const gone = said.kind === 'moves' && result !== '*' ? `; the result ${result} is gone: add it again` : '';
       return `added by hand: ${meaning(said, text)}${gone}`;
     });
+    return done === REOPENS ? this.takeOff('*') : done;
   }
 
-  /** Takes plies off, or a result. */
-  async takeOff(typed) {
+  /** Takes plies off as far as `to` says, or with `*` a result. */
+  async takeOff(to) {
     const { recorder } = this;
     const { asked } = this;
     this.asked = '';
-    const shown = recorder.capture.bytes();
-    const sent = recorder.capture.bytes(recorder.isOver ? recorder.game.end : recorder.capture.size);
-    if (typed.kind === 'reopened') return this.reopen(sent, shown);
+    if (to === '*' && recorder.forfeit === BOTH) throw new Refused(JUST_PLAY);
+    const decide = ({ capture, size, end }) =>
+      recorder.arbiter.back(recorder.options, capture.bytes(recorder.isAltered ? end : size), this.plyOf(to));
     try {
-      const bytes = { sent, shown, isOver: recorder.isOver };
-      return await this.goBack(await wayBack(recorder.program, recorder.options, bytes, plyNamed(typed.to), asked));
+      return await this.decided(decide, (answer) => this.goBack(readBack(answer), to, asked));
     } catch (error) {
-      this.asked = error.message;
+      if (error instanceof Asked) this.asked = error.message;
       throw error;
     }
   }
 
-  /** The game has this capture from now on. Alarms about what was taken off are settled. */
-  async goBack({ course, stays, content, what }) {
-    const { looks } = this.recorder.alarms;
-    const left = looks.without(settled(course.plies, stays));
-    await this.recorder.renew(content, true, { end: null, typedTo: content.length, looks: left.open });
-    const gone = looks.open.filter((look) => !left.open.includes(look)).map(shortOfLook);
-    return `${what}. ${gone.length > 0 ? `Settled: ${gone.join(', ')}. ` : ''}What the board had sent is kept`;
+  /** How far the program is to go back. In a game that is over moves may have been made since, and they aren't meant. */
+  plyOf(to) {
+    const { isOver, course } = this.recorder;
+    if (!isOver || (to !== '' && to !== '*') || course.plies.length === 0) return to;
+    return String(course.plies.length - (to === '*' ? 0 : 1));
   }
 
-  /** Takes the result off: the game goes on. */
-  async reopen(sent, shown) {
+  /** Does what the program has answered to `back`. */
+  async goBack(said, to, asked) {
     const { recorder } = this;
-    const shorter = (bytes) => withoutTypedResult(bytes, recorder.course.position, recorder.options.rotated);
-    let front = sent;
-    while (shorter(front).length < front.length) front = shorter(front);
-    if (recorder.isOver && (front.length < sent.length || (await this.wentOn(sent, shown)))) {
-      await recorder.renew(joined(front, shown.slice(sent.length)), true, { end: null, typedTo: front.length });
+    const { plies, result } = recorder.course;
+    const { stays } = said;
+    if (to === '*' && recorder.isOver && recorder.wentOn) {
+      await recorder.goOn();
       return `${recorder.game.name} goes on, without the result`;
     }
-    return this.goBack(await withoutResult(recorder.program, recorder.options, { sent, shown, isOver: recorder.isOver }));
-  }
-
-  /** Whether the board has taken a result back after the game's end, as kings do when they leave the centre. */
-  async wentOn(sent, shown) {
-    const { program, options } = this.recorder;
-    const [course, whole] = [await gameOf(program, options, sent), await gameOf(program, options, shown)];
-    return wentOn(course.plies, course.result, whole.plies, whole.result);
+    const staysOver = recorder.isOver && to !== '*' && isStillShown(said);
+    if (recorder.isOver && stays > plies.length) throw refuseBack({ kind: 'nearest', rest: reached(plies) }, to, plies);
+    if (!said.put && !staysOver) throw refuseBack(said, to, plies);
+    if (!recorder.isOver) refuseNothing(plies, stays, result, to);
+    const asks = question(plies.slice(stays));
+    if (asks && asks !== asked) throw new Asked(asks);
+    const { looks } = recorder.alarms;
+    const left = looks.without(settled(plies, stays));
+    const done = wordsOfBack(plies, stays, result);
+    if (staysOver) await recorder.endWith(stays, left.open);
+    else await recorder.renew(said.put, true, { end: null, typedTo: said.put.length, looks: left.open });
+    const gone = looks.open.filter((look) => !left.open.includes(look)).map(shortOfLook);
+    const about = gone.length > 0 ? ` Settled: ${gone.join(', ')}.` : '';
+    return `${done}.${about} ${staysOver ? STAYS_OVER : KEPT}`;
   }
 }

@@ -1,8 +1,9 @@
 // What a card shows of a board, as values, in the same form as on the page of a round. Pure.
 
 import { clocksOf } from '../game/course.js';
-import { NO_TIME } from '../game/clocks.js';
+import { countingForfeit, scoreOf } from '../game/forfeits.js';
 import { written } from '../game/options.js';
+import { NO_TIME } from '../game/report.js';
 import { Kind, State, TURNED_ROUND } from './state.js';
 
 /** The clocks as they run; if there is no clock, each player's time after his last move. */
@@ -39,7 +40,7 @@ export function resting(words, looks = '') {
 }
 
 /** A board's number, its game and its state, as a card shows them. Each move is shown with its position. */
-export function viewOf(number, { options, name }, course, stands) {
+export function viewOf(number, { options, name, forfeit = '' }, course, stands) {
   const plies = course.plies.slice(0, Math.max(0, course.fens.length - 1));
   return {
     number,
@@ -47,6 +48,7 @@ export function viewOf(number, { options, name }, course, stands) {
     white: written(options, 'White'),
     black: written(options, 'Black'),
     result: course.result,
+    forfeit: scoreOf(countingForfeit(forfeit, course.plies.length, course.result)),
     ratings: [written(options, 'WhiteElo'), written(options, 'BlackElo')],
     clocks: clocks(course),
     runs: '', // the board itself reports every second

@@ -6,10 +6,9 @@
 
 import { same } from '../device/protocol.js';
 import { goesHome } from './ending.js';
-import { lookAt } from './looks.js';
+import { OVER, lookAt } from './looks.js';
 import { codesOf } from './report.js';
 
-const ABOUT_THE_END = 'over';
 const SURE = 2; // moves
 const WHATEVER = 3; // moves, though all of them bring pieces home
 
@@ -21,16 +20,25 @@ export class AfterTheEnd {
     this.result = result;
     this.count = 0;
     this.played = false; // a move that brought no piece home
+    this.isAltered = false; // the game's last move is another one
+    this.isTakenBack = false; // the result was taken back
     this.isSetUp = false; // the start has been shown again: later events are not this game's
+  }
+
+  /** Whether the game was gone on with: its result was taken back, or moves were made after it. */
+  get wentOn() {
+    return !this.isAltered && !this.isSetUp && (this.isTakenBack || this.count > 0);
   }
 
   /** The next event. Returns an alarm, if any. */
   take(event) {
     if (event.kind === 'picture' && same(codesOf(event.placement), this.start)) this.isSetUp = true;
+    if (event.kind === 'result') this.isTakenBack = event.outcome === '*';
     if (event.kind !== 'move' || this.isSetUp) return null;
+    this.isAltered = this.isAltered || (event.corrects && this.count === 0);
     if (!event.corrects) this.count += 1;
     this.played = this.played || !goesHome(event, this.start);
     if (this.count < SURE || !(this.played || this.count >= WHATEVER)) return null;
-    return lookAt(`after ${this.after}`, `${this.count} moves were made, and the game is over: ${this.result}`, ABOUT_THE_END);
+    return lookAt(`after ${this.after}`, `${this.count} moves were made, and the game is over: ${this.result}`, OVER);
   }
 }

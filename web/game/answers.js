@@ -49,7 +49,7 @@ export function refuse({ kind, words }, line, place) {
 }
 
 /** The message that a move is to be written otherwise. */
-export function writtenSo(word, meant) {
+function writtenSo(word, meant) {
   return `${word}: write ${meant}, ${howWritten(word, meant)}`;
 }
 

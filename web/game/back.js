@@ -1,82 +1,72 @@
-// Going back: the ply with which a game is to end, and the new capture of the plies that stay. Pure.
-//
-// The rules of settling are the same, and nothing is cut out of a capture. The new one shows the positions of the game
-// one after the other, each one legal move from the one before, as a board would; then the board as it is now.
+// Going back, in sentences: which plies go, what is asked first, what was done, and why it can't be. The program makes the
+// new capture. Pure: docs/FORMATS.md has the lines of `back`.
 
-import { STRAY, dump, joined, pictureOfPlacement } from '../device/protocol.js';
-import { timeMessage } from './clocks.js';
+import { ProgramError } from './program.js';
 import { shortOf } from './report.js';
-import { Refused } from './typed.js';
+import { Refused, shortened } from './typed.js';
 
 const WITHOUT_A_QUESTION = 2; // plies that may go without a question
-const SAME_MOVE = 4; // plies by which the same move counts as nearer
-
-/** A reading for each ply that gives its player the ply's clock; null if there is none. */
-export function readings(plies) {
-  const last = ['', ''];
-  return plies.map((ply) => {
-    const side = ply.number.endsWith('...') ? 1 : 0;
-    last[side] = ply.clock || last[side];
-    const other = last[1 - side] || ply.clock;
-    if (!ply.clock) return null;
-    return side === 0 ? { white: ply.clock, black: other } : { white: other, black: ply.clock };
-  });
-}
+const DONE = /^plies ([0-9]+), gone ([0-9]+), result (\S+)$/;
+const STILL_SHOWN = ['moved', 'signed', 'board']; // why it can't be as long as the board stands as it does
+const FULL = 'the new capture would have more than 64 MiB. Nothing was changed';
+const UNSEEN = 'the board has shown nothing yet';
 
 /**
- * The bytes of a board that shows what a game keeps: its plies, the positions at its start and after each, what the
- * clocks show now, and what the board shows, if known. The stray byte is a fault: one of the board's frames may be cut.
- * Without a ply the game begins anew: the start is shown if the board shows it.
+ * What `back` has answered: { kind: 'back', stays, put } with the new capture; or { kind, stays, rest }, where `stays` is how
+ * many plies were to stay. Throws ProgramError if it gave no answer.
  */
-export function captureOf({ plies, fens, present, board }, rotated, blackFirst) {
-  const pictures = fens.map((fen) => dump(pictureOfPlacement(fen), rotated));
-  const times = readings(plies).map((reading) => timeMessage(reading, blackFirst));
-  const game = pictures.slice(1).flatMap((picture, at) => [times[at], picture]);
-  const stands = board === null ? [] : [dump(board, rotated)];
-  const start = plies.length > 0 || board === null ? [pictures[0]] : [];
-  return joined(...start, ...game, timeMessage(present, blackFirst), ...stands, STRAY);
+export function readBack({ status, errors, output }) {
+  const said = new TextDecoder().decode(errors).trim();
+  const [, rest] = /^back: ([^]+)$/.exec(said) || [];
+  const done = DONE.exec(rest || '');
+  if (status === 0 && done) return { kind: 'back', stays: Number(done[1]), put: output };
+  const [kind, ...words] = (rest || '').split(' ');
+  if (status === 1 && said === 'input: too long') return { kind: 'long', stays: 0, rest: '' };
+  if (status !== 1 || !kind) throw new ProgramError(`back ended with status ${status}: ${said}`);
+  if (kind === 'nearest' || kind === 'none') return { kind, stays: 0, rest: words.join(' ') };
+  return { kind, stays: Number(words[0]), rest: words.slice(1).join(' ') };
 }
 
-const PLY = /^([0-9]{1,4})(\.+) (.+)$/u;
-const WHICH = 'which ply? Type it as the screen printed it, as back 14. Bxf6 or back 14... Qd7; or back alone, or back 0';
+/** Whether the game could go back if the board stood otherwise. */
+export const isStillShown = ({ kind }) => STILL_SHOWN.includes(kind);
 
-/** A ply that is named after `back`; none, or all, if it is empty or 0. */
-export function plyNamed(to) {
-  if (to === '' || to === '0') return { number: '', san: '', all: to === '0' };
-  const [, number, stops, san] = PLY.exec(to) || [];
-  if (!san || san.includes(' ')) throw new Refused(WHICH);
-  return { number: Number(number) + (stops.length === 1 ? '.' : '...'), san: san.replace(/[!?]+$/, '').replace(/^0-0/, 'O-O'), all: false };
-}
-
-/** How many stay. Refused if there is nothing to take off, or if the game has no such ply: then with the nearest one. */
-export function pliesThatStay(plies, typed) {
-  if (typed.all) return 0;
-  if (plies.length === 0) throw new Refused('the game has no ply that could be taken off');
-  if (!typed.number) return plies.length - 1;
-  const found = plies.findIndex((ply) => ply.number === typed.number && bare(ply.san) === bare(typed.san));
-  if (found >= 0) return found + 1;
-  let [nearest] = plies;
-  for (const ply of plies) {
-    if (distance(ply, typed) < distance(nearest, typed)) nearest = ply;
+/** Why a game with these plies doesn't go back as far as `to` says. */
+export function refuseBack({ kind, stays, rest }, to, plies) {
+  const kept = plies.slice(0, stays);
+  switch (kind) {
+    case 'nearest':
+      return new Refused(`${shortened(to)} is no ply of the game. The nearest is ${rest}: type back ${rest}`);
+    case 'none':
+      return new Refused('the game has no ply that could be taken off');
+    case 'ended':
+      return new Refused(`the game ends with ${reached(kept)} on the board: that is its result`);
+    case 'signed':
+      return new Refused(`the board still shows the result ${rest}. Put the kings where they belong, and type it again`);
+    case 'moved':
+      return new Refused(`the board still shows ${rest}: it would come back at once. ${hint(kept)}`);
+    case 'unseen':
+      return new Refused(UNSEEN);
+    case 'long':
+      return new Refused(FULL);
+    default:
+      return new Refused(`what the board shows would change the game. ${hint(kept)}`);
   }
-  const named = `${typed.number} ${typed.san}`.trim();
-  throw new Refused(`${named} is no ply of the game. The nearest is ${shortOf(nearest)}: type back ${shortOf(nearest)}`);
 }
 
-/** Without the mark of a check. */
-function bare(san) {
-  return san.replace(/[+#]+$/, '');
+/** What to do so that it can go back to these plies. */
+function hint(kept) {
+  const place = kept.length === 0 ? 'at the start' : `as after ${reached(kept)}`;
+  return (
+    'If other moves were played, lift a king, type it again, then these moves, and hold the king until all is typed. ' +
+    `If the players go back, set the pieces ${place}, and type it again`
+  );
 }
 
-/** The index of a ply, by its number: 14. or 14... */
-function halfMoves(number) {
-  return 2 * parseInt(number, 10) + (number.endsWith('...') ? 1 : 0);
-}
-
-/** The distance of a ply from the typed one, in plies. A number is mistyped more often than a move. */
-function distance(ply, typed) {
-  const far = Math.abs(halfMoves(ply.number) - halfMoves(typed.number));
-  return bare(ply.san) === bare(typed.san) ? far - SAME_MOVE : far;
+/** Refused if a game that goes on has nothing to take off: so many of its plies stay. */
+export function refuseNothing(plies, stays, result, to) {
+  if (stays < plies.length || result !== '*') return;
+  if (to === '*') throw new Refused('the game has no result');
+  throw new Refused(stays > 0 ? `the game ends with ${reached(plies)} already` : 'the game has no move');
 }
 
 /** The question before so many plies go; empty if they may go at once. */
@@ -86,7 +76,7 @@ export function question(gone) {
 }
 
 /** `14... Qd7 15. Rd1 Rae8`. */
-export function movesOf(plies) {
+function movesOf(plies) {
   return plies.map((ply, at) => (at > 0 && ply.number.endsWith('...') ? ply.san : shortOf(ply))).join(' ');
 }
 
@@ -112,23 +102,4 @@ export function settled(plies, stays) {
   const gone = plies.slice(stays).map(shortOf);
   if (gone.length === 0) return [];
   return [...gone.map((ply) => `at ${ply}`), ...[reached(plies.slice(0, stays)), ...gone].map((ply) => `since ${ply}`)];
-}
-
-/** Whether a game with this earlier end went on to become this one, without its result. */
-export function wentOn(plies, result, after, resultAfter) {
-  const isFront = after.length >= plies.length && plies.every((ply, at) => ply.san === after[at].san);
-  return result !== '*' && isFront && (resultAfter === '*' || after.length > plies.length);
-}
-
-/** Why it can't be, and what to do: with what the board shows the game would have these plies and this result. */
-export function notSo(plies, stays, after, result) {
-  if (result !== '*' && after.length === stays) {
-    return `the board still shows the result ${result}. Put the kings where they belong, and type it again`;
-  }
-  const place = stays === 0 ? 'at the start' : `as after ${reached(plies.slice(0, stays))}`;
-  const hint =
-    'If other moves were played, lift a king, type it again, then these moves, and hold the king until all is typed. ' +
-    `If the players go back, set the pieces ${place}, and type it again`;
-  if (after.length > stays) return `the board still shows ${shortOf(after[stays])}: it would come back at once. ${hint}`;
-  return `what the board shows would change the game. ${hint}`;
 }

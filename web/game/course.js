@@ -15,6 +15,7 @@ export class Course {
   constructor(start) {
     this.start = start;
     this.plies = [];
+    this.settledAt = []; // the offset of the last line about each ply
     this.fens = []; // of the start and after each ply, as far as they are reported
     this.result = '*';
     this.recovered = []; // the pairs that were recovered
@@ -51,13 +52,13 @@ export class Course {
       this.hasAgreed = this.hasAgreed || event.kind === 'agrees';
       if (event.kind === 'move' && !event.corrects) this.movedAt = [...this.movedAt, at].slice(-PACE_OF - 1);
       if (event.kind === 'move' || event.kind === 'result') {
-        this.takeChange(event);
+        this.takeChange(event, offset);
         this.changedAt = offset;
       }
     }
   }
 
-  takeChange(change) {
+  takeChange(change, offset) {
     this.news.push(change);
     if (change.kind === 'result') {
       this.result = change.outcome;
@@ -65,9 +66,11 @@ export class Course {
     }
     if (change.corrects && this.plies.length > 0) {
       this.plies.pop();
+      this.settledAt.pop();
       this.fens.length = Math.min(this.fens.length, this.plies.length + 1);
     }
     this.plies.push(change);
+    this.settledAt.push(offset);
   }
 
   /** What the board shows, if known. */

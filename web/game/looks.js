@@ -1,5 +1,7 @@
 // Alarms that stay until they are acknowledged, whatever the board shows.
 
+export const OVER = 'over'; // what an alarm about moves after a result is about
+
 /** An alarm. `what` is short: `at 4... Qg4+`. A new alarm about the same thing replaces it. */
 export function lookAt(what, why, about = '') {
   return { what, why, about };
@@ -27,9 +29,10 @@ export class Looks {
     return new Looks([...this.open.filter(isOther), look]);
   }
 
-  /** Without those about something that is settled. */
+  /** Without those about something that is settled. Moves after a result are, if the last ply before it is gone. */
   without(settled) {
-    return new Looks(this.open.filter((look) => !settled.includes(look.what)));
+    const isAbout = ({ what, about }) => settled.includes(what) || (about === OVER && settled.includes(what.replace('after ', 'at ')));
+    return new Looks(this.open.filter((look) => !isAbout(look)));
   }
 
   /** The first one in a few words, and how many more there are; empty if there is none. */

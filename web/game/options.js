@@ -75,8 +75,3 @@ function recordable(text, instead) {
     return instead;
   }
 }
-
-/** Whose time comes first. */
-export function sideOf(options) {
-  return options.first || 'white';
-}

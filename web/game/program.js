@@ -111,6 +111,12 @@ export class Program {
     return this.run(['add', ...ofTyping(options), `--line=${line}`], sent);
   }
 
+  /** The capture of these bytes, gone back as far as `to` says: { status, output, errors }. */
+  async back(options, sent, to) {
+    await this.ready();
+    return this.run(['back', ...ofTyping(options), `--to=${to}`], sent);
+  }
+
   /** Calls it: { status, output, errors }. */
   run(words, input = new Uint8Array(0)) {
     return this.call('run', { words, input });
@@ -126,13 +132,6 @@ export class Program {
   /** The lines that it writes. */
   async lines(words, input) {
     return linesIn(await this.output(words, input));
-  }
-
-  /** The FENs of the start and after each move, and what is wrong with the first move that isn't legal. */
-  async positions(fen, moves) {
-    const start = fen ? ['--fen', fen] : [];
-    const { status, output, errors } = await this.run(['positions', ...start], new TextEncoder().encode(moves.join(' ')));
-    return [linesIn(output), status === 0 ? '' : new TextDecoder().decode(errors).trim()];
   }
 
   /** What a game is read from: what the board sent, with the pairs that `recover` adds if that is asked for. */

@@ -1,7 +1,8 @@
-// The course of a game of given bytes, and its movetext, by calls of the program.
+// The course of a game of given bytes, and its text, by calls of the program.
 
 import { pictureOfPlacement } from '../device/protocol.js';
 import { Course } from './course.js';
+import { forfeitOf, tagsOfForfeit } from './forfeits.js';
 import { ofBoard, ofRecord, startOf } from './options.js';
 import { lineOf } from './report.js';
 import { published } from './tags.js';
@@ -21,14 +22,9 @@ export async function gameOf(program, options, sent) {
   return course;
 }
 
-/** The PGN of these bytes, as it is published. */
-export async function textOf(program, options, sent) {
+/** The PGN of these bytes, as it is published; of a game that was forfeited so, if it has no move. */
+export async function textOf(program, options, sent, forfeit = '') {
   const whole = await program.whole(options, sent);
-  return published(new TextDecoder().decode(await program.output(['record', ...ofRecord(options)], whole)), options.tags);
-}
-
-/** The words of the moves in the PGN of these bytes, and the result after them. */
-export async function movetextOf(program, options, sent) {
-  const pgn = (await program.lines(['record', ...ofRecord(options)], await program.whole(options, sent))).join('\n');
-  return pgn.slice(pgn.indexOf('\n\n') + 2).split(/\s+/).filter((word) => word);
+  const recorded = new TextDecoder().decode(await program.output(['record', ...ofRecord(options)], whole));
+  return published(recorded, options.tags, tagsOfForfeit(forfeitOf(forfeit, recorded)));
 }

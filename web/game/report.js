@@ -13,6 +13,8 @@
 
 import { pictureOfPlacement } from '../device/protocol.js';
 
+export const NO_TIME = '--:--:--'; // of a clock that isn't connected
+
 /** The words of a line without its offset. */
 export function wordsOf(event) {
   switch (event.kind) {

@@ -9,7 +9,7 @@ import { lookAt } from './looks.js';
 import { shortOf } from './report.js';
 
 const RUNS = 0x01; // bits of the status
-export const NO_CLOCK = 0x20;
+const NO_CLOCK = 0x20;
 const ACKNOWLEDGES = 10;
 const STOOD_FOR = 3.0; // seconds: a move from before the clock was stopped may be seen only after it, with the next dump
 const ABOUT_THE_CLOCK = 'clock';

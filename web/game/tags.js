@@ -122,9 +122,9 @@ function pairsOf(head) {
 
 /**
  * The text of a game with these tags, { name: value }, as it is published: the roster first, the others in order of
- * their names. What the game itself says, also its result, comes from the recorded text.
+ * their names. What the game itself says, also its result, comes from the recorded text; `says` is what else is known of it.
  */
-export function published(recorded, tags) {
+export function published(recorded, tags, says = {}) {
   if (!recorded) return '';
   const end = recorded.indexOf('\n\n');
   const head = end < 0 ? recorded : recorded.slice(0, end);
@@ -132,6 +132,7 @@ export function published(recorded, tags) {
   for (const [name, value] of Object.entries(tags)) {
     if (value && !GAME_SAYS.includes(name)) values.set(name, value);
   }
+  for (const [name, value] of Object.entries(says)) values.set(name, value);
   const others = [...values.keys()].filter((name) => !ROSTER.includes(name)).sort();
   const lines = [...ROSTER, ...others].map((name) => `[${name} "${escaped(values.has(name) ? values.get(name) : '?')}"]`);
   return lines.join('\n') + recorded.slice(head.length);

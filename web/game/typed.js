@@ -1,8 +1,11 @@
 // What somebody types in a line, as far as the page itself obeys it: its commands. What else a line says, moves or a result,
 // is for the program to read, which also says why it can't be. Pure.
 
+import { BOTH, typedForfeit } from './forfeits.js';
+
 export const WAYS = 'Type 1-0, 0-1, 1/2-1/2, moves as Nf3 Nc6, back, *, ok or help';
 export const ALL_WAYS = 'Type 1-0, 0-1, 1/2-1/2, moves (Nf3 Nc6), back (a ply off), back 14. Bxf6, * (no result) or ok';
+export const ABSENT = '+- (Black has not come; -+ White, -- both)'; // what can be typed on a page too
 export const BOTH_LOSE =
   '0-0: do both lose? PGN has no such result: leave the game without one, and note it. Castling is O-O';
 const WHICH_PLY = 'which ply? Type it as the screen printed it, as back 14. Bxf6 or back 14... Qd7; or back alone, or back 0';
@@ -19,7 +22,8 @@ export class Asked extends Refused {}
 
 /**
  * What is asked for: { kind: 'back', to } with the ply that the program is to go back to, { kind: 'added', line } with a
- * line for the program, or the kind 'nothing', 'quit', 'acknowledged', 'helped' or 'reopened': a result is to be taken off.
+ * line for the program, { kind: 'forfeit', forfeit } if the game isn't played, or the kind 'nothing', 'quit', 'acknowledged',
+ * 'helped' or 'reopened': a result is to be taken off.
  */
 export function readWords(text) {
   const words = text.split(/\s+/u).filter((word) => word);
@@ -31,6 +35,9 @@ export function readWords(text) {
   if (alone === 'q' || alone === 'quit') return { kind: 'quit' };
   if (alone === 'ok') return { kind: 'acknowledged' };
   if (alone === '*') return { kind: 'reopened' };
+  const forfeit = typedForfeit(text);
+  if (forfeit) return { kind: 'forfeit', forfeit };
+  if (withAHyphen(words.join('')) === NOUGHTS) throw new Refused(`${BOTH_LOSE}. If neither player has come, type ${BOTH}`);
   if ([...words, words.join('')].some((word) => withAHyphen(word) === NOUGHTS)) throw new Refused(BOTH_LOSE);
   return { kind: 'added', line: text.trim() };
 }

@@ -116,7 +116,7 @@ export class Folders {
 
   /** The text of a board's game has changed. */
   placed(seat) {
-    if (seat.isCapture || !seat.hasMoves || !this.folder || !seat.pgn) return;
+    if (seat.isCapture || !seat.isWritten || !this.folder || !seat.pgn) return;
     seat.wantsFiles = true;
     if (!seat.isFiling) this.file(seat).catch((error) => this.trouble(error.message || error.name));
     this.round();

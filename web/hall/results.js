@@ -3,13 +3,14 @@
 
 import { joined } from '../device/protocol.js';
 import { readAnswer, refuse } from '../game/answers.js';
+import { forfeitOf } from '../game/forfeits.js';
 import { textOf } from '../game/reading.js';
 import { spread } from '../kept/spread.js';
 
 /** The last game of a board before the one that is on, if it has no result; else null. */
 export function unended(finished) {
   const last = finished[finished.length - 1];
-  return last && /^\[Result "\*"\]$/m.test(last.pgn) ? last : null;
+  return last && /^\[Result "\*"\]$/m.test(last.pgn) && !forfeitOf(last.forfeit, last.pgn) ? last : null;
 }
 
 /** Gives a result to a game that is over. Throws Refused if the game can't have it. */

@@ -86,7 +86,7 @@ export class Rounds {
     this.give(Object.fromEntries(OF_ALL.map((name) => [name, written(options.get(seats[0]), name)])));
     const failed = [];
     for (const seat of seats) {
-      const isOn = goOn.includes(seat) || (!seat.hasMoves && !seat.isOver);
+      const isOn = goOn.includes(seat) || (!seat.isWritten && !seat.isOver);
       await this.beginOn(seat, options.get(seat), isOn).catch((error) => {
         this.hall.says(`the new round can't be begun here: ${error.message}`, seat.id);
         failed.push(seat);
@@ -116,7 +116,7 @@ export class Rounds {
 
   /** All games with moves and their texts, in the order in which they were begun. */
   games() {
-    const games = this.hall.seated().flatMap((seat) => [...seat.finished, ...(seat.hasMoves ? [{ ...seat.game, pgn: seat.pgn }] : [])]);
+    const games = this.hall.seated().flatMap((seat) => [...seat.finished, ...(seat.isWritten ? [{ ...seat.game, pgn: seat.pgn }] : [])]);
     return games.sort((one, other) => one.id - other.id);
   }
 

@@ -5,6 +5,7 @@ import { resting, standing, viewOf } from '../board/view.js';
 import { joined } from '../device/protocol.js';
 import { lockedDevice, systemOf } from '../device/systems.js';
 import { dayOf } from '../game/names.js';
+import { forfeitOf, isUnplayed, wordsOfForfeit } from '../game/forfeits.js';
 import { optionsOf } from '../game/options.js';
 import { newCourse, textOf } from '../game/reading.js';
 import { Guard } from '../guard.js';
@@ -61,8 +62,9 @@ export class Seat {
     this.finished = [];
     for (const game of games.filter(({ id }) => id !== current)) {
       const bytes = joined(...(await database.chunks(game.id)).map((chunk) => chunk.bytes));
-      const pgn = await textOf(program, game.options, bytes.slice(0, game.end === null ? bytes.length : game.end));
-      if (!guard.ended && /^1\./m.test(pgn)) this.finished.push({ ...game, bytes, pgn });
+      const sent = bytes.slice(0, game.end === null ? bytes.length : game.end);
+      const pgn = await textOf(program, game.options, sent, game.forfeit);
+      if (!guard.ended && (!isUnplayed(pgn) || forfeitOf(game.forfeit, pgn))) this.finished.push({ ...game, bytes, pgn });
     }
   }
 
@@ -137,6 +139,16 @@ export class Seat {
 
   get hasMoves() {
     return this.recorder !== null && this.recorder.course.plies.length > 0;
+  }
+
+  /** How its game was forfeited; empty if it is played. */
+  get forfeit() {
+    return this.recorder === null ? '' : this.recorder.forfeit;
+  }
+
+  /** Whether its game has something to write: moves, or a forfeit. */
+  get isWritten() {
+    return this.hasMoves || this.forfeit !== '';
   }
 
   get hasBefore() {
@@ -229,6 +241,7 @@ export class Seat {
     }
     const looks = recorder.alarms.looks.short;
     const over = recorder.awaited ? 'over: set up the pieces for the next game' : 'over';
+    if (recorder.forfeit && !recorder.capture.trouble) return resting(wordsOfForfeit(recorder.forfeit), looks);
     if (recorder.isOver && !recorder.capture.trouble) return resting(over, looks);
     if (recorder.isStopped) return resting('stopped', looks);
     return standing(recorder.state.state(now), now);

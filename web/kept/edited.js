@@ -6,7 +6,8 @@ function partsOf(pgn) {
   const lines = pgn.slice(0, Math.max(0, end)).split('\n');
   const words = pgn.slice(end + 2).split(/\s+/).filter((word) => word);
   const [, named = '*'] = /^\[Result "(.*)"\]$/m.exec(pgn) || [];
-  return { tags: lines.filter((line) => !line.startsWith('[Result ')).join('\n'), named, words: words.slice(0, -1), result: words[words.length - 1] };
+  const tags = lines.filter((line) => !line.startsWith('[Result ')).join('\n');
+  return { tags, named, words: words.slice(0, -1), result: words[words.length - 1] };
 }
 
 /**

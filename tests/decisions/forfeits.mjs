@@ -1,0 +1,16 @@
+/** Games that aren't played: how that is typed, and when it counts. */
+import { countingForfeit, tagsOfForfeit, typedForfeit, whyPlayed } from "/web/game/forfeits.js";
+
+export function forfeits(counts, cases) {
+  for (const [text, expected] of cases("typed")) {
+    counts.same(`${text} typed`, typedForfeit(text), expected);
+  }
+  for (const [kind, plies, result, expected] of cases("counts")) {
+    counts.same(`${kind} ${plies} ${result}`, countingForfeit(kind, plies, result), expected ? kind : "");
+  }
+  for (const [kind, plies, result, expected] of cases("played")) {
+    counts.same(`${kind} after ${plies} ${result}`, whyPlayed(kind, plies, result), expected);
+  }
+  counts.same("the tag", tagsOfForfeit("+-"), { Termination: "rules infraction" });
+  counts.same("no tag", tagsOfForfeit(""), {});
+}

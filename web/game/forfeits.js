@@ -1,0 +1,69 @@
+// Games that aren't played because a player doesn't come: how they are typed, and what PGN has for them. Pure.
+//
+// PGN has a result if one player wins by it, and no result if both are absent. The tag Termination says that the game was
+// not played: `rules infraction`, an administrative forfeit in the words of the standard.
+
+export const BOTH = '--'; // nobody wins
+const [WHITE, BLACK] = ['+-', '-+']; // White wins, Black wins
+const SCORES = { [WHITE]: '1-0', [BLACK]: '0-1', [BOTH]: '0-0' };
+const NO_RESULT = '*';
+const TERMINATION = 'rules infraction';
+const SPELT = { '+--': WHITE, '--+': BLACK }; // +:- and + - -, as pairing programs write them
+const MARKED = /^(?:([01])F?-([01])(?:F|FF|K|FORFEIT)|([01])F-([01])F)$/i;
+const BOTH_LOSE = 'PGN has no result for two players who lose. Leave it without one, and note it';
+
+/** The score of a forfeit; empty if there is none. */
+export function scoreOf(kind) {
+  return SCORES[kind] || '';
+}
+
+/** What it comes to. */
+export function wordsOfForfeit(kind) {
+  return `forfeit ${SCORES[kind]}`;
+}
+
+/** The result in PGN. */
+export function resultOf(kind) {
+  return kind === BOTH ? NO_RESULT : SCORES[kind];
+}
+
+/** The forfeit that was typed in a line of its own; empty if it is something else. */
+export function typedForfeit(text) {
+  const words = text.split(/\s+/u).filter((word) => word);
+  const word = words.join('').replace(/[–—−:]/g, '-');
+  if ((word === BOTH || word === '---') && words.length < 4) return BOTH;
+  const spelt = Object.hasOwn(SPELT, word) ? SPELT[word] : word;
+  if (spelt === WHITE || spelt === BLACK) return spelt;
+  const marked = MARKED.exec(word);
+  if (!marked) return '';
+  const score = marked.slice(1).filter((part) => part).join('-');
+  return Object.keys(SCORES).find((kind) => SCORES[kind] === score) || '';
+}
+
+/** The forfeit that counts in a game: it has no move, and no other result was typed. Empty if none does. */
+export function countingForfeit(kind, plies, result) {
+  return SCORES[kind] && plies === 0 && resultOf(kind) === result ? kind : '';
+}
+
+/** Whether a text has no move. */
+export function isUnplayed(pgn) {
+  return pgn.slice(pgn.indexOf('\n\n') + 2).split(/\s+/).filter((word) => word).length <= 1;
+}
+
+/** The forfeit that counts in the game with this text; empty if none does. */
+export function forfeitOf(kind, pgn) {
+  const [, result = NO_RESULT] = /^\[Result "(.*)"\]$/m.exec(pgn) || [];
+  return countingForfeit(kind, isUnplayed(pgn) ? 0 : 1, result);
+}
+
+/** Why a game with so many plies and this result can't be the one that is forfeited; empty if it can. */
+export function whyPlayed(kind, plies, result) {
+  if (plies > 0) return `the game has moves, so it isn't a forfeit: ${kind === BOTH ? BOTH_LOSE : `type ${resultOf(kind)}`}`;
+  if (kind === BOTH && result !== NO_RESULT) return `the game has the result ${result}: take that off first, with ${NO_RESULT}`;
+  return '';
+}
+
+/** The tag of what is published of a forfeited game. */
+export function tagsOfForfeit(kind) {
+  return kind ? { Termination: TERMINATION } : {};
+}
