@@ -1,5 +1,5 @@
 -- What `record` makes of a capture to which a typed line was added.
-use Rattle.std.proofs.Common.{◌≡◌, ◌∙◌, ℕ, List, ◌++◌, Option, ap, append-nil, false, reverse, subst, sym}
+use Rattle.std.proofs.Common.{◌≡◌, ◌∙◌, ℕ, List, ◌++◌, Option, ap, append-nil, false, true, reverse, subst, sym}
 use Rattle.std.proofs.lemmas.List.{reverse-reverse}
 use Rattle.adding.specs.Making.{plies_with, sign_with}
 use Rattle.adding.specs.Stays.{HasGame}
@@ -18,7 +18,10 @@ use Rattle.settle_core.specs.declared.plies.Ply.{Ply}
 use Rattle.settle_core.specs.Entries.{deduplicated}
 use Rattle.settle_core.specs.Folding.{Folds, Score, score_of}
 use Rattle.settle_core.specs.Laws.{FoldsOnce}
-use Rattle.dgt_replay.specs.Added.{AddedLinesAreRecorded}
+use Rattle.recovery.specs.Weaving.{Recovers}
+use Rattle.unseen_pairs.specs.Laws.{RecoversOnce}
+use Rattle.dgt_replay.specs.Added.{AddedLinesAreRecorded, AddedLinesAreRecovered}
+use Rattle.dgt_replay.proofs.RecoveredLemmas.{recovered_score}
 
 abbrev ShowsOnce : Type 0
 ShowsOnce = (bytes : List ℕ) (events others : List Timed) (rest other : ℕ) → Shows bytes events rest → Shows bytes others other → (events ≡ others) × (rest ≡ other)
@@ -50,3 +53,15 @@ added_lines once one setup report capture line (Added told added) sent sent' wri
     let same = one_game once one setup report (capture ++ added.items) plies sign sent sent' written written' valid (subst B (append-nil added.items) stays.at_once) r in
     (is.1, is.2, (is.0, is.3.read, is.3.score), (said, is.4.1, same_plies plies r.game.plies sign r.game_is.sign same, same_sign plies r.game.plies sign r.game_is.sign same))
 added_lines once one setup report capture line (Refused told reason) sent sent' written written' valid is never r = absurd never
+
+pub recovered_lines : ShowsOnce → FoldsOnce → RecoversOnce → AddedLinesAreRecovered
+recovered_lines shows one once setup report capture line woven text (Added told added) sent sent' written written' valid is yes_added recovers r =
+    let said = is.4.0 in
+    let plies = plies_with is.1 said in
+    let sign = sign_with said in
+    let stays = is.4.2.2.2 in
+    let B : List ℕ → Type 0 = λ bs. HasGame (setting_of setup) true (capture ++ bs) plies sign in
+    let game = subst B (append-nil added.items) stays.at_once in
+    let same = recovered_score shows one once setup report (capture ++ added.items) woven text game.0 (score_of plies sign) sent sent' written written' valid game.1 game.2 recovers r in
+    (is.1, is.2, (is.0, is.3.read, is.3.score), (said, is.4.1, same_plies plies r.game.plies sign r.game_is.sign same, same_sign plies r.game.plies sign r.game_is.sign same))
+recovered_lines shows one once setup report capture line woven text (Refused told reason) sent sent' written written' valid is never recovers r = absurd never

@@ -27,7 +27,7 @@ use Rattle.recovery.specs.Weaving.{Recovers}
 use Rattle.dgt_replay.specs.Agreement.{FollowTellsTheGame, RecordsRecovered, RecordsShownOrTold, WatchTellsTheGame}
 
 -- A stream shows one list of events.
-abbrev ShowsOnce : Type 0
+abbrev pub ShowsOnce : Type 0
 ShowsOnce = (bytes : List ℕ) (events others : List Timed) (rest other : ℕ) → Shows bytes events rest → Shows bytes others other → (events ≡ others) × (rest ≡ other)
 
 abbrev events_of : List Timed → List Event
@@ -61,7 +61,7 @@ watch_tells_the_game once gives setup report bytes sent sent' written written' t
     (lines, rest, subst A text_is appends, given.0, given.1)
 
 -- The game of the woven bytes has the score that the bytes give with their pairs.
-one_score : ShowsOnce → FoldsOnce → (setup : Setup) (report : Report) (bytes woven text : List ℕ) (sent sent' written written' : Option (List ℕ)) → Valid setup.start
+pub one_score : ShowsOnce → FoldsOnce → (setup : Setup) (report : Report) (bytes woven text : List ℕ) (sent sent' written written' : Option (List ℕ)) → Valid setup.start
     → (w : Recovers (setting_of setup) bytes woven text) (r : RecordsGame setup report woven sent sent' written written') → w.score ≡ score_of r.game.plies r.game_is.sign
 one_score once one setup report bytes woven text sent sent' written written' valid w r =
     let setting = setting_of setup in

@@ -6,6 +6,7 @@ pub mod EndLemmas
 pub mod FaultLemmas
 pub mod RecordedLemmas
 pub mod RecoverLemmas
+pub mod RecoveredLemmas
 pub mod RefusalLemmas
 pub mod SetupLemmas
 pub mod SubcommandLemmas

@@ -1,8 +1,8 @@
 //! What one subcommand's output has to do with another's, each law as the contract of a function that does nothing.
-ghost use Rattle.dgt_replay.specs.Added.{AddedLinesAreRecorded};
+ghost use Rattle.dgt_replay.specs.Added.{AddedLinesAreRecorded, AddedLinesAreRecovered};
 ghost use Rattle.dgt_replay.specs.Agreement.{FollowTellsTheGame, RecordsRecovered, RecordsShownOrTold, WatchTellsTheGame};
 ghost use Rattle.dgt_replay.specs.Laws.{WrittenTextsAreWithin, WrittenTextsPass};
-ghost use Rattle.dgt_replay.specs.WentBack.{WentBackIsRecorded};
+ghost use Rattle.dgt_replay.specs.WentBack.{WentBackIsRecorded, WentBackIsRecovered};
 
 use board_listing::laws::{lines_give_the_game, watch_lines_give_the_game};
 use board_session::laws::moves_take_ten_bytes;
@@ -11,6 +11,7 @@ use going_back::laws::what_stays_is_recorded;
 use pgn_book::laws::texts_are_short;
 use recovery::laws::plies_are_shown_or_told;
 use settle_core::laws::folds_once;
+use unseen_pairs::laws::recovers_once;
 
 /// `check` refuses no text that `record` made, neither for its size nor for its form.
 pub fn written_texts_pass()
@@ -57,21 +58,32 @@ pub fn recovered_games_are_recorded()
 }
 
 /// Of a capture with the bytes that a typed line adds, `record` writes the plies of the capture and those that were
-/// typed, without clocks; or the plies of the capture and the result.
+/// typed, without clocks; or the plies of the capture and the result. Behind `recover` it does, where the line was added
+/// with `--recover`.
 pub fn added_lines_are_recorded()
-    ensures { AddedLinesAreRecorded }
+    ensures recorded { AddedLinesAreRecorded }
+    ensures recovered { AddedLinesAreRecovered }
 {
     // For its clause: the bytes show one list of events.
     shows_once();
     // For its clause: the entries fold to one score.
     folds_once();
+    // For its clause: the pairs are recovered in one way.
+    recovers_once();
 }
 
 /// Of the new capture of a game that goes back, `record` writes exactly the plies that stay, with their clocks, and no
-/// result.
+/// result. Behind `recover` it does, where the game went back with `--recover`.
 pub fn went_back_is_recorded()
-    ensures { WentBackIsRecorded }
+    ensures recorded { WentBackIsRecorded }
+    ensures recovered { WentBackIsRecovered }
 {
     // For its clause: the game of a new capture.
     what_stays_is_recorded();
+    // For its clause: the bytes show one list of events.
+    shows_once();
+    // For its clause: the entries fold to one score.
+    folds_once();
+    // For its clause: the pairs are recovered in one way.
+    recovers_once();
 }

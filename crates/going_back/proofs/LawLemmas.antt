@@ -1,5 +1,5 @@
 -- The game of the new capture.
-use Rattle.std.proofs.Common.{◌≡◌, ℕ, List, Option, None, Some, reverse, sym, subst, ap, ◌∙◌}
+use Rattle.std.proofs.Common.{◌≡◌, ℕ, Bool, false, List, Option, None, Some, reverse, sym, subst, ap, ◌∙◌}
 use Rattle.std.proofs.lemmas.List.{reverse-reverse}
 use Rattle.chess_rules.specs.declared.parts.Parts.{Parts}
 use Rattle.dgt_frame.specs.declared.events.Event.{Event}
@@ -12,8 +12,13 @@ use Rattle.settle_core.specs.GameResult.{IsResult}
 use Rattle.settle_core.specs.Laws.{FoldsOnce}
 use Rattle.settle_core.specs.Settling.{position_after, reached}
 use Rattle.settle_core.proofs.Lists.{position_in_order}
+use Rattle.chess_game.specs.Games.{Content}
+use Rattle.chess_game.specs.Values.{TagValues}
 use Rattle.board_events.specs.Commands.{past_of}
+use Rattle.board_events.specs.Game.{IsGameOf}
+use Rattle.board_events.specs.Settings.{Setting}
 use Rattle.board_events.specs.Session.{entries_in}
+use Rattle.going_back.specs.Back.{Gives}
 use Rattle.going_back.specs.Laws.{WhatStaysIsRecorded}
 
 none_is_some : {P : Type 0} (outcome : Outcome) → None ≡ Some outcome → P
@@ -24,14 +29,10 @@ no_result : (p : Parts) (sign result : Option Outcome) → sign ≡ None → IsR
 no_result p sign result none h k =
     k.running (λ m. none_is_some _ (h.mated m)) (λ s. none_is_some _ (h.stale s)) ∙ none
 
-pub recorded_so : ((bytes : List ℕ) (events others : List Timed) (rest other : ℕ) → Shows bytes events rest → Shows bytes others other → (events ≡ others) × (rest ≡ other))
-    → FoldsOnce → WhatStaysIsRecorded
-recorded_so once folds = λ setting tags game past stay made events rest valid (is, g) shown k.
-    let (timed, rest', shown', same) = g.read.0 in
-    let events-are : g.events ≡ past_of events = same ∙ ap past_of (once made timed events rest' rest shown' shown).0 in
-    let F : List Event → Type 0 = λ es. Folds setting.start (deduplicated (entries_in setting es)) g.settler.score in
-    let score-is : g.settler.score ≡ score_of game.plies k.sign =
-    folds setting.start (deduplicated (entries_in setting (past_of events))) g.settler.score (score_of game.plies k.sign) valid (subst F events-are g.settled.folds) k.folds in
+-- A game with the score of the new capture has the plies that stay, and no result.
+pub stays_so : (setting : Setting) (recovers : Bool) (tags : TagValues) (game : Content) (past others : List Event) (stay : List Ply) (made : List ℕ) → (g : Gives setting recovers past stay made)
+    → (k : IsGameOf game setting tags others) → g.settler.score ≡ score_of game.plies k.sign → (game.plies ≡ stay) × (game.result ≡ None)
+stays_so setting recovers tags game past others stay made g k score-is =
     let plies-are : g.settler.score.plies ≡ reverse game.plies = ap (λ (s : Score). s.plies) score-is in
     let stay-are : game.plies ≡ stay = sym (reverse-reverse game.plies) ∙ ap (λ (xs : List Ply). reverse xs) (sym plies-are) ∙ g.front.plies in
     let sign-is : k.sign ≡ None = sym (ap (λ (s : Score). s.sign) score-is) ∙ g.front.sign in
@@ -41,3 +42,13 @@ recorded_so once folds = λ setting tags game past stay made events rest valid (
     ∙ ap (λ (xs : List Ply). position_after setting.start (moves_of xs)) (ap (λ (xs : List Ply). reverse xs) plies-are ∙ reverse-reverse game.plies) in
     let R : Parts → Type 0 = λ p. IsResult p None None in
     (stay-are, no_result _ k.sign game.result sign-is (subst R position-is g.front.result) k.result_is)
+
+pub recorded_so : ((bytes : List ℕ) (events others : List Timed) (rest other : ℕ) → Shows bytes events rest → Shows bytes others other → (events ≡ others) × (rest ≡ other))
+    → FoldsOnce → WhatStaysIsRecorded
+recorded_so once folds = λ setting tags game past stay made events rest valid (is, g) shown k.
+    let (timed, rest', shown', same) = g.read.0 in
+    let events-are : g.events ≡ past_of events = same ∙ ap past_of (once made timed events rest' rest shown' shown).0 in
+    let F : List Event → Type 0 = λ es. Folds setting.start (deduplicated (entries_in setting es)) g.settler.score in
+    let score-is : g.settler.score ≡ score_of game.plies k.sign =
+    folds setting.start (deduplicated (entries_in setting (past_of events))) g.settler.score (score_of game.plies k.sign) valid (subst F events-are g.settled.folds) k.folds in
+    stays_so setting false tags game past (past_of events) stay made g k score-is

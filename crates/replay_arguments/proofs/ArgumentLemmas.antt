@@ -1,5 +1,5 @@
 -- What the parse of arguments gives.
-use Rattle.std.proofs.Common.{◌≡◌, ◌⊎◌, ℕ, ◌∷◌, [], ◌∙◌, Bool, true, false, List, Option, Some, None, ap, refl, sym, inl, inr, codes, option_map, subst}
+use Rattle.std.proofs.Common.{◌≡◌, ◌⊎◌, ℕ, ◌∷◌, ◌++◌, [], ◌∙◌, Bool, true, false, List, Option, Some, None, ap, refl, sym, inl, inr, codes, option_map, subst}
 use Rattle.std.specs.Prelude.{IfSome, MatchOption, is_some}
 use Rattle.std.specs.Option.{option_map_or}
 use Rattle.std.specs.Borrow.{Bor}
@@ -22,7 +22,7 @@ use Rattle.chess_game.specs.declared.values.Tag.TheVariants.{Event, Site, Date, 
 use Rattle.board_events.specs.Settings.{setting_of}
 use Rattle.replay_arguments.specs.declared.arguments.Subcommand.{Subcommand}
 use Rattle.replay_arguments.specs.Command.{replay}
-use Rattle.replay_arguments.specs.Subcommands.{Asks, AsksForPictures, AsksToCheck, AsksToShow, AsksForMoves, AsksForPositions, AsksToFollow, AsksToRecord, AsksToRecover, AsksToWatch, Chooses, IsCheck, IsFollow, IsMoves, IsPictures, IsPositions, IsRecord, IsRecover, IsWatch, IsShow, is_subcommand}
+use Rattle.replay_arguments.specs.Subcommands.{Asks, AsksForPictures, AsksToAdd, AsksToCheck, AsksToShow, AsksForMoves, AsksForPositions, AsksToFollow, AsksToGoBack, AsksToRecord, AsksToRecover, AsksToWatch, Chooses, IsAdd, IsBack, IsCheck, IsFollow, IsMoves, IsPictures, IsPositions, IsRecord, IsRecover, IsWatch, IsShow, is_subcommand}
 use Rattle.replay_arguments.specs.Setups.{SetsBoardUp, flag_text, plain_setup, side_in}
 use Rattle.chess_text.specs.Start.{given}
 use Rattle.replay_arguments.specs.TagOptions.{option_of}
@@ -241,3 +241,140 @@ recover_asks true arguments (name, is) =
 recover_asks false arguments (name, is) =
     let P : List Text → Type 0 = λ w. AsksToRecover w (setting_of (plain_setup false)) in
     subst P (sym is) (asks_of_a_board (codes "recover") false (name ∷ codes "recover" ∷ []) (plain_recover name) refl)
+
+-- ---- subcommands that change a capture, with a text
+
+abbrev recover_row : Bool → Row
+recover_row recovers = record { id = codes "recover"; values = flag_text recovers ∷ []; count = None; source = Some (flag_source recovers); reading = AsWritten }
+
+abbrev text_row : Text → Text → Row
+text_row option text = record { id = option; values = text ∷ []; count = None; source = Some CommandLine; reading = AsWritten }
+
+-- what was given comes first
+abbrev edit_rows : Text → Text → Bool → Bool → List Row
+edit_rows option text false true = text_row option text ∷ recover_row true ∷ flag_row false ∷ []
+edit_rows option text false false = text_row option text ∷ flag_row false ∷ recover_row false ∷ []
+edit_rows option text true false = text_row option text ∷ flag_row true ∷ recover_row false ∷ []
+edit_rows option text true true = text_row option text ∷ flag_row true ∷ recover_row true ∷ []
+
+plain_add : (name text : Text) → Finds (name ∷ codes "add" ∷ (codes "--line=" ++ text) ∷ []) (codes "add") (edit_rows (codes "line") text false false)
+unfolding clap_on_literals
+plain_add name text = (refl, refl)
+
+turned_add : (name text : Text) → Finds (name ∷ codes "add" ∷ (codes "--line=" ++ text) ∷ codes "--rotated" ∷ []) (codes "add") (edit_rows (codes "line") text true false)
+unfolding clap_on_literals
+turned_add name text = (refl, refl)
+
+recovered_add : (name text : Text) → Finds (name ∷ codes "add" ∷ (codes "--line=" ++ text) ∷ codes "--recover" ∷ []) (codes "add") (edit_rows (codes "line") text false true)
+unfolding clap_on_literals
+recovered_add name text = (refl, refl)
+
+turned_recovered_add : (name text : Text) → Finds (name ∷ codes "add" ∷ (codes "--line=" ++ text) ∷ codes "--rotated" ∷ codes "--recover" ∷ []) (codes "add") (edit_rows (codes "line") text true true)
+unfolding clap_on_literals
+turned_recovered_add name text = (refl, refl)
+
+add_by : (text : Text) (rotated recovers : Bool) (arguments : List Text) → Finds arguments (codes "add") (edit_rows (codes "line") text rotated recovers)
+    → AsksToAdd arguments (setting_of (plain_setup rotated)) recovers (Some text)
+add_by text false false arguments finds = (
+  edit_rows (codes "line") text false false,
+  asks_by arguments (codes "add") (edit_rows (codes "line") text false false) finds refl,
+  sets_board_up_plainly (edit_rows (codes "line") text false false) false refl refl refl,
+  refl,
+  refl,
+)
+add_by text true false arguments finds = (
+  edit_rows (codes "line") text true false,
+  asks_by arguments (codes "add") (edit_rows (codes "line") text true false) finds refl,
+  sets_board_up_plainly (edit_rows (codes "line") text true false) true refl refl refl,
+  refl,
+  refl,
+)
+add_by text false true arguments finds = (
+  edit_rows (codes "line") text false true,
+  asks_by arguments (codes "add") (edit_rows (codes "line") text false true) finds refl,
+  sets_board_up_plainly (edit_rows (codes "line") text false true) false refl refl refl,
+  refl,
+  refl,
+)
+add_by text true true arguments finds = (
+  edit_rows (codes "line") text true true,
+  asks_by arguments (codes "add") (edit_rows (codes "line") text true true) finds refl,
+  sets_board_up_plainly (edit_rows (codes "line") text true true) true refl refl refl,
+  refl,
+  refl,
+)
+
+pub add_asks : (text : Text) (rotated recovers : Bool) (arguments : List Text) → IsAdd text rotated recovers arguments → AsksToAdd arguments (setting_of (plain_setup rotated)) recovers (Some text)
+add_asks text false false arguments (name, is) =
+    let P : List Text → Type 0 = λ w. AsksToAdd w (setting_of (plain_setup false)) false (Some text) in
+    subst P (sym is) (add_by text false false (name ∷ codes "add" ∷ (codes "--line=" ++ text) ∷ []) (plain_add name text))
+add_asks text true false arguments (name, is) =
+    let P : List Text → Type 0 = λ w. AsksToAdd w (setting_of (plain_setup true)) false (Some text) in
+    subst P (sym is) (add_by text true false (name ∷ codes "add" ∷ (codes "--line=" ++ text) ∷ codes "--rotated" ∷ []) (turned_add name text))
+add_asks text false true arguments (name, is) =
+    let P : List Text → Type 0 = λ w. AsksToAdd w (setting_of (plain_setup false)) true (Some text) in
+    subst P (sym is) (add_by text false true (name ∷ codes "add" ∷ (codes "--line=" ++ text) ∷ codes "--recover" ∷ []) (recovered_add name text))
+add_asks text true true arguments (name, is) =
+    let P : List Text → Type 0 = λ w. AsksToAdd w (setting_of (plain_setup true)) true (Some text) in
+    subst P (sym is) (add_by text true true (name ∷ codes "add" ∷ (codes "--line=" ++ text) ∷ codes "--rotated" ∷ codes "--recover" ∷ []) (turned_recovered_add name text))
+
+plain_back : (name text : Text) → Finds (name ∷ codes "back" ∷ (codes "--to=" ++ text) ∷ []) (codes "back") (edit_rows (codes "to") text false false)
+unfolding clap_on_literals
+plain_back name text = (refl, refl)
+
+turned_back : (name text : Text) → Finds (name ∷ codes "back" ∷ (codes "--to=" ++ text) ∷ codes "--rotated" ∷ []) (codes "back") (edit_rows (codes "to") text true false)
+unfolding clap_on_literals
+turned_back name text = (refl, refl)
+
+recovered_back : (name text : Text) → Finds (name ∷ codes "back" ∷ (codes "--to=" ++ text) ∷ codes "--recover" ∷ []) (codes "back") (edit_rows (codes "to") text false true)
+unfolding clap_on_literals
+recovered_back name text = (refl, refl)
+
+turned_recovered_back : (name text : Text) → Finds (name ∷ codes "back" ∷ (codes "--to=" ++ text) ∷ codes "--rotated" ∷ codes "--recover" ∷ []) (codes "back") (edit_rows (codes "to") text true true)
+unfolding clap_on_literals
+turned_recovered_back name text = (refl, refl)
+
+back_by : (text : Text) (rotated recovers : Bool) (arguments : List Text) → Finds arguments (codes "back") (edit_rows (codes "to") text rotated recovers)
+    → AsksToGoBack arguments (setting_of (plain_setup rotated)) recovers (Some text)
+back_by text false false arguments finds = (
+  edit_rows (codes "to") text false false,
+  asks_by arguments (codes "back") (edit_rows (codes "to") text false false) finds refl,
+  sets_board_up_plainly (edit_rows (codes "to") text false false) false refl refl refl,
+  refl,
+  refl,
+)
+back_by text true false arguments finds = (
+  edit_rows (codes "to") text true false,
+  asks_by arguments (codes "back") (edit_rows (codes "to") text true false) finds refl,
+  sets_board_up_plainly (edit_rows (codes "to") text true false) true refl refl refl,
+  refl,
+  refl,
+)
+back_by text false true arguments finds = (
+  edit_rows (codes "to") text false true,
+  asks_by arguments (codes "back") (edit_rows (codes "to") text false true) finds refl,
+  sets_board_up_plainly (edit_rows (codes "to") text false true) false refl refl refl,
+  refl,
+  refl,
+)
+back_by text true true arguments finds = (
+  edit_rows (codes "to") text true true,
+  asks_by arguments (codes "back") (edit_rows (codes "to") text true true) finds refl,
+  sets_board_up_plainly (edit_rows (codes "to") text true true) true refl refl refl,
+  refl,
+  refl,
+)
+
+pub back_asks : (text : Text) (rotated recovers : Bool) (arguments : List Text) → IsBack text rotated recovers arguments → AsksToGoBack arguments (setting_of (plain_setup rotated)) recovers (Some text)
+back_asks text false false arguments (name, is) =
+    let P : List Text → Type 0 = λ w. AsksToGoBack w (setting_of (plain_setup false)) false (Some text) in
+    subst P (sym is) (back_by text false false (name ∷ codes "back" ∷ (codes "--to=" ++ text) ∷ []) (plain_back name text))
+back_asks text true false arguments (name, is) =
+    let P : List Text → Type 0 = λ w. AsksToGoBack w (setting_of (plain_setup true)) false (Some text) in
+    subst P (sym is) (back_by text true false (name ∷ codes "back" ∷ (codes "--to=" ++ text) ∷ codes "--rotated" ∷ []) (turned_back name text))
+back_asks text false true arguments (name, is) =
+    let P : List Text → Type 0 = λ w. AsksToGoBack w (setting_of (plain_setup false)) true (Some text) in
+    subst P (sym is) (back_by text false true (name ∷ codes "back" ∷ (codes "--to=" ++ text) ∷ codes "--recover" ∷ []) (recovered_back name text))
+back_asks text true true arguments (name, is) =
+    let P : List Text → Type 0 = λ w. AsksToGoBack w (setting_of (plain_setup true)) true (Some text) in
+    subst P (sym is) (back_by text true true (name ∷ codes "back" ∷ (codes "--to=" ++ text) ∷ codes "--rotated" ∷ codes "--recover" ∷ []) (turned_recovered_back name text))

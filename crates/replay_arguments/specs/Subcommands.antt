@@ -1,5 +1,5 @@
 -- What the arguments of the command line ask for. The first one is the program's name.
-use Rattle.std.specs.Prelude.{◌≡◌, ◌≢◌, ◌⊎◌, ◌||◌, Bool, List, [], ◌∷◌, codes, Option, Some, MatchOption, IfSome, is_some, true, false, if◌then◌else◌}
+use Rattle.std.specs.Prelude.{◌≡◌, ◌≢◌, ◌⊎◌, ◌||◌, Bool, List, [], ◌∷◌, ◌++◌, codes, Option, Some, MatchOption, IfSome, is_some, true, false, if◌then◌else◌}
 use Rattle.std.specs.Option.{option_map_or}
 use Rattle.std.specs.Borrow.{Bor}
 use Rattle.std.specs.Str.{bytes_eq}
@@ -141,6 +141,20 @@ IsWatch rotated arguments = (name : Text) × (arguments ≡ name ∷ codes "watc
 -- The arguments are a program's name, whatever it is, and `recover`, with or without `--rotated`.
 abbrev pub IsRecover : Bool → List Text → Type 0
 IsRecover rotated arguments = (name : Text) × (arguments ≡ name ∷ codes "recover" ∷ (if rotated then codes "--rotated" ∷ [] else []))
+
+-- The arguments are a program's name, whatever it is, this subcommand, and an option that begins so with a text, with or
+-- without `--rotated` and `--recover`.
+abbrev pub IsEdit : Text → Text → Text → Bool → Bool → List Text → Type 0
+IsEdit subcommand option text rotated recovers arguments = (name : Text)
+    × (arguments ≡ name ∷ subcommand ∷ (option ++ text) ∷ ((if rotated then codes "--rotated" ∷ [] else []) ++ (if recovers then codes "--recover" ∷ [] else [])))
+
+-- They are `add` and `--line=TEXT`.
+abbrev pub IsAdd : Text → Bool → Bool → List Text → Type 0
+IsAdd text rotated recovers arguments = IsEdit (codes "add") (codes "--line=") text rotated recovers arguments
+
+-- They are `back` and `--to=TEXT`.
+abbrev pub IsBack : Text → Bool → Bool → List Text → Type 0
+IsBack text rotated recovers arguments = IsEdit (codes "back") (codes "--to=") text rotated recovers arguments
 
 -- The arguments are a program's name, whatever it is, and `check`.
 abbrev pub IsCheck : List Text → Type 0
