@@ -6,7 +6,7 @@ import { meaning, readAnswer, refuse, whoseMove } from '../game/answers.js';
 import { isStillShown, question, reached, readBack, refuseBack, refuseNothing, settled, wordsOfBack } from '../game/back.js';
 import { BOTH, resultOf, whyPlayed, wordsOfForfeit } from '../game/forfeits.js';
 import { shortOfLook } from '../game/looks.js';
-import { ABSENT, ALL_WAYS, Asked, Refused, readWords, refusal } from '../game/typed.js';
+import { Asked, HELP, Refused, readWords, refusal } from '../game/typed.js';
 
 const TRIES = 4; // calls for one line, if the board sends something while each of them runs; the last one lets it wait
 const REOPENS = Symbol('a result is to be taken off');
@@ -65,7 +65,7 @@ export class Typing {
     try {
       const typed = readWords(text);
       if (typed.kind === 'nothing') return { done: true, said: '' };
-      if (typed.kind === 'helped') return { done: true, said: `${ALL_WAYS}, ${ABSENT}` };
+      if (typed.kind === 'helped') return { done: true, said: HELP };
       if (typed.kind === 'quit') throw new Refused('press Stop recording to end the recording');
       if (typed.kind === 'acknowledged') return { done: true, said: recorder.acknowledge() };
       if (recorder.capture.trouble) throw new Refused(FULL);

@@ -5,7 +5,8 @@ import { BOTH, typedForfeit } from './forfeits.js';
 
 export const WAYS = 'Type 1-0, 0-1, 1/2-1/2, moves as Nf3 Nc6, back, *, ok or help';
 export const ALL_WAYS = 'Type 1-0, 0-1, 1/2-1/2, moves (Nf3 Nc6), back (a ply off), back 14. Bxf6, * (no result) or ok';
-export const ABSENT = '+- (Black has not come; -+ White, -- both)'; // what can be typed on a page too
+export const ABSENT = '+- (Black has not come; -+ White, -- both)'; // what can be typed too if the game has no move
+export const HELP = ALL_WAYS.replace(' or ok', `, ok or ${ABSENT}`);
 export const BOTH_LOSE =
   '0-0: do both lose? PGN has no such result: leave the game without one, and note it. Castling is O-O';
 const WHICH_PLY = 'which ply? Type it as the screen printed it, as back 14. Bxf6 or back 14... Qd7; or back alone, or back 0';
