@@ -16,6 +16,8 @@ mod board_session_page;
 #[cfg(test)]
 mod board_standing_page;
 #[cfg(test)]
+mod board_times_page;
+#[cfg(test)]
 mod chess_clock_page;
 #[cfg(test)]
 mod chess_game_page;

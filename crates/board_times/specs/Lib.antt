@@ -1,0 +1,6 @@
+pub mod Words
+pub mod Lines
+pub mod Times
+pub mod Fitting
+pub mod Laws
+pub mod Inside

@@ -1,0 +1,20 @@
+-- The words of the file of times.
+use Rattle.std.specs.Prelude.{ℕ, List, codes}
+use Rattle.board_times.specs.declared.words.Word.{Word}
+use Rattle.board_times.specs.declared.words.Word.TheVariants.{Version, Digest, Begin, Away, Opened, Answered, Gone, Called, Heard, Added, Stopped, Asked, Took, Over}
+
+abbrev pub word_text : Word → List ℕ
+word_text Version = codes "times"
+word_text Digest = codes "digest"
+word_text Begin = codes "begin"
+word_text Away = codes "away"
+word_text Opened = codes "opened"
+word_text Answered = codes "answered"
+word_text Gone = codes "gone"
+word_text Called = codes "called"
+word_text Heard = codes "heard"
+word_text Added = codes "added"
+word_text Stopped = codes "stopped"
+word_text Asked = codes "asked"
+word_text Took = codes "took"
+word_text Over = codes "over"

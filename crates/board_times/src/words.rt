@@ -1,0 +1,103 @@
+//! The words of the file of times.
+ghost use Rattle.std.specs.Prelude.{◌≡◌};
+ghost use Rattle.std.specs.Str.{bytes_eq};
+ghost use Rattle.board_times.specs.Words.{word_text};
+ghost use Rattle.board_times.specs.Inside.Reading.{word_read};
+
+/// The word of a line.
+#[derive(Clone, Copy)]
+pub enum Word {
+    Version,
+    Digest,
+    Begin,
+    Away,
+    Opened,
+    Answered,
+    Gone,
+    Called,
+    Heard,
+    Added,
+    Stopped,
+    Asked,
+    Took,
+    Over,
+}
+
+impl Word {
+    /// Its text.
+    pub fn text(self) -> &'static [u8]
+        ensures { result.now ≡ word_text self }
+    {
+        match self {
+            Word::Version => b"times",
+            Word::Digest => b"digest",
+            Word::Begin => b"begin",
+            Word::Away => b"away",
+            Word::Opened => b"opened",
+            Word::Answered => b"answered",
+            Word::Gone => b"gone",
+            Word::Called => b"called",
+            Word::Heard => b"heard",
+            Word::Added => b"added",
+            Word::Stopped => b"stopped",
+            Word::Asked => b"asked",
+            Word::Took => b"took",
+            Word::Over => b"over",
+        }
+    }
+}
+
+pub(crate) fn are_same(text: &[u8], other: &[u8]) -> bool
+    ensures { result ≡ bytes_eq text.now other.now }
+{
+    *text == *other
+}
+
+/// The word that a text is, if it is one.
+pub(crate) fn word_of(text: &[u8]) -> Option<Word>
+    ensures { result ≡ word_read text.now }
+{
+    if are_same(text, b"times") {
+        return Some(Word::Version);
+    }
+    if are_same(text, b"digest") {
+        return Some(Word::Digest);
+    }
+    if are_same(text, b"begin") {
+        return Some(Word::Begin);
+    }
+    if are_same(text, b"away") {
+        return Some(Word::Away);
+    }
+    if are_same(text, b"opened") {
+        return Some(Word::Opened);
+    }
+    if are_same(text, b"answered") {
+        return Some(Word::Answered);
+    }
+    if are_same(text, b"gone") {
+        return Some(Word::Gone);
+    }
+    if are_same(text, b"called") {
+        return Some(Word::Called);
+    }
+    if are_same(text, b"heard") {
+        return Some(Word::Heard);
+    }
+    if are_same(text, b"added") {
+        return Some(Word::Added);
+    }
+    if are_same(text, b"stopped") {
+        return Some(Word::Stopped);
+    }
+    if are_same(text, b"asked") {
+        return Some(Word::Asked);
+    }
+    if are_same(text, b"took") {
+        return Some(Word::Took);
+    }
+    if are_same(text, b"over") {
+        return Some(Word::Over);
+    }
+    None
+}
