@@ -32,9 +32,9 @@ use Step::{Handles, Silent, Takes, Wakes};
 /// What is seen first that isn't as a step says, by the step's number, which is 1 for the first; 0 if all is.
 fn first_wrong(steps: &[Step<'_>]) -> usize {
     let mut asking = Asking::new();
-    let mut number = 0;
+    let mut number: usize = 0;
     for step in steps {
-        number += 1;
+        number = number.saturating_add(1);
         if !is_so(&mut asking, step) {
             return number;
         }
@@ -153,6 +153,19 @@ static ADDED: [Step<'static>; 12] = [
     Wakes(1650, ""),
 ];
 
+/// Bytes are added within the dump that was asked for, which is cut and doesn't count.
+static ADDED_IN_A_DUMP: [Step<'static>; 9] = [
+    Takes(0, Begins),
+    Takes(0, Opens),
+    Wakes(0, "EBK"),
+    Takes(50, Comes(true)),
+    Takes(50, Interrupts),
+    Takes(100, Faults),
+    Takes(100, Comes(false)),
+    Wakes(150, ""),
+    Wakes(200, "B"),
+];
+
 /// History asks nothing, and its number is known.
 static HISTORY: [Step<'static>; 12] = [
     Takes(0, Begins),
@@ -211,6 +224,35 @@ static ANOTHER_BOARD: [Step<'static>; 13] = [
     Handles(20000, "keep"),
     Takes(20100, Numbers(ANOTHER)),
     Handles(20100, "other"),
+];
+
+/// Another board, and then another one on the same cable: the game's own, or one that gives no number.
+static THEN_ITS_OWN: [Step<'static>; 6] = [
+    Takes(0, Owns(OWN)),
+    Takes(0, Opens),
+    Takes(100, Numbers(ANOTHER)),
+    Takes(9000, Opens),
+    Takes(9100, Numbers(OWN)),
+    Handles(9100, "keep"),
+];
+
+static THEN_NONE: [Step<'static>; 6] = [
+    Takes(0, Owns(OWN)),
+    Takes(0, Opens),
+    Takes(100, Numbers(ANOTHER)),
+    Takes(9000, Opens),
+    Handles(9000, "hold"),
+    Handles(14000, "keep"),
+];
+
+/// The number comes behind two dumps, and it is another board's.
+static BEHIND_TWO_DUMPS: [Step<'static>; 6] = [
+    Takes(0, Owns(OWN)),
+    Takes(0, Opens),
+    Takes(100, Dumps(EMPTY)),
+    Takes(1100, Dumps(EMPTY)),
+    Takes(1200, Numbers(ANOTHER)),
+    Handles(1200, "other"),
 ];
 
 /// The arbiter takes the board on the cable.
@@ -274,7 +316,11 @@ fn each_step_is_as_it_says(rt: HostRuntime) {
     expect(&rt, "called again", &CALLED_AGAIN);
     expect(&rt, "stopped", &STOPPED);
     expect(&rt, "added", &ADDED);
+    expect(&rt, "added in a dump", &ADDED_IN_A_DUMP);
     expect(&rt, "history", &HISTORY);
+    expect(&rt, "then its own", &THEN_ITS_OWN);
+    expect(&rt, "then none", &THEN_NONE);
+    expect(&rt, "behind two dumps", &BEHIND_TWO_DUMPS);
     expect(&rt, "no number", &NO_NUMBER);
     expect(&rt, "no answer", &NO_ANSWER);
     expect(&rt, "its own", &ITS_OWN);

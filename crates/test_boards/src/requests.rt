@@ -19,7 +19,7 @@ struct Row<'a> {
     sent: &'a [(u64, &'a str)],
 }
 
-static ROWS: [Row<'static>; 20] = [
+static ROWS: [Row<'static>; 25] = [
     Row {
         name: "at the connection",
         comes: &[],
@@ -37,6 +37,24 @@ static ROWS: [Row<'static>; 20] = [
         comes: &[(100, Dumps(EMPTY)), (1300, Dumps(EMPTY))],
         until: 2000,
         sent: &[(0, "EBK"), (1000, "B"), (2000, "B")],
+    },
+    Row {
+        name: "with a clock that runs",
+        comes: &[(100, Dumps(EMPTY)), (500, Comes(false))],
+        until: 1000,
+        sent: &[(0, "EBK"), (1000, "B")],
+    },
+    Row {
+        name: "a time is no update",
+        comes: &[(100, Dumps(EMPTY)), (900, Comes(false))],
+        until: 1100,
+        sent: &[(0, "EBK"), (1000, "B")],
+    },
+    Row {
+        name: "an update 0.5 s before: in quiet",
+        comes: &[(100, Dumps(EMPTY)), (400, Updates), (500, Updates)],
+        until: 1000,
+        sent: &[(0, "EBK"), (1000, "B")],
     },
     Row {
         name: "0.5 s after the last update",
@@ -92,6 +110,18 @@ static ROWS: [Row<'static>; 20] = [
         comes: &[(100, Dumps(EMPTY)), (150, Faults)],
         until: 300,
         sent: &[(0, "EBK"), (200, "B")],
+    },
+    Row {
+        name: "a fault later: at once",
+        comes: &[(100, Dumps(EMPTY)), (300, Faults)],
+        until: 400,
+        sent: &[(0, "EBK"), (300, "B")],
+    },
+    Row {
+        name: "a cut frame",
+        comes: &[(100, Dumps(EMPTY)), (600, Faults), (600, Updates)],
+        until: 700,
+        sent: &[(0, "EBK"), (600, "B")],
     },
     Row {
         name: "a fault that a dump has healed",
@@ -161,10 +191,16 @@ static ROWS: [Row<'static>; 20] = [
 ];
 
 /// The same for a game whose board has a number.
-static NUMBERED: [Row<'static>; 4] = [
+static NUMBERED: [Row<'static>; 5] = [
     Row {
         name: "given at once",
         comes: &[(50, Numbers(NUMBER)), (100, Dumps(EMPTY))],
+        until: 1500,
+        sent: &[(0, "EBK"), (1000, "B")],
+    },
+    Row {
+        name: "behind the dump",
+        comes: &[(100, Dumps(EMPTY)), (100, Numbers(NUMBER))],
         until: 1500,
         sent: &[(0, "EBK"), (1000, "B")],
     },
@@ -202,18 +238,16 @@ static NUMBERED: [Row<'static>; 4] = [
     },
 ];
 
-/// What is still to be sent after a wake, or none where something else was sent.
-fn wake<'a>(
-    asking: &mut Asking,
-    now: u64,
-    left: &'a [(u64, &'a str)],
-) -> Option<&'a [(u64, &'a str)]> {
+/// How many requests have been sent after a wake, or none where another one was sent than the row says.
+fn wake(asking: &mut Asking, now: u64, row: &Row<'_>, sent: usize) -> Option<usize> {
     let Some(request) = asking.wake(now) else {
-        return Some(left);
+        return Some(sent);
     };
-    let ((at, text), rest) = left.split_first()?;
+    let Some((at, text)) = row.sent.get(sent) else {
+        return None;
+    };
     if *at == now && *request.bytes() == *text.as_bytes() {
-        Some(rest)
+        Some(sent.saturating_add(1))
     } else {
         None
     }
@@ -230,30 +264,40 @@ fn come(asking: &mut Asking, now: u64, comes: &[(u64, Happening)]) {
     }
 }
 
-/// Whether the board is sent what the row says.
-fn is_sent(row: &Row<'_>, number: Option<[u8; 5]>) -> bool {
+/// What comes at this time, with a wake before and behind it.
+fn pass(asking: &mut Asking, now: u64, row: &Row<'_>, sent: usize) -> Option<usize> {
+    let Some(before) = wake(asking, now, row, sent) else {
+        return None;
+    };
+    come(asking, now, row.comes);
+    wake(asking, now, row, before)
+}
+
+/// A board whose line is opened at 0.
+fn opened(number: Option<[u8; 5]>) -> Asking {
     let mut asking = Asking::new();
     come(&mut asking, 0, &[(0, Begins)]);
     if let Some(number) = number {
         come(&mut asking, 0, &[(0, Owns(number))]);
     }
     come(&mut asking, 0, &[(0, Opens)]);
-    let mut left = row.sent;
+    asking
+}
+
+/// Whether the board is sent what the row says.
+fn is_sent(row: &Row<'_>, number: Option<[u8; 5]>) -> bool {
+    let mut asking = opened(number);
+    let mut sent: usize = 0;
     for tick in 0..100u64 {
         let now = 50 * tick;
-        if now > row.until {
-            break;
+        if now <= row.until {
+            let Some(more) = pass(&mut asking, now, row, sent) else {
+                return false;
+            };
+            sent = more;
         }
-        let Some(rest) = wake(&mut asking, now, left) else {
-            return false;
-        };
-        come(&mut asking, now, row.comes);
-        let Some(rest) = wake(&mut asking, now, rest) else {
-            return false;
-        };
-        left = rest;
     }
-    left.is_empty()
+    sent == row.sent.len()
 }
 
 fn expect(rt: &impl Abort, row: &Row<'_>, number: Option<[u8; 5]>) {
