@@ -68,4 +68,4 @@ pub refused_so : (setting : Setting) (recovers : Bool) (past : List Event) (stay
 refused_so setting recovers past stay made bytes error e shows (inl h) = inl h
 refused_so setting recovers past stay made bytes error e shows (inr h) =
     let S : List ℕ → Type 0 = λ xs. Spoils setting recovers past stay xs error in
-    inr (inr (made, shows, subst S e h))
+    inr (inr (inr (made, shows, subst S e h)))

@@ -70,8 +70,9 @@ moved_legal : (setting : Setting) (recovers : Bool) (past : List Event) (stay : 
     → Legal (position_after setting.start (moves_of stay)) m
 moved_legal setting recovers past stay m (inl e) = absurd cc
 moved_legal setting recovers past stay m (inr (inl (e, none))) = absurd cc
-moved_legal setting recovers past stay m (inr (inr (made, is, inl (e, long)))) = absurd cc
-moved_legal setting recovers past stay m (inr (inr (made, is, inr other))) = elim other.why [
+moved_legal setting recovers past stay m (inr (inr (inl (e, large)))) = absurd cc
+moved_legal setting recovers past stay m (inr (inr (inr (made, is, inl (e, long))))) = absurd cc
+moved_legal setting recovers past stay m (inr (inr (inr (made, is, inr other)))) = elim other.why [
   | inl h ↦ shown_legal setting other.settler other.events stay h.1 h.0 m other.settled h.2 h.3
   | inr h ↦ (let e = h.0 in absurd cc)
 ]

@@ -1,16 +1,17 @@
 -- A game that goes back to one of its plies. Plies stand in their order, events have the latest first.
-use Rattle.std.specs.Prelude.{◌≡◌, ◌⊎◌, ℕ, Bool, List, ◌∷◌, ◌++◌, Some, None}
+use Rattle.std.specs.Prelude.{◌≡◌, ◌⊎◌, ◌<◌, ◌+◌, ℕ, Bool, List, ◌∷◌, ◌++◌, Some, None, length}
 use Rattle.dgt_frame.specs.declared.events.Event.{Event}
 use Rattle.settle_core.specs.declared.plies.Ply.{Ply}
 use Rattle.settle_core.specs.Entries.{last_picture}
 use Rattle.settle_core.specs.GameResult.{IsResult}
 use Rattle.settle_core.specs.Settler.{SettlerState, HasSettled, plies_of, position_of}
 use Rattle.board_events.specs.History.{is_trusted, reading_at}
+use Rattle.board_events.specs.Limits.{limit}
 use Rattle.board_events.specs.Session.{entries_in}
 use Rattle.board_events.specs.Settings.{Setting}
 use Rattle.pair_frames.specs.PutIn.{ShowsWhole}
 use Rattle.board_captures.specs.Reading.{IsRead, IsTooLong, StandAlike}
-use Rattle.board_captures.specs.Shown.{board_shown, game_shown}
+use Rattle.board_captures.specs.Shown.{board_shown, game_shown, size_of_board, size_of_game}
 use Rattle.going_back.specs.declared.going.BackError.{BackError}
 use Rattle.going_back.specs.declared.going.BackError.TheVariants.{Unseen, Ended, Signed, Moved, Board, TooLong, Memory}
 
@@ -63,8 +64,15 @@ Spoils setting recovers past stay made error = ((error ≡ TooLong) × IsTooLong
 abbrev pub GoesBack : Setting → Bool → List Event → List Ply → List ℕ → Type 0
 GoesBack setting recovers past stay made = IsMade setting past stay made × Gives setting recovers past stay made
 
--- Why a game can't go back to them: memory ran out, the board has shown nothing, or the new capture won't do.
+-- A capture that shows so many plies, and then the board as it stands after these events, has more bytes than a stream
+-- may have.
+abbrev pub IsTooLarge : List Event → ℕ → Type 0
+IsTooLarge past plies = limit < size_of_game plies + size_of_board (is_trusted past)
+
+-- Why a game can't go back to them: memory ran out, the board has shown nothing, the new capture would be too large, or
+-- it won't do.
 abbrev pub Refuses : Setting → Bool → List Event → List Ply → BackError → Type 0
 Refuses setting recovers past stay error = (error ≡ Memory)
     ⊎ (((error ≡ Unseen) × (last_picture (entries_in setting past) ≡ None))
-    ⊎ ((made : List ℕ) × IsMade setting past stay made × Spoils setting recovers past stay made error))
+    ⊎ (((error ≡ TooLong) × IsTooLarge past (length stay))
+    ⊎ ((made : List ℕ) × IsMade setting past stay made × Spoils setting recovers past stay made error)))

@@ -1,6 +1,7 @@
 //! The new capture of a game that goes back: made, read again, and compared.
-ghost use Rattle.std.specs.Prelude.{◌≡◌, ◌⊎◌, ◌↔◌, ◌<◌, ◌≤◌, ◌++◌, All, List, Some, false, IfErr, IfOk, IsTrue, MatchOption, OnOk, length, slice_index_or, take};
+ghost use Rattle.std.specs.Prelude.{◌≡◌, ◌⊎◌, ◌↔◌, ◌<◌, ◌≤◌, ◌+◌, ◌++◌, All, List, Some, false, IfErr, IfOk, IsTrue, MatchOption, OnOk, length, slice_index_or, take};
 ghost use Rattle.dgt_frame.specs.declared.events.Event.{Event as EventOf};
+ghost use Rattle.board_events.specs.Limits.{limit};
 ghost use Rattle.board_events.specs.Settings.{Setting};
 ghost use Rattle.board_events.specs.Session.{entries_in};
 ghost use Rattle.settle_core.specs.Entries.{last_picture};
@@ -9,12 +10,14 @@ ghost use Rattle.settle_core.specs.Settler.{plies_of};
 ghost use Rattle.settle_core.specs.Settling.{Line};
 ghost use Rattle.settle_core.specs.declared.plies.Ply.{Ply as PlyOf};
 ghost use Rattle.board_captures.specs.Reading.{StandAlike, StandsForCapture, setting_of};
+ghost use Rattle.board_captures.specs.Shown.{size_of_board, size_of_game};
 ghost use Rattle.going_back.specs.Back.{Differs, Gives, GoesBack, HasFrontAlone, IsMade, Refuses, Spoils};
 
 use board_captures::{CaptureError, Captured, Method, read_capture, show_game};
 use chess_clock::Reading;
 use chess_game::result_at;
 use chess_rules::Move;
+use dgt_frame::LIMIT;
 use settle_core::{Outcome, Ply, Settler};
 use std::alloc::{AllocError, Global};
 
@@ -179,6 +182,26 @@ fn show_front(
     )
 }
 
+/// How many bytes a capture takes for a game with so many plies, of which there are at most 67,108,864.
+fn size_of(plies: usize) -> usize
+    requires { plies ≤ 67108864 }
+    ensures value { result ≡ size_of_game plies }
+    ensures within { result ≤ 8000000000 }
+{
+    if plies == 0 { 0 } else { 67 + 77 * plies }
+}
+
+/// Whether a capture that shows so many plies, and then the board, has more bytes than a stream may have.
+fn is_too_large(plies: usize, trusted: bool) -> bool
+    ensures { IsTrue result ↔ (limit < size_of_game plies + size_of_board trusted) }
+{
+    if plies > LIMIT as usize {
+        return true;
+    }
+    let board = if trusted { 77 } else { 78 };
+    size_of(plies) + board > LIMIT as usize
+}
+
 /// The capture that shows the first plies of a game, so many, with their clocks, and then the board as it stands. It is
 /// read again as `method` says: its game has these plies and no other, and no result, and the board stands as it stood.
 /// `captured` is what was read of all that the board sent.
@@ -207,6 +230,9 @@ pub fn go_back(
     let Some(picture) = captured.picture() else {
         return Err(BackError::Unseen);
     };
+    if is_too_large(stays, captured.session.trusted()) {
+        return Err(BackError::TooLong);
+    }
     let stay = &captured.session.settler().moves()[..stays];
     let Ok(bytes) = show_front(alloc, method, captured, picture, stay) else {
         return Err(BackError::Memory);
