@@ -73,8 +73,8 @@ def help_is_given(folder: pathlib.Path) -> None:
             same(page.text("#answer").startswith("Type"), True)
             same(page.value("document.querySelector('#answer').classList.contains('refused')"), False)
             answered(stage, page, "q", "press Stop recording")
-        answered(stage, page, "back 0", "the game has no move")
-        answered(stage, page, "back", "no ply that could be taken off")
+        answered(stage, page, "back 0", "back 0: the game has no move")
+        answered(stage, page, "back", "back: the game has no move")
         answered(stage, page, "back 1", "which ply? Type it as the screen printed it")
         for text, part in {"nf3": "write Nf3", "g1f3": "write Nf3", "5 Nf3": "leave out the number in front"}.items():
             answered(stage, page, text, part)

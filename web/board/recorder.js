@@ -4,7 +4,6 @@
 import { DUMP_ID, SIZES, STRAY, dump, joined, same } from '../device/protocol.js';
 import { AfterTheEnd } from '../game/after_the_end.js';
 import { Alarms, acknowledged } from '../game/alarms.js';
-import { reached } from '../game/back.js';
 import { endingWithSign, gameEnd } from '../game/ending.js';
 import { countingForfeit } from '../game/forfeits.js';
 import { textOfLook } from '../game/looks.js';
@@ -12,6 +11,7 @@ import { dayOf } from '../game/names.js';
 import { gameOf, newCourse } from '../game/reading.js';
 import { codesOf, shortOf, shownOf } from '../game/report.js';
 import { ABSENT, Refused } from '../game/typed.js';
+import { reached } from '../game/way_back.js';
 import { Capture, LARGEST } from '../kept/capture.js';
 import { spread, withMore } from '../kept/spread.js';
 import { Cable } from './cable.js';

@@ -3,10 +3,10 @@
 
 import { joined } from '../device/protocol.js';
 import { meaning, readAnswer, refuse, whoseMove } from '../game/answers.js';
-import { isStillShown, question, reached, readBack, refuseBack, refuseNothing, settled, wordsOfBack } from '../game/back.js';
 import { BOTH, resultOf, whyPlayed, wordsOfForfeit } from '../game/forfeits.js';
 import { shortOfLook } from '../game/looks.js';
 import { Asked, HELP, Refused, readWords, refusal } from '../game/typed.js';
+import { isStillShown, question, reached, readBack, refuseBack, refuseNothing, settled, wordsOfBack } from '../game/way_back.js';
 
 const TRIES = 4; // calls for one line, if the board sends something while each of them runs; the last one lets it wait
 const REOPENS = Symbol('a result is to be taken off');

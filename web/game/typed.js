@@ -9,7 +9,7 @@ export const ABSENT = '+- (Black has not come; -+ White, -- both)'; // what can 
 export const HELP = ALL_WAYS.replace(' or ok', `, ok or ${ABSENT}`);
 export const BOTH_LOSE =
   '0-0: do both lose? PGN has no such result: leave the game without one, and note it. Castling is O-O';
-const WHICH_PLY = 'which ply? Type it as the screen printed it, as back 14. Bxf6 or back 14... Qd7; or back alone, or back 0';
+export const WHICH_PLY = 'which ply? Type it as the screen printed it, as back 14. Bxf6 or back 14... Qd7; or back alone, or back 0';
 const NOUGHTS = '0-0'; // a result, or castling typed with noughts
 const HELPS = ['help', '?', 'undo'];
 const SHOWN = 60; // characters of what was typed that an answer repeats

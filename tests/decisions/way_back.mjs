@@ -1,8 +1,9 @@
 /** The way back: what is asked and told. The program finds the ply and makes the capture anew. */
-import { question, readBack, refuseBack, refuseNothing, settled, wordsOfBack } from "/web/game/back.js";
 import { Looks, OVER } from "/web/game/looks.js";
+import { question, readBack, refuseBack, refuseNothing, settled, wordsOfBack } from "/web/game/way_back.js";
 
 const moveOf = ([number, san, clock]) => ({ kind: "move", number, san, clock, corrects: false });
+const read = (status, said) => readBack({ status, errors: new TextEncoder().encode(`${said}\n`), output: new Uint8Array(2) });
 
 export function plies(counts, cases) {
   const game = cases("plies").map(moveOf);
@@ -12,16 +13,15 @@ export function plies(counts, cases) {
   for (const [stays, result, expected] of cases("told")) {
     counts.same(expected, wordsOfBack(game, stays, result), expected);
   }
-  for (const [stays, has, result, expected] of cases("not so")) {
-    const still = result === "*" ? "board" : "signed";
-    const said = has > stays ? { kind: "moved", stays, rest: `${game[stays].number} ${game[stays].san}` } : { kind: still, stays, rest: result };
-    counts.same(expected.slice(0, 40), refuseBack(said, "", game).message, expected);
+  for (const [said, to, expected] of cases("refused")) {
+    counts.same(said, refuseBack(read(1, `back: ${said}`), to, game).message, expected);
   }
-  for (const [typed, nearest] of cases("nearest")) {
-    const to = `${typed.number} ${typed.san}`;
-    const { message } = refuseBack({ kind: "nearest", stays: 0, rest: nearest }, to, game);
-    counts.same(to, message, `${to} is no ply of the game. The nearest is ${nearest}: type back ${nearest}`);
+  for (const [count, to, expected] of cases("nothing")) {
+    const stays = count === 0 || to === "*" ? count : game.length;
+    counts.same(to, counts.refused(to, "Refused", () => refuseNothing(game.slice(0, count), stays, "*", to)), expected);
   }
+  counts.same("a result goes", refuseNothing(game, 12, "1-0", "*"), undefined);
+  counts.same("a ply goes", refuseNothing(game, 11, "*", ""), undefined);
 }
 
 export function looks(counts, cases) {
@@ -36,21 +36,7 @@ export function looks(counts, cases) {
   }
 }
 
-export function nothing(counts, cases) {
-  const game = cases("plies").map(moveOf);
-  for (const [name, plies, stays, result, to, expected] of [
-    ["all stay", game, 12, "*", "6...", "the game ends with 6... Qxe4+ already"],
-    ["there is none", [], 0, "*", "0", "the game has no move"],
-    ["no result", game, 12, "*", "*", "the game has no result"],
-  ]) {
-    counts.same(name, counts.refused(name, "Refused", () => refuseNothing(plies, stays, result, to)), expected);
-  }
-  counts.same("a result goes", refuseNothing(game, 12, "1-0", "*"), undefined);
-  counts.same("a ply goes", refuseNothing(game, 11, "*", ""), undefined);
-}
-
 export function answers(counts) {
-  const read = (status, said) => readBack({ status, errors: new TextEncoder().encode(`${said}\n`), output: new Uint8Array(2) });
   for (const [status, said, expected] of [
     [0, "back: plies 27, gone 3, result 1-0", { kind: "back", stays: 27, put: [0, 0] }],
     [0, "back: plies 0, gone 0, result *", { kind: "back", stays: 0, put: [0, 0] }],

@@ -1,15 +1,15 @@
-// Going back, in sentences: which plies go, what is asked first, what was done, and why it can't be. The program makes the
-// new capture. Pure: docs/FORMATS.md has the lines of `back`.
+// Going back, in words: how many plies stay and go, what is asked first, what was done, and why it can't be. The program decides
+// which plies are meant, and makes the new capture. Pure: docs/FORMATS.md has its lines.
 
 import { ProgramError } from './program.js';
 import { shortOf } from './report.js';
-import { Refused, shortened } from './typed.js';
+import { Refused, WHICH_PLY } from './typed.js';
 
 const WITHOUT_A_QUESTION = 2; // plies that may go without a question
 const DONE = /^plies ([0-9]+), gone ([0-9]+), result (\S+)$/;
-const STILL_SHOWN = ['moved', 'signed', 'board']; // why it can't be as long as the board stands as it does
-const FULL = 'the new capture would have more than 64 MiB. Nothing was changed';
-const UNSEEN = 'the board has shown nothing yet';
+const STILL_SHOWN = ['moved', 'signed', 'board', 'unseen']; // why it can't be as long as the board stands as it does
+const FULL = 'the new capture would be too long. Nothing was changed';
+const UNSEEN = 'the board has shown nothing yet. Type it again when it has';
 
 /**
  * What `back` has answered: { kind: 'back', stays, put } with the new capture; or { kind, stays, rest }, where `stays` is how
@@ -35,9 +35,9 @@ export function refuseBack({ kind, stays, rest }, to, plies) {
   const kept = plies.slice(0, stays);
   switch (kind) {
     case 'nearest':
-      return new Refused(`${shortened(to)} is no ply of the game. The nearest is ${rest}: type back ${rest}`);
+      return new Refused(/^[0-9]+\./.test(to) ? `${to} is no ply of the game. The nearest is ${rest}: type back ${rest}` : WHICH_PLY);
     case 'none':
-      return new Refused('the game has no ply that could be taken off');
+      return new Refused(to ? 'the game has no ply that could be taken off' : 'the game has no move');
     case 'ended':
       return new Refused(`the game ends with ${reached(kept)} on the board: that is its result`);
     case 'signed':
