@@ -32,6 +32,7 @@ from live.game.program import Program
 from live.game.reading import new_course
 from live.game.report import Clock, Move
 from live.game.typed import Answer, reason_of, refusal
+from live.game.typed import Refused as NotDone
 from live.guard import Guard, traced
 from live.loop import Timer, Turns
 from live.refused import DONE, FAILED, Refused
@@ -40,6 +41,7 @@ from live.terminal.screen import Screen
 
 PAUSES = (2.0, 5.0, 10.0, 20.0, 40.0, 60.0)  # seconds between tries to record a board
 ENDED = "its recording has ended"
+BEING_OPENED = "the game is just being opened: type it again in a moment"
 
 
 @dataclass(frozen=True)
@@ -307,6 +309,8 @@ class Board:
 
     def _obeys(self, text: str, is_typed: bool) -> Steps[Answer]:
         recorder = self._recorder
+        if recorder is None and self.is_begun:
+            return refusal(text, NotDone(BEING_OPENED))
         if recorder is None:
             return (yield from self._add_to_closed(text))
         return (yield from (recorder.typed(text) if is_typed else recorder.add(text)))

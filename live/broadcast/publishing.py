@@ -81,7 +81,7 @@ def run(words: Sequence[str], path: AnyPath, seconds: float) -> str:
                 start_new_session=True,
             )
         except OSError as error:
-            return f"it can't be started: {error.strerror}"
+            return f"the command can't be started: {error.strerror}"
         finally:
             signal.pthread_sigmask(signal.SIG_BLOCK, ENDING)
             os.close(into)
@@ -92,8 +92,8 @@ def run(words: Sequence[str], path: AnyPath, seconds: float) -> str:
     if word == "ended":
         return "" if more == "0" else last_line(tail) or _status(int(more))
     if word == "unstarted":
-        return f"it can't be started: {more}"
-    return "an earlier run of it goes on" if word == "beside" else f"it took more than {seconds:.0f} s, and was ended"
+        return f"the command can't be started: {more}"
+    return "an earlier run of the command goes on" if word == "beside" else f"the command took more than {seconds:.0f} s, and was ended"
 
 
 def argument(path: AnyPath) -> str:
@@ -138,7 +138,7 @@ def last_line(text: bytes) -> str:
 
 
 def _status(status: int) -> str:
-    return f"it ended with status {status}" if status > 0 else f"it was ended by signal {-status}"
+    return f"the command ended with status {status}" if status > 0 else f"the command was ended by signal {-status}"
 
 
 class HearsPublisher(Protocol):

@@ -163,11 +163,21 @@ def folder_of(asked: Asked) -> Tuple[pathlib.Path, int]:
         folder.mkdir(exist_ok=True)
         lock = os.open(folder, os.O_RDONLY | os.O_DIRECTORY)
     except OSError as error:
-        why = f"the folder {folder} can't be made or opened ({text_of(error)}): choose another FOLDER"
-        raise Refused(FAILED, why) from None
+        raise Refused(FAILED, f"{told_of_no_folder(folder, error)}: choose another FOLDER") from None
+    if not os.access(folder, os.W_OK | os.X_OK):
+        raise Refused(FAILED, f"you may not write in the folder {folder}: get the right to, or choose another FOLDER")
     if not locked(lock, LOCK_PATIENCE):
         raise Refused(REFUSED, f"{folder} is another dgt_round's: end that one, or choose another FOLDER")
     return folder, lock
+
+
+def told_of_no_folder(folder: pathlib.Path, error: OSError) -> str:
+    """Why a folder isn't there."""
+    if isinstance(error, FileNotFoundError):
+        return f"there is no folder {folder.parent} to make {folder.name} in"
+    if isinstance(error, (FileExistsError, NotADirectoryError)):
+        return f"{folder} is a file, or is to be in one"
+    return f"the folder {folder} can't be made or opened ({text_of(error)})"
 
 
 def round_of(text: Optional[str]) -> Optional[int]:

@@ -13,6 +13,7 @@ ENDINGS = (
     ".before.dgt", ".dgt", ".edited.pgn", ".broadcast.pgn", ".pgn", ".options", ".log", ".look", ".back", ".serial", ".end",
     ".forfeit", ".delayed", ".delay", ".pages", ".cable", ".",
 )  # fmt: skip
+DEVICES = ("/dev/tty", "/dev/serial/", "/dev/rfcomm", "tcp://")  # what a board's device begins with
 
 
 def check_name(name: str) -> None:
@@ -21,7 +22,7 @@ def check_name(name: str) -> None:
         is_device = "\0" not in name and stat.S_ISCHR(os.stat(name).st_mode)
     except OSError:
         is_device = False
-    if is_device:
+    if is_device or name.startswith(DEVICES):
         raise Refused(ARGUMENTS, f"{name} is a device: type the DEVICE first, and then the NAME")
     if size_of(Paths(name).capture):
         return

@@ -255,7 +255,8 @@ class Capture:
                     raise
                 os.close(number)  # the last owner of the lock has put a new file in its place
         except OSError as error:
-            raise Refused(FAILED, f"{path} can't be written ({text_of(error)}): choose another name") from None
+            right = "get the right to, or " if isinstance(error, PermissionError) else ""
+            raise Refused(FAILED, f"{path} can't be written ({text_of(error)}): {right}choose another name") from None
 
     @staticmethod
     def begin(path: str, content: bytes) -> Capture:

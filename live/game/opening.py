@@ -241,8 +241,10 @@ def added_to_kept(given: Options, name: str, told_first: Sequence[str] = (), is_
 def refuse_another_game(chosen: Options, kept: Options, name: str, is_over: bool) -> None:
     """Refuses options that a game with moves can't go on with."""
     if not chosen.lies_as(kept) or (is_over and not chosen.has_tags_of(kept)):
-        why = f"{name} has moves, and was begun with other options: give none to go on, or choose another name. They were"
-        raise Refused(REFUSED, why, kept.said)
+        goes_on = "give none to go on, or choose another name"
+        if not as_typed(kept.words()):
+            raise Refused(REFUSED, f"{name} has moves, and was begun without options: {goes_on}")
+        raise Refused(REFUSED, f"{name} has moves, and was begun with other options: {goes_on}. They were", kept.said)
     if chosen.has_other_players_than(kept):
         raise Refused(
             REFUSED,

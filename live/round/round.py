@@ -21,6 +21,7 @@ from live.game import answers
 from live.game.answers import ILLEGAL, MEANT, MOVES, RESULT, UNKNOWN, Said, moves_in
 from live.game.files import ROUND, Log, Paths, logged_at, text_of
 from live.game.forfeits import NO_RESULT, score_of, typed_forfeit
+from live.game.naming import IN_A_TABLE, is_naming
 from live.game.options import Options
 from live.game.program import Program
 from live.game.typed import ABSENT, ALL_WAYS, HELPS, Acknowledged, Answer, Back, Reopened
@@ -124,6 +125,8 @@ def all_ways(numbers: Sequence[int]) -> str:
 
 def ways(text: str, numbers: Sequence[int], said: Said = Said(UNKNOWN)) -> str:
     """What to type instead of a text that doesn't begin with a board's number, given what the program says of it."""
+    if is_naming(text):
+        return IN_A_TABLE
     number = example(numbers)
     line = " ".join(text.split())
     if said.kind == RESULT:

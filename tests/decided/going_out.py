@@ -288,18 +288,18 @@ def runs_of_a_command() -> None:
         for program, said in [
             ("import sys; print('out'); assert sys.argv[1].endswith('/broadcast.pgn')", ""),
             ("import sys; print('first\\nlast \\x1b[0m \\n\\n', file=sys.stderr); print('a secret'); sys.exit(3)", "last ?[0m"),
-            ("import sys; sys.exit(3)", "it ended with status 3"),
-            ("import os; os.kill(os.getpid(), 9)", "it was ended by signal 9"),
+            ("import sys; sys.exit(3)", "the command ended with status 3"),
+            ("import os; os.kill(os.getpid(), 9)", "the command was ended by signal 9"),
             ("import sys; print('warning', file=sys.stderr)", ""),
             ("import sys; sys.stderr.write('x' * 1000000 + '\\nend'); sys.exit(1)", "end"),
-            ("import os; os.close(2); os._exit(4)", "it ended with status 4"),
+            ("import os; os.close(2); os._exit(4)", "the command ended with status 4"),
             ("import signal, sys; sys.exit(len(signal.pthread_sigmask(signal.SIG_BLOCK, [])))", ""),
         ]:
             same(program, run([*python, program], path, 60.0), said)
-        same("no such program", run(["/nowhere"], path, 60.0), "it can't be started: No such file or directory")
+        same("no such program", run(["/nowhere"], path, 60.0), "the command can't be started: No such file or directory")
         number = pathlib.Path(folder) / "number"
         slow = f"import os, subprocess, time; open({str(number)!r}, 'w').write(str(subprocess.Popen(['sleep', '99']).pid)); time.sleep(99)"
-        same("one that is too slow", run([*python, slow], path, 8.0), "it took more than 8 s, and was ended")
+        same("one that is too slow", run([*python, slow], path, 8.0), "the command took more than 8 s, and was ended")
         ends = time.monotonic() + 60
         while number.exists() and is_alive(int(number.read_text() or 0)) and time.monotonic() < ends:
             time.sleep(0.01)
@@ -362,14 +362,14 @@ def one_run_at_a_time() -> None:
         pathlib.Path(folder, "first.goes").touch()
         again.join(60)
         same("then the second one", (notes.read_text(), said), ("first begins\nfirst ends\nsecond begins\nsecond ends\n", [""]))
-        for stays, told in (("600", "it took more than 8 s, and was ended"), ("0", "")):
+        for stays, told in (("600", "the command took more than 8 s, and was ended"), ("0", "")):
             number = pathlib.Path(folder) / f"number{stays}"
             same(f"a command that stays {stays} s", run([sys.executable, "-c", OUTLIVED, str(number), stays], path, 8.0), told)
             same("and the next one", run(["true"], path, 60.0), "")
             same("comes after all that it started", is_alive(int(number.read_text())), False)
         killed = subprocess.Popen([sys.executable, "-c", PUBLISHES, str(TOP), str(path), *takes_turns, "third", folder])
         until(lambda: "third begins" in notes.read_text())
-        same("an earlier run that goes on", run(["true"], path, 2.0), "an earlier run of it goes on")
+        same("an earlier run that goes on", run(["true"], path, 2.0), "an earlier run of the command goes on")
         same("of another file", run(["true"], path.with_name("other.pgn"), 60.0), "")
         pathlib.Path(folder, "third.goes").touch()
         same("it ends", killed.wait(60), 0)

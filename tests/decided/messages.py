@@ -1,6 +1,7 @@
 """What is told where options or a NAME are refused, a device or a program can't be had, where a disk has room again, and
 where a round has no such board."""
 
+import errno
 import os
 import pathlib
 import pwd
@@ -12,6 +13,7 @@ from typing import List, Tuple, cast
 from live.board.disk import Disk, HearsDisk
 from live.board.standing import Standing
 from live.board.state import DISK_FULL, NOT_WRITTEN
+from live.doors import dgt_round
 from live.game import files
 from live.game.answers import Said
 from live.game.file_names import check_name
@@ -73,6 +75,7 @@ NO_BOARD = [
     ("back", [1, 2], "of which board? Type its number first, as 2 back"),
     ("back  2... Nc6", [1, 2], "of which board? Type its number first, as 2 back 2... Nc6"),
     ("*", [1, 2], "of which board? Type its number first, as 2 *"),
+    ("name White=Anna", [1, 2], "the names of a round are in its table: change them there, save it, and type r"),
     ("hello", [1, 2], "type 2 1-0, 2 Nf3 Nc6, 2 back, 2 help, 2 (the state of board 2), r (read the file again) or q (end)"),
     ("Nf3 1-0", [1, 2, 3], "type 3 1-0, 3 Nf3 Nc6, 3 back, 3 help, 3 (the state of board 3), r (read the file again) or q (end)"),
 ]
@@ -95,7 +98,7 @@ FOLDERS = {
     "..": "round2",
     "2024": "2025",
 }
-PLAIN = ["game", "blitz-1", "1.1", "game.pgn.old", ".", "..", ".pgn", "./.dgt", "a\0b"]
+PLAIN = ["game", "/dev/shm/game", "blitz-1", "1.1", "game.pgn.old", ".", "..", ".pgn", "./.dgt", "a\0b"]
 
 
 def reasons() -> None:
@@ -110,13 +113,37 @@ def no_names() -> None:
         same(name, said.endswith(f"type its NAME alone, {game}"), True)
     for name in PLAIN:
         accepted(name, check_name, name)
-    same("a device", "DEVICE first" in refused("a device", Refused, check_name, "/dev/null"), True)
+    for device in ("/dev/null", "/dev/ttyUSB99", "/dev/serial/by-id/usb-1", "/dev/rfcomm9", "tcp://192.168.1.20:2001"):
+        same(device, refused(device, Refused, check_name, device), f"{device} is a device: type the DEVICE first, and then the NAME")
     with tempfile.TemporaryDirectory() as folder:
         old = pathlib.Path(folder) / "game.pgn.dgt"
         old.write_bytes(b"")
         refused("an empty file", Refused, check_name, str(old.with_suffix("")))
         old.write_bytes(b"\x86")
         accepted("a game that was begun so", check_name, str(old.with_suffix("")))
+
+
+def no_right() -> None:
+    """Files and folders that this user may not write."""
+    with tempfile.TemporaryDirectory() as folder:
+        path, real = f"{folder}/game.dgt", files.open_regular
+
+        def denied(*_: object) -> int:
+            raise PermissionError(errno.EACCES, os.strerror(errno.EACCES))
+
+        setattr(files, "open_regular", denied)
+        try:
+            said = refused("a capture", Refused, Capture.open, path)
+        finally:
+            setattr(files, "open_regular", real)
+        same("a capture", said, f"{path} can't be written (Permission denied): get the right to, or choose another name")
+        access = os.access
+        setattr(os, "access", lambda *_: False)
+        try:
+            said = refused("a round's folder", Refused, dgt_round.folder_of, dgt_round.Asked(f"{folder}/round.csv", folder))
+        finally:
+            setattr(os, "access", access)
+        same("a round's folder", said, f"you may not write in the folder {folder}: get the right to, or choose another FOLDER")
 
 
 def not_had() -> None:
@@ -310,4 +337,4 @@ def loaded() -> None:
     same("what is loaded", [name for name in names if name.startswith(heavy)], [])
 
 
-TABLES = [reasons, no_names, not_had, devices_listed, disks, logs, errors_of_logs, rounds, recorded, plain_paths, loaded]
+TABLES = [reasons, no_names, no_right, not_had, devices_listed, disks, logs, errors_of_logs, rounds, recorded, plain_paths, loaded]

@@ -112,6 +112,7 @@ ADDED = [
 NOT_ADDED = [
     # the same, of games with moves, and what is refused
     (TWO, ("--rotated",), "was begun with other options"),
+    ((), ("--rotated",), "game has moves, and was begun without options: give none to go on, or choose another name"),
     (("--rotated",), ("--rotated=no",), "was begun with other options"),
     (TWO, ("--fen", "8/8/4k3/8/8/4K3/4P3/8 w - - 0 1"), "was begun with other options"),
     (TWO, ("--white", "Cara", "--black", "Dan"), "game has moves of Anna - Ben: choose another name for another game"),

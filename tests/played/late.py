@@ -283,7 +283,7 @@ def refused_with_a_delay(folder: pathlib.Path) -> None:
     before = [bytes_of(path) for path in files]
     same(before[0], b"15\n")
     for delay in ("--delay 5", "--delay 0"):
-        refuses(game.record("--fen", "4k3/8/8/8/8/8/4P3/4K3 w - - 0 1", delay=delay), 1, "was begun with other options")
+        refuses(game.record("--fen", "4k3/8/8/8/8/8/4P3/4K3 w - - 0 1", delay=delay), 1, "was begun without options: give none to go on")
         same([bytes_of(path) for path in files], before)
     live = game.record(delay="--delay 0")
     game.until_shown(RUY_TEXT)

@@ -149,8 +149,7 @@ def old_name(folder: pathlib.Path) -> None:
     board, live = begin_game(folder / "bare")
     same(stop(live), 0)
     answer = Live(board.device, live.name, "--rotated")
-    refuses(answer, 1, words.OTHER_OPTIONS)
-    assert "They were\n  none\n" in answer.complaint(), answer.complaint()
+    refuses(answer, 1, "has moves, and was begun without options: give none to go on, or choose another name\n")
 
 
 def options_changed(folder: pathlib.Path) -> None:

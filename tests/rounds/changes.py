@@ -337,12 +337,15 @@ def renamed(folder: pathlib.Path) -> None:
 
 
 def read_while_opened(folder: pathlib.Path) -> None:
-    """The table is read again while a game is being opened: the board gets the game of its new line."""
+    """A line that is typed while a game is being opened is refused, and says so. The table is read again meanwhile: the board gets
+    the game of its new line."""
     hall = Hall(folder, 1)
     stuck = folder / "stuck"
     stuck.write_text("record")
     live = hall.record(program=stuck_program(folder, stuck), typed=True)
     until(lambda: any("record" in word for word in words_of(live)), "a call of record that is stuck")
+    live.type("1 1-0")
+    until_line(live, "1 refused: 1-0: the game is just being opened: type it again in a moment")
     hall.extra = {1: ",other"}
     hall.write(header="board,device,white,black,name")
     live.type("r")

@@ -289,7 +289,7 @@ def published(folder: pathlib.Path) -> None:
         ("away", "not sent: <urlopen error [Errno 111] Connection refused>"),
         ("refuses", "not sent: HTTP Error 403: Forbidden"),
         ("cuts", "not sent: "),
-        ("slow", "it took more than 2 s, and was ended"),
+        ("slow", "the command took more than 2 s, and was ended"),
     ):
         server.mood = mood
         clock.may_take(2 if mood == "slow" else 300)
@@ -330,11 +330,11 @@ def left_unpublished(folder: pathlib.Path) -> None:
     """Where nobody takes the text at the end, the call ends all the same, with a word and a status."""
     hall = Hall(folder, 1)
     live = hall.record("--publish", "false", typed=True, start=Clock(folder).start)
-    until_line(live, "NOT PUBLISHED: it ended with status 1")
+    until_line(live, "NOT PUBLISHED: the command ended with status 1")
     hall.play(0, 1)
     live.type("q")
     same(ended(live), 3)
-    same("isn't published: it ended with status 1" in live.complaint(), True)
+    same("isn't published: the command ended with status 1" in live.complaint(), True)
 
 
 def opened_page(folder: pathlib.Path) -> None:

@@ -450,7 +450,9 @@ def refused(folder: pathlib.Path) -> None:
     refuses(hall.record("--what"), 2, "there is no option")
     hall.write()
     refuses(Live(folder, hall.games, program=ROUND), 3, "type the FILE of the table first")
-    refuses(Live(hall.file, folder / "no" / "folder", program=ROUND), 3, "choose another FOLDER")
+    refuses(Live(hall.file, folder / "no" / "one", program=ROUND), 3, f"there is no folder {folder}/no to make one in: choose another FOLDER")
+    for place in (hall.file, hall.file / "games"):
+        refuses(Live(hall.file, place, program=ROUND), 3, f"{place} is a file, or is to be in one: choose another FOLDER")
     refuses(Live(hall.file, hall.games, "--event", "Club", "cup", program=ROUND), 2, "in quotes, as")
     live = hall.record()
     hall.begun(live)
