@@ -160,8 +160,11 @@ def remake(call: Call, program: Program) -> Outcome:
     opened.game.capture.close()
     options = opened.game.options
     said = [f"{options.side.capitalize()}'s time comes first"] if call.options.first else []
-    said += [*opened.told, *publish_anew(paths, given), *opened.old.course.recovered]
-    what = "; ".join([*(said or ["nothing recovered" if call.options.recover is not None else "nothing has changed"]), *opened.results])
+    said += [*opened.told, *opened.old.course.recovered]
+    if call.options.recover is not None and not opened.old.course.recovered:
+        said.append("nothing recovered")
+    said += publish_anew(paths, given)
+    what = "; ".join([*(said or ["nothing has changed"]), *opened.results])
     files.log_once(paths, f"made anew: {what}")
     print(printable(f"dgt_live: {paths.pgn} is made anew: {what}"))
     return DONE, ()

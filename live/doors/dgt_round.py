@@ -235,6 +235,8 @@ def play(asked: Asked, program: Program, signals: Signals) -> Outcome:
     games.on_change = pages.changed
     for line in filter(None, (*pages.told("the round"), pages.secret)):
         games.say(line)  # the round's log has only faults
+    if hall.terminal is None and os.isatty(0):
+        games.say("type help to see what can be typed, and q to end")
     signals.tell(loop, games.end, games.hung_up)
     more = files_of(asked.tournament, loop, games) if asked.tournament else None
     site = site_of(asked.web, loop, games, Title(shown, given.round or "", late)) if asked.web else None

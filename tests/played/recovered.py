@@ -207,6 +207,8 @@ def result_gone(folder: pathlib.Path) -> None:
         (["--recover"], WHOLE_TEXT, f"{PAIR}; {gone}"),
         (["--first", "black"], WHOLE_TEXT, f"Black's time comes first; {PAIR}"),
         (["--strict"], STRICT_TEXT.replace("*", "1-0"), "nothing recovered; the result is 1-0"),
+        (["--tag", "Section=A"], STRICT_TEXT.replace("*", "1-0"), f"{live.name}.broadcast.pgn has its tags"),
+        (["--strict"], STRICT_TEXT.replace("*", "1-0"), f"nothing recovered; {live.name}.broadcast.pgn has its tags"),
     ):
         answer = subprocess.run([LIVE, *given, live.name], stdout=subprocess.PIPE)
         same(answer.stdout.decode(), f"dgt_live: {live.name}.pgn is made anew: {told}\n")
