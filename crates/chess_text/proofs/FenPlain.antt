@@ -8,7 +8,7 @@ use Rattle.chess_rules.specs.declared.parts.Rights.{Rights}
 use Rattle.chess_rules.specs.declared.parts.Parts.{Parts}
 use Rattle.chess_rules.specs.Picture.{picture}
 use Rattle.chess_text.specs.Placement.{placement}
-use Rattle.chess_text.specs.Fen.{side_text, held, rights_letters, or_dash, castling_text, target_text, IsTargetField, fen, whole}
+use Rattle.chess_text.specs.Fen.{side_text, held, rights_letters, or_dash, rights_text, target_text, IsTargetField, fen, whole}
 use Rattle.chess_text.specs.Laws.{IsFenByte, FensArePlain}
 use Rattle.chess_text.proofs.PlacementBytes.{AtMost, join, nothing, one, wider, placement_bytes}
 use Rattle.chess_text.proofs.FenTexts.{decimal_digits, target_low, valid_reads}
@@ -39,7 +39,7 @@ or_dash_plain : (bs : List ℕ) → AtMost IsFenByte 4 bs → AtMost IsFenByte 4
 or_dash_plain [] h = wider IsFenByte 1 4 (45 ∷ []) (omega arith) (letter_plain 45 (omega arith) (omega arith))
 or_dash_plain (b ∷ bs) h = h
 
-pub castling_plain : (r : Rights) → AtMost IsFenByte 4 (castling_text r)
+pub castling_plain : (r : Rights) → AtMost IsFenByte 4 (rights_text r)
 castling_plain r =
     or_dash_plain (rights_letters r)
     (join IsFenByte 1 3 (held r.white_king 75) _ (held_plain r.white_king 75 (letter_plain 75 (omega arith) (omega arith)))
@@ -70,7 +70,7 @@ fens_plain p v =
     (join IsFenByte 1 19 (32 ∷ []) _ space
     (join IsFenByte 1 18 (side_text p.side) _ (side_plain p.side)
     (join IsFenByte 1 17 (32 ∷ []) _ space
-    (join IsFenByte 4 13 (castling_text p.rights) _ (castling_plain p.rights)
+    (join IsFenByte 4 13 (rights_text p.rights) _ (castling_plain p.rights)
     (join IsFenByte 1 12 (32 ∷ []) _ space
     (join IsFenByte 2 10 (target_text p.target) _ (target_plain p.target reads.target)
     (join IsFenByte 1 9 (32 ∷ []) _ space

@@ -17,7 +17,7 @@ use Rattle.chess_rules.specs.Picture.{code, picture}
 use Rattle.chess_rules.specs.Valid.{HasCounters, Valid, FailsFirst, target_row}
 use Rattle.chess_rules.proofs.LawLemmas.{boards_of_codes}
 use Rattle.chess_text.specs.Placement.{placement}
-use Rattle.chess_text.specs.Fen.{side_text, held, or_dash, castling_text, target_text, Fields, six_fields, four_fields, fields_of, fen, short_fen, TellsPosition, whole, short, IsTargetField, IsDigits, AreFields, IsSplit, six, four, HasForm, ReadsCounters, ReadsBoard, ReadsAs, RefusedFirst}
+use Rattle.chess_text.specs.Fen.{side_text, held, or_dash, rights_text, target_text, Fields, six_fields, four_fields, fields_of, fen, short_fen, TellsPosition, whole, short, IsTargetField, IsDigits, AreFields, IsSplit, six, four, HasForm, ReadsCounters, ReadsBoard, ReadsAs, RefusedFirst}
 use Rattle.chess_text.specs.declared.fen.FenError.{FenError}
 use Rattle.chess_text.specs.declared.fen.FenError.TheVariants as refusal
 use Rattle.chess_text.specs.declared.fields.RawFields.{RawFields}
@@ -80,22 +80,22 @@ other_no_space (b ∷ bs) h = (search (rules, tests, h.0), other_no_space bs h.1
 -- ---- the fields between the spaces
 
 abbrev pub four_of : Fields → List (List ℕ)
-four_of f = f.placement ∷ side_text f.side ∷ castling_text f.rights ∷ target_text f.target ∷ []
+four_of f = f.placement ∷ side_text f.side ∷ rights_text f.rights ∷ target_text f.target ∷ []
 
 abbrev pub six_of : Fields → List (List ℕ)
-six_of f = f.placement ∷ side_text f.side ∷ castling_text f.rights ∷ target_text f.target ∷ f.halfmove ∷ f.fullmove ∷ []
+six_of f = f.placement ∷ side_text f.side ∷ rights_text f.rights ∷ target_text f.target ∷ f.halfmove ∷ f.fullmove ∷ []
 
 abbrev Plain : ℕ → Type 0
 Plain b = is_space b ≡ false
 
 pub six_back : (f : Fields) → AreFields f → split (six_fields f) ≡ six_of f
 six_back f h =
-    split_join f.placement (side_text f.side ∷ castling_text f.rights ∷ target_text f.target ∷ f.halfmove ∷ f.fullmove ∷ []) (
+    split_join f.placement (side_text f.side ∷ rights_text f.rights ∷ target_text f.target ∷ f.halfmove ∷ f.fullmove ∷ []) (
       All-from_recursion Plain f.placement (other_no_space f.placement (recursion_from_All (λ b. b ≢ 32) f.placement h.no_space)),
       (
         All-from_recursion Plain (side_text f.side) (side_no_space f.side),
         (
-          All-from_recursion Plain (castling_text f.rights) (castling_no_space f.rights.white_king f.rights.white_queen f.rights.black_king f.rights.black_queen),
+          All-from_recursion Plain (rights_text f.rights) (castling_no_space f.rights.white_king f.rights.white_queen f.rights.black_king f.rights.black_queen),
           (
             All-from_recursion Plain (target_text f.target) (target_no_space f.target h.target),
             (
@@ -109,12 +109,12 @@ six_back f h =
 
 pub four_back : (f : Fields) → AreFields f → split (four_fields f) ≡ four_of f
 four_back f h =
-    split_join f.placement (side_text f.side ∷ castling_text f.rights ∷ target_text f.target ∷ []) (
+    split_join f.placement (side_text f.side ∷ rights_text f.rights ∷ target_text f.target ∷ []) (
       All-from_recursion Plain f.placement (other_no_space f.placement (recursion_from_All (λ b. b ≢ 32) f.placement h.no_space)),
       (
         All-from_recursion Plain (side_text f.side) (side_no_space f.side),
         (
-          All-from_recursion Plain (castling_text f.rights) (castling_no_space f.rights.white_king f.rights.white_queen f.rights.black_king f.rights.black_queen),
+          All-from_recursion Plain (rights_text f.rights) (castling_no_space f.rights.white_king f.rights.white_queen f.rights.black_king f.rights.black_queen),
           (All-from_recursion Plain (target_text f.target) (target_no_space f.target h.target), tt),
         ),
       ),
@@ -140,7 +140,7 @@ rights_by false false true false = refl
 rights_by false false false true = refl
 rights_by false false false false = refl
 
-pub rights_back : (r : Rights) → rights_at (castling_text r) ≡ r
+pub rights_back : (r : Rights) → rights_at (rights_text r) ≡ r
 rights_back r = rights_by r.white_king r.white_queen r.black_king r.black_queen
 
 side_same : (s t : Side) → side_text s ≡ side_text t → s ≡ t
@@ -168,7 +168,7 @@ target_same (Some s) (Some t) h k e =
 pub record HasBytes (f : Fields) (a b c d e g : List ℕ) : Type 0 where
   pub placement : a ≡ f.placement
   pub side : b ≡ side_text f.side
-  pub castling : c ≡ castling_text f.rights
+  pub castling : c ≡ rights_text f.rights
   pub target : d ≡ target_text f.target
   pub halfmove : e ≡ f.halfmove
   pub fullmove : g ≡ f.fullmove
@@ -177,7 +177,7 @@ pub bytes_of_six : (text a b c d e g : List ℕ) (f : Fields) → split text ≡
 bytes_of_six text a b c d e g f s h t =
     let f0 = field_is a f.placement _ _ (sym s ∙ ap split t ∙ six_back f h) in
     let f1 = field_is b (side_text f.side) _ _ f0.1 in
-    let f2 = field_is c (castling_text f.rights) _ _ f1.1 in
+    let f2 = field_is c (rights_text f.rights) _ _ f1.1 in
     let f3 = field_is d (target_text f.target) _ _ f2.1 in
     let f4 = field_is e f.halfmove _ _ f3.1 in
     let f5 = field_is g f.fullmove [] [] f4.1 in
@@ -187,11 +187,11 @@ pub bytes_of_four : (text a b c d e g : List ℕ) (f : Fields) → split text �
 bytes_of_four text a b c d e g f s he ge h t =
     let f0 = field_is a f.placement _ _ (sym s ∙ ap split t ∙ four_back f h) in
     let f1 = field_is b (side_text f.side) _ _ f0.1 in
-    let f2 = field_is c (castling_text f.rights) _ _ f1.1 in
+    let f2 = field_is c (rights_text f.rights) _ _ f1.1 in
     let f3 = field_is d (target_text f.target) [] [] f2.1 in
     record { placement = f0.0; side = f1.0; castling = f2.0; target = f3.0; halfmove = he; fullmove = ge }
 
-same_fields : (f g : Fields) → AreFields f → AreFields g → HasBytes g f.placement (side_text f.side) (castling_text f.rights) (target_text f.target) f.halfmove f.fullmove → f ≡ g
+same_fields : (f g : Fields) → AreFields f → AreFields g → HasBytes g f.placement (side_text f.side) (rights_text f.rights) (target_text f.target) f.halfmove f.fullmove → f ≡ g
 same_fields f g h k b =
     let side = side_same f.side g.side b.side in
     let rights : f.rights ≡ g.rights = sym (rights_back f.rights) ∙ ap rights_at b.castling ∙ rights_back g.rights in

@@ -3,7 +3,7 @@ use Rattle.std.proofs.Common.{◌≡◌, ◌≢◌, ℕ, zero, suc, ◌+◌, ◌
 use Rattle.std.specs.List.{All}
 use Rattle.std.proofs.lemmas.List.{length-take}
 use Rattle.std.proofs.lemmas.List.Elements.{All-cons, All-append, All-nil}
-use Rattle.chess_text.specs.Placement.{letter, run_text, rank_text, ranks_text, placement}
+use Rattle.chess_text.specs.Placement.{code_letter, run_text, rank_text, ranks_text, placement}
 
 -- at most so many bytes, each of them such a byte
 pub record AtMost (P : ℕ → Type 0) (most : ℕ) (text : List ℕ) : Type 0 where
@@ -30,17 +30,17 @@ wider P a b x le p = let h : length x ≤ a = p.short in record { short = omega 
 abbrev pub IsPlacementByte : ℕ → Type 0
 IsPlacementByte b = (41 < b) × (b < 123) × (b ≢ 92)
 
-letter_low : (c : ℕ) → 41 < letter c
+letter_low : (c : ℕ) → 41 < code_letter c
 letter_low c = grind (arith, tests)
 
-letter_high : (c : ℕ) → letter c < 123
+letter_high : (c : ℕ) → code_letter c < 123
 letter_high c = grind (arith, tests)
 
-letter_other : (c : ℕ) → letter c ≢ 92
+letter_other : (c : ℕ) → code_letter c ≢ 92
 letter_other c = grind (arith, tests)
 
-letter_bytes : (c : ℕ) → AtMost IsPlacementByte 1 (letter c ∷ [])
-letter_bytes c = one IsPlacementByte (letter c) (letter_low c, letter_high c, letter_other c)
+letter_bytes : (c : ℕ) → AtMost IsPlacementByte 1 (code_letter c ∷ [])
+letter_bytes c = one IsPlacementByte (code_letter c) (letter_low c, letter_high c, letter_other c)
 
 run_bytes : (n : ℕ) → n ≤ 8 → AtMost IsPlacementByte n (run_text n)
 run_bytes zero le = nothing IsPlacementByte 0
@@ -51,12 +51,12 @@ run_bytes (suc n) le =
 rank_bytes : (n : ℕ) (cs : List ℕ) → n + length cs ≤ 8 → AtMost IsPlacementByte (n + length cs) (rank_text n cs)
 rank_bytes n [] le = wider IsPlacementByte n (n + 0) (run_text n) (omega arith) (run_bytes n (omega arith))
 rank_bytes n (c ∷ cs) le =
-    elim (eqb c 0) as (λ t. AtMost IsPlacementByte (n + suc (length cs)) (cond t (rank_text (n + 1) cs) (run_text n ++ letter c ∷ rank_text 0 cs))) [
+    elim (eqb c 0) as (λ t. AtMost IsPlacementByte (n + suc (length cs)) (cond t (rank_text (n + 1) cs) (run_text n ++ code_letter c ∷ rank_text 0 cs))) [
       | true ↦ wider IsPlacementByte (n + 1 + length cs) (n + suc (length cs)) (rank_text (n + 1) cs) (omega arith) (rank_bytes (n + 1) cs (omega arith))
       | false ↦
-          wider IsPlacementByte (n + (1 + (0 + length cs))) (n + suc (length cs)) (run_text n ++ letter c ∷ rank_text 0 cs) (omega arith)
-          (join IsPlacementByte n (1 + (0 + length cs)) (run_text n) (letter c ∷ rank_text 0 cs) (run_bytes n (omega arith))
-          (join IsPlacementByte 1 (0 + length cs) (letter c ∷ []) (rank_text 0 cs) (letter_bytes c) (rank_bytes 0 cs (omega arith))))
+          wider IsPlacementByte (n + (1 + (0 + length cs))) (n + suc (length cs)) (run_text n ++ code_letter c ∷ rank_text 0 cs) (omega arith)
+          (join IsPlacementByte n (1 + (0 + length cs)) (run_text n) (code_letter c ∷ rank_text 0 cs) (run_bytes n (omega arith))
+          (join IsPlacementByte 1 (0 + length cs) (code_letter c ∷ []) (rank_text 0 cs) (letter_bytes c) (rank_bytes 0 cs (omega arith))))
     ]
 
 row_bytes : (picture : List ℕ) → AtMost IsPlacementByte 8 (rank_text 0 (take 8 picture))

@@ -5,11 +5,11 @@ use Rattle.std.proofs.lemmas.Bool.{cases_lt}
 use Rattle.std.proofs.lemmas.List.{take-append-drop, length-take, length-drop, append-nil, nil_from_length, drop-drop, take_more}
 use Rattle.std.proofs.lemmas.List.Concat.{flat_map-append}
 use Rattle.std.proofs.lemmas.List.Elements.{recursion_from_All, All-take, All-drop}
-use Rattle.chess_text.specs.Placement.{letter, run_text, rank_text, ranks_text, placement}
+use Rattle.chess_text.specs.Placement.{code_letter, run_text, rank_text, ranks_text, placement}
 use Rattle.chess_text.specs.Placement.{IsBoardPicture, squares_at, squares}
 
 -- a letter gives its code back: by all thirteen
-letter_back : (c : ℕ) → 0 < c → c < 13 → squares_at (letter c) ≡ c ∷ []
+letter_back : (c : ℕ) → 0 < c → c < 13 → squares_at (code_letter c) ≡ c ∷ []
 letter_back zero pos lt = absurd (omega arith)
 letter_back (suc zero) pos lt = refl
 letter_back (suc (suc zero)) pos lt = refl
@@ -47,9 +47,9 @@ rank_back n [] le h = run_back n (omega arith) ∙ sym (append-nil (replicate n 
 rank_back n (c ∷ cs) le h = elim (cases_lt 0 c) as (λ _. squares (rank_text n (c ∷ cs)) ≡ replicate n 0 ++ c ∷ cs) [
   | inl pos ↦
       let e : eqb c 0 ≡ false = search (rules, tests, arith) in
-      let here : squares (run_text n ++ letter c ∷ rank_text 0 cs) ≡ replicate n 0 ++ c ∷ cs =
-      flat_map-append squares_at (run_text n) (letter c ∷ rank_text 0 cs)
-      ∙ ap (λ (x : List ℕ). x ++ (squares_at (letter c) ++ squares (rank_text 0 cs))) (run_back n (omega arith))
+      let here : squares (run_text n ++ code_letter c ∷ rank_text 0 cs) ≡ replicate n 0 ++ c ∷ cs =
+      flat_map-append squares_at (run_text n) (code_letter c ∷ rank_text 0 cs)
+      ∙ ap (λ (x : List ℕ). x ++ (squares_at (code_letter c) ++ squares (rank_text 0 cs))) (run_back n (omega arith))
       ∙ ap (λ (x : List ℕ). replicate n 0 ++ (x ++ squares (rank_text 0 cs))) (letter_back c pos h.0)
       ∙ ap (λ (x : List ℕ). replicate n 0 ++ c ∷ x) (rank_back 0 cs (omega arith) h.1) in
       rw e here

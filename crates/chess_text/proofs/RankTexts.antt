@@ -6,7 +6,7 @@ use Rattle.std.proofs.lemmas.Bool.{cases_lt}
 use Rattle.std.proofs.lemmas.Option.{none-some}
 use Rattle.std.proofs.lemmas.List.{append-nil, append_cancel_left, drop-drop, ext_get_or, length-take, length-replicate}
 use Rattle.std.proofs.lemmas.List.Concat.{flat_map-append}
-use Rattle.chess_text.specs.Placement.{letter, run_text, rank_text, ranks_text, placement, IsDigit, HasDigitsApart, expand, shown, IsRankText, IsPlacement}
+use Rattle.chess_text.specs.Placement.{code_letter, run_text, rank_text, ranks_text, placement, IsDigit, HasDigitsApart, expand, shown, IsRankText, IsPlacement}
 use Rattle.chess_text.proofs.DigitsApart.{letter_other, rank_apart}
 
 -- a digit from 1 to 8
@@ -39,8 +39,8 @@ run_shows n le = elim (cases_lt 0 n) as (λ _. flat_map expand (run_text n) ≡ 
   | inr none ↦ let e : n ≡ 0 = omega arith in rw e refl
 ]
 
-letter_shows : (c : ℕ) → expand (letter c) ≡ Some (letter c) ∷ []
-letter_shows c = elim (run_or_piece (letter c)) as (λ _. expand (letter c) ≡ Some (letter c) ∷ []) [
+letter_shows : (c : ℕ) → expand (code_letter c) ≡ Some (code_letter c) ∷ []
+letter_shows c = elim (run_or_piece (code_letter c)) as (λ _. expand (code_letter c) ≡ Some (code_letter c) ∷ []) [
   | inl r ↦ absurd (letter_other c (omega (arith, r.low), omega (arith, r.high)))
   | inr m ↦ m
 ]
@@ -54,11 +54,11 @@ rank_shows n [] le = run_shows n (omega arith) ∙ sym (append-nil (replicate n 
 rank_shows n (c ∷ cs) le = elim (cases_lt 0 c) as (λ _. flat_map expand (rank_text n (c ∷ cs)) ≡ replicate n None ++ map shown (c ∷ cs)) [
   | inl pos ↦
       let e : eqb c 0 ≡ false = search (rules, tests, arith) in
-      let here : flat_map expand (run_text n ++ letter c ∷ rank_text 0 cs) ≡ replicate n None ++ Some (letter c) ∷ map shown cs =
-      flat_map-append expand (run_text n) (letter c ∷ rank_text 0 cs)
-      ∙ ap (λ (x : List (Option ℕ)). x ++ (expand (letter c) ++ flat_map expand (rank_text 0 cs))) (run_shows n (omega arith))
+      let here : flat_map expand (run_text n ++ code_letter c ∷ rank_text 0 cs) ≡ replicate n None ++ Some (code_letter c) ∷ map shown cs =
+      flat_map-append expand (run_text n) (code_letter c ∷ rank_text 0 cs)
+      ∙ ap (λ (x : List (Option ℕ)). x ++ (expand (code_letter c) ++ flat_map expand (rank_text 0 cs))) (run_shows n (omega arith))
       ∙ ap (λ (x : List (Option ℕ)). replicate n None ++ (x ++ flat_map expand (rank_text 0 cs))) (letter_shows c)
-      ∙ ap (λ (x : List (Option ℕ)). replicate n None ++ Some (letter c) ∷ x) (rank_shows 0 cs (omega arith)) in
+      ∙ ap (λ (x : List (Option ℕ)). replicate n None ++ Some (code_letter c) ∷ x) (rank_shows 0 cs (omega arith)) in
       rw e here
   | inr none ↦
       let e : c ≡ 0 = omega arith in

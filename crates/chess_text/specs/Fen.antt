@@ -34,8 +34,8 @@ or_dash [] = codes "-"
 or_dash (b ∷ bs) = b ∷ bs
 
 -- The castling rights.
-abbrev pub castling_text : Rights → List ℕ
-castling_text r = or_dash (rights_letters r)
+abbrev pub rights_text : Rights → List ℕ
+rights_text r = or_dash (rights_letters r)
 
 -- The en passant target.
 abbrev pub target_text : Option ℕ → List ℕ
@@ -54,11 +54,11 @@ pub record Fields : Type 0 where
 -- Six fields with one space between.
 abbrev pub six_fields : Fields → List ℕ
 six_fields f = join_with_byte 32
-    (f.placement ∷ side_text f.side ∷ castling_text f.rights ∷ target_text f.target ∷ f.halfmove ∷ f.fullmove ∷ [])
+    (f.placement ∷ side_text f.side ∷ rights_text f.rights ∷ target_text f.target ∷ f.halfmove ∷ f.fullmove ∷ [])
 
 -- The first four of them.
 abbrev pub four_fields : Fields → List ℕ
-four_fields f = join_with_byte 32 (f.placement ∷ side_text f.side ∷ castling_text f.rights ∷ target_text f.target ∷ [])
+four_fields f = join_with_byte 32 (f.placement ∷ side_text f.side ∷ rights_text f.rights ∷ target_text f.target ∷ [])
 
 -- The fields of a position: placement, side to move, castling rights, target, halfmove clock, fullmove number.
 abbrev pub fields_of : Parts → Fields

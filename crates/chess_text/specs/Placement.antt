@@ -8,8 +8,8 @@ abbrev pub letters : List ℕ
 letters = codes "*PRNBKQprnbkq"
 
 -- the letter of a code, `*` past the last
-abbrev pub letter : ℕ → ℕ
-letter c = slice_index_or letters c 42
+abbrev pub code_letter : ℕ → ℕ
+code_letter c = slice_index_or letters c 42
 
 -- ---- the rule, on whole texts
 
@@ -28,7 +28,7 @@ expand b = if nat_lt 48 b && nat_lt b 57 then replicate (b - 48) None else Some 
 
 -- what a square is shown by: a piece by its letter
 abbrev pub shown : ℕ → Option ℕ
-shown c = if c == 0 then None else Some (letter c)
+shown c = if c == 0 then None else Some (code_letter c)
 
 -- The text of a rank: byte by byte it shows the squares, and empty squares that stand side by side are one number.
 pub record IsRankText (rank text : List ℕ) : Type 0 where
@@ -51,7 +51,7 @@ run_text n = if n == 0 then [] else (48 + n) ∷ []
 -- the squares of a rank that stand behind a run of n empty ones
 abbrev pub rank_text : ℕ → List ℕ → List ℕ
 rank_text n [] = run_text n
-rank_text n (c ∷ cs) = if c == 0 then rank_text (n + 1) cs else run_text n ++ letter c ∷ rank_text 0 cs
+rank_text n (c ∷ cs) = if c == 0 then rank_text (n + 1) cs else run_text n ++ code_letter c ∷ rank_text 0 cs
 
 -- k more ranks, each behind a `/`
 unfoldable pub ranks_text : ℕ → List ℕ → List ℕ

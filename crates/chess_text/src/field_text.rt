@@ -1,6 +1,6 @@
 //! The text of the fields between the placement and the counters.
 ghost use Rattle.std.specs.Prelude.{◌≡◌};
-ghost use Rattle.chess_text.specs.Fen.{castling_text, target_text, side_text};
+ghost use Rattle.chess_text.specs.Fen.{rights_text, target_text, side_text};
 
 use crate::squares::{file_byte, rank_byte};
 use arrayvec::ArrayString;
@@ -8,7 +8,7 @@ use chess_rules::{Rights, Side, Square};
 
 /// `KQkq` or a part of it, or `-`.
 pub fn castling_str(rights: Rights) -> ArrayString<4>
-    ensures { result.bytes ≡ castling_text rights }
+    ensures { result.bytes ≡ rights_text rights }
 {
     let mut out = ArrayString::new();
     if rights.white_king {

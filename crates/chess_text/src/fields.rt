@@ -3,7 +3,7 @@ ghost use Rattle.std.specs.Prelude.{◌≡◌, ◌∷◌, ◌++◌, ◌+◌, ◌
 ghost use Rattle.std.specs.List.{slice_split};
 ghost use Rattle.chess_rules.specs.declared.pieces.Side.{Side};
 ghost use Rattle.chess_rules.specs.declared.parts.Rights.{Rights};
-ghost use Rattle.chess_text.specs.Fen.{side_text, castling_text, target_text, IsTargetField, IsDigits, HasForm, Fields as FenFields};
+ghost use Rattle.chess_text.specs.Fen.{side_text, rights_text, target_text, IsTargetField, IsDigits, HasForm, Fields as FenFields};
 ghost use Rattle.chess_text.specs.Inside.FieldReading.{is_space as is_space_lem, split, split_behind, AreRaw, fields_in, has as has_lem, rights_at as rights_at_lem};
 
 use crate::bytes::same_bytes;
@@ -129,14 +129,14 @@ fn rights_at(field: &[u8]) -> Rights
 }
 
 fn is_castling_text(rights: Rights, field: &[u8]) -> bool
-    ensures { IsTrue result ↔ (field.now ≡ castling_text rights) }
+    ensures { IsTrue result ↔ (field.now ≡ rights_text rights) }
 {
     same_bytes(field, castling_str(rights).as_str().as_bytes())
 }
 
 fn castling_of(field: &[u8]) -> Option<Rights>
-    ensures some { IfSome result (λ r. field.now ≡ castling_text r) }
-    ensures none { IfNone result ((r : Rights) → field.now ≡ castling_text r → ⊥) }
+    ensures some { IfSome result (λ r. field.now ≡ rights_text r) }
+    ensures none { IfNone result ((r : Rights) → field.now ≡ rights_text r → ⊥) }
 {
     if field.len() > 4 {
         return None;

@@ -4,7 +4,7 @@ ghost use Rattle.std.specs.Bool.{OnTrue, OnFalse};
 ghost use Rattle.arrayvec.specs.ArrayString.{array_string_len};
 ghost use Rattle.chess_rules.specs.Board.{Board};
 ghost use Rattle.chess_rules.specs.Picture.{code};
-ghost use Rattle.chess_text.specs.Placement.{letter as letter_lem, run_text, rank_text, placement};
+ghost use Rattle.chess_text.specs.Placement.{code_letter as code_letter_of, run_text, rank_text, placement};
 ghost use Rattle.chess_text.specs.Placement.{IsBoardPicture, code_of as code_of_lem, squares_at, squares};
 ghost use Rattle.chess_text.specs.Inside.PlacementReading.{decode as decode_lem};
 
@@ -12,8 +12,9 @@ use crate::bytes::same_bytes;
 use arrayvec::{ArrayString, ArrayVec};
 use chess_rules::{Kind, Piece, Side};
 
-fn letter(code: u8) -> u8
-    ensures value { result ≡ letter_lem code }
+/// The letter of a code.
+fn code_letter(code: u8) -> u8
+    ensures value { result ≡ code_letter_of code }
     ensures ascii { result < 128 }
 {
     match code {
@@ -57,7 +58,7 @@ pub fn put_rank(out: &mut ArrayString<128>, rank: &[u8])
             empty += 1;
         } else {
             put_run(out, empty);
-            out.push(letter(code) as char);
+            out.push(code_letter(code) as char);
             empty = 0;
         }
     }
