@@ -15,7 +15,7 @@ use Rattle.board_events.specs.Session.{entries_in}
 use Rattle.board_events.specs.Settings.{Setting}
 use Rattle.board_captures.specs.Reading.{IsRead, StandsForCapture}
 use Rattle.board_captures.specs.declared.reading.Captured.{Captured}
-use Rattle.typed_lines.specs.Lines.{NamesMoves, ReadsLine}
+use Rattle.typed_lines.specs.Lines.{AreMoves, ReadsLine}
 use Rattle.typed_lines.specs.declared.reading.Typed.{Typed}
 use Rattle.adding.specs.declared.adding.Answer.{Answer}
 use Rattle.adding.specs.Answers.{HasEnded, IsAnswerTo, IsAnswered, position_of}
@@ -37,7 +37,7 @@ pub take_same : {A : Type 0} (xs ys : List A) (i : ℕ) (d : A) → i < length x
 take_same xs ys i d in_xs in_ys before here = take_more xs i d in_xs ∙ ap (λ zs. zs ++ get_or xs i d ∷ []) before ∙ ap (λ z. take i ys ++ z ∷ []) here ∙ sym (take_more ys i d in_ys)
 
 -- moves that words name are legal one after the other, also as plies
-pub named_line : (p : Parts) (words : List (List ℕ)) (moves : List Move) → NamesMoves p words moves → Line p moves
+pub named_line : (p : Parts) (words : List (List ℕ)) (moves : List Move) → AreMoves p words moves → Line p moves
 named_line p [] [] named = tt
 named_line p (word ∷ words) (m ∷ moves) named = (named.0.legal, named_line (after p m) words moves named.1)
 named_line p [] (m ∷ moves) named = absurd named

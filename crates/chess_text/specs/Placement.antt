@@ -4,12 +4,12 @@ use Rattle.std.specs.Prelude.{◌≡◌, ℕ, zero, suc, ◌+◌, ◌-◌, ◌*�
 use Rattle.std.specs.List.{flat_map, join_with_byte}
 
 -- the letters of the codes 1 to 12 in order; the first byte, `*`, stands for no piece
-abbrev pub letters : List ℕ
-letters = codes "*PRNBKQprnbkq"
+abbrev pub code_letters : List ℕ
+code_letters = codes "*PRNBKQprnbkq"
 
 -- the letter of a code, `*` past the last
 abbrev pub code_letter : ℕ → ℕ
-code_letter c = slice_index_or letters c 42
+code_letter c = slice_index_or code_letters c 42
 
 -- ---- the rule, on whole texts
 
@@ -71,7 +71,7 @@ pub record IsBoardPicture (picture : List ℕ) : Type 0 where
 
 -- the code of a letter
 abbrev pub code_of : ℕ → ℕ
-code_of b = unwrap_or (position (λ c. c == b) letters) 0
+code_of b = unwrap_or (position (λ c. c == b) code_letters) 0
 
 -- what a byte of a placement stands for: a letter for its piece, a digit for so many empty squares, `/` for nothing
 abbrev pub squares_at : ℕ → List ℕ

@@ -14,11 +14,11 @@ use Rattle.chess_rules.specs.Legal.{Legal}
 use Rattle.chess_text.specs.San.{San}
 use Rattle.settle_core.specs.Settling.{position_after}
 use Rattle.typed_lines.specs.Letters.{bare}
-use Rattle.typed_lines.specs.Words.{move_words, without_number}
-use Rattle.typed_lines.specs.Lines.{HasMoveWords, NamesMoves, ReadsLine, ReadsWords, Says, StopsAt}
+use Rattle.typed_lines.specs.Words.{typed_words, without_number}
+use Rattle.typed_lines.specs.Lines.{HasMoveWords, AreMoves, ReadsLine, ReadsWords, WordSays, StopsAt}
 use Rattle.typed_lines.specs.declared.reading.Typed.{Typed}
 use Rattle.typed_lines.specs.declared.reading.Typed.TheVariants as typed
-use Rattle.typed_lines.specs.Spelling.{IsOnly, IsWritten, Reads, SpellsBy}
+use Rattle.typed_lines.specs.Spelling.{IsOnly, IsItsSan, IsReadAs, SpellsBy}
 use Rattle.typed_lines.specs.declared.spelling.Way.{Way}
 use Rattle.typed_lines.specs.declared.spelling.Way.TheVariants.{Piece, WithFile, WithRank, WithSquare, Squares}
 use Rattle.typed_lines.specs.declared.spelling.Manner.{Manner}
@@ -32,31 +32,31 @@ if_ok_iff (Ok b) A B iff to back = (λ t. to (iff.0 t), λ q. iff.1 (back q))
 if_ok_iff (Err e) A B iff to back = tt
 
 pub written_iff : (p : Parts) (m n : Move) (word san : List ℕ) (b : Bool) → n ≡ m → San p n san → ((text : List ℕ) → San p n text → text ≡ san) → (IsTrue b ↔ (bare word ≡ bare san))
-    → IsTrue b ↔ IsWritten p m word
+    → IsTrue b ↔ IsItsSan p m word
 written_iff p m n word san b same is one iff =
-    let P : Move → Type 0 = λ x. IsTrue b ↔ IsWritten p x word in
+    let P : Move → Type 0 = λ x. IsTrue b ↔ IsItsSan p x word in
     subst P same (λ t. (san, is, iff.0 t), λ w. iff.1 (w.2 ∙ ap bare (one w.0 w.1)))
 
 -- Of the moves that were tried, which one the word is read as, if any.
 abbrev pub SoFar : Manner → Parts → List ℕ → List Move → Option Move → Type 0
-SoFar manner p word tried None = (n : Move) → Contains tried n → Reads manner p n word → ⊥
-SoFar manner p word tried (Some m) = Legal p m × Reads manner p m word × ((n : Move) → Contains tried n → Reads manner p n word → n ≡ m)
+SoFar manner p word tried None = (n : Move) → Contains tried n → IsReadAs manner p n word → ⊥
+SoFar manner p word tried (Some m) = Legal p m × IsReadAs manner p m word × ((n : Move) → Contains tried n → IsReadAs manner p n word → n ≡ m)
 
 pub none_tried : (manner : Manner) (p : Parts) (word : List ℕ) → SoFar manner p word [] None
 none_tried manner p word n has reads = let bad : has.0 < 0 = has.1 in absurd (omega arith)
 
-pub more_kept : (manner : Manner) (p : Parts) (word : List ℕ) (tried : List Move) (found : Option Move) (m : Move) → SoFar manner p word tried found → (Reads manner p m word → ⊥)
+pub more_kept : (manner : Manner) (p : Parts) (word : List ℕ) (tried : List Move) (found : Option Move) (m : Move) → SoFar manner p word tried found → (IsReadAs manner p m word → ⊥)
     → SoFar manner p word (tried ++ m ∷ []) found
 more_kept manner p word tried None m so not_read = λ n has reads.
-    ⊎_elim (λ old. so n old reads) (λ same. not_read (let P : Move → Type 0 = λ x. Reads manner p x word in subst P (sym same) reads)) (Contains-push_cases tried m n has)
+    ⊎_elim (λ old. so n old reads) (λ same. not_read (let P : Move → Type 0 = λ x. IsReadAs manner p x word in subst P (sym same) reads)) (Contains-push_cases tried m n has)
 more_kept manner p word tried (Some found) m so not_read = (
   so.0,
   so.1,
   λ n has reads. ⊎_elim (λ old. so.2 n old reads)
-      (λ same. absurd (not_read (let P : Move → Type 0 = λ x. Reads manner p x word in subst P (sym same) reads))) (Contains-push_cases tried m n has),
+      (λ same. absurd (not_read (let P : Move → Type 0 = λ x. IsReadAs manner p x word in subst P (sym same) reads))) (Contains-push_cases tried m n has),
 )
 
-pub more_found : (manner : Manner) (p : Parts) (word : List ℕ) (tried : List Move) (found : Option Move) (m : Move) → SoFar manner p word tried found → Legal p m → Reads manner p m word
+pub more_found : (manner : Manner) (p : Parts) (word : List ℕ) (tried : List Move) (found : Option Move) (m : Move) → SoFar manner p word tried found → Legal p m → IsReadAs manner p m word
     → MatchOption found ⊤ (λ n. n ≡ m) → SoFar manner p word (tried ++ m ∷ []) (Some m)
 more_found manner p word tried None m so legal is same =
     (legal, is, λ n has reads. ⊎_elim (λ old. absurd (so n old reads)) (λ this. sym this) (Contains-push_cases tried m n has))
@@ -64,7 +64,7 @@ more_found manner p word tried (Some found) m so legal is same =
     (legal, is, λ n has reads. ⊎_elim (λ old. so.2 n old reads ∙ same) (λ this. sym this) (Contains-push_cases tried m n has))
 
 -- Where two moves are read, there is no one alone.
-pub two_read : (manner : Manner) (p : Parts) (word : List ℕ) (tried : List Move) (found : Option Move) (m : Move) → SoFar manner p word tried found → Legal p m → Reads manner p m word
+pub two_read : (manner : Manner) (p : Parts) (word : List ℕ) (tried : List Move) (found : Option Move) (m : Move) → SoFar manner p word tried found → Legal p m → IsReadAs manner p m word
     → (MatchOption found ⊤ (λ n. n ≡ m) → ⊥) → (n : Move) → IsOnly manner p word n → ⊥
 two_read manner p word tried None m so legal is other n alone = other tt
 two_read manner p word tried (Some found) m so legal is other n alone = other (alone.alone found so.0 so.1 ∙ sym (alone.alone m legal is))
@@ -81,8 +81,8 @@ all_none manner p word moves (Some m) so listed = tt
 
 -- ---- moves, one after the other
 
-pub names_more : (p : Parts) (found : List (List ℕ)) (moves : List Move) (word : List ℕ) (m : Move) → NamesMoves p found moves
-    → IsOnly Written (position_after p moves) (without_number word) m → NamesMoves p (found ++ word ∷ []) (moves ++ m ∷ [])
+pub names_more : (p : Parts) (found : List (List ℕ)) (moves : List Move) (word : List ℕ) (m : Move) → AreMoves p found moves
+    → IsOnly Written (position_after p moves) (without_number word) m → AreMoves p (found ++ word ∷ []) (moves ++ m ∷ [])
 names_more p [] [] word m named is = (is, tt)
 names_more p (w ∷ found) (n ∷ moves) word m named is = (named.0, names_more (after p n) found moves word m named.1 is)
 names_more p [] (n ∷ moves) word m named is = absurd named
@@ -94,7 +94,7 @@ after_more p (n ∷ moves) m = after_more (after p n) moves m
 
 -- So many of the words are these moves, which lead to this position.
 pub record ReadSoFar (start : Parts) (words : List (List ℕ)) (position : Parts) (moves : List Move) : Type 0 where
-  pub named : NamesMoves start words moves
+  pub named : AreMoves start words moves
   pub here : position ≡ position_after start moves
 
 pub read_more : (start position : Parts) (words : List (List ℕ)) (moves : List Move) (word : List ℕ) (m : Move) → ReadSoFar start words position moves
@@ -105,7 +105,7 @@ read_more start position words moves word m so is = record {
 }
 
 pub stops_at : (start position : Parts) (words found behind : List (List ℕ)) (moves : List Move) (word : List ℕ) (number : ℕ) (says : Word) → words ≡ found ++ word ∷ behind
-    → ReadSoFar start found position moves → number ≡ length moves → Says position (without_number word) says → StopsAt start words word number says
+    → ReadSoFar start found position moves → number ≡ length moves → WordSays position (without_number word) says → StopsAt start words word number says
 stops_at start position words found behind moves word number says split so count here = record {
   before = found;
   behind = behind;
@@ -113,7 +113,7 @@ stops_at start position words found behind moves word number says split so count
   split = split;
   named = so.named;
   count = count;
-  here = let P : Parts → Type 0 = λ q. Says q (without_number word) says in subst P so.here here;
+  here = let P : Parts → Type 0 = λ q. WordSays q (without_number word) says in subst P so.here here;
 }
 
 -- ---- ways
@@ -149,7 +149,7 @@ map_split xs i d lt =
 
 -- ---- lines
 
-pub line_of_words : {E : Type 0} (r : Result Typed E) (p : Parts) (text : List ℕ) (found : List (List ℕ)) → found ≡ move_words text → IfOk r (ReadsWords p found) → HasMoveWords text → IfOk r (ReadsLine p text)
+pub line_of_words : {E : Type 0} (r : Result Typed E) (p : Parts) (text : List ℕ) (found : List (List ℕ)) → found ≡ typed_words text → IfOk r (ReadsWords p found) → HasMoveWords text → IfOk r (ReadsLine p text)
 line_of_words (Err e) p text found same reads has = tt
 line_of_words (Ok (typed.Result outcome)) p text found same reads has = absurd reads
 line_of_words (Ok typed.Reopens) p text found same reads has = absurd reads
@@ -169,9 +169,9 @@ any_behind test [] = refl
 any_behind test (x ∷ xs) = ap (λ b. test x.now || b) (any_behind test xs)
 
 pub meant_at : (start position : Parts) (words found behind : List (List ℕ)) (moves : List Move) (word : List ℕ) (number : ℕ) (m : Move) (san : List ℕ) → words ≡ found ++ word ∷ behind
-    → ReadSoFar start found position moves → number ≡ length moves → Says position (without_number word) (Meant m) → San position m san
+    → ReadSoFar start found position moves → number ≡ length moves → WordSays position (without_number word) (Meant m) → San position m san
     → (n : Move) × (stops : StopsAt start words word number (Meant n)) × San (position_after start stops.moves) n san
 meant_at start position words found behind moves word number m san split so count here is =
-    let P : Parts → Type 0 = λ q. Says q (without_number word) (Meant m) in
+    let P : Parts → Type 0 = λ q. WordSays q (without_number word) (Meant m) in
     let Q : Parts → Type 0 = λ q. San q m san in
     (m, record { before = found; behind = behind; moves = moves; split = split; named = so.named; count = count; here = subst P so.here here }, subst Q so.here is)

@@ -8,7 +8,7 @@ use Rattle.chess_rules.specs.After.{after}
 use Rattle.chess_text.specs.San.{San}
 use Rattle.settle_core.specs.Settling.{position_after}
 use Rattle.typed_lines.specs.Letters.{in_english, is_from, letters}
-use Rattle.typed_lines.specs.Words.{move_words, without_number}
+use Rattle.typed_lines.specs.Words.{typed_words, without_number}
 use Rattle.typed_lines.specs.Results.{result_of}
 use Rattle.typed_lines.specs.Spelling.{IsOnly}
 use Rattle.typed_lines.specs.declared.spelling.Manner.{Manner}
@@ -55,17 +55,17 @@ abbrev pub NamesNone : Parts → List ℕ → Type 0
 NamesNone p word = (manner : Manner) (m : Move) → ¬ IsOnly manner p word m
 
 -- What a word says in a position: the move that it is; else the one that it may be meant as; else nothing.
-abbrev pub Says : Parts → List ℕ → Word → Type 0
-Says p word (Written m) = IsOnly Written_in p word m
-Says p word (Meant m) = ((n : Move) → ¬ IsOnly Written_in p word n) × IsOnly Meant_in p word m
-Says p word Illegal = NamesNone p word × (has_move_form word ≡ true)
-Says p word Unknown = NamesNone p word × (has_move_form word ≡ false)
+abbrev pub WordSays : Parts → List ℕ → Word → Type 0
+WordSays p word (Written m) = IsOnly Written_in p word m
+WordSays p word (Meant m) = ((n : Move) → ¬ IsOnly Written_in p word n) × IsOnly Meant_in p word m
+WordSays p word Illegal = NamesNone p word × (has_move_form word ≡ true)
+WordSays p word Unknown = NamesNone p word × (has_move_form word ≡ false)
 
 -- Each word is the move in its place, and that is legal in the position after those before it.
-abbrev pub NamesMoves : Parts → List (List ℕ) → List Move → Type 0
-NamesMoves p [] [] = ⊤
-NamesMoves p (word ∷ more) (m ∷ moves) = IsOnly Written_in p (without_number word) m × NamesMoves (after p m) more moves
-NamesMoves p found moves = ⊥
+abbrev pub AreMoves : Parts → List (List ℕ) → List Move → Type 0
+AreMoves p [] [] = ⊤
+AreMoves p (word ∷ more) (m ∷ moves) = IsOnly Written_in p (without_number word) m × AreMoves (after p m) more moves
+AreMoves p found moves = ⊥
 
 -- This word is the first that is no move; so many are before it.
 pub record StopsAt (p : Parts) (words : List (List ℕ)) (word : List ℕ) (number : ℕ) (says : Word) : Type 0 where
@@ -73,9 +73,9 @@ pub record StopsAt (p : Parts) (words : List (List ℕ)) (word : List ℕ) (numb
   pub behind : List (List ℕ)
   pub moves : List Move
   pub split : words ≡ before ++ word ∷ behind
-  pub named : NamesMoves p before moves
+  pub named : AreMoves p before moves
   pub count : number ≡ length moves
-  pub here : Says (position_after p moves) (without_number word) says
+  pub here : WordSays (position_after p moves) (without_number word) says
 
 -- a word that is a line of its own: a result, or `*`
 abbrev pub stands_alone : List ℕ → Bool
@@ -90,12 +90,12 @@ is_star (word ∷ other ∷ more) = false
 -- The line has words, and each of them is more than a number; it is neither a result nor `*`.
 pub record HasMoveWords (text : List ℕ) : Type 0 where
   pub no_result : result_of text ≡ None
-  pub some : move_words text ≢ []
-  pub no_other : list_any stands_alone (move_words text) ≡ false
+  pub some : typed_words text ≢ []
+  pub no_other : list_any stands_alone (typed_words text) ≡ false
 
 -- what words say that are read as moves
 abbrev pub ReadsWords : Parts → List (List ℕ) → Typed → Type 0
-ReadsWords p found (typed.Moves moves) = NamesMoves p found moves.items
+ReadsWords p found (typed.Moves moves) = AreMoves p found moves.items
 ReadsWords p found (typed.Meant word number san) =
     (m : Move) × (stops : StopsAt p found word.now number (Meant m)) × San (position_after p stops.moves) m san.bytes
 ReadsWords p found (typed.Illegal word number) = StopsAt p found word.now number Illegal
@@ -105,10 +105,10 @@ ReadsWords p found other = ⊥
 -- what a line says in a position
 abbrev pub ReadsLine : Parts → List ℕ → Typed → Type 0
 ReadsLine p text (typed.Result outcome) = result_of text ≡ Some outcome
-ReadsLine p text typed.Reopens = (result_of text ≡ None) × (is_star (move_words text) ≡ true)
-ReadsLine p text typed.Nothing = (result_of text ≡ None) × (move_words text ≡ [])
-ReadsLine p text typed.Mixed = (result_of text ≡ None) × (is_star (move_words text) ≡ false) × (list_any stands_alone (move_words text) ≡ true)
-ReadsLine p text (typed.Moves moves) = HasMoveWords text × ReadsWords p (move_words text) (typed.Moves moves)
-ReadsLine p text (typed.Meant word number san) = HasMoveWords text × ReadsWords p (move_words text) (typed.Meant word number san)
-ReadsLine p text (typed.Illegal word number) = HasMoveWords text × ReadsWords p (move_words text) (typed.Illegal word number)
-ReadsLine p text (typed.Unknown word number) = HasMoveWords text × ReadsWords p (move_words text) (typed.Unknown word number)
+ReadsLine p text typed.Reopens = (result_of text ≡ None) × (is_star (typed_words text) ≡ true)
+ReadsLine p text typed.Nothing = (result_of text ≡ None) × (typed_words text ≡ [])
+ReadsLine p text typed.Mixed = (result_of text ≡ None) × (is_star (typed_words text) ≡ false) × (list_any stands_alone (typed_words text) ≡ true)
+ReadsLine p text (typed.Moves moves) = HasMoveWords text × ReadsWords p (typed_words text) (typed.Moves moves)
+ReadsLine p text (typed.Meant word number san) = HasMoveWords text × ReadsWords p (typed_words text) (typed.Meant word number san)
+ReadsLine p text (typed.Illegal word number) = HasMoveWords text × ReadsWords p (typed_words text) (typed.Illegal word number)
+ReadsLine p text (typed.Unknown word number) = HasMoveWords text × ReadsWords p (typed_words text) (typed.Unknown word number)

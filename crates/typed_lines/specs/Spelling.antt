@@ -16,8 +16,8 @@ use Rattle.typed_lines.specs.declared.spelling.Manner.{Manner}
 use Rattle.typed_lines.specs.declared.spelling.Manner.TheVariants.{Written, Meant}
 
 -- The word is the move's SAN, but for marks at its end, the `=` before a promotion, and noughts for the letter O.
-abbrev pub IsWritten : Parts → Move → List ℕ → Type 0
-IsWritten p m word = (san : List ℕ) × San p m san × (bare word ≡ bare san)
+abbrev pub IsItsSan : Parts → Move → List ℕ → Type 0
+IsItsSan p m word = (san : List ℕ) × San p m san × (bare word ≡ bare san)
 
 -- a piece's letter; a pawn has none
 abbrev pub piece_letter : Kind → List ℕ
@@ -29,16 +29,16 @@ piece_letter Bishop = letter Bishop ∷ []
 piece_letter Knight = letter Knight ∷ []
 
 -- how it is said which piece moves: by its letter, with its file, its rank or its square, or by its square alone
-abbrev pub piece_text : Way → Kind → ℕ → List ℕ
-piece_text Piece kind s = piece_letter kind
-piece_text WithFile kind s = piece_letter kind ++ file_byte s ∷ []
-piece_text WithRank kind s = piece_letter kind ++ rank_byte s ∷ []
-piece_text WithSquare kind s = piece_letter kind ++ square_text s
-piece_text Squares _ s = square_text s
+abbrev pub mover_text : Way → Kind → ℕ → List ℕ
+mover_text Piece kind s = piece_letter kind
+mover_text WithFile kind s = piece_letter kind ++ file_byte s ∷ []
+mover_text WithRank kind s = piece_letter kind ++ rank_byte s ∷ []
+mover_text WithSquare kind s = piece_letter kind ++ square_text s
+mover_text Squares _ s = square_text s
 
 -- where it goes, and what a pawn becomes if that is said
-abbrev pub target_text : Bool → Move → List ℕ
-target_text said m = square_text m.to ++ (if said then promotion_text m.promotion else [])
+abbrev pub destination_text : Bool → Move → List ℕ
+destination_text said m = square_text m.to ++ (if said then promotion_text m.promotion else [])
 
 -- A pawn that becomes a queen may be typed without saying so.
 abbrev pub MayBe : Bool → Move → Type 0
@@ -47,7 +47,7 @@ MayBe false m = m.promotion ≡ Some Queen
 
 -- These letters are those of the move of a piece of this kind, said in this way.
 abbrev pub SpellsBy : Way → Kind → Move → List ℕ → Type 0
-SpellsBy way kind m heard = (said : Bool) × MayBe said m × (heard ≡ letters (piece_text way kind m.from ++ target_text said m))
+SpellsBy way kind m heard = (said : Bool) × MayBe said m × (heard ≡ letters (mover_text way kind m.from ++ destination_text said m))
 
 -- They are, said in any way.
 abbrev pub Spells : Kind → Move → List ℕ → Type 0
@@ -66,12 +66,12 @@ abbrev pub IsMeant : Parts → Move → List ℕ → Type 0
 IsMeant p m word = SpellsMove p m (letters word) ⊎ SpellsMove p m (letters (in_english word))
 
 -- The word is read in this manner as the move.
-abbrev pub Reads : Manner → Parts → Move → List ℕ → Type 0
-Reads Written p m word = IsWritten p m word
-Reads Meant p m word = IsMeant p m word
+abbrev pub IsReadAs : Manner → Parts → Move → List ℕ → Type 0
+IsReadAs Written p m word = IsItsSan p m word
+IsReadAs Meant p m word = IsMeant p m word
 
 -- Among the legal moves, the word is read as this one alone.
 pub record IsOnly (manner : Manner) (p : Parts) (word : List ℕ) (m : Move) : Type 0 where
   pub legal : Legal p m
-  pub reads : Reads manner p m word
-  pub alone : (n : Move) → Legal p n → Reads manner p n word → n ≡ m
+  pub reads : IsReadAs manner p m word
+  pub alone : (n : Move) → Legal p n → IsReadAs manner p n word → n ≡ m

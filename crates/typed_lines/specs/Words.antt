@@ -29,5 +29,5 @@ abbrev pub without_number : List ℕ → List ℕ
 without_number word = if begins_with_dot (after_digits word) then after_dots (after_digits word) else word
 
 -- what stands between the blanks, and is more than a move number
-abbrev pub move_words : List ℕ → List (List ℕ)
-move_words text = filter (λ word. is_filled (without_number word)) (slice_split is_blank text)
+abbrev pub typed_words : List ℕ → List (List ℕ)
+typed_words text = filter (λ word. is_filled (without_number word)) (slice_split is_blank text)

@@ -4,7 +4,7 @@ ghost use Rattle.std.specs.List.{list_all, list_any};
 ghost use Rattle.chess_rules.specs.Legal.{Legal};
 ghost use Rattle.chess_rules.specs.declared.chess_move.Move.{Move as MoveOf};
 ghost use Rattle.typed_lines.specs.Letters.{is_from as from_test};
-ghost use Rattle.typed_lines.specs.Lines.{ReadsLine, ReadsWords, Says, ends_as_move as ends_test, ends_promoting as promoting_test, has_form as form_test, has_move_form as move_form_test, has_square_at as square_test, is_move_letter as move_letter_test, is_officer as officer_test, is_other_letter as other_letter_test, is_star as star_test, stands_alone as alone_test};
+ghost use Rattle.typed_lines.specs.Lines.{ReadsLine, ReadsWords, WordSays, ends_as_move as ends_test, ends_promoting as promoting_test, has_form as form_test, has_move_form as move_form_test, has_square_at as square_test, is_move_letter as move_letter_test, is_officer as officer_test, is_other_letter as other_letter_test, is_star as star_test, stands_alone as alone_test};
 ghost use Rattle.typed_lines.specs.Spelling.{IsOnly};
 
 use crate::letters::{in_english, letters};
@@ -133,7 +133,7 @@ fn has_move_form(alloc: Global, word: &[u8]) -> Result<bool, AllocError>
 fn read_other(alloc: Global, p: &Position, moves: &[Move], word: &[u8]) -> Result<Word, AllocError>
     requires listed { (m : MoveOf) → Contains moves.now m ↔ Legal p.now m }
     requires unwritten { (m : MoveOf) → ¬ IsOnly Manner.Written p.now word.now m }
-    ensures { IfOk result (Says p.now word.now) }
+    ensures { IfOk result (WordSays p.now word.now) }
 {
     if let Some(m) = only(alloc, Manner::Meant, p, moves, word)? {
         return Ok(Word::Meant(m));
@@ -151,7 +151,7 @@ fn read_other(alloc: Global, p: &Position, moves: &[Move], word: &[u8]) -> Resul
 ///
 /// Where there is no memory.
 pub fn read_word(alloc: Global, p: &Position, word: &[u8]) -> Result<Word, AllocError>
-    ensures { IfOk result (Says p.now word.now) }
+    ensures { IfOk result (WordSays p.now word.now) }
 {
     let moves = p.legal_moves(alloc)?;
     match only(alloc, Manner::Written, p, moves.as_slice(), word)? {

@@ -6,7 +6,7 @@ ghost use Rattle.chess_rules.specs.declared.chess_move.Move.{Move as MoveOf};
 ghost use Rattle.chess_text.specs.San.{castling_text as castling_text_of, promotion_text};
 ghost use Rattle.chess_text.specs.Squares.{file_byte, rank_byte, square_text};
 ghost use Rattle.typed_lines.specs.Letters.{letters as letters_of};
-ghost use Rattle.typed_lines.specs.Spelling.{IsMeant, IsOnly, IsWritten, MayBe, Reads, Spells, SpellsBy, SpellsCastling, SpellsMove, piece_letter as piece_letter_of, piece_text, target_text};
+ghost use Rattle.typed_lines.specs.Spelling.{IsMeant, IsOnly, IsItsSan, MayBe, IsReadAs, Spells, SpellsBy, SpellsCastling, SpellsMove, piece_letter as piece_letter_of, mover_text, destination_text};
 
 use crate::letters::{bare, in_english, is_same, letters};
 use arrayvec::ArrayString;
@@ -77,7 +77,7 @@ fn piece_letter(kind: Kind) -> &'static str
 
 fn put_piece(out: &mut ArrayString<8>, way: Way, kind: Kind, from: Square)
     requires { array_string_len out.old + 3 ≤ 8 }
-    ensures text { out.new.bytes ≡ out.old.bytes ++ piece_text way kind from }
+    ensures text { out.new.bytes ≡ out.old.bytes ++ mover_text way kind from }
     ensures short { array_string_len out.new ≤ array_string_len out.old + 3 }
 {
     match way {
@@ -117,7 +117,7 @@ fn put_promotion(out: &mut ArrayString<8>, promotion: Option<Kind>)
 
 /// The text of the move of a piece of this kind, said in this way, with what a pawn becomes or without.
 fn text_by(way: Way, said: bool, kind: Kind, m: &Move) -> ArrayString<8>
-    ensures { result.bytes ≡ piece_text way kind m.now.from ++ target_text said m.now }
+    ensures { result.bytes ≡ mover_text way kind m.now.from ++ destination_text said m.now }
 {
     let mut out = ArrayString::new();
     put_piece(&mut out, way, kind, m.from);
@@ -230,7 +230,7 @@ fn is_meant(alloc: Global, p: &Position, m: &Move, word: &[u8]) -> Result<bool, 
 
 fn is_written(alloc: Global, p: &Position, m: &Move, word: &[u8]) -> Result<bool, AllocError>
     requires { Legal p.now m.now }
-    ensures { IfOk result (λ written. IsTrue written ↔ IsWritten p.now m.now word.now) }
+    ensures { IfOk result (λ written. IsTrue written ↔ IsItsSan p.now m.now word.now) }
 {
     let san = write_san(p, m.copy());
     let own = bare(alloc, san.as_str().as_bytes())?;
@@ -247,7 +247,7 @@ pub fn reads(
     word: &[u8],
 ) -> Result<bool, AllocError>
     requires { Legal p.now m.now }
-    ensures { IfOk result (λ so. IsTrue so ↔ Reads manner p.now m.now word.now) }
+    ensures { IfOk result (λ so. IsTrue so ↔ IsReadAs manner p.now m.now word.now) }
 {
     match manner {
         Manner::Written => is_written(alloc, p, m, word),

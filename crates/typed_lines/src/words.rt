@@ -1,6 +1,6 @@
 //! The words of a typed line.
 ghost use Rattle.std.specs.Prelude.{◌≡◌, IfOk, map};
-ghost use Rattle.typed_lines.specs.Words.{after_digits as after_digits_of, after_dots as after_dots_of, begins_with_dot as begins_with_dot_of, is_blank as blank_test, is_filled as is_filled_test, move_words as move_words_of, without_number as without_number_of};
+ghost use Rattle.typed_lines.specs.Words.{after_digits as after_digits_of, after_dots as after_dots_of, begins_with_dot as begins_with_dot_of, is_blank as blank_test, is_filled as is_filled_test, typed_words as move_words_of, without_number as without_number_of};
 
 use std::alloc::{AllocError, Global};
 
