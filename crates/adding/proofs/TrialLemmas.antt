@@ -25,7 +25,7 @@ use Rattle.adding.specs.declared.adding.Trial.{Trial}
 use Rattle.adding.specs.declared.trying.Verdict.{Verdict}
 use Rattle.adding.specs.declared.trying.Verdict.TheVariants.{Kept, Changed, NoRoom}
 use Rattle.adding.specs.Stays.{HasOther, HasScore}
-use Rattle.adding.specs.Trials.{IsTrial}
+use Rattle.adding.specs.Inside.Trials.{IsTrial}
 use Rattle.adding.specs.Verdicts.{Judges}
 use Rattle.pair_frames.specs.PutIn.{ShowsWhole, dump_of}
 use Rattle.adding.specs.Making.{plies_with, shown_at, sign_with, unclocked}

@@ -2,6 +2,6 @@ pub mod Signs
 pub mod Making
 pub mod Stays
 pub mod Verdicts
-pub mod Trials
+pub mod Inside
 pub mod Answers
 pub mod Lines

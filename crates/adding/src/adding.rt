@@ -6,7 +6,7 @@ ghost use Rattle.settle_core.specs.Settling.{Line};
 ghost use Rattle.board_captures.specs.Reading.{IsTooLong, StandsForCapture, setting_of};
 ghost use Rattle.typed_lines.specs.Lines.{ReadsLine};
 ghost use Rattle.adding.specs.Answers.{AddsNothing, HasEnded, IsAnswerTo, IsAnswered};
-ghost use Rattle.adding.specs.Trials.{IsTrial, TriesMoves, TriesResult};
+ghost use Rattle.adding.specs.Inside.Trials.{IsTrial, TriesMoves, TriesResult};
 
 use crate::making::{bytes_of_moves, bytes_of_result, shown_again, unclocked};
 use crate::trying::{Verdict, judged};

@@ -7,7 +7,7 @@ use Rattle.board_events.specs.Settings.{Setting}
 use Rattle.watched_streams.specs.Input.{ReadsWithin}
 use Rattle.recovery.specs.declared.refusal.RecoverError.{RecoverError}
 use Rattle.recovery.specs.declared.refusal.RecoverError.TheVariants.{Read, Write, Lines, TooLong, Memory}
-use Rattle.recovery.specs.Status.{message_of, status_of}
+use Rattle.recovery.specs.Inside.Status.{message_of, status_of}
 use Rattle.recovery.specs.Streams.{RecoversAll, RecoversFirst, RecoversFront, RecoversRead, RecoversSome}
 use Rattle.dgt_replay.specs.Does.{RecoversPairs}
 use Rattle.text_subcommands.specs.Messages.{Says}

@@ -3,3 +3,4 @@ pub mod Keeping
 pub mod Passing
 pub mod Progress
 pub mod Seeing
+pub mod Status

@@ -2,6 +2,5 @@ pub mod Inside
 pub mod Invented
 pub mod Keeping
 pub mod Laws
-pub mod Status
 pub mod Streams
 pub mod Weaving

@@ -1,6 +1,6 @@
 //! Why a stream may be given on only in part.
 ghost use Rattle.std.specs.Prelude.{◌≡◌};
-ghost use Rattle.recovery.specs.Status.{status_of, message_of};
+ghost use Rattle.recovery.specs.Inside.Status.{status_of, message_of};
 
 /// Why a stream was not given on to its end.
 #[derive(Clone, Copy, Debug, PartialEq, Eq)]

@@ -22,7 +22,8 @@ use Rattle.replay_arguments.specs.declared.setup.Refusal.{Refusal}
 use Rattle.replay_arguments.specs.declared.setup.Refusal.TheVariants.{Fen, Tag as OfTag}
 use Rattle.replay_arguments.specs.declared.arguments.BoardArguments.{BoardArguments}
 use Rattle.replay_arguments.specs.declared.arguments.RecordArguments.{RecordArguments}
-use Rattle.replay_arguments.specs.Setups.{ForMemory, HasNoValue, HasValue, HasValues, IsFirst, MayHave, MeetsNothing, OfFirstTag, SetsBoardUp, SetsUp, flag_text, plain_setup, tag_text, with_given}
+use Rattle.replay_arguments.specs.Inside.Given.{with_given}
+use Rattle.replay_arguments.specs.Setups.{ForMemory, HasNoValue, HasValue, HasValues, IsFirst, MayHave, MeetsNothing, OfFirstTag, SetsBoardUp, SetsUp, flag_text, plain_setup, tag_text}
 use Rattle.chess_text.specs.Start.{StartsAt, given}
 use Rattle.replay_arguments.specs.TagOptions.{option_of}
 

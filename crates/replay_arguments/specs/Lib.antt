@@ -2,3 +2,4 @@ pub mod Command
 pub mod TagOptions
 pub mod Setups
 pub mod Subcommands
+pub mod Inside

@@ -1,5 +1,5 @@
 -- What the options of the subcommands that read what a board sends set up.
-use Rattle.std.specs.Prelude.{◌≡◌, ◌⊎◌, Bool, List, ◌∷◌, ◌++◌, All, ℕ, codes, Option, Some, None, MatchOption, unwrap_or, true, false, if◌then◌else◌, ⊤}
+use Rattle.std.specs.Prelude.{◌≡◌, ◌⊎◌, Bool, List, ◌∷◌, ◌++◌, All, ℕ, codes, Option, Some, None, MatchOption, true, false, if◌then◌else◌, ⊤}
 use Rattle.std.specs.Str.{bytes_eq}
 use Rattle.clap.specs.Walk.{Row, Text, first_of, one_of}
 use Rattle.chess_rules.specs.declared.parts.Parts.{Parts}
@@ -11,8 +11,8 @@ use Rattle.dgt_frame.specs.declared.time.First.TheVariants as first
 use Rattle.chess_game.specs.declared.values.Tag.{Tag}
 use Rattle.chess_game.specs.declared.values.Tag.TheVariants.{Event, Site, Date, Round, White, Black}
 use Rattle.chess_game.specs.declared.values.TagError.TheVariants.{Memory}
-use Rattle.chess_game.specs.TagNames.{all_tags, is_tag}
-use Rattle.chess_game.specs.Values.{IsValue, RefusesText, TagValues, unknown_of, unknown_values, value_of, values_by}
+use Rattle.chess_game.specs.TagNames.{all_tags}
+use Rattle.chess_game.specs.Values.{IsValue, RefusesText, TagValues, unknown_of, unknown_values, value_of}
 use Rattle.board_events.specs.declared.setup.Setup.{Setup}
 use Rattle.board_events.specs.Settings.{Setting, setting_of}
 use Rattle.replay_arguments.specs.TagOptions.{option_of}
@@ -109,10 +109,6 @@ pub record Meets (options : RecordArguments) (setup : Setup) : Type 0 where
 -- No position has the FEN, or a tag may not have its text.
 abbrev pub MeetsNothing : RecordArguments → Type 0
 MeetsNothing options = HasNoStart (given options.board.fen) ⊎ ((tag : Tag) × HasNoValue tag (tag_text options tag))
-
--- the values with a tag's changed to the text, where one is given
-abbrev pub with_given : Tag → Option Text → TagValues → TagValues
-with_given tag text values = values_by (λ other. if is_tag tag other then unwrap_or text (value_of other values) else value_of other values)
 
 -- The refusal is that memory ran out.
 abbrev pub ForMemory : Refusal → Type 0

@@ -2,7 +2,8 @@
 ghost use Rattle.std.specs.Prelude.{◌≡◌, ◌⊎◌, IfErr, OnOk, MatchOption, MatchResult};
 ghost use Rattle.chess_game.specs.declared.values.TagError.{TagError as ErrorOf};
 ghost use Rattle.chess_game.specs.Values.{RefusesText};
-ghost use Rattle.replay_arguments.specs.Setups.{ForMemory, HasValues, IsFirst, MayHave, Meets, MeetsNothing, OfFirstTag, tag_text, with_given};
+ghost use Rattle.replay_arguments.specs.Inside.Given.{with_given};
+ghost use Rattle.replay_arguments.specs.Setups.{ForMemory, HasValues, IsFirst, MayHave, Meets, MeetsNothing, OfFirstTag, tag_text};
 ghost use Rattle.chess_text.specs.Start.{given};
 
 use crate::arguments::RecordArguments;

@@ -6,7 +6,8 @@ use Rattle.chess_game.specs.declared.values.TagError.{TagError}
 use Rattle.chess_game.specs.TagNames.{all_tags}
 use Rattle.chess_game.specs.Values.{RefusesText}
 use Rattle.replay_arguments.specs.declared.setup.Refusal.TheVariants.{Tag as OfTag}
-use Rattle.replay_arguments.specs.Setups.{MayHave, tag_text, with_given}
+use Rattle.replay_arguments.specs.Inside.Given.{with_given}
+use Rattle.replay_arguments.specs.Setups.{MayHave, tag_text}
 use Rattle.replay_arguments.proofs.SetupLemmas.{SetTo, all_set, first_tag, none_set, one_set}
 use Rattle.replay_arguments.proofs.setup.tags_of.Goals as goal
 

@@ -1,0 +1,2 @@
+-- What this crate alone knows of: no public contract cites it.
+pub mod Given
