@@ -13,7 +13,7 @@ use arrayvec::{ArrayString, ArrayVec};
 use chess_rules::{Kind, Piece, Side};
 
 /// The letter of a code.
-fn code_letter(code: u8) -> u8
+fn letter(code: u8) -> u8
     ensures value { result ≡ code_letter_of code }
     ensures ascii { result < 128 }
 {
@@ -58,7 +58,7 @@ pub fn put_rank(out: &mut ArrayString<128>, rank: &[u8])
             empty += 1;
         } else {
             put_run(out, empty);
-            out.push(code_letter(code) as char);
+            out.push(letter(code) as char);
             empty = 0;
         }
     }
