@@ -22,7 +22,8 @@ use Rattle.dgt_replay.specs.Add.{AddsLine}
 use Rattle.dgt_replay.specs.Back.{TakesBack}
 use Rattle.dgt_replay.specs.Edit.{Edits, text_in}
 use Rattle.dgt_replay.proofs.EditLemmas.{puts_memory}
-use Rattle.dgt_replay.specs.Does.{Does, Lists, Records, RecoversPairs, WritesText}
+use Rattle.dgt_replay.specs.Does.{Lists, Records, RecoversPairs, WritesText}
+use Rattle.dgt_replay.specs.Inside.Dispatching.{Does}
 use Rattle.text_subcommands.specs.Played.{Plays, RefusesMoves, line_limit}
 use Rattle.text_subcommands.specs.Printed.{Prints}
 use Rattle.text_subcommands.specs.Refusals.{Refuses, Untouched, RefusesStart}

@@ -5,7 +5,7 @@ use Rattle.board_session.specs.declared.refusal.RecordError.{RecordError}
 use Rattle.board_session.specs.declared.refusal.RecordError.TheVariants.{Memory, Read, Board, Write, TooLong}
 use Rattle.text_subcommands.specs.Streams.{Streams}
 use Rattle.dgt_replay.specs.Recorded.{EndsFor, Fails}
-use Rattle.dgt_replay.specs.Status.{status_of}
+use Rattle.dgt_replay.specs.Inside.Refused.{status_of}
 
 pub status_known : (error : RecordError) (status : ℕ) → status ≡ status_of error → (status ≢ 0) × (status ≢ 2) × (status ≤ 4)
 status_known Memory status is = (λ e. absurd (omega arith), λ e. absurd (omega arith), omega arith)

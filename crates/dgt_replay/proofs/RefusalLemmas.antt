@@ -14,7 +14,8 @@ use Rattle.replay_arguments.specs.declared.setup.Refusal.TheVariants.{Fen, Tag a
 use Rattle.replay_arguments.specs.declared.arguments.RecordArguments.{RecordArguments}
 use Rattle.replay_arguments.specs.Setups.{ForMemory, IsFirst, MayHave, tag_text}
 use Rattle.chess_text.specs.Start.{StartsAt, given}
-use Rattle.dgt_replay.specs.Refusals.{RefusesSetup, RefusesValue, refusal_message}
+use Rattle.dgt_replay.specs.Refusals.{RefusesSetup, RefusesValue}
+use Rattle.dgt_replay.specs.Inside.Refused.{refusal_message}
 use Rattle.text_subcommands.specs.Refusals.{RefusesStart}
 use Rattle.text_subcommands.specs.Messages.{Says, Tells, fen_message, tag_message}
 use Rattle.text_subcommands.proofs.MessageLemmas.{tells_memory, tells_refused}

@@ -1,33 +1,19 @@
 -- What each subcommand does with the streams, by its status.
-use Rattle.std.specs.Prelude.{◌≡◌, ◌⊎◌, ◌∷◌, [], ℕ, Bool, Contains, List, Option, codes, false, true, if◌then◌else◌}
-use Rattle.chess_rules.specs.declared.parts.Parts.{Parts}
+use Rattle.std.specs.Prelude.{◌≡◌, ◌⊎◌, ◌∷◌, [], ℕ, Contains, List, Option, codes, false, true}
 use Rattle.dgt_frame.specs.Streams.{Timed}
 use Rattle.board_events.specs.Limits.{limit}
 use Rattle.board_events.specs.Settings.{Setting}
 use Rattle.board_events.specs.declared.setup.Setup.{Setup}
 use Rattle.board_session.specs.declared.refusal.RecordError.TheVariants.{Memory, TooLong}
-use Rattle.board_listing.specs.EventLines.{rest_line}
 use Rattle.watched_streams.specs.Input.{ReadsWithin}
 use Rattle.board_listing.specs.Listings.{ListingEnds}
-use Rattle.board_listing.specs.OneText.{TextEnds, event_lines, no_line, picture_lines}
+use Rattle.board_listing.specs.OneText.{TextEnds}
 use Rattle.board_listing.specs.declared.listing.Listing.{Listing}
-use Rattle.board_listing.specs.declared.listing.Listing.TheVariants.{Game, Watched}
 use Rattle.recovery.specs.Streams.{RecoversAll, RecoversFirst, RecoversFront, RecoversRead, RecoversSome}
-use Rattle.replay_arguments.specs.declared.arguments.Subcommand.{Subcommand}
-use Rattle.replay_arguments.specs.declared.arguments.Subcommand.TheVariants.{Show, Pictures, Record, Follow, Watch, Recover, Add, Back, Check, Moves, Positions}
-use Rattle.replay_arguments.specs.Setups.{Meets, MeetsBoard, MeetsNothing, tag_text}
-use Rattle.chess_text.specs.Start.{HasNoStart, StartsAt, given}
 use Rattle.text_subcommands.specs.Messages.{IsTooLong, Says, Tells}
-use Rattle.dgt_replay.specs.Add.{AddsLine}
-use Rattle.dgt_replay.specs.Back.{TakesBack}
-use Rattle.dgt_replay.specs.Edit.{text_in}
 use Rattle.dgt_replay.specs.Recorded.{EndsFor, Fails, RecordsAndTells}
-use Rattle.dgt_replay.specs.Refusals.{RefusesSetup}
-use Rattle.text_subcommands.specs.Refusals.{RefusesStart, Refuses, Untouched}
+use Rattle.text_subcommands.specs.Refusals.{Untouched}
 use Rattle.text_subcommands.specs.Streams.{Streams}
-use Rattle.text_subcommands.specs.Checked.{Checks}
-use Rattle.text_subcommands.specs.Played.{Plays}
-use Rattle.text_subcommands.specs.Printed.{Prints}
 
 -- The lines of a stream's events were written, and what ended that was said: that the stream is past its limit, which
 -- stream has failed, or that memory ran out.
@@ -74,28 +60,3 @@ pub record RecoversPairs (setting : Setting) (status : ℕ) (s : Streams) : Type
   pub bounded : ReadsWithin limit s.input s.input'
   -- where a read has failed, all bytes before it were given on before it began
   pub read : s.reader_failed ≡ true → (status ≡ 3) × ((told : Option (List ℕ)) × RecoversRead setting s.input s.input' s.written s.written' s.said told)
-
--- what is listed of a game that is followed or, with what the board and the clocks show, watched
-abbrev pub game_listing : Bool → Setting → Listing
-game_listing watched setting = if watched then Watched setting.start setting.first setting.rotated else Game setting.start setting.first setting.rotated
-
--- What a subcommand does, by the setups, settings or starts that its options give.
-abbrev pub Does : Subcommand → ℕ → Streams → Type 0
-Does Show status s = WritesText event_lines rest_line status s
-Does (Pictures rotated) status s = WritesText (picture_lines rotated) no_line status s
-Does (Record options) status s = ((setup : Setup) → Meets options setup → Records setup status s)
-    × (MeetsNothing options → Refuses (RefusesSetup (given options.board.fen) (tag_text options)) status s)
-Does (Follow options) status s = ((setting : Setting) → MeetsBoard options setting → Lists (game_listing false setting) status s)
-    × (HasNoStart (given options.fen) → Refuses (RefusesStart (given options.fen)) status s)
-Does (Watch options) status s = ((setting : Setting) → MeetsBoard options setting → Lists (game_listing true setting) status s)
-    × (HasNoStart (given options.fen) → Refuses (RefusesStart (given options.fen)) status s)
-Does (Recover options) status s = ((setting : Setting) → MeetsBoard options setting → RecoversPairs setting status s)
-    × (HasNoStart (given options.fen) → Refuses (RefusesStart (given options.fen)) status s)
-Does (Add options) status s = ((setting : Setting) → MeetsBoard options.board setting → AddsLine setting options.recovers (text_in (given options.text)) status s)
-    × (HasNoStart (given options.board.fen) → Refuses (RefusesStart (given options.board.fen)) status s)
-Does (Back options) status s = ((setting : Setting) → MeetsBoard options.board setting → TakesBack setting options.recovers (text_in (given options.text)) status s)
-    × (HasNoStart (given options.board.fen) → Refuses (RefusesStart (given options.board.fen)) status s)
-Does Check status s = Checks status s
-Does (Moves fen) status s = Prints (given fen) status s
-Does (Positions fen) status s = ((start : Parts) → StartsAt (given fen) start → Plays start status s)
-    × (HasNoStart (given fen) → Refuses (RefusesStart (given fen)) status s)

@@ -7,11 +7,9 @@ use Rattle.chess_game.specs.declared.values.TagError.{TagError}
 use Rattle.chess_game.specs.declared.values.TagError.TheVariants.{Memory}
 use Rattle.chess_game.specs.TagNames.{all_tags}
 use Rattle.chess_game.specs.Values.{RefusesText}
-use Rattle.replay_arguments.specs.declared.setup.Refusal.{Refusal}
-use Rattle.replay_arguments.specs.declared.setup.Refusal.TheVariants.{Fen, Tag as OfTag}
 use Rattle.replay_arguments.specs.Setups.{MayHave}
 use Rattle.chess_text.specs.Start.{StartsAt}
-use Rattle.text_subcommands.specs.Messages.{fen_message, tag_message}
+use Rattle.text_subcommands.specs.Messages.{tag_message}
 use Rattle.text_subcommands.specs.Refusals.{RefusesStart}
 
 -- The message about a refused value of a tag.
@@ -26,8 +24,3 @@ RefusesTags text message = (before after : List Tag) × (tag : Tag) × (all_tags
 -- The message where arguments set nothing up: about the FEN, or, where that isn't refused, about a tag.
 abbrev pub RefusesSetup : Option Text → (Tag → Option Text) → List ℕ → Type 0
 RefusesSetup fen text message = RefusesStart fen message ⊎ (((start : Parts) × StartsAt fen start) × RefusesTags text message)
-
--- the message of a refusal
-abbrev pub refusal_message : Refusal → List ℕ
-refusal_message (Fen error) = fen_message error
-refusal_message (OfTag tag error) = tag_message tag error

@@ -9,10 +9,11 @@ ghost use Rattle.text_subcommands.specs.Refusals.{Refuses};
 ghost use Rattle.text_subcommands.specs.Messages.{Says};
 ghost use Rattle.watched_streams.specs.Output.{AppendsPart};
 ghost use Rattle.dgt_replay.specs.Recorded.{EndsFor, Fails, RecordsAndTells, report_line};
-ghost use Rattle.dgt_replay.specs.Status.{message_of, status_of};
+ghost use Rattle.dgt_replay.specs.Status.{message_of};
 ghost use Rattle.replay_arguments.specs.Setups.{ForMemory, Meets, MeetsNothing, tag_text};
 ghost use Rattle.chess_text.specs.Start.{given};
-ghost use Rattle.dgt_replay.specs.Refusals.{RefusesSetup, refusal_message};
+ghost use Rattle.dgt_replay.specs.Refusals.{RefusesSetup};
+ghost use Rattle.dgt_replay.specs.Inside.Refused.{refusal_message, status_of};
 ghost use Rattle.text_subcommands.specs.Streams.{streams};
 
 use board_session::{RecordError, Report, Setup, record};

@@ -2,7 +2,7 @@ use Rattle.std.proofs.Common.{◌≡◌, ◌∙◌, ap, inl, sym}
 use Rattle.std.proofs.KnownBytes.{Keeps-refl}
 use Rattle.watched_streams.specs.Watch.{inner_of}
 use Rattle.chess_text.specs.Start.{given}
-use Rattle.dgt_replay.specs.Does.{game_listing}
+use Rattle.dgt_replay.specs.Inside.Dispatching.{game_listing}
 use Rattle.text_subcommands.specs.Refusals.{RefusesStart}
 use Rattle.text_subcommands.specs.Messages.{fen_message}
 use Rattle.text_subcommands.proofs.MessageLemmas.{tells_refused}
