@@ -8,7 +8,7 @@ import os
 from dataclasses import dataclass
 from typing import List, Optional, Sequence, Tuple
 
-from live.game.files import NO_SUCH_FILE, ROUND, Paths, beginning, existing, put_in_place, remove, text_of
+from live.game.files import NO_SUCH_FILE, ROUND, Paths, beginning, existing, not_written, put_in_place, remove, text_of
 from live.refused import ARGUMENTS, FAILED, REFUSED, Refused
 
 MINUTE = 60.0
@@ -99,7 +99,7 @@ def keep_delay(paths: Paths, seconds: float, games: Sequence[Paths]) -> None:
         for path in (*(game.delayed for game in games), paths.delay):
             remove(path)
     except OSError as error:
-        raise Refused(FAILED, f"{paths.delay} can't be written ({text_of(error)}): is the disk full?") from None
+        raise Refused(FAILED, not_written(paths.delay, error)) from None
 
 
 def delay_of(paths: Paths, given: Optional[float], games: Sequence[Paths]) -> float:

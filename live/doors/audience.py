@@ -120,5 +120,5 @@ def publish_anew(paths: Paths, given: Options) -> str:
         says = told_to_readers(forfeit_of(paths, text))
         files.put_in_place(paths.broadcast, published(text, dict(kept.tags) if kept else {}, says))
     except OSError as error:
-        raise Refused(FAILED, f"{paths.broadcast} can't be written ({files.text_of(error)}): is the disk full?") from None
+        raise Refused(FAILED, files.not_written(paths.broadcast, error)) from None
     return f"{paths.broadcast} has its tags"

@@ -20,6 +20,7 @@ LARGEST = 64 * 1024 * 1024  # bytes of a capture: the program reads no more
 MEMORY = 1024 * 1024  # bytes that are kept in memory while the disk is full
 MOST_TROUBLES = 8  # messages about a log
 NO_SUCH_FILE = (errno.ENOENT, errno.ENOTDIR, errno.ENAMETOOLONG)  # no file can have this name, and nothing is kept under it
+NO_ROOM = (errno.ENOSPC, errno.EDQUOT, errno.EFBIG)
 LOCK_PATIENCE = 3.0  # seconds: a call that was just killed may still have the lock
 ROUND, BROADCAST = "round", "broadcast"
 OF_A_ROUND = (ROUND, BROADCAST)  # the names of a round's own files, in lower case
@@ -219,6 +220,11 @@ def _drop(path: AnyPath) -> None:
 def text_of(error: OSError) -> str:
     """What went wrong, in the system's words."""
     return error.strerror or str(error)
+
+
+def not_written(path: AnyPath, error: OSError) -> str:
+    """That a file can't be written, why, and what to do."""
+    return f"{path} can't be written ({text_of(error)}): {'is the disk full?' if error.errno in NO_ROOM else 'put that right'}"
 
 
 class Recorded(Refused):

@@ -7,7 +7,7 @@ import re
 from dataclasses import dataclass, field
 from typing import Optional
 
-from live.game.files import NO_SUCH_FILE, LARGEST, Capture, Paths, beginning, existing, put_in_place, sync_folder, text_of
+from live.game.files import NO_SUCH_FILE, LARGEST, Capture, Paths, beginning, existing, not_written, put_in_place, sync_folder, text_of
 from live.game.options import Options
 from live.game.program import Program
 from live.game.tags import Tags
@@ -144,4 +144,4 @@ def keep_options(paths: Paths, options: Options) -> None:
     try:
         put_in_place(paths.options, options.text().encode("utf-8", "surrogateescape"))
     except OSError as error:
-        raise Refused(FAILED, f"{paths.options} can't be written ({text_of(error)}): is the disk full?") from None
+        raise Refused(FAILED, not_written(paths.options, error)) from None

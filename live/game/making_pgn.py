@@ -3,7 +3,6 @@
 from __future__ import annotations
 
 import contextlib
-import errno
 import os
 import signal
 import subprocess
@@ -12,7 +11,7 @@ from typing import Callable, List, Optional, Protocol, Sequence, Tuple
 
 from live.beside import Worker
 from live.game.edited import is_recorded, keep
-from live.game.files import LARGEST, content_of, existing, new_of, open_new, open_regular, sync_folder, text_of
+from live.game.files import LARGEST, NO_ROOM, content_of, existing, new_of, open_new, open_regular, sync_folder, text_of
 from live.game.game import Game
 from live.game.options import Options
 from live.game.program import ending_of, wake
@@ -22,7 +21,6 @@ from live.loop import Timer
 AGAIN = 1.0  # seconds after a try that failed
 WRITE_FAULT = 3  # the program's status if a stream failed
 SLOWEST = 60.0  # seconds that a call may take before it is ended and begun anew
-NO_ROOM = (errno.ENOSPC, errno.EDQUOT, errno.EFBIG)
 
 
 def told_of_reading(before: Options, now: Options, pairs: Sequence[str]) -> List[str]:

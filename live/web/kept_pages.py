@@ -7,7 +7,7 @@ import contextlib
 import os
 from typing import Dict, List, Optional, Tuple
 
-from live.game.files import NO_SUCH_FILE, Paths, beginning, put_in_place, text_of
+from live.game.files import NO_SUCH_FILE, Paths, beginning, not_written, put_in_place, text_of
 from live.refused import FAILED, REFUSED, Refused
 from live.web.address import Pages, read_pages
 
@@ -54,4 +54,4 @@ def keep_pages(paths: Paths, pages: Pages) -> None:
             with contextlib.suppress(FileNotFoundError):
                 os.unlink(paths.pages)
     except OSError as error:
-        raise Refused(FAILED, f"{paths.pages} can't be written ({text_of(error)}): is the disk full?") from None
+        raise Refused(FAILED, not_written(paths.pages, error)) from None

@@ -17,7 +17,7 @@ from live.doors import dgt_round
 from live.game import files
 from live.game.answers import Said
 from live.game.file_names import check_name
-from live.game.files import Capture, Log, plain
+from live.game.files import Capture, Log, not_written, plain
 from live.game.options import Options
 from live.game.program import Program
 from live.game.refusal import is_recorded, reason
@@ -137,6 +137,8 @@ def no_right() -> None:
         finally:
             setattr(files, "open_regular", real)
         same("a capture", said, f"{path} can't be written (Permission denied): get the right to, or choose another name")
+        for number, why in ((errno.EACCES, "(Permission denied): put that right"), (errno.ENOSPC, "(No space left on device): is the disk full?")):
+            same("another file", not_written(path, OSError(number, os.strerror(number))), f"{path} can't be written {why}")
         access = os.access
         setattr(os, "access", lambda *_: False)
         try:
