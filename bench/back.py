@@ -1,5 +1,5 @@
 #!/usr/bin/env python3
-"""Games whose captures are made anew with fewer plies, as an arbiter's `back` does, by the functions of live/game/.
+"""Games whose captures are made anew with fewer plies, as an arbiter's `back` does, by the program's `back`.
 
 Random games from several starts, on boards that lie both ways, with White's time or Black's first, with a clock, without one
 and with one that is pulled out, with a hand in the air at the end or a frame that is cut. Each is taken back to random plies,
@@ -18,7 +18,6 @@ import pathlib
 import random
 import subprocess
 import sys
-import tempfile
 from concurrent.futures import ProcessPoolExecutor
 from typing import List, Tuple
 
@@ -26,12 +25,10 @@ from additions import ENDS, INITIAL_FEN, STARTS, Played, end, game_at, legal
 from hands import PROGRAM, hand, movetext, program
 
 from live.device.protocol import dump, picture_of_placement  # noqa: E402  (hands has put its folder on the path)
-from live.game.files import Capture, Paths  # noqa: E402
-from live.game.game import Game  # noqa: E402
-from live.game.going_back import way_back  # noqa: E402
+from live.game.answers import go_back  # noqa: E402
 from live.game.options import Options  # noqa: E402
 from live.game.program import Program  # noqa: E402
-from live.game.typed import Asked, Back, Refused  # noqa: E402
+from live.game.way_back import STILL_SHOWN, stays_of  # noqa: E402
 
 CUTS = 5  # of a game
 EVERY = 12  # from one call before which a recorder is killed to the next
@@ -77,34 +74,25 @@ def one(arguments: Tuple[str, str, bool, str, str, str]) -> Tuple[int, List[str]
     chance = random.Random(seed)
     options, sent = played_game(chance, start, rotated, first, clock, kind)
     right, wrong = 0, []
-    with tempfile.TemporaryDirectory() as folder:
-        paths = Paths(str(pathlib.Path(folder) / "game"))
-        capture = Capture.begin(paths.capture, sent)
-        game = Game(Program(PROGRAM), paths, capture, options)
-        for _ in range(CUTS):
-            before = movetext(program(["record", *options.of_record()], sent))
-            plies = [word for word in before[:-1] if word[0].isalpha()]
-            if not plies:
-                break
-            stays = chance.randrange(len(plies))
-            course = program(["follow", *options.of_board()], sent).splitlines()
-            named = [line.split()[2] for line in course if line.split()[1] == "move"]
-            typed = Back("0") if stays == 0 else Back(f"{named[stays - 1]} {plies[stays - 1]}")
-            try:
-                try:
-                    way = way_back(game, typed, sent, sent)
-                except Asked:
-                    way = way_back(game, typed, sent, sent)
-            except Refused as refused:
-                if "still shows" not in str(refused) and "another one" not in str(refused):
-                    wrong.append(f"{arguments} {typed}: {refused}")
-                continue
-            after = movetext(program(["record", *options.of_record()], way.content))
-            moves = [word for word in after[:-1] if word[0].isalpha()]
-            if moves != plies[:stays] or after[:-1] != before[: len(after) - 1]:
-                wrong.append(f"{arguments} {typed}: {before} became {after}")
-            right, sent = right + 1, way.content
-        capture.close()
+    for _ in range(CUTS):
+        before = movetext(program(["record", *options.of_record()], sent))
+        plies = [word for word in before[:-1] if word[0].isalpha()]
+        if not plies:
+            break
+        stays = chance.randrange(len(plies))
+        course = program(["follow", *options.of_board()], sent).splitlines()
+        named = [line.split()[2] for line in course if line.split()[1] == "move"]
+        to = f"{named[stays - 1]} {plies[stays - 1]}" if stays else "0"
+        said = go_back(Program(PROGRAM), options, sent, to)
+        if not said.put:
+            if said.kind not in STILL_SHOWN:
+                wrong.append(f"{arguments} {to}: {said}")
+            continue
+        after = movetext(program(["record", *options.of_record()], said.put))
+        moves = [word for word in after[:-1] if word[0].isalpha()]
+        if moves != plies[:stays] or after[:-1] != before[: len(after) - 1] or stays_of(said) != stays:
+            wrong.append(f"{arguments} {to}: {before} became {after}")
+        right, sent = right + 1, said.put
     return right, wrong
 
 

@@ -21,7 +21,7 @@ import socket
 import sys
 import tempfile
 import time
-from typing import Dict, List, Optional, Sequence, Tuple
+from typing import Callable, Dict, List, Optional, Sequence, Tuple
 
 sys.dont_write_bytecode = True
 TOP = pathlib.Path(__file__).resolve().parents[1]
@@ -190,7 +190,9 @@ def read_page(port: int, count: int, told: ctypes.c_int) -> None:
 class Hall:
     """All tables, and what waits for something from them."""
 
-    def __init__(self, folder: pathlib.Path, boards: int, in_a_round: bool, readers: int, delay: str = "0") -> None:
+    def __init__(
+        self, folder: pathlib.Path, boards: int, in_a_round: bool, readers: int, delay: str = "0", *, typed: bool = False
+    ) -> None:
         self.tables: List[Table] = []
         self.selector = selectors.DefaultSelector()
         self.said: Dict[int, Tuple[Said, Optional[Table]]] = {}
@@ -210,7 +212,8 @@ class Hall:
             (folder / "round.csv").write_text("\n".join(["board,device", *lines, ""]))
             port = free_port()
             page = ["--page", str(port), "--delay", delay] if readers else []
-            self.hear(Said(Live(folder / "round.csv", folder / "round", *page, program=TOP / "bin" / "dgt_round")), None)
+            self.round = Live(folder / "round.csv", folder / "round", *page, program=TOP / "bin" / "dgt_round", typed=typed)
+            self.hear(Said(self.round), None)
             if readers:
                 self.page = (port, readers)
 
@@ -249,8 +252,10 @@ class Hall:
             while served.value < count:
                 self.turn(0.01)
 
-    def play(self, moves: int, pause: float) -> Tuple[List[float], List[float]]:
-        """Seconds from a move's last byte to its line, and to its game."""
+    def play(
+        self, moves: int, pause: float, rests: int = 0, meanwhile: Callable[[float], None] = lambda now: None
+    ) -> Tuple[List[float], List[float]]:
+        """Seconds from a move's last byte to its line, and to its game. The first boards rest, and `meanwhile` is called each turn."""
         lines: List[float] = []
         games: List[float] = []
         now = time.monotonic()
@@ -260,8 +265,9 @@ class Hall:
         while played < moves or not all(table.is_free for table in self.tables):
             told = self.turn(0.001 if any(table.waits for table in self.tables) else 0.005)
             now = time.monotonic()
+            meanwhile(now)
             lines.extend(now - table.sent for table in told)
-            for table in self.tables:
+            for table in self.tables[rests:]:
                 if table.look_at_game():
                     games.append(time.monotonic() - table.sent)
                 if table.waits and now - table.sent > LATE:

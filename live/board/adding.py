@@ -15,7 +15,7 @@ from live.game.changing import add_and_make, add_by_name
 from live.game.course import Course
 from live.game.files import Paths
 from live.game.game import Game, end_mark
-from live.game.going_back import forget_question
+from live.game.made_anew import forget_question
 from live.game.reading import game_of
 from live.game.typed import Answer, Refused
 from live.refused import DONE

@@ -21,10 +21,10 @@ from live.board.standing import Standing
 from live.board.whose import another, back, may_take
 from live.game.alarms import acknowledge, carry_over, keep_looks, kept_looks
 from live.game.control import Control
-from live.game.files import Capture, Log, Paths, put_in_place, text_of
+from live.game.files import Capture, Log, Paths, put_in_place, remove, text_of
 from live.game.forfeits import Forfeit, read_typed
 from live.game.game import Game, end_mark, keep_options, keep_other, keep_serial, kept_other, kept_serial, mark_end, mebibytes
-from live.game.going_back import forget_question
+from live.game.made_anew import forget_question
 from live.game.looks import Look, Looks
 from live.game.making_pgn import Text
 from live.game.names import today
@@ -252,6 +252,7 @@ class Recorder(Renames, Forfeits):
         paths = self.game.paths
         try:
             put_in_place(paths.before, self.game.capture.bytes())
+            remove(paths.front)
             game = self._begun(paths, content, self.game.options)
         except OSError:
             return None

@@ -15,15 +15,14 @@ from live.board.disk import Disk
 from live.board.lingering import Lingering
 from live.board.standing import Standing
 from live.board.state import DISK_FULL, NOT_WRITTEN, lasting
-from live.device.protocol import Picture as Codes
-from live.game import back, ending
+from live.game import ending
 from live.game.alarms import Alarms, acknowledged
 from live.game.course import Start
 from live.game.edited import told_of_edit
 from live.game.files import text_of
 from live.game.game import Game, largest, mark_end, mebibytes
-from live.game.going_back import forget_question
 from live.game.looks import Look, Looks
+from live.game.made_anew import forget_question, front_of
 from live.game.making_pgn import Made, Maker
 from live.game.opening import Opened
 from live.game.report import Clock, Fault, Line, Move, Picture, Position, Recovered, Result
@@ -107,7 +106,7 @@ class Recording:
         self._shows_itself = not opened.old.lines  # whether the board has shown its state; a new game has no older one
         self._maker = Maker(guard, worker, self.game, self)
         self._alarms = Alarms(self.game.paths, self.course)
-        if self.course.board and self._was_put_back(self.course.board):
+        if self.course.board and self._old == front_of(self.game.paths, self.game.capture) != 0:  # nothing has come since then
             self._alarms.put_back(self.course.board)
         self._arrivals = Arrivals()
         self._heard_at = guard.now()  # when the board was heard last
@@ -126,11 +125,6 @@ class Recording:
         if opened.old.lines:
             self._tell_old()
         self._watching = Watching(guard, self.game, self, opened.old.lines)
-
-    def _was_put_back(self, board: Codes) -> bool:
-        """Whether plies were taken off, or the game goes on, and the board has sent nothing since."""
-        end = back.end_of_capture(board, self.game.options.rotated)
-        return self.game.capture.bytes(max(0, self._old - len(end)), self._old) == end
 
     def _tell_old(self) -> None:
         """Shows what was played before this call, and the board's state then, until the board shows itself."""
@@ -430,7 +424,8 @@ class Recording:
 
     def _end_before_set_up(self) -> None:
         lines = self.course.lines()
-        found = ending.game_end(lines, self.course.start)
+        front = front_of(self.game.paths, self.game.capture)
+        found = ending.not_before(front, ending.game_end(lines, self.course.start))
         self.end = ending.ending_with_sign(lines, found.size)
         self._alarms.end(self.end)
         self.standing.look(self.looks.short)

@@ -45,9 +45,18 @@ class Said:
 
 def add(program: Program, options: Options, sent: bytes, line: str) -> Said:
     """What the program answers to a line that is typed to the game of these bytes. Raises OSError if it fails."""
+    return _asked(program, options, sent, "add", f"--line={line}")
+
+
+def go_back(program: Program, options: Options, sent: bytes, to: str) -> Said:
+    """What it answers if the game of these bytes is to go back so far. Raises OSError if it fails."""
+    return _asked(program, options, sent, "back", f"--to={to}")
+
+
+def _asked(program: Program, options: Options, sent: bytes, command: str, word: str) -> Said:
     recovers = (RECOVER,) if options.recover else ()
-    answer = program.run("add", *options.of_board(), *recovers, f"--line={line}", given=sent, patience=SLOWEST)
-    return read_answer("add", answer.returncode, answer.stderr.decode("utf-8", "replace"), answer.stdout)
+    answer = program.run(command, *options.of_board(), *recovers, word, given=sent, patience=SLOWEST)
+    return read_answer(command, answer.returncode, answer.stderr.decode("utf-8", "replace"), answer.stdout)
 
 
 def read_answer(command: str, status: int, line: str, output: bytes) -> Said:

@@ -6,17 +6,15 @@ import os
 from dataclasses import replace
 from typing import Tuple
 
-from live.game import added, answers, back
+from live.game import answers
 from live.game.alarms import acknowledge
 from live.game.answers import ILLEGAL, Said, meaning, whose_move
-from live.game.course import Course
-from live.game.edited import told_of_edit
 from live.game.files import Paths, log_once, open_game, text_of
 from live.game.forfeiting import drop_forfeit, keep_forfeit
 from live.game.forfeits import NO_RESULT, Forfeit, read_typed, refuse_played
-from live.game.game import Game, end_mark, keep_options, kept_options, mark_end, result_in, unmark_end
-from live.game.going_back import forget_question, go_back_closed, take_result_off
-from live.game.making_pgn import Made, Text, told_of_result
+from live.game.game import Game, end_mark, keep_options, kept_options, mark_end, result_in
+from live.game.made_anew import forget_question, go_back_closed, made_of, reopen
+from live.game.making_pgn import Text, told_of_result
 from live.game.naming import is_naming, read_names, told_of_names
 from live.game.opening import checked
 from live.game.options import Options
@@ -49,45 +47,9 @@ def add_and_make(game: Game, line: str) -> Tuple[str, str]:
     """Adds to a game that nobody records now, and makes its text. Returns in words what was added, and the result if it is one."""
     before = result_in(game.paths)
     said = add_to_closed(game, line)
-    made = _made(game, Text(game).make(end_mark(game.paths)))
+    made = made_of(game, Text(game).make(end_mark(game.paths)))
     gone = "" if said.outcome else "".join(f"; {told}" for told in told_of_result(before, result_in(game.paths)))
     return meaning(said, line) + gone + made, said.outcome
-
-
-def _made(game: Game, made: Made) -> str:
-    """What is added to a message about a text that was made. Raises OSError if it couldn't be made."""
-    if made.trouble:
-        raise OSError(made.trouble)
-    return f"; {told_of_edit(game.paths.pgn, made.edited)}" if made.edited else ""
-
-
-def reopen(game: Game, listens: bool = False) -> str:
-    """Takes the result off a game; if that result ended it, what was played after it belongs to the game from now on. Returns the
-    message. Refused if the game has no result and isn't over, if it ended by mate, or if the board itself shows the result and
-    is watched; OSError if a file can't be written."""
-    mark = end_mark(game.paths)
-    sent = game.capture.bytes(0, mark)
-    course = game_of(game.program, game.options, sent)
-    front = sent
-    while True:
-        shorter = added.without_typed_result(front, course.position, game.options.rotated)
-        if shorter == front:
-            break
-        front = shorter
-    if mark is None or course.result == "*" or (front == sent and not _went_on(game, course)):
-        return f"{game.paths.name} goes on: {take_result_off(game, listens)}"
-    text = Text(game)
-    text.look(mark)
-    if front != sent:
-        game.capture.renew(front + game.capture.bytes(mark))
-    unmark_end(game.paths)
-    return f"{game.paths.name} goes on, without the result" + _made(game, text.make(None))
-
-
-def _went_on(game: Game, course: Course) -> bool:
-    """Whether the board has taken a result back after the game's end, as kings do when they leave the centre."""
-    whole = game_of(game.program, game.options, game.capture.bytes())
-    return back.went_on(course.plies, course.result, whole.plies, whole.result)
 
 
 def add_by_name(program: Program, paths: Paths, text: str, patience: float) -> Answer:
@@ -113,7 +75,7 @@ def add_by_name(program: Program, paths: Paths, text: str, patience: float) -> A
             log_once(paths, told)
             return DONE, told
         if isinstance(typed, Back):
-            done = go_back_closed(game, typed)
+            done = go_back_closed(game, typed.to)
             drop_forfeit(paths)
             log_once(paths, done)
             return DONE, f"{paths.name}: {done}"
@@ -149,7 +111,7 @@ def rename_closed(game: Game, text: str) -> str:
     made_before.look(end_mark(game.paths))
     keep_options(game.paths, options)
     renamed = replace(game, options=options)
-    told += _made(game, Text(renamed).make(end_mark(game.paths)))
+    told += made_of(game, Text(renamed).make(end_mark(game.paths)))
     log_once(game.paths, told)
     return f"{game.paths.name}: {told}"
 

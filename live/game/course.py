@@ -34,6 +34,8 @@ class Course:
         self.placement = ""  # what the board shows
         self.clock: Optional[Clock] = None  # what the clocks show, if it was reported
         self.clock_at = 0.0  # when that came
+        self.ends: List[int] = []  # the offsets of the lines that gave the plies
+        self.began = 0  # the offset of the line that gave the first ply first
         self.changed_at = -1  # the offset of the last line that changed the game
         self.has_agreed = False  # whether the board has shown the game's position
         self.stands_again: Optional[Start] = None  # what the last line means, if it is about the start
@@ -69,6 +71,7 @@ class Course:
             if isinstance(event, (Move, Result)):
                 self._take_change(event)
                 self.changed_at = line.offset
+                self._ends_at(line.offset)
         if self._is_at_start and isinstance(event, (Position, Differs, Agrees)):
             self._is_at_start = False
             self._judge_start()
@@ -79,6 +82,13 @@ class Course:
         if not self.stands_at_start:
             self.stands_again = Start.ENDS if self.has_agreed or len(self.plies) > 1 else Start.BEGINS
             self.stood_again = self.stands_again
+
+    def _ends_at(self, offset: int) -> None:
+        """The last ply, if it is a new one, is given by the line at this offset."""
+        if isinstance(self.news[-1], Move):
+            del self.ends[len(self.plies) - 1 :]
+            self.ends.append(offset)
+            self.began = self.began or offset
 
     def _take_change(self, change: Change) -> None:
         self.news.append(change)

@@ -119,6 +119,11 @@ def game_end(lines: Sequence[Line], start: Picture) -> End:
     return End(end.offset + 1, not dropped and not doubtful, dropped)
 
 
+def not_before(front: int, end: End) -> End:
+    """An end, or so many bytes if it came before them: a way back has made them, of plies that somebody wants to stay."""
+    return end if end.size >= front else End(front, True)
+
+
 def ending_with_sign(lines: Sequence[Line], size: int) -> int:
     """The end of a game, including a result that the kings showed after its last move and before the next one was seen."""
     for line in lines:

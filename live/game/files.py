@@ -124,6 +124,11 @@ class Paths:
         return self._with("back")
 
     @functools.cached_property
+    def front(self) -> str:
+        """How many bytes a way back has made at the beginning of the capture."""
+        return self._with("front")
+
+    @functools.cached_property
     def folder(self) -> str:
         return folder_of(self.capture)
 

@@ -111,6 +111,11 @@ def ply_of(text: str) -> str:
     return f"{int(found[1])}{stops} {text[found.end() :]}".strip()
 
 
+def numbered(to: str) -> bool:
+    """Whether a ply is named by its number."""
+    return OF_A_PLY.match(to) is not None
+
+
 def refuse_no_text(text: str) -> None:
     """Refused if it was no text in UTF-8, or has a character with which no argument can be given to the program."""
     if any("\ud800" <= letter <= "\udfff" for letter in text) or "\0" in text:

@@ -60,6 +60,29 @@ def bytes_to_add() -> None:
         same(name, asked(line, sent=bytes_of(shown)), (1, BOARD, b""))
 
 
+HAND = " r1bqkbnr/pppp1ppp/2n5/1B2p3/4P3/5N2/PPPP1PPP/RNBQ3R"  # a king is lifted
+
+
+def went_back(to: str, sent: bytes, options: Sequence[str] = ()) -> Tuple[int, str, bytes]:
+    """The status, the line on standard error without `back: `, and the new capture."""
+    answer = subprocess.run([PROGRAM, "back", *options, f"--to={to}"], input=sent, stdout=subprocess.PIPE, stderr=subprocess.PIPE)
+    front, _, rest = answer.stderr.decode().partition("back: ")
+    return answer.returncode, front + rest.rstrip("\n"), answer.stdout
+
+
+def back() -> None:
+    """Which plies stay, and the new capture."""
+    (game,) = cases("lines", "game")
+    for more, table in ((HAND, "stay"), ("", "still shown")):
+        for to, expected in cases("lines", table):
+            status, said, put = went_back(to, bytes_of(game + more))
+            goes = expected.startswith("plies")
+            same(f"back {to}, {table}", (said, status, bool(put)), (expected, 0 if goes else 1, goes))
+    for to, expected in cases("lines", "captures"):
+        same(f"the capture of back {to}", went_back(to, bytes_of(game + HAND))[2], bytes_of(expected))
+    same("nothing was sent", went_back("", b""), (1, "none", b""))
+
+
 def through_the_host() -> None:
     """As the recorder calls it, with the options of a game."""
     said = add(Program(PROGRAM), Options(recover=True), b"", "1-0")
@@ -68,4 +91,4 @@ def through_the_host() -> None:
     same("another letter", (said.kind, said.words, said.put), ("meant", ("0", "nf3", "Nf3"), b""))
 
 
-TABLES = [lines, results, bytes_to_add, through_the_host]
+TABLES = [lines, results, bytes_to_add, back, through_the_host]

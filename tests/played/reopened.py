@@ -71,6 +71,25 @@ def set_up_and_back(folder: pathlib.Path) -> None:
     is_whole(live)
 
 
+def set_up_after_it(folder: pathlib.Path) -> None:
+    """A ply too many is taken off a game that is over, by a command; then the pieces are set up, and it is recorded again: the start
+    ends it with each ply that was to stay, though all have one time."""
+    board, live = ruy(folder)
+    board.play("a7a6")
+    until(lambda: len(sans(live)) == 6, "the last ply")
+    front = movetext(live.name).partition(" 3... a6")[0]
+    same(stop(live), 0)
+    same(call("--add", "1-0", live.name).returncode, 0)
+    answer = call("--back", "3. Bb5", live.name)
+    same((answer.returncode, answer.stderr, movetext(live.name)), (0, "", f"{front} *"))
+    board.set_up([])
+    again = go_on(board, live)
+    until_line(again, SET_UP)
+    same(ended(again), 0)
+    same(movetext(live.name), f"{front} *")
+    is_whole(live)
+
+
 def carried_home(folder: pathlib.Path) -> None:
     """All plies are taken off while the pieces stand where they were tried; they are carried home one by one, the first pawn
     last, which looks like a move: the game begins with the start all the same."""

@@ -4,7 +4,7 @@ import pathlib
 
 from played import words
 from played.back_killed import OnTheWay
-from played.recorder import Live
+from played.recorder import Live, has_open
 from played.stage import bytes_of, ended, movetext, rest, same, stop, until, until_dumped, until_line
 from rounds.alarms import says
 from rounds.hall import Hall
@@ -77,6 +77,32 @@ def set_up_and_back(folder: pathlib.Path) -> None:
     hall.until_round()
     same(stop(again), 0)
     assert words.WRONG not in again.lines(), again.lines()
+
+
+def back_after_set_up(folder: pathlib.Path) -> None:
+    """A result was typed, the pieces have been set up, and only then a ply too many is found: exactly that one goes, whatever the
+    board shows, though all plies were made in a moment. The result is typed again; it is all there after a restart."""
+    hall = Hall(folder, 2)
+    live = hall.record(typed=True)
+    hall.begun(live)
+    hall.play(0, 6)
+    front = hall.text(1).rpartition(" ")[0].rpartition(" ")[0]
+    live.type("1 1-0")
+    until_line(live, "1: added to")
+    hall.boards[0].set_up([])
+    hall.until_over(live, 1, "1-0")
+    until(lambda: not has_open(live.process.pid, hall.boards[0].device), "that the board isn't heard any more")
+    live.type("1 back 3. Bb5")
+    until_line(live, "back to 3. Bb5; taken off: 3... a6; the result 1-0 is gone. What the board had sent is kept in")
+    until_line(live, f"{hall.name(1)} is over: the pieces are at the start again")
+    same(hall.text(1), f"{front} *")
+    live.type("1 0-1")
+    hall.until_text(1, f"{front} 0-1")
+    same(stop(live), 0)
+    again = hall.record(typed=True)
+    hall.until_over(again, 1, "0-1")
+    same(hall.text(1), f"{front} 0-1")
+    same(stop(again), 0)
 
 
 def last_screen(live: Live) -> str:

@@ -1,0 +1,216 @@
+"""A capture that is made anew, with fewer plies or without a result: it is put in its place, and the old one is kept beside it.
+
+Whenever this process is killed, the game is the old one or the new one: first the old capture gets a second name, then the new
+one, which the program has made and read, is put in place at once.
+"""
+
+from __future__ import annotations
+
+import contextlib
+import errno
+import os
+import zlib
+from typing import Optional, Sequence
+
+from live.game import answers
+from live.game.alarms import keep_looks, kept_looks
+from live.game.answers import Said
+from live.game.course import Course
+from live.game.edited import told_of_edit
+from live.game.files import Capture, Paths, existing, put_in_place, remove, sync_folder
+from live.game.forfeiting import kept_forfeit
+from live.game.game import Game, end_mark, mark_end, unmark_end
+from live.game.making_pgn import Made, Text
+from live.game.reading import game_of, read_game
+from live.game.report import Move
+from live.game.typed import Asked, Refused
+from live.game.way_back import ALL, NO_RESULT, PLIES, STILL_SHOWN, Way, nothing_goes, refuse, stays_of, way_of
+
+NO_LINKS = (errno.EPERM, errno.EOPNOTSUPP, errno.EMLINK)  # a file system without hard links
+LONGEST_FRONT = 64  # bytes of NAME.front, whoever wrote it
+
+
+def keep_before(capture: Capture, paths: Paths) -> str:
+    """Gives the present capture a second name, on the disk. Raises OSError if that fails."""
+    capture.sync()
+    number = 1
+    while True:
+        kept = paths.before_back(number)
+        try:
+            os.link(paths.capture, kept)
+        except FileExistsError:
+            if os.path.samefile(kept, paths.capture):
+                return kept  # of a call that was killed at this point
+            number += 1
+            continue
+        except OSError as error:
+            if error.errno not in NO_LINKS:
+                raise
+            put_in_place(kept, capture.bytes())
+        sync_folder(paths.folder)
+        return kept
+
+
+def put_way(game: Game, way: Way, is_over: bool = False) -> str:
+    """Makes the new game the current one; it goes on from where its end was marked, unless it stays over. Returns which alarms it
+    has ended, and where the old capture is. Raises OSError if a file can't be written."""
+    kept = keep_before(game.capture, game.paths)
+    forget_question(game.paths)
+    keep_front(game.paths, way.content)
+    mark = end_mark(game.paths)
+    if mark is not None:
+        # First what came after the end is removed; then the mark is moved, to allow the longer capture: each step leaves a
+        # whole game.
+        game.capture.renew(game.capture.bytes(0, mark))
+        mark_end(game.paths, game.capture, max(mark, len(way.content)))
+    game.capture.renew(way.content)
+    if mark is not None and is_over:
+        mark_end(game.paths, game.capture, len(way.content))
+    elif mark is not None:
+        unmark_end(game.paths)
+    return f"{_settle(game.paths, way)}What the board had sent is kept in {kept}"
+
+
+def _settle(paths: Paths, way: Way) -> str:
+    """Ends the alarms about what was taken off. Returns the message; empty if there was no alarm."""
+    before = kept_looks(paths)
+    left = before.without(way.settled)
+    if left == before:
+        return ""
+    try:
+        keep_looks(paths, left)
+    except OSError:
+        return ""  # it stays, and must be acknowledged
+    return f"Settled: {', '.join(look.short for look in before.open if look not in left.open)}. "
+
+
+# The bytes that a way back has made: no end of the game comes before them.
+
+
+def keep_front(paths: Paths, content: bytes) -> None:
+    """Keeps how many bytes the new capture begins with, and their checksum. Raises OSError if that fails."""
+    put_in_place(paths.front, b"%d %d\n" % (len(content), zlib.crc32(content)))
+
+
+def front_of(paths: Paths, capture: Capture) -> int:
+    """How many bytes a way back has made at the beginning of this capture; 0 if none, or of another one."""
+    with contextlib.suppress(OSError, ValueError):
+        size, checksum = map(int, existing(paths.front)[:LONGEST_FRONT].split())
+        if 0 < size <= capture.size and zlib.crc32(capture.bytes(0, size)) == checksum:
+            return size
+    return 0
+
+
+# Games that nobody records, or that are over.
+
+
+def go_back_closed(game: Game, to: str, listens: bool = False, may_stay: bool = False) -> str:
+    """Takes plies off a game that nobody records now, and makes its text. A game that was over goes on, with the board as it is
+    now if the board is watched; where that can't be, and it may, it stays over. Returns what was done. Refused if it can't be,
+    or with a question."""
+    mark, course = end_mark(game.paths), _course(game)
+    sent, whole = game.capture.bytes(0, mark), game.capture.bytes()
+    said = _said(game, sent, to)
+    if said.kind not in (PLIES, *STILL_SHOWN):
+        raise refuse(said, to, course.plies)
+    ends, stays = way_of(said, course.plies), stays_of(said)
+    if ends and ends.changes_nothing and mark is None:
+        raise nothing_goes(ends, to)
+    way = None
+    if listens or stays == 0 or course.result == NO_RESULT:
+        now = said if len(whole) == len(sent) else _said(game, whole, str(stays))
+        way = Way(course.plies, stays, course.result, now.put) if now.put else None
+        if way is None and listens and not may_stay:
+            raise refuse(now, to, course.plies)
+    is_over = way is None and listens
+    way = way or ends or _cut(game, course, stays)
+    if way is None:
+        raise refuse(said, to, course.plies)
+    ask_first(game.paths, way)
+    return _put_closed(game, way, is_over) + (". The game stays over" if is_over else "")
+
+
+def reopen(game: Game, listens: bool = False) -> str:
+    """Takes the result off a game; if that result ended it, what was played after it belongs to the game from now on. Returns the
+    message. Refused if the game has no result and isn't over, if it ended by mate, or if the board itself shows the result and
+    is watched; OSError if a file can't be written."""
+    mark, course = end_mark(game.paths), _course(game)
+    had, total, goes_on = course.result, len(course.plies), f"{game.paths.name} goes on"
+    if mark is None and had == NO_RESULT:
+        raise no_result(game.paths, course.plies)
+    said = _said(game, game.capture.bytes(), str(total) if had == NO_RESULT else ALL)
+    if said.put and said.words[-1] == NO_RESULT != had:
+        return f"{goes_on}, without the result" + _open_again(game)
+    way = Way(course.plies, total, had, said.put) if said.put else None
+    if way is None and said.kind in STILL_SHOWN and not listens:
+        way = _cut(game, course, total)
+    if way is None:
+        raise refuse(said, ALL, course.plies)
+    if mark is None or had == NO_RESULT or not said.put:
+        return f"{goes_on}: {_put_closed(game, way)}"
+    return f"{goes_on}, without the result. {_put_closed(game, way, says=False)}"
+
+
+def no_result(paths: Paths, plies: Sequence[Move]) -> Refused:
+    """The message for a game that goes on and has no result."""
+    is_forfeited = not plies and kept_forfeit(paths)
+    return Refused("the game has no result" + (": if it is played after all, just play" if is_forfeited else ""))
+
+
+def _course(game: Game) -> Course:
+    """The course of the game, up to its marked end."""
+    return read_game(game, end_mark(game.paths), 0.0).course
+
+
+def _said(game: Game, sent: bytes, to: str) -> Said:
+    return answers.go_back(game.program, game.options, sent, to)
+
+
+def _cut(game: Game, course: Course, stays: int) -> Optional[Way]:
+    """The way back without what the board has sent after the last ply that stays: a board that isn't watched may stand otherwise by
+    now. None if that capture gives another game."""
+    content = game.capture.bytes(0, course.ends[stays - 1] + 1 if stays else course.began)
+    kept = [ply.san for ply in course.plies[:stays]]
+    after = game_of(game.program, game.options, content)
+    if ([ply.san for ply in after.plies], after.result) != (kept, NO_RESULT):
+        return None
+    return Way(course.plies, stays, course.result, content)
+
+
+def _open_again(game: Game) -> str:
+    """The board has taken the result back itself, and its game goes on with all that it has sent. Returns more of the message."""
+    text = Text(game)
+    text.look(end_mark(game.paths))
+    unmark_end(game.paths)
+    return made_of(game, text.make(None))
+
+
+def _put_closed(game: Game, way: Way, is_over: bool = False, says: bool = True) -> str:
+    text = Text(game)
+    text.look(end_mark(game.paths))
+    kept = put_way(game, way, is_over)
+    return (f"{way.words}. {kept}" if says else kept) + made_of(game, text.make(None))
+
+
+def made_of(game: Game, made: Made) -> str:
+    """What is added to a message about a text that was made. Raises OSError if it couldn't be made."""
+    if made.trouble:
+        raise OSError(made.trouble)
+    return f"; {told_of_edit(game.paths.pgn, made.edited)}" if made.edited else ""
+
+
+# The question.
+
+
+def ask_first(paths: Paths, way: Way) -> None:
+    """Asked if many plies would go and that wasn't just asked: NAME.back keeps the last question."""
+    asked = way.question
+    if asked and existing(paths.question) != asked.encode():
+        put_in_place(paths.question, asked.encode())
+        raise Asked(asked)
+
+
+def forget_question(paths: Paths) -> None:
+    """The game has changed, or ends: a question from before would be asked again."""
+    with contextlib.suppress(OSError):
+        remove(paths.question)

@@ -1,0 +1,125 @@
+"""Going back, in words: how many plies stay and go, what is asked first, what was done, and why it can't be. The program decides
+which plies are meant, and makes the new capture. Pure."""
+
+from __future__ import annotations
+
+from dataclasses import dataclass
+from typing import List, Optional, Sequence
+
+from live.game.answers import LONG, Said
+from live.game.report import Move
+from live.game.typed import WHICH_PLY, Refused, numbered
+
+ALL = "*"  # all plies stay, and only a result goes
+NONE = "0"
+PLIES, NEAREST, NO_PLY, MOVED, ENDED, SIGNED, BOARD, UNSEEN = "plies", "nearest", "none", "moved", "ended", "signed", "board", "unseen"
+STILL_SHOWN = (MOVED, SIGNED, BOARD, UNSEEN)  # it can't be as long as the board stands as it does
+NO_RESULT = "*"
+WITHOUT_A_QUESTION = 2  # plies that may go without a question
+
+
+def stays_of(said: Said) -> int:
+    """How many plies stay, or were to stay."""
+    return int(said.words[0].rstrip(",")) if said.words and said.kind not in (NEAREST, NO_PLY) else 0
+
+
+@dataclass(frozen=True)
+class Way:
+    """The plies of a game, how many of them stay, the result that goes, and the capture with those that stay."""
+
+    plies: Sequence[Move]
+    stays: int
+    result: str
+    content: bytes
+
+    @property
+    def gone(self) -> Sequence[Move]:
+        """The plies that go."""
+        return self.plies[self.stays :]
+
+    @property
+    def changes_nothing(self) -> bool:
+        """Whether nothing goes."""
+        return not self.gone and self.result == NO_RESULT
+
+    @property
+    def question(self) -> str:
+        """The question before so many plies go; empty if they may go at once."""
+        many = len(self.gone) > WITHOUT_A_QUESTION
+        return f"takes off {len(self.gone)} plies, from {self.gone[0].short}: type it again" if many else ""
+
+    @property
+    def words(self) -> str:
+        """What was done: `back to 14. Bxf6; taken off: 14... Qd7 15. Rd1`."""
+        parts = [f"back to {reached(self.plies[: self.stays])}"]
+        parts.append(f"taken off: {moves_of(self.gone)}" if self.gone else "no ply is taken off")
+        if self.result != NO_RESULT:
+            parts.append(f"the result {self.result} is gone")
+        return "; ".join(parts)
+
+    @property
+    def settled(self) -> List[str]:
+        """The alarms that end: those about plies that are gone, and about moves since the last one that stays."""
+        gone = [ply.short for ply in self.gone]
+        if not gone:
+            return []
+        return [f"at {ply}" for ply in gone] + [f"since {ply}" for ply in (reached(self.plies[: self.stays]), *gone)]
+
+
+def way_of(said: Said, plies: Sequence[Move]) -> Optional[Way]:
+    """The way back that the program has answered, in a game with these plies; None if it has refused, or has counted others."""
+    if said.kind != PLIES or len(said.words) != 5:
+        return None
+    stays, gone, result = stays_of(said), int(said.words[2].rstrip(",")), said.words[4]
+    return Way(plies, stays, result, said.put) if stays + gone == len(plies) else None
+
+
+def refuse(said: Said, to: str, plies: Sequence[Move]) -> Refused:
+    """Why a game with these plies doesn't go back as far as `to` says, and what to do."""
+    kept, rest = plies[: stays_of(said)], " ".join(said.words[1:])
+    if said.kind == NEAREST and not numbered(to):
+        return Refused(WHICH_PLY)
+    if said.kind == NEAREST:
+        near = " ".join(said.words)
+        return Refused(f"{to} is no ply of the game. The nearest is {near}: type back {near}")
+    if said.kind == NO_PLY:
+        return Refused("the game has no ply that could be taken off" if to else "the game has no move")
+    if said.kind == ENDED:
+        return Refused(f"the game ends with {reached(kept)} on the board: that is its result")
+    if said.kind == SIGNED:
+        return Refused(f"the board still shows the result {rest}. Put the kings where they belong, and type it again")
+    if said.kind == UNSEEN:
+        return Refused("the board has shown nothing yet. Type it again when it has")
+    if said.kind == LONG:
+        return Refused("the new capture would be too long. Nothing was changed")
+    shows = f"the board still shows {rest}: it would come back at once" if said.kind == MOVED else "what the board shows would change the game"
+    return Refused(f"{shows}. {hint(kept)}")
+
+
+def hint(kept: Sequence[Move]) -> str:
+    """What to do so that the game can go back to these plies."""
+    place = f"as after {reached(kept)}" if kept else "at the start"
+    return (
+        "If other moves were played, lift a king, type it again, then these moves, and hold the king until all is typed. "
+        f"If the players go back, set the pieces {place}, and type it again"
+    )
+
+
+def nothing_goes(way: Way, to: str) -> Refused:
+    """The message if there is nothing to take off in a game that goes on."""
+    if to == ALL:
+        return Refused("the game has no result")
+    return Refused(f"the game ends with {reached(way.plies)} already" if way.plies else "the game has no move")
+
+
+def moves_of(plies: Sequence[Move]) -> str:
+    """`14... Qd7 15. Rd1 Rae8`."""
+    words = []
+    for at, ply in enumerate(plies):
+        words.append(ply.san if at and ply.number.endswith("...") else ply.short)
+    return " ".join(words)
+
+
+def reached(plies: Sequence[Move]) -> str:
+    """The ply with which a game ends, or its start."""
+    return plies[-1].short if plies else "the start"

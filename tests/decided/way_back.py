@@ -1,0 +1,65 @@
+"""The way back, in words: what is asked and told, and which alarms end, given what the program says. Worked by hand from what the
+screen prints."""
+
+from live.game.answers import Said, read_answer
+from live.game.ending import End, not_before
+from live.game.looks import OVER, Look, Looks
+from live.game.report import Move
+from live.game.typed import numbered
+from live.game.way_back import Way, nothing_goes, refuse, stays_of, way_of
+
+from decided.cases import cases
+from decided.table import same
+
+PLIES = [Move(*ply) for ply in cases("way_back", "plies")]
+
+
+def said_of(text: str) -> Said:
+    """What the program says, as it writes it behind `back: `."""
+    return read_answer("back", 0 if text.startswith("plies") else 1, f"back: {text}\n", b"")
+
+
+def answers() -> None:
+    """What the program has done, or why it hasn't."""
+    for text, expected in cases("way_back", "answers"):
+        way = way_of(said_of(text), PLIES)
+        same(text, way and [way.stays, len(way.gone), way.result], expected)
+    for text, to, expected in cases("way_back", "refused"):
+        said = said_of(text)
+        same(f"{text}, {to}", str(refuse(said, to, PLIES)), expected)
+        same(f"{text} is no way", way_of(said, PLIES), None)
+    same("how many were to stay", [stays_of(said_of(text)) for text in ("moved 11 6... Qxe4+", "unseen 7", "nearest 4. Bxc6", "none")], [11, 7, 0, 0])
+    for count, to, expected in cases("way_back", "nothing"):
+        same(f"{to} of {count}", str(nothing_goes(Way(PLIES[:count], count, "*", b""), to)), expected)
+    same("numbered", [numbered(to) for to in ("14. Bxf6", "14.", "14... Qd7", "Bxf6", "14 Bxf6", "", "all")], [True, True, True, False, False, False, False])
+
+
+def plies() -> None:
+    """What is asked and told."""
+    for stays, asked in cases("way_back", "questions"):
+        same(f"{stays} stay", Way(PLIES, stays, "*", b"").question, asked)
+    for stays, result, expected in cases("way_back", "told"):
+        way = Way(PLIES, stays, result, b"")
+        same(expected, (way.words, way.changes_nothing), (expected, stays == len(PLIES) and result == "*"))
+
+
+def looks() -> None:
+    """What there is still to look at: that of plies which were taken off was looked at."""
+    for before, stays, after in cases("way_back", "settled"):
+        left = Looks(tuple(Look(what, "why") for what in before)).without(Way(PLIES, stays, "*", b"").settled)
+        same(f"{stays} plies stay", [look.what for look in left.open], after)
+    over = Looks((Look("after 6. Nf3", "why", OVER),))
+    same("after a result that is gone", over.without(Way(PLIES, 9, "1-0", b"").settled), Looks())
+
+
+def ends() -> None:
+    """No end of a game comes before what a way back has made."""
+    for front, end, expected in (
+        (0, End(100, False, ("3... a6",)), End(100, False, ("3... a6",))),
+        (100, End(100, True), End(100, True)),
+        (120, End(100, False, ("3... a6",)), End(120, True)),
+    ):
+        same(f"{front} before {end}", not_before(front, end), expected)
+
+
+TABLES = [answers, plies, looks, ends]
