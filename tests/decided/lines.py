@@ -80,6 +80,12 @@ def back() -> None:
             same(f"back {to}, {table}", (said, status, bool(put)), (expected, 0 if goes else 1, goes))
     for to, expected in cases("lines", "captures"):
         same(f"the capture of back {to}", went_back(to, bytes_of(game + HAND))[2], bytes_of(expected))
+    for name, sent, options, to, expected in cases("lines", "other captures"):
+        same(name, went_back(to, bytes_of(sent), options)[2], bytes_of(expected))
+    typed = "e4 e5 Nf3 Nc6 Bb5 a6 Bxc6 dxc6 Nxe5 Qd4 Nf3 Qxe4+"
+    long_game = asked(typed)[2]
+    for to, near in cases("lines", "nearest"):
+        same(f"back {to}", went_back(to, long_game), (1, f"nearest {near}", b""))
     same("nothing was sent", went_back("", b""), (1, "none", b""))
 
 
