@@ -1,4 +1,5 @@
 /** The way back: what is asked and told. The program finds the ply and makes the capture anew. */
+import { AfterTheEnd } from "/web/game/after_the_end.js";
 import { Looks, OVER } from "/web/game/looks.js";
 import { question, readBack, refuseBack, refuseNothing, settled, wordsOfBack } from "/web/game/way_back.js";
 
@@ -53,5 +54,24 @@ export function answers(counts) {
   }
   for (const [status, said] of [[3, "read fault"], [4, "memory"], [0, "back: none"], [1, "add: nothing"], [2, "back: none"], [1, ""]]) {
     counts.refused(`${status} ${said}`, "ProgramError", () => read(status, said));
+  }
+}
+
+export function wentOn(counts) {
+  const move = (corrects) => ({ kind: "move", number: "4.", san: "Bxc6", clock: "", corrects });
+  const result = (outcome) => ({ kind: "result", outcome });
+  for (const [name, events, expected] of [
+    ["nothing came", [], false],
+    ["the result is taken back", [result("*")], true],
+    ["another result", [result("0-1")], false],
+    ["it is taken back, and given again", [result("*"), result("1-0")], false],
+    ["moves", [result("*"), move(false), move(false)], true],
+    ["moves and another result", [move(false), result("1/2-1/2")], true],
+    ["the last move is another one", [result("*"), move(true)], false],
+    ["a later move is another one", [move(false), move(true)], true],
+  ]) {
+    const after = new AfterTheEnd(Array(64).fill(0), "3... a6", "1-0");
+    events.forEach((event) => after.take(event));
+    counts.same(name, after.wentOn, expected);
   }
 }
