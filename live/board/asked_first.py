@@ -2,7 +2,7 @@
 
 from __future__ import annotations
 
-from typing import Callable, List, Tuple
+from typing import Callable, List, Optional, Tuple
 
 from live.device.asking import Came
 from live.device.connection import Connection, Hears
@@ -38,6 +38,10 @@ class AskedFirst:
     def came(self, sent: bytes, ended: Came) -> None:
         """The board has sent this, and that ended in it."""
         self._keep(lambda hears: hears.came(sent, ended), len(sent))
+
+    def happened(self, what: str, count: Optional[int] = None) -> None:
+        """What happens on the line."""
+        self._keep(lambda hears: hears.happened(what, count))
 
     def asked_whose(self) -> None:
         """The board is asked for its number."""

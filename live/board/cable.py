@@ -10,6 +10,7 @@ from live.board.whose import Whose
 from live.device.asking import Came
 from live.device.connection import Connection
 from live.game.files import MEMORY
+from live.game.times import TOOK
 from live.guard import Guard
 from live.refused import ANOTHER_CALL, printable
 from live.terminal.screen import Screen
@@ -27,6 +28,9 @@ class HearsCable(Protocol):
 
     def heard(self, heard: Heard) -> None:
         """The board has sent this."""
+
+    def happened(self, what: str, count: Optional[int] = None) -> None:
+        """This happens on the line."""
 
     def numbered(self, number: str) -> None:
         """The board's serial number is this from now on."""
@@ -116,6 +120,10 @@ class Cable:
 
     # What the line does.
 
+    def happened(self, what: str, count: Optional[int] = None) -> None:
+        """This happens on the line."""
+        self._hears.happened(what, count)
+
     def asked_whose(self) -> None:
         """The board is asked for its number: another board may be on the line."""
         self._whose.asked(self._guard.now())
@@ -168,6 +176,7 @@ class Cable:
     def take(self) -> None:
         """From now on the board on the cable is the game's, with all that it has sent."""
         if self._whose.is_other:
+            self._hears.happened(TOOK)
             self._is_own(self._whose.shown)
             self._other = ""
             heard, self._foreign = self._foreign, []

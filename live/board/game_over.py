@@ -71,7 +71,9 @@ class Listening:
 
     def came(self, sent: bytes) -> None:
         """The board has sent this."""
+        before = self._game.capture.total
         self._game.capture.append(sent)
+        self._game.times.grew(before)
         self._source.append(sent)
         self._watch.feed()
         if self._source.size > MOST:

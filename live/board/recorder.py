@@ -62,7 +62,7 @@ class Recorder(Renames, Forfeits):
         self._now: Union[Recording, SettingUp, Listening, None] = None  # what takes the board's bytes
         self._take(opened.game, opened.close)
         if plan.serial:
-            self._keep_number(plan.serial)
+            self.numbered(plan.serial)
         self.course = opened.old.course
         if plan.rules.series and opened.is_over:
             self._await_start(None)
@@ -75,6 +75,7 @@ class Recorder(Renames, Forfeits):
         self.game = game
         self._close_capture = close or self._guard.opened(game.capture.close)
         self._screen.keep(Log(game.paths.log))
+        game.times.attend(self._guard, self._screen.note)
         self._listen()
 
     def _listen(self) -> None:
@@ -90,6 +91,7 @@ class Recorder(Renames, Forfeits):
         """Closes this game, before another one."""
         forget_question(self.game.paths)
         self._close_control()
+        self.game.times.leave()
         self._close_capture()
 
     # Its games.
@@ -191,6 +193,7 @@ class Recorder(Renames, Forfeits):
         if mark is None:
             try:
                 mark_end(paths, self.game.capture, end)
+                self.game.times.over(end)
             except OSError as error:
                 self._screen.say(f"{paths.end} can't be written ({text_of(error)})")
         self._screen.say(f"{self._next().name} begins when the pieces are at the start")
@@ -222,7 +225,7 @@ class Recorder(Renames, Forfeits):
         self._leave()
         self._take(game)
         if self.number:
-            self._keep_number(self.number)
+            self.numbered(self.number)
         self._begins_anew = False
         self._record(Opened(game, nothing_old(game.options, game.capture.size)))
         if isinstance(self._now, Recording):
@@ -252,9 +255,11 @@ class Recorder(Renames, Forfeits):
         paths = self.game.paths
         try:
             put_in_place(paths.before, self.game.capture.bytes())
+            self.game.times.set_aside(paths.before)
             remove(paths.front)
             game = self._begun(paths, content, self.game.options)
         except OSError:
+            self.game.times.come_back(paths.before)
             return None
         with contextlib.suppress(OSError):
             keep_looks(paths, Looks())  # the alarms were about the set-up
@@ -263,7 +268,9 @@ class Recorder(Renames, Forfeits):
 
     def _begun(self, paths: Paths, content: bytes, options: Options) -> Game:
         """A game whose capture has this content, with its text made. Raises OSError if it can't be made."""
-        game = dataclasses.replace(self.game, paths=paths, capture=Capture.begin(paths.capture, content), options=options)
+        capture = Capture.begin(paths.capture, content)
+        times = self.game.times.next(paths, capture)
+        game = dataclasses.replace(self.game, paths=paths, capture=capture, options=options, times=times)
         made = Text(game).make(None)
         if made.trouble:
             game.capture.close()
@@ -324,15 +331,16 @@ class Recorder(Renames, Forfeits):
         if isinstance(self._now, Recording) and ended.time:
             self._now.timed(ended.time)
 
+    def happened(self, what: str, count: Optional[int] = None) -> None:
+        """This happens on its cable."""
+        self.game.times.happened(what, count)
+
     def lends(self, number: str, heard: Heard) -> bool:
         """The board with this number has sent this. Returns whether another game takes it."""
         return self._hears.lends(number, heard)
 
     def numbered(self, number: str) -> None:
         """The serial number of its board is this from now on."""
-        self._keep_number(number)
-
-    def _keep_number(self, number: str) -> None:
         if number == kept_serial(self.game.paths):
             return
         try:

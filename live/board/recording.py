@@ -26,6 +26,7 @@ from live.game.made_anew import forget_question, front_of
 from live.game.making_pgn import Made, Maker
 from live.game.opening import Opened
 from live.game.report import Clock, Fault, Line, Move, Picture, Position, Recovered, Result
+from live.game.times import ADDED, HEARD
 from live.game.watching import Watching
 from live.guard import Guard
 from live.loop import Timer
@@ -97,7 +98,8 @@ class Recording:
         self._typed = ""  # the result that an arbiter has typed
         self._faults: List[str] = []
         self._begins_anew = False  # the start of this game was reported just now, and what follows belongs to its new capture
-        self._is_over = self._marks = False  # and whether NAME.end must say how many bytes are the game's
+        self._is_over = self._has_ended = False  # whether it is recorded no more; and whether that is because the game has ended
+        self._marks = False  # and whether NAME.end must say how many bytes are the game's
         self._done: Callable[[bool], None] = lambda written: None
         self._watchdog: Optional[Timer] = None
         self._lingering = Lingering(guard, rules.linger, lambda: self._end(Reason.RESULT))
@@ -161,8 +163,9 @@ class Recording:
         """The last bytes end a time message. These are its seven bytes."""
         self._alarms.time(self._guard.now(), data, self._came_at)
 
-    def _append(self, sent: bytes) -> None:
+    def _append(self, sent: bytes, what: str = HEARD) -> None:
         """Appends what the board has sent or somebody has added."""
+        before = self.game.capture.total
         self._disk.append(sent)
         self._arrivals.came(self._guard.now(), self.game.capture.size)
         if self.game.capture.size >= LARGE and not self._is_large:
@@ -171,6 +174,7 @@ class Recording:
             what = f"{self.game.paths.capture} has 48 MiB, and none may have more than {most}: does a piece stand badly, and its square chatter?"
             self._screen.say(what, f"At {most} MiB the recording ends; the game can go on under another name, with --fen")
         self._watching.feed()
+        self.game.times.grew(before, what)  # while the program reads
         if self.game.capture.at_limit:
             self._end(Reason.LIMIT)
 
@@ -363,6 +367,7 @@ class Recording:
 
     def restored(self) -> None:
         """The capture was removed, and is written anew."""
+        self.game.times.restored()
         self._hears.restored()
 
     # What an arbiter adds.
@@ -374,7 +379,7 @@ class Recording:
         self._is_put = True if outcome == self.course.result else None  # then there is nothing to report
         if outcome:
             self._typed, self.end = outcome, self._by_hand.stop
-        self._append(put)
+        self._append(put, ADDED)
         self._hears.asks(put)
 
     def reports_put(self) -> Steps[bool]:
@@ -418,7 +423,7 @@ class Recording:
         if reason is not Reason.TYPED:
             self._typed = ""
         self._marks = self._rules.marks(reason)
-        self._is_over = True
+        self._is_over = self._has_ended = True
         self._put_ends(False)
         self._hears.over(reason)
 
@@ -442,6 +447,8 @@ class Recording:
         self.game.capture.write()
         if self._marks and not self.game.capture.full:
             self._mark()
+        if self._has_ended and not self._marks:
+            self._note_end()
         self._watchdog = self._guard.after(PATIENCE, self._all_is_heard)
         self._watching.finish(self._all_is_heard)
 
@@ -449,8 +456,12 @@ class Recording:
         paths = self.game.paths
         try:
             mark_end(paths, self.game.capture, self.game.capture.size if self.end is None else self.end)
+            self._note_end()
         except OSError as error:
             self._screen.say(f"{paths.end} can't be written ({text_of(error)})")
+
+    def _note_end(self) -> None:
+        self.game.times.over(self.game.capture.total if self.end is None else self.end)
 
     def _all_is_heard(self) -> None:
         if self._watchdog:

@@ -67,8 +67,10 @@ class SettingUp:
 
     def came(self, sent: bytes) -> None:
         """The board has sent this."""
+        before = self._game.capture.total
         self._disk.append(sent)
         self._feed()
+        self._game.times.grew(before)
 
     def dumped(self) -> None:
         """What came ends a complete dump."""
@@ -132,6 +134,7 @@ class SettingUp:
 
     def restored(self) -> None:
         """The capture was removed, and is written again."""
+        self._game.times.restored()
         self._hears.restored()
 
     def close(self) -> None:

@@ -10,6 +10,7 @@ from live.device.line import Line, line_of
 from live.device.protocol import START_REQUEST
 from live.device.serial_line import BUSY_PATIENCE, Busy, SerialLine, cable_name
 from live.device.trial import Trial
+from live.game.times import ANSWERED, ASKED, CALLED, GONE, OPENED
 from live.guard import Guard
 from live.loop import Timer
 
@@ -24,6 +25,9 @@ class Hears(Protocol):
 
     def came(self, sent: bytes, ended: Came) -> None:
         """The board has sent this, and that ended in it."""
+
+    def happened(self, what: str, count: Optional[int] = None) -> None:
+        """What happens on the line, as NAME.times has it."""
 
     def asked_whose(self) -> None:
         """The board is asked for its number: another may be on the line."""
@@ -57,7 +61,7 @@ class Connection:
         self._timer: Optional[Timer] = None
         self._calls_again: Optional[Timer] = None
         self._gone = False
-        self._is_plugged = False
+        self._is_plugged = self._is_open = False
         self._trial: Optional[Trial] = None  # of a connection to a serial server
         self._busy_since = math.inf
         self._away = 0.0  # the seconds that the recorder was away before the board was asked last
@@ -114,7 +118,8 @@ class Connection:
 
     def _opened(self) -> None:
         assert self._line.number is not None
-        now = self._guard.now()
+        now, self._is_open = self._guard.now(), True
+        self._hears.happened(OPENED)
         self._guard.watch(self._line.number, self._readable)
         self._asking.connected(now)
         if isinstance(self._line, SerialLine):
@@ -137,7 +142,10 @@ class Connection:
             self._lost(FLOOD)
         elif sent:
             heard = sent, self._asking.came(now, sent)
+            had_answered = self._trial is None or self._trial.has_answered
             passed = self._trial.passes(heard) if self._trial else [heard]
+            if passed and not had_answered:
+                self._hears.happened(ANSWERED)
             if passed:
                 self._plugged()
             for one in passed:
@@ -172,6 +180,8 @@ class Connection:
         self._disconnect()
         if not isinstance(self._line, SerialLine):
             self._line.hang_up()
+        self._is_open = False
+        self._hears.happened(CALLED)
         self._asking.silent = self._silent
         self._timer = self._guard.after(CONNECT_AGAIN, self.begin)
 
@@ -189,6 +199,9 @@ class Connection:
     def _hang_up(self) -> None:
         self._disconnect()
         self._line.close()
+        if self._is_open:
+            self._is_open = False
+            self._hears.happened(GONE)
         self._silent = self._is_plugged = False
 
     def _ask_after_time_away(self) -> None:
@@ -206,6 +219,7 @@ class Connection:
         if now >= due:
             request = self._asking.request(now)
             self._line.ask(request)
+            self._hears.happened(ASKED, len(request))
             if START_REQUEST in request and self._is_plugged:
                 self._hears.asked_whose()
             self._tell_silence()

@@ -20,6 +20,8 @@ from live.game.opening import checked
 from live.game.options import Options
 from live.game.program import Program
 from live.game.reading import game_of
+from live.game.timed import Times
+from live.game.times import ADDED, OVER
 from live.game.typed import Acknowledged, Answer, Back, Nothing, Quit, Refused, Reopened, WAYS, refusal
 from live.refused import DONE, FAILED
 
@@ -36,10 +38,20 @@ def add_to_closed(game: Game, line: str) -> Said:
         place = whose_move(game.options.fen, [ply.san for ply in played], line, int(said.words[0])) if said.kind == ILLEGAL else ""
         raise answers.refuse(said, line, place)
     Text(game).look(mark)
-    game.capture.renew(sent + said.put + game.capture.bytes(end))
+    game.times.cut(end)
+    after = game.capture.bytes(end)
+    try:
+        game.capture.renew(sent + said.put + after)
+    except Exception:
+        game.times.begin()
+        raise
+    game.times.begin(None if after else end)
+    if not after:
+        game.times.note(ADDED, len(said.put))
     forget_question(game.paths)
     if mark is not None or said.outcome:
         mark_end(game.paths, game.capture, end + len(said.put))
+        game.times.note(OVER, end + len(said.put))
     return said
 
 
@@ -56,15 +68,16 @@ def add_by_name(program: Program, paths: Paths, text: str, patience: float) -> A
     """Adds what was typed to the game of this name, which nobody records now, and writes that to its log. Refused if its capture
     can't be opened."""
     capture = open_game(paths, patience)
+    times = Times(paths, capture)
     try:
         if is_naming(text):
-            return DONE, rename_closed(Game(program, paths, capture, kept_options(paths) or Options()), text)
+            return DONE, rename_closed(Game(program, paths, capture, kept_options(paths) or Options(), times), text)
         typed = read_typed(text, os.path.basename(paths.name))
         if isinstance(typed, Acknowledged):
             seen = acknowledge(paths)
             log_once(paths, seen)
             return DONE, seen
-        game = Game(program, paths, capture, kept_options(paths) or Options())
+        game = Game(program, paths, capture, kept_options(paths) or Options(), times)
         if isinstance(typed, Forfeit):
             told = forfeit_closed(game, typed)
             log_once(paths, told)
@@ -88,7 +101,10 @@ def add_by_name(program: Program, paths: Paths, text: str, patience: float) -> A
     except OSError as error:
         return FAILED, cannot_be_written(paths, text_of(error))
     finally:
+        times.close()
         capture.close()
+        if times.told:
+            log_once(paths, *times.told)
     log_once(paths, f"added by hand: {what}")
     return DONE, f"added to {paths.name}: {what}"
 

@@ -11,7 +11,7 @@ from live.refused import ARGUMENTS, REFUSED, Refused
 # A shell completes to the last one.
 ENDINGS = (
     ".before.dgt", ".dgt", ".edited.pgn", ".broadcast.pgn", ".pgn", ".options", ".log", ".look", ".back", ".serial", ".end",
-    ".forfeit", ".front", ".delayed", ".delay", ".pages", ".cable", ".",
+    ".forfeit", ".front", ".delayed", ".delay", ".pages", ".cable", ".times", ".",
 )  # fmt: skip
 DEVICES = ("/dev/tty", "/dev/serial/", "/dev/rfcomm", "tcp://")  # what a board's device begins with
 

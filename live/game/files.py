@@ -299,6 +299,11 @@ class Capture:
         return bool(self.pending)
 
     @property
+    def total(self) -> int:
+        """The bytes of the file, and those that wait in memory."""
+        return self.size + len(self.pending)
+
+    @property
     def at_limit(self) -> bool:
         return self.limit is not None and self.size >= self.limit
 

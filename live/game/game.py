@@ -11,6 +11,7 @@ from live.game.files import NO_SUCH_FILE, LARGEST, Capture, Paths, beginning, ex
 from live.game.options import Options
 from live.game.program import Program
 from live.game.tags import Tags
+from live.game.timed import Times
 from live.refused import FAILED, REFUSED, Refused
 
 RESULT = re.compile(rb'^\[Result "([^"]*)"\]$', re.MULTILINE)
@@ -41,12 +42,13 @@ class Written:
 
 @dataclass(frozen=True)
 class Game:
-    """A game whose capture is open and locked, and the program that reads it."""
+    """A game whose capture is open and locked, with its times, and the program that reads it."""
 
     program: Program
     paths: Paths
     capture: Capture
     options: Options
+    times: Times
     written: Written = field(default_factory=Written, compare=False)
 
 

@@ -23,6 +23,7 @@ from live.game.game import Game, end_mark, mark_end, unmark_end
 from live.game.making_pgn import Made, Text
 from live.game.reading import game_of, read_game
 from live.game.report import Move
+from live.game.times import OVER
 from live.game.typed import Asked, Refused
 from live.game.way_back import ALL, NO_RESULT, PLIES, STILL_SHOWN, Way, nothing_goes, refuse, stays_of, way_of
 
@@ -56,6 +57,19 @@ def put_way(game: Game, way: Way, is_over: bool = False) -> str:
     has ended, and where the old capture is. Raises OSError if a file can't be written."""
     kept = keep_before(game.capture, game.paths)
     forget_question(game.paths)
+    game.times.set_aside(kept)
+    try:
+        _renew(game, way, is_over)
+    except Exception:
+        game.times.come_back(kept)
+        raise
+    game.times.begin()
+    if is_over:
+        game.times.note(OVER, len(way.content))
+    return f"{_settle(game.paths, way)}What the board had sent is kept in {kept}"
+
+
+def _renew(game: Game, way: Way, is_over: bool) -> None:
     keep_front(game.paths, way.content)
     mark = end_mark(game.paths)
     if mark is not None:
@@ -68,7 +82,6 @@ def put_way(game: Game, way: Way, is_over: bool = False) -> str:
         mark_end(game.paths, game.capture, len(way.content))
     elif mark is not None:
         unmark_end(game.paths)
-    return f"{_settle(game.paths, way)}What the board had sent is kept in {kept}"
 
 
 def _settle(paths: Paths, way: Way) -> str:
@@ -181,7 +194,9 @@ def _open_again(game: Game) -> str:
     """The board has taken the result back itself, and its game goes on with all that it has sent. Returns more of the message."""
     text = Text(game)
     text.look(end_mark(game.paths))
+    game.times.cut(game.capture.size)
     unmark_end(game.paths)
+    game.times.begin()
     return made_of(game, text.make(None))
 
 

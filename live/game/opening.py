@@ -17,6 +17,7 @@ from live.game.making_pgn import Text, told_of_reading, told_of_result
 from live.game.options import PUBLISHED, UNKNOWN, Options, as_typed
 from live.game.program import Program
 from live.game.reading import Old, nothing_old, read_game
+from live.game.timed import Times
 from live.loop import Callback
 from live.refused import FAILED, REFUSED, Refused
 
@@ -170,16 +171,17 @@ class Opening:
                 capture.close()
 
     def _read(self, capture: Capture, chooses: Chooses, now: float, today: str) -> Opened:
-        paths = self._paths
+        paths, times = self._paths, Times(self._paths, capture)
+        times.look()
         before = kept_options(paths) if capture.size else None
 
         def has_moves() -> bool:
-            return self._has_moves(capture, before, now)
+            return self._has_moves(Game(self._program, paths, capture, before or Options(), times), now)
 
         chosen = chooses(before, has_moves)
         options = chosen.options.begun(before.day(today, has_moves) if before else None if capture.size else today)
         kept = kept_options(paths)
-        game = Game(self._program, paths, capture, kept or Options())
+        game = Game(self._program, paths, capture, kept or Options(), times)
         if capture.size and not chosen.refused and _goes_on(game):
             self.held()
         Text(game).look(end_mark(paths))
@@ -200,11 +202,11 @@ class Opening:
         read_anew = told_of_reading(before or options, options, pairs)
         results = told_of_result(result, result_in(paths))
         old = dataclasses.replace(old, size=capture.size)
-        return Opened(game, old, is_over(game), told, tuple(read_anew), tuple(results))
+        return Opened(game, old, is_over(game), (*told, *times.unexpected), tuple(read_anew), tuple(results))
 
-    def _has_moves(self, capture: Capture, before: Optional[Options], now: float) -> bool:
-        game = Game(self._program, self._paths, capture, before or Options())
-        return bool(capture.size and read_game(game, None, now).course.plies)
+    @staticmethod
+    def _has_moves(game: Game, now: float) -> bool:
+        return bool(game.capture.size and read_game(game, None, now).course.plies)
 
 
 def _goes_on(game: Game) -> bool:

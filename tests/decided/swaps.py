@@ -100,6 +100,9 @@ class Hears:
     def heard(self, heard: Heard) -> None:
         self.told.append("heard")
 
+    def happened(self, what: str, count: Optional[int] = None) -> None:
+        pass
+
     def numbered(self, number: str) -> None:
         self.told.append(f"numbered {number}")
 

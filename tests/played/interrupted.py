@@ -1,6 +1,6 @@
 """A recorder stops before and after each write, sync and rename, by a kill or as the power fails. The calls are found as they are made,
 and what is on the disk then is kept: all of it, and what a power cut would leave. The next start from each has all that was shown or
-answered by then, and refuses nothing."""
+answered by then, and refuses nothing. Its times are those of its capture."""
 
 import pathlib
 import pickle
@@ -8,10 +8,10 @@ import sys
 from typing import Dict, List, Sequence, Tuple
 
 from play_board import field
-from played import TOP, words
+from played import TOP, times, words
 from played.boards import Board
 from played.recorder import Live
-from played.stage import Stage, a_board, begun, ended, kill, movetext, same, until, until_line
+from played.stage import Stage, a_board, begun, bytes_of, ended, kill, movetext, same, until, until_line
 
 AT_ONCE = 6
 # Starts the recorder; its first argument is a folder, its second a file that gets what was on the disk, its third says what is played.
@@ -177,6 +177,7 @@ class Played:
     def _check(starts: "List[Again]") -> None:
         for start in starts:
             until(start.is_well, f"one of {start.wanted}, there is {start.text}, after {sorted(start.files)}")
+            until(start.is_timed, f"times of this start, after {sorted(start.files)}")
         for start in starts:
             start.end()
 
@@ -213,8 +214,22 @@ class Again:
             assert "is over: choose another name" in said and self.text in self.wanted, f"{said}{self.text} {self.wanted} {sorted(self.files)}"
         return self.text in self.wanted
 
+    def _timed(self) -> List[pathlib.Path]:
+        """The times that this start has written."""
+        return [path for path in self._folder.glob("game*.times") if bytes_of(path) != self.files.get(path.name)]
+
+    def is_timed(self) -> bool:
+        """Times are written, unless the game was over."""
+        return not self._live.runs or bool([path for path in self._timed() if b" opened\n" in bytes_of(path)])
+
     def end(self) -> None:
+        has_ended = not self._live.runs
         kill(self._live)
+        names = [path.name[: -len(".times")] for path in self._timed()]
+        for name in names if not has_ended else []:
+            if name in self._played.games:
+                found, size = times.read(self._folder / name), len(bytes_of(self._folder / f"{name}.dgt"))
+                assert not found.torn and found.total() <= size, f"{found.calls[-1]} of {size} bytes"
         self._board.end()
         Stage.boards.remove(self._board)
 

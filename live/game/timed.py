@@ -1,0 +1,400 @@
+"""NAME.times beside a capture that this process has locked. Whatever goes wrong with it costs times, and never a move.
+
+What happens is noted by the loop, and may be written by a worker too, while a typed line is obeyed: so a lock. While a game is
+recorded the loop doesn't wait for it.
+"""
+
+from __future__ import annotations
+
+import collections
+import errno
+import math
+import os
+import threading
+import time
+from typing import Callable, Deque, List, Optional, Protocol, Tuple
+
+from live.game import times
+from live.game.files import LARGEST, Capture, Paths, existing, open_regular, part_of, put_in_place, sync_folder, text_of
+from live.loop import Callback, Loop
+
+TRIES_AGAIN = 1.0  # seconds after a write has failed
+MOST_WAIT = 1000  # events that wait for the first bytes of a capture
+DUMP = 67  # bytes of a capture that a new file waits for
+NOTHING = "Nothing is to be done"
+
+
+class Turns(Protocol):
+    """What it needs of a guard."""
+
+    def away(self) -> float:
+        """The seconds of all times in which the recorder was stopped, or the computer slept."""
+
+    def opened(self, close: Callback) -> Callback:
+        """Something was opened, and this closes it. The returned function closes it too."""
+
+
+def milliseconds() -> int:
+    """The time by a clock that counts on while the computer sleeps."""
+    return int(Loop.counting() * 1000)
+
+
+class Times:
+    """When the bytes of a game's capture came, and what else happened."""
+
+    def __init__(self, paths: Paths, capture: Capture) -> None:
+        self._paths, self._capture, self._path = paths, capture, times_of(paths.capture)
+        self._lock = threading.Lock()
+        self._turns: Optional[Turns] = None
+        self._says: Callable[[str], None] = lambda text: None
+        self._told: List[str] = []  # to be said
+        self.unexpected: Tuple[str, ...] = ()  # errors that aren't the system's
+        self._events: Deque[times.Happened] = collections.deque()  # to be written, by the clock's own time
+        self._began: Optional[int] = None  # when the call began, by the clock; nothing is noted before
+        self._was_away = 0.0
+        self._line: Tuple[str, ...] = ()  # what was last noted of the line
+        self.leave: Callback = self.close  # ends it
+        self.generation = 0  # how often the game has gone back
+        self._number: Optional[int] = None  # of the open file
+        self._size = 0  # bytes of its lines
+        self._is_new = self._is_read = False  # whether no file can be the capture's; whether it is known what stands in it
+        self._is_aside = False  # whether the capture is just becoming another one
+        self._is_foreign = False  # whether there is a file that must be kept beside
+        self._away: Optional[int] = None  # milliseconds since it was last written, if known
+        self._trouble = ""  # why it can't be written
+        self._is_lost = False  # and that something wasn't
+        self._again = -math.inf  # when it is tried again
+
+    # What is there when a game is opened.
+
+    def look(self, is_new: bool = False) -> None:
+        """Reads what is there; beside a capture that is new, nothing is its. This changes nothing, but that a file goes back into
+        place that a killed call had set aside."""
+        with self._lock:
+            self._is_new = is_new
+            self._look_once()
+
+    def _look_once(self) -> None:
+        try:
+            if not self._is_read and not self._trouble:
+                self._look()
+        except Exception as error:
+            self._fails(error)
+
+    def _look(self) -> None:
+        self._size, self._is_foreign, self._away = 0, False, None
+        path = self._path
+        if os.path.islink(path):
+            raise OSError(errno.ELOOP, f"{os.path.basename(path)} is a link")
+        self._come_back()
+        content = existing(path)
+        found = times.kept(content) if len(content) < LARGEST else None
+        self.generation = self._gone_back()
+        if isinstance(found, times.Kept) and self._is_ours(found):
+            self.generation, self._size, self._away = found.generation, found.ends, self._since_written()
+            self._told += told_of(found, path, len(content), self._capture.path, self._capture.size)
+        elif content:
+            self._is_foreign = True
+            why = "is of a newer program" if isinstance(found, times.Newer) else "is of another capture" if found else "isn't readable"
+            self._told.append(f"{path} {why}: it is kept as {self._beside()}, and another one is begun. {NOTHING}")
+        elif self._capture.size and not self._is_new:
+            self._told.append(f"{path} is missing: when the game's first {self._capture.size} bytes came isn't known. {NOTHING}")
+        self._is_read = True
+
+    def _is_ours(self, found: times.Kept) -> bool:
+        size = self._capture.size
+        return not self._is_new and 0 < size >= found.size and times.digest(self._capture.bytes(0, found.size)) == found.digest
+
+    def _since_written(self) -> Optional[int]:
+        """The milliseconds since the file was last written; None if the computer's clock was put back."""
+        seconds = time.time() - os.stat(self._path).st_mtime
+        return int(seconds * 1000) if seconds >= 0 else None
+
+    def _come_back(self) -> None:
+        """A call that was killed had set the file aside, and the game hasn't gone back."""
+        before = self._paths.last_before_back
+        if before and self._is_still(before):
+            self._back_from(before)
+
+    def _gone_back(self) -> int:
+        """How often the game has gone back, by the captures that were kept."""
+        number = 0
+        while os.path.lexists(self._paths.before_back(number + 1)):
+            number += 1
+        return number - (number > 0 and self._is_still(self._paths.before_back(number)))
+
+    def _is_still(self, before: str) -> bool:
+        """Whether the capture that was kept under this name is the game's still: a call was killed then."""
+        return os.path.exists(self._paths.capture) and os.path.samefile(before, self._paths.capture)
+
+    def _beside(self) -> str:
+        """Where a file is kept that isn't of this capture."""
+        front, number = self._path[: -len("times")], 1
+        path = f"{front}other.times"
+        while os.path.lexists(path):
+            number += 1
+            path = f"{front}other-{number}.times"
+        return path
+
+    # What happens.
+
+    def attend(self, turns: Turns, says: Callable[[str], None]) -> None:
+        """A call begins. What fails is said."""
+        self._turns, self._says = turns, says
+        self._was_away = turns.away()
+        self.leave = turns.opened(self.close)
+        self.begin()
+
+    def begin(self, size: Optional[int] = None) -> None:
+        """A call begins, or the game goes on from another capture: this is its size."""
+        with self._lock:
+            self._look_once()
+            away = self._away if self._began is None else 0
+            self._begin_at(milliseconds(), self._capture.total if size is None else size, away)
+
+    def _begin_at(self, now: int, size: int, away: Optional[int]) -> None:
+        begun: List[Tuple[str, Optional[int]]] = [(times.BEGIN, size)]
+        if away is not None:
+            begun.append((times.AWAY, away))
+        begun += [(what, None) for what in self._line]
+        self._began, self._is_aside = now, False
+        self._events.extendleft((now, what, count) for what, count in reversed(begun))
+
+    def note(self, what: str, count: Optional[int] = None) -> None:
+        """This has happened."""
+        if self._began is None:
+            return
+        now, turns = milliseconds(), self._turns
+        away = turns.away() if turns else 0.0
+        if away > self._was_away:
+            self._events.append((now, times.STOPPED, int((away - self._was_away) * 1000)))
+            self._was_away = away
+        if what in times.ALONE:
+            self._line = _line_after(self._line, what)
+        self._events.append((now, what, count))
+
+    def happened(self, what: str, count: Optional[int] = None) -> None:
+        """The same, in the loop: it is written at once."""
+        self.note(what, count)
+        self.write()
+        if self._told:
+            self._tell()
+
+    def grew(self, before: int, what: str = times.HEARD) -> None:
+        """The capture had this many bytes, those in memory with them; it has more now."""
+        if self._capture.total > before:
+            self.happened(what, self._capture.total - before)
+
+    def over(self, size: int) -> None:
+        """The game is over: it is this many bytes of the capture."""
+        self.happened(times.OVER, size)
+
+    def next(self, paths: Paths, capture: Capture) -> Times:
+        """Those of a new capture of the same board."""
+        new = Times(paths, capture)
+        new.look(is_new=True)
+        new._line = self._line
+        return new
+
+    def _tell(self) -> None:
+        told, self._told = self._told, []
+        if self._turns:
+            for text in told:
+                self._says(text)
+        else:
+            self._told = told
+
+    @property
+    def told(self) -> List[str]:
+        """What is still to be said, of a game that nobody records."""
+        return self._told
+
+    # How it is written.
+
+    def write(self) -> None:
+        """Writes what has happened, unless a worker is just writing."""
+        if self._lock.acquire(blocking=False):
+            try:
+                self._write()
+            finally:
+                self._lock.release()
+
+    def _write(self) -> None:
+        if self._began is None or self._is_aside or not (self._events or self._is_lost):
+            return
+        if self._number is None and not self._size and self._capture.size < DUMP and len(self._events) < MOST_WAIT:
+            return  # the heading waits for the first bytes
+        if self._trouble and Loop.now() < self._again:
+            self._lose()
+            return
+        try:
+            self._put()
+        except Exception as error:
+            self._fails(error)
+
+    def _put(self) -> None:
+        if not self._is_read:
+            self._look()
+        number = self._open() if self._number is None or self._is_lost else self._number
+        if self._is_lost:
+            self._begin_again()
+        events = list(self._events)
+        content = times.lines(events, self._began or 0)
+        if not self._size:
+            content = times.heading(self.generation, self._capture.bytes(0, min(times.HEADED, self._capture.size))) + content
+        if self._size + len(content) > LARGEST:
+            raise OSError(errno.EFBIG, "it has 64 MiB")
+        if os.write(number, content) < len(content):
+            raise OSError(errno.ENOSPC, os.strerror(errno.ENOSPC))
+        self._size += len(content)
+        for _ in events:
+            self._events.popleft()
+        if self._is_lost:
+            self._told.append(f"{self._path} is written again")
+        self._trouble, self._is_lost = "", False
+
+    def _open(self) -> int:
+        """Opens the file for what was found: what is torn goes, and what isn't of this capture is kept beside."""
+        if self._number is None:
+            path = self._path
+            if self._is_foreign:
+                os.rename(path, self._beside())
+                self._is_foreign = False
+            self._number = open_regular(path, os.O_RDWR | os.O_APPEND | os.O_CREAT)
+            self._cut_off(self._number)
+        elif self._is_lost:
+            self._cut_off(self._number)
+        return self._number
+
+    def _cut_off(self, number: int) -> None:
+        """Removes what is no whole line."""
+        if os.fstat(number).st_size > self._size:
+            os.ftruncate(number, self._size)
+
+    def _begin_again(self) -> None:
+        """What was lost has no times: from here on they count anew."""
+        now = self._events[0][0] if self._events else milliseconds()
+        grown = sum(count or 0 for _, what, count in self._events if what in (times.HEARD, times.ADDED))
+        self._begin_at(now, max(0, self._capture.total - grown), 0)
+
+    def _fails(self, error: Exception) -> None:
+        """Whatever it is: the game goes on."""
+        trouble = text_of(error) if isinstance(error, OSError) else f"{type(error).__name__}: {error}"
+        if not isinstance(error, OSError):
+            self.unexpected = (*self.unexpected, f"{self._path}: {trouble}")
+        if trouble != self._trouble:
+            self._trouble = trouble
+            self._told.append(f"{self._path} can't be written ({self._trouble}): times are missing. {NOTHING}")
+        self._again = Loop.now() + TRIES_AGAIN
+        self._lose()
+
+    def _lose(self) -> None:
+        self._events.clear()
+        self._is_lost = True
+
+    # When the capture becomes another one.
+
+    def set_aside(self, before: str) -> None:
+        """The capture is kept under this name, and a new one will take its place: its times go with it. Nothing is written until
+        the new one's begin."""
+        with self._lock:
+            self._look_once()
+            self._write()
+            self._events.clear()
+            self._is_aside = True
+            try:
+                self._close()
+                if os.path.lexists(self._path):
+                    os.replace(self._path, times_of(before))
+                    sync_folder(self._paths.folder)
+            except Exception as error:
+                self._fails(error)
+            self._size, self._is_foreign = 0, os.path.lexists(self._path)
+            self.generation += 1
+
+    def come_back(self, before: str) -> None:
+        """A new capture couldn't be put in place: if the old one is there still, its times go on."""
+        with self._lock:
+            if not self._is_aside:
+                return
+            try:
+                if existing(before) == self._capture.bytes():
+                    told = len(self._told)
+                    self._back_from(before)
+                    self._look()
+                    del self._told[told:]
+            except Exception as error:
+                self._fails(error)
+            self._begin_at(milliseconds(), self._capture.total, 0)
+
+    def _back_from(self, before: str) -> None:
+        path, kept = self._path, times_of(before)
+        if os.path.lexists(kept) and not os.path.lexists(path):
+            os.rename(kept, path)
+
+    def cut(self, size: int) -> None:
+        """The capture will have other bytes after this many, or the game goes on: later times go, and that it was over."""
+        with self._lock:
+            self._look_once()
+            self._write()
+            self._events.clear()
+            if not self._size:
+                return
+            try:
+                number = self._open()
+                before = part_of(number, 0, self._size)
+                found = times.kept(before)
+                first = self._capture.bytes(0, min(size, times.HEADED))
+                after = times.cut(before, found, size, first) if isinstance(found, times.Kept) else before
+                if after != before:
+                    self._close()
+                    put_in_place(self._path, after)
+                    self._size = len(after)
+            except Exception as error:
+                self._fails(error)
+
+    def restored(self) -> None:
+        """The capture was removed, and is written again: so is this file, from here on."""
+        with self._lock:
+            if self._began is not None and not os.path.lexists(self._path):
+                self._close()
+                self._size = 0
+                self._lose()
+
+    def _close(self) -> None:
+        number, self._number = self._number, None
+        if number is not None:
+            os.close(number)
+
+    def close(self) -> None:
+        """Writes what has happened, and nothing further."""
+        with self._lock:
+            self._write()
+            self._began = None
+            self._close()
+        self._tell()
+
+
+def times_of(capture: str) -> str:
+    """The times of a capture that is kept beside a game."""
+    return f"{capture[:-len('.dgt')]}.times"
+
+
+def _line_after(line: Tuple[str, ...], what: str) -> Tuple[str, ...]:
+    if what == times.OPENED:
+        return (times.OPENED,)
+    if what == times.ANSWERED:
+        return (times.OPENED, times.ANSWERED)
+    return line if what == times.TOOK else ()
+
+
+def told_of(found: times.Kept, path: str, size: int, capture: str, have: int) -> List[str]:
+    """What is said of a file of this size, whose capture has so many bytes."""
+    told = []
+    if size > found.ends:
+        told.append(f"{path} was torn: its last {size - found.ends} bytes are dropped. {NOTHING}")
+    if found.covered > have:
+        told.append(f"{path} tells of {found.covered - have} bytes more than {capture} has, as after a power cut. {NOTHING}")
+    elif found.covered < have:
+        told.append(f"{path} has no times for the last {have - found.covered} bytes of {capture}. {NOTHING}")
+    return told

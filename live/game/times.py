@@ -1,0 +1,127 @@
+"""The lines of NAME.times: when the bytes of a capture came, and what else happened at its board. docs/FORMATS.md has the format. Pure.
+
+The game follows from NAME.dgt alone: what is lost here costs times, and never a move.
+"""
+
+from __future__ import annotations
+
+import re
+from dataclasses import dataclass
+from typing import Iterator, List, Optional, Sequence, Tuple, Union
+
+VERSION = 1
+HEADED = 4096  # bytes of a capture that a new heading has the digest of, at most
+BEGIN, AWAY, OPENED, ANSWERED, GONE, CALLED = "begin", "away", "opened", "answered", "gone", "called"
+HEARD, ADDED, STOPPED, ASKED, TOOK, OVER = "heard", "added", "stopped", "asked", "took", "over"
+COUNTS = (BEGIN, AWAY, HEARD, ADDED, STOPPED, ASKED, OVER)  # words with a number
+ALONE = (OPENED, ANSWERED, GONE, CALLED, TOOK)
+TOO_LARGE = 2**64
+FNV_START, FNV_TIMES = 14695981039346656037, 1099511628211  # of FNV-1a with 64 bits
+
+NUMBER = "(0|[1-9][0-9]{0,19})"
+EVENT = re.compile(f"{NUMBER} (?:({'|'.join(COUNTS)}) {NUMBER}|({'|'.join(ALONE)}))\n".encode())
+VERSIONED = re.compile(f"{NUMBER} times(?: {NUMBER})?\n".encode())
+HEADING = re.compile(f"{VERSION} times {NUMBER}\n{NUMBER} digest {NUMBER}\n".encode())
+
+Happened = Tuple[int, str, Optional[int]]  # when, in milliseconds from the call's beginning; what; how much
+Content = Union[bytes, memoryview]
+
+
+def digest(content: Content) -> int:
+    """FNV-1a with 64 bits."""
+    state = FNV_START
+    for byte in content:
+        state = ((state ^ byte) * FNV_TIMES) % TOO_LARGE
+    return state
+
+
+def heading(generation: int, first: Content) -> bytes:
+    """The heading of a file, given how often the game has gone back, and the first bytes of its capture."""
+    return b"%d times %d\n%d digest %d\n" % (VERSION, generation, len(first), digest(first))
+
+
+def line(event: Happened) -> bytes:
+    """The line of an event."""
+    at, what, count = event
+    return f"{at} {what}\n".encode() if count is None else f"{at} {what} {count}\n".encode()
+
+
+def lines(events: Sequence[Happened], began: int = 0) -> bytes:
+    """The lines of some events, of a call that began then. What came within a millisecond came at once."""
+    if len(events) == 1:
+        at, what, count = events[0]
+        return line((max(0, at - began), what, count))
+    joined: List[Happened] = []
+    for at, what, count in events:
+        at = max(0, at - began)
+        before = joined[-1] if joined else (0, "", None)
+        if what == HEARD == before[1] and at == before[0]:
+            count = (joined.pop()[2] or 0) + (count or 0)
+        joined.append((at, what, count))
+    return b"".join(map(line, joined))
+
+
+@dataclass(frozen=True)
+class Kept:
+    """A file with a heading: how often the game has gone back; how many bytes the heading is of, and their digest; where the
+    heading ends; where the events end; and how many bytes of the capture they account for."""
+
+    generation: int
+    size: int
+    digest: int
+    begins: int
+    ends: int
+    covered: int
+
+
+@dataclass(frozen=True)
+class Newer:
+    """A file of another version of the format."""
+
+    version: int
+
+
+def kept(content: Content) -> Union[Kept, Newer, None]:
+    """What stands in a file, if anything can be read."""
+    found = HEADING.match(content)
+    if found is None or any(int(number) >= TOO_LARGE for number in found.groups()):
+        newer = VERSIONED.match(content)
+        return Newer(int(newer.group(1))) if newer and int(newer.group(1)) != VERSION else None
+    generation, size, of_first = map(int, found.groups())
+    ends, covered = found.end(), size
+    for after, what, count in _events(content, found.end()):
+        ends, covered = after, _covers(covered, what, count)
+    return Kept(generation, size, of_first, found.end(), ends, covered)
+
+
+def _events(content: Content, start: int) -> Iterator[Tuple[int, str, int]]:
+    """The events from an offset on, up to what is none: the offset after each, its word and its number."""
+    for found in EVENT.finditer(content, start):
+        at, counted, count, alone = found.groups()
+        if found.start() != start or int(at) >= TOO_LARGE or (counted and int(count) >= TOO_LARGE):
+            return
+        start = found.end()
+        yield start, (counted or alone).decode(), int(count or 0)
+
+
+def _covers(before: int, what: str, count: int) -> int:
+    """How many bytes are accounted for, after an event."""
+    return count if what == BEGIN else before + count if what in (HEARD, ADDED) else before
+
+
+def cut(content: Content, found: Kept, size: int, first: Content) -> bytes:
+    """A file of which only those events stay that account for the capture's first so many bytes, which begin with `first`; and no
+    end, since the game goes on, or has another one."""
+    front = bytes(content[: found.begins]) if found.size <= size else heading(found.generation, first)
+    parts, start, covered = [front], found.begins, found.size
+    for after, what, count in _events(content, found.begins):
+        before, covered = covered, _covers(covered, what, count)
+        if covered > size:
+            if what != BEGIN and size > before:
+                at = bytes(content[start:after]).split()[0]
+                parts.append(line((int(at), what, size - before)))
+            break
+        if what != OVER:
+            parts.append(bytes(content[start:after]))
+        start = after
+    return b"".join(parts)
