@@ -1,6 +1,6 @@
 #!/bin/sh
-# Fails each allocation of the calls in crates/test_allocations in turn. The program is built once, so that its 1,000th allocation
-# fails, and run once for each number: run n spends 1,000 less n of them first, so that the calls' nth is the one. Each run
+# Fails each allocation of the calls in crates/test_allocations in turn. The program is built once, so that its 1,500th allocation
+# fails, and run once for each number: run n spends 1,500 less n of them first, so that the calls' nth is the one. Each run
 # must say that one call was refused, left all as it was and was granted when made again, up to a run that meets no refusal;
 # and none after it may meet one.
 #
@@ -17,19 +17,19 @@ if ! command -v rt > /dev/null; then
 fi
 cd crates/test_allocations
 calls=20
-runs=980
+runs=1450
 folder=$(mktemp -d)
 trap 'rm -rf "$folder"' EXIT
 
 mkdir "$folder/runs"
 run=1
 while [ "$run" -le "$runs" ]; do
-    printf '%s' $((1000 - run)) > "$folder/runs/$(printf '%03d' "$run")"
+    printf '%s' $((1500 - run)) > "$folder/runs/$(printf '%04d' "$run")"
     run=$((run + 1))
 done
 
 # One step of the interpreter, which is slow here: only the program as it is compiled with checks is judged.
-rt try --steps 1 --fail-alloc 1000 --cases "$folder/runs" > "$folder/log" 2>&1 || true
+rt try --steps 1 --fail-alloc 1500 --cases "$folder/runs" > "$folder/log" 2>&1 || true
 
 awk -v calls="$calls" -v runs="$runs" '
     { text = text $0 "\n" }
