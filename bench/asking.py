@@ -24,7 +24,8 @@ from typing import Callable, Dict, List, Protocol, Tuple, Union
 from hands import INITIAL, Change, Hands, Way, hand, moves_of, program, random_game, updates
 
 from live.device.asking import QUIET, Asking  # noqa: E402  (hands has put its folder on the path)
-from live.device.protocol import DUMP_REQUEST, START_REQUEST, FrameKind, Frames, dump  # noqa: E402
+from live.device.protocol import DUMP_REQUEST, START_REQUEST, FrameKind, Frames  # noqa: E402
+from recovering.frames import dump  # noqa: E402
 
 RATE = 960  # bytes a second
 PLIES = 40

@@ -32,8 +32,9 @@ from hands import EMPTY, PROGRAM, Game, lognormal
 
 from live.game.doubts import Doubts  # noqa: E402  (hands has put its folder on the path)
 from live.game.looks import Look  # noqa: E402
-from live.device.protocol import LETTERS, UPDATE_ID, Picture, dump  # noqa: E402
+from live.device.protocol import LETTERS, UPDATE_ID, Picture  # noqa: E402
 from live.game.report import Agrees, Differs, Move, line_of  # noqa: E402
+from recovering.frames import dump  # noqa: E402
 
 PACES = (0.3, 1.0, 2.0, 5.0, 15.0, 60.0)  # seconds to think, the median
 SPREAD = 0.8

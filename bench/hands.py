@@ -14,10 +14,9 @@ from typing import Callable, List, Sequence, Tuple
 
 BENCH = pathlib.Path(__file__).resolve().parent
 sys.dont_write_bytecode = True
-sys.path[:0] = [str(BENCH), str(BENCH.parent)]
+sys.path[:0] = [str(BENCH), str(BENCH.parent), str(BENCH.parent / "tests")]
 import streams  # noqa: E402
-
-from live.device.protocol import dump  # noqa: E402
+from recovering.frames import dump  # noqa: E402
 
 Game = streams.Game
 INITIAL: List[int] = list(streams.INITIAL)

@@ -25,7 +25,8 @@ from typing import List, Sequence, Tuple
 
 from hands import EMPTY, INITIAL, KINGS, PROGRAM, lognormal, moves_of, program
 
-from live.device.protocol import UPDATE_ID, dump, picture_of_placement  # noqa: E402  (hands has put its folder on the path)
+from live.device.protocol import UPDATE_ID, picture_of_placement  # noqa: E402  (hands has put its folder on the path)
+from recovering.frames import dump  # noqa: E402
 
 GAMES = pathlib.Path(__file__).with_name("hurried_games.txt")
 THINKS = (2.0, 0.8)  # seconds, the median, and how far they spread

@@ -7,10 +7,11 @@ from typing import List, Optional, Protocol
 from live.board.disk import Disk
 from live.board.standing import Standing
 from live.device import protocol
+from live.device.protocol import DUMP_BEGINS
+from live.game.answers import dump_at_end
 from live.game.files import LARGEST
 from live.game.game import Game
 from live.game.program import Listing, Task
-from live.game.reading import DUMP_BEGINS
 from live.game.report import Picture, line_of
 from live.guard import Guard
 from live.loop import Timer
@@ -36,8 +37,8 @@ class HearsSettingUp(Protocol):
 class SettingUp:
     """Looks for the first picture of the start after an offset of a capture.
 
-    The next game's capture begins with a dump of the start, followed by all that came after the byte that completed the start.
-    So a first move that is made at once is in it.
+    The next game's capture begins with a dump of the start, as the program makes it of what was shown, followed by all that came
+    after the byte that completed the start. So a first move that is made at once is in it.
     """
 
     def __init__(self, guard: Guard, screen: Screen, game: Game, end: int, hears: HearsSettingUp) -> None:
@@ -104,8 +105,9 @@ class SettingUp:
     def _begins(self, offset: int) -> None:
         """The start is shown at this byte: the game begins with it."""
         self._watch.close()
-        after = self._game.capture.bytes(self._from + offset + 1)
-        if not self._hears.ready(protocol.dump(self._start, self._game.options.rotated) + after):
+        behind = self._from + offset + 1
+        start = dump_at_end(self._game.program, self._game.options, self._game.capture.bytes(self._from, behind))
+        if not self._hears.ready(start + self._game.capture.bytes(behind)):
             self._tries = self._guard.after(TICK, lambda: self._begin(self._end))
 
     def pause(self) -> None:

@@ -20,6 +20,7 @@ SERIAL_REQUEST = b"E"  # 45: the board's serial number
 
 DUMP_ID, UPDATE_ID, TIME_ID, SERIAL_ID = 0x86, 0x8E, 0x8D, 0x91
 SIZES = {DUMP_ID: 67, UPDATE_ID: 5, TIME_ID: 10}
+DUMP_BEGINS = bytes((DUMP_ID, 0, SIZES[DUMP_ID]))  # wherever they are: only a frame's first byte has its top bit set
 HEADER = 3  # bytes of a frame before its data
 HIGHEST_CODE, HIGHEST_FIELD = 15, 63
 SERIAL_LENGTH = 5  # characters of a serial number
@@ -127,14 +128,8 @@ def _begins(frame: bytearray) -> bool:
     return identifier != UPDATE_ID or last <= HIGHEST_FIELD
 
 
-def dump(picture: Picture, rotated: bool) -> bytes:
-    """The dump of a board that shows this picture. It goes by field; field n of a rotated board is square 63 - n."""
-    size = SIZES[DUMP_ID]
-    return bytes((DUMP_ID, size // 128, size % 128)) + bytes(reversed(picture) if rotated else picture)
-
-
 def picture_of_dump(frame: bytes, rotated: bool) -> Picture:
-    """The picture that a whole dump shows."""
+    """The picture that a whole dump shows. It goes by field; field n of a rotated board is square 63 - n."""
     return tuple(reversed(frame[HEADER:]) if rotated else frame[HEADER:])
 
 

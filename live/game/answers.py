@@ -6,6 +6,7 @@ import re
 from dataclasses import dataclass
 from typing import List, Optional, Sequence, Tuple
 
+from live.device.protocol import DUMP_BEGINS, DUMP_ID, SIZES
 from live.game.options import RECOVER, Options
 from live.game.program import Program, ending_of
 from live.game.typed import WAYS, Refused
@@ -14,6 +15,7 @@ SLOWEST = 60.0  # seconds that a call may take
 TOO_LONG = "input: too long"
 MOVES, RESULT = "moves", "result"  # the kinds of what is added
 NOTHING, MIXED, ILLEGAL, MEANT, UNKNOWN, ENDED, BOARD, LONG = "nothing", "mixed", "illegal", "meant", "unknown", "ended", "board", "long"
+NO_PLIES = "0"
 NUMBERED = re.compile(r"\d+\s+[A-Za-z*]", re.ASCII)  # a line that begins as in a round
 NUMBER = re.compile(r"\d+\.+", re.ASCII)  # of a move
 
@@ -51,6 +53,16 @@ def add(program: Program, options: Options, sent: bytes, line: str) -> Said:
 def go_back(program: Program, options: Options, sent: bytes, to: str) -> Said:
     """What it answers if the game of these bytes is to go back so far. Raises OSError if it fails."""
     return _asked(program, options, sent, "back", f"--to={to}")
+
+
+def dump_at_end(program: Program, options: Options, sent: bytes) -> bytes:
+    """The dump of the board as it stands behind these bytes: it ends the capture of a game without plies. Raises OSError if the
+    program fails."""
+    said = go_back(program, options, sent, NO_PLIES)
+    begins = said.put.rfind(DUMP_BEGINS)
+    if begins < 0:
+        raise OSError(f"back: {said.kind}")
+    return said.put[begins : begins + SIZES[DUMP_ID]]
 
 
 def _asked(program: Program, options: Options, sent: bytes, command: str, word: str) -> Said:

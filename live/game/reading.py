@@ -12,6 +12,7 @@ from dataclasses import dataclass
 from typing import Iterator, List, Optional, Sequence
 
 from live.device import protocol
+from live.device.protocol import DUMP_BEGINS
 from live.game.course import Course
 from live.game.ending import ONE_MOVE
 from live.game.game import Game
@@ -20,8 +21,6 @@ from live.game.options import Options
 from live.game.program import CHUNK, Program, ending_of
 from live.game.report import Agrees, Clock, Differs, Picture, event_of, line_of
 from live.game.whole import Pair, Places, pairs_in
-
-DUMP_BEGINS = b"\x86\x00\x43"  # such bytes begin a dump wherever they are, since only a frame's first byte has its top bit set
 
 
 @dataclass(frozen=True)

@@ -11,7 +11,6 @@ from live.game.report import Move
 from live.game.typed import WHICH_PLY, Refused, numbered
 
 ALL = "*"  # all plies stay, and only a result goes
-NONE = "0"
 PLIES, NEAREST, NO_PLY, MOVED, ENDED, SIGNED, BOARD, UNSEEN = "plies", "nearest", "none", "moved", "ended", "signed", "board", "unseen"
 STILL_SHOWN = (MOVED, SIGNED, BOARD, UNSEEN)  # it can't be as long as the board stands as it does
 NO_RESULT = "*"

@@ -6,13 +6,14 @@ import pathlib
 import subprocess
 from typing import List, Optional, Sequence, Tuple
 
-from live.device.protocol import SQUARES, dump, picture_of_placement
-from live.game.answers import BOARD, ENDED, RESULT, add
+from live.device.protocol import SQUARES, picture_of_placement
+from live.game.answers import BOARD, ENDED, RESULT, add, dump_at_end
 from live.game.options import Options
 from live.game.program import Program
 
 from decided.cases import bytes_of, cases
 from decided.table import same
+from recovering.frames import dump
 
 PROGRAM = os.environ.get("PROGRAM") or str(pathlib.Path(__file__).resolve().parents[2] / "bin" / "dgt_replay")
 
@@ -47,7 +48,7 @@ def results() -> None:
         for word in squares.split():
             codes[SQUARES.index(word[:2])] = ".PRNBKQprnbkq*".index(word[2])
         for rotated in (False, True):
-            sign = dump(tuple(codes), rotated)
+            sign = dump(codes, rotated)
             put = asked(outcome, fen, options=["--rotated"] if rotated else [])[2]
             same(f"{outcome} over {fen}, {rotated}", put[: len(sign)], sign)
 
@@ -60,6 +61,18 @@ def bytes_to_add() -> None:
         same(name, asked(line, sent=bytes_of(shown)), (1, BOARD, b""))
 
 
+def dumps() -> None:
+    """The dump of the board as it stands, which ends a capture without plies."""
+    for name, placement, rotated, first, part in cases("lines", "dumps"):
+        expected, sent = bytes_of(part), dump(picture_of_placement(placement), rotated)
+        made = dump_at_end(Program(PROGRAM), Options(rotated=rotated, fen=f"{placement} w - - 0 1"), dump(EMPTY, rotated) + sent)
+        same(name, made[first : first + len(expected)], expected)
+        updates = b"".join(bytes((0x8E, 0, 5, field, code)) for field, code in enumerate(sent[3:]))
+        made = dump_at_end(Program(PROGRAM), Options(rotated=rotated), dump(EMPTY, rotated) + updates)
+        same(f"{name}, by updates", made[first : first + len(expected)], expected)
+
+
+EMPTY = [0] * 64
 HAND = " r1bqkbnr/pppp1ppp/2n5/1B2p3/4P3/5N2/PPPP1PPP/RNBQ3R"  # a king is lifted
 
 
@@ -97,4 +110,4 @@ def through_the_host() -> None:
     same("another letter", (said.kind, said.words, said.put), ("meant", ("0", "nf3", "Nf3"), b""))
 
 
-TABLES = [lines, results, bytes_to_add, back, through_the_host]
+TABLES = [lines, results, bytes_to_add, dumps, back, through_the_host]

@@ -3,7 +3,7 @@
 from typing import List
 
 from live.device.protocol import DUMP_REQUEST, START_REQUEST, FrameKind, Frames
-from live.device.protocol import differing, dump, picture_of_placement, serial_of
+from live.device.protocol import differing, picture_of_placement, serial_of
 
 from decided.cases import bytes_of, cases
 from decided.table import refused, same
@@ -42,12 +42,9 @@ def whole_frames() -> None:
 
 
 def pictures() -> None:
-    """The codes of a placement, and the frame of a picture on a board that lies either way."""
+    """The codes of a placement."""
     for name, text, first, codes in cases("protocol", "placements"):
         same(name, list(picture_of_placement(text)[first : first + len(codes)]), codes)
-    for name, placement, rotated, first, part in cases("protocol", "dumps"):
-        expected = bytes_of(part)
-        same(name, dump(picture_of_placement(placement), rotated)[first : first + len(expected)], expected)
     for one, other, squares in cases("protocol", "differing"):
         same("differing", differing(picture_of_placement(one), picture_of_placement(other)), squares)
     for text in cases("protocol", "no placements"):

@@ -3,15 +3,16 @@
 import math
 from typing import Any, Dict, Optional
 
-from live.device.protocol import dump, picture_of_dump, picture_of_placement
+from live.device.protocol import picture_of_dump, picture_of_placement
 from live.terminal.screen import PROMPT, Screen
 from live.game.report import Event, event_of
 from live.board.state import DISK_FULL, TURNED_ROUND, BoardState, Kind, State, lasting, turned_round
 
-from decided.cases import cases
+from decided.cases import bytes_of, cases
 from decided.table import same
 
-AFTER_E4 = picture_of_placement("rnbqkbnr/pppppppp/8/8/4P3/8/PPPP1PPP/RNBQKBNR")
+E4 = "rnbqkbnr/pppppppp/8/8/4P3/8/PPPP1PPP/RNBQKBNR"
+AFTER_E4 = picture_of_placement(E4)
 
 
 def event_of_line(line: str) -> Optional[Event]:
@@ -95,7 +96,7 @@ def hints() -> None:
         same(name, (state.text(1), state.is_alarm), (text, is_alarm))
     for name, shown, start, expected in cases("state", "turned round"):
         same(name, turned_round(picture_of_placement(shown), picture_of_placement(start)), expected)
-    same("a dump's picture", picture_of_dump(dump(AFTER_E4, True), True), AFTER_E4)
+    same("a dump's picture", picture_of_dump(bytes_of(f"rotated:{E4}"), True), AFTER_E4)
     alarms = [kind.name for kind in Kind if kind.value.isupper()]
     same("kinds that are alarms", alarms, ["WRONG", "NO_START", "SILENT", "UNPLUGGED"])
 

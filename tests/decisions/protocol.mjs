@@ -2,7 +2,7 @@
 import * as protocol from "/web/device/protocol.js";
 import { bytesOf, lettersOf } from "./table.mjs";
 
-const { Frames, differing, dump, pictureOfPlacement, serialOf } = protocol;
+const { Frames, differing, pictureOfPlacement, serialOf } = protocol;
 
 export function serials(counts, cases) {
   for (const [text, expected] of cases("serials")) {
@@ -25,10 +25,6 @@ export function streams(counts, cases) {
 export function pictures(counts, cases) {
   for (const [name, text, first, codes] of cases("placements")) {
     counts.same(name, Array.from(pictureOfPlacement(text)).slice(first, first + codes.length), codes);
-  }
-  for (const [name, placement, rotated, first, part] of cases("dumps")) {
-    const expected = bytesOf(part);
-    counts.same(name, dump(pictureOfPlacement(placement), rotated).slice(first, first + expected.length), expected);
   }
   for (const [one, other, squares] of cases("differing")) {
     counts.same("differing", differing(pictureOfPlacement(one), pictureOfPlacement(other)), squares);

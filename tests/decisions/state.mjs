@@ -1,8 +1,9 @@
 /** The state of a board: what happens when, and what an arbiter reads at which time. */
 import { BoardState, Kind, lasting, turnedRound } from "/web/board/state.js";
 import * as states from "/web/board/state.js";
-import { dump, pictureOfDump, pictureOfPlacement } from "/web/device/protocol.js";
+import { pictureOfDump, pictureOfPlacement } from "/web/device/protocol.js";
 import { eventOf } from "/web/game/report.js";
+import { bytesOf } from "./table.mjs";
 
 const SHOWS = "shows ";
 
@@ -80,7 +81,7 @@ export function hints(counts, cases) {
   for (const [name, shown, start, expected] of cases("turned round")) {
     counts.same(name, turnedRound(pictureOfPlacement(shown), pictureOfPlacement(start)), expected);
     const picture = pictureOfPlacement(shown);
-    counts.same(`a dump's picture, ${name}`, pictureOfDump(dump(picture, true), true), picture);
+    counts.same(`a dump's picture, ${name}`, pictureOfDump(bytesOf(`rotated:${shown}`), true), picture);
   }
   const alarms = Object.values(Kind).filter((kind) => kind === kind.toUpperCase());
   counts.same("kinds that are alarms", alarms, ["WRONG", "NO START", "SILENT", "UNPLUGGED"]);

@@ -13,7 +13,8 @@ import re
 from dataclasses import dataclass
 from typing import List, Tuple
 
-from live.device.protocol import SQUARES, TIME_ID, UPDATE_ID, dump, picture_of_placement
+from live.device.protocol import SQUARES, TIME_ID, UPDATE_ID, picture_of_placement
+from recovering.frames import dump
 from recovering.rules import CODES, INITIAL
 
 START = INITIAL.split(" ")[0]

@@ -8,7 +8,8 @@ from __future__ import annotations
 from dataclasses import dataclass, field, replace
 from typing import Iterator, List, Optional, Sequence, Tuple
 
-from live.device.protocol import HEADER, TIME_ID, FrameKind, Frames, Picture, dump
+from live.device.protocol import HEADER, TIME_ID, FrameKind, Frames, Picture
+from recovering.frames import dump
 from recovering.rules import BLACK, EMPTY, KING, Move, Position, is_white
 
 MOST_WAITING = 256  # pictures that are kept

@@ -12,7 +12,8 @@ from dataclasses import dataclass
 from typing import Iterator, List, Sequence, Tuple
 
 import hurried
-from live.device.protocol import UPDATE_ID, dump
+from live.device.protocol import UPDATE_ID
+from recovering.frames import dump
 from recovering.rules import BLACK, EMPTY, INITIAL, KING, Move, Picture, Position, is_black, is_white
 
 SLIDES = 0.25  # the share of moves along a line that are slid

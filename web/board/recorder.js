@@ -1,17 +1,18 @@
 // The games of one board while it is recorded. What came is kept first, then reported, and the PGN is made anew when
 // the game has changed.
 
-import { DUMP_ID, SIZES, STRAY, dump, joined, same } from '../device/protocol.js';
+import { STRAY, joined, lastDump, same } from '../device/protocol.js';
 import { AfterTheEnd } from '../game/after_the_end.js';
 import { Alarms, acknowledged } from '../game/alarms.js';
 import { endingWithSign, gameEnd } from '../game/ending.js';
 import { countingForfeit } from '../game/forfeits.js';
 import { textOfLook } from '../game/looks.js';
 import { dayOf } from '../game/names.js';
+import { ProgramError } from '../game/program.js';
 import { gameOf, newCourse } from '../game/reading.js';
 import { codesOf, shortOf, shownOf } from '../game/report.js';
 import { ABSENT, Refused } from '../game/typed.js';
-import { reached } from '../game/way_back.js';
+import { reached, readBack } from '../game/way_back.js';
 import { Capture, LARGEST } from '../kept/capture.js';
 import { spread, withMore } from '../kept/spread.js';
 import { Cable } from './cable.js';
@@ -25,6 +26,7 @@ const LATE = 1.0; // seconds by which a timer is late if the page was stopped me
 const SETTLES = 0.2; // seconds after which all lines of a byte have been heard
 const SURELY_SETTLES = 1.0; // the same, if a late line would be taken for another one
 const TICK = 1.0; // seconds between two looks at what waits
+const NO_PLIES = '0';
 const ROOM = 1 << 20; // bytes that are left for what `recover` adds: the program reads no more than LARGEST
 const SAID = [Kind.WRONG, Kind.NO_START]; // states that are reported as lines too
 const TOLD = ['move', 'result', 'differs', 'agrees'];
@@ -525,22 +527,26 @@ export class Recorder {
   async beginAnew() {
     await this.typing.exclusively(async () => {
       if (this.startAt === null) return;
-      const content = this.fromStart(this.startAt);
+      const content = await this.fromStart(this.startAt);
       this.game = { ...this.game, looks: [] };
       await this.renew(content, true);
       this.hears.says(`the pieces have been set up: ${this.game.name} begins now`);
     });
   }
 
-  fromStart(offset) {
-    return joined(dump(this.course.start, this.options.rotated), this.capture.bytes().slice(offset + 1));
+  /** A dump of the start, as the program makes it of what the board has shown up to this byte, and what came behind it. */
+  async fromStart(offset) {
+    const content = this.capture.bytes();
+    const { kind, put } = readBack(await this.arbiter.back(this.options, content.slice(0, offset + 1), NO_PLIES));
+    if (!put) throw new ProgramError(`back has refused the start: ${kind}`);
+    return joined(lastDump(put), content.slice(offset + 1));
   }
 
   /** The next game begins with the start, which the board has shown since this byte. */
   beginNext(offset) {
     return this.typing.exclusively(async () => {
       if (!this.isOver || this.starts[0] !== offset) return;
-      await this.begin(this.fromStart(offset), this.board.next || {});
+      await this.begin(await this.fromStart(offset), this.board.next || {});
       this.hears.says(`the pieces are at the start: ${this.game.name} begins`);
     });
   }
@@ -569,7 +575,7 @@ export class Recorder {
   async nextGame(given = {}, takesMove = false) {
     await this.typing.exclusively(async () => {
       if (!this.isOver && this.course.result !== '*') this.end(Reason.RESULT);
-      const dump = this.lastDump();
+      const dump = lastDump(this.capture.bytes());
       const { plies } = await gameOf(this.program, given.options || this.options, dump);
       if (plies.length > 0 && !takesMove) {
         this.awaitStart(given, shortOf(plies[0]));
@@ -592,17 +598,6 @@ export class Recorder {
   /** What the next game has, { options, name }, if it waits until the pieces are set up; else null. */
   get awaited() {
     return this.isOver ? this.board.next || null : null;
-  }
-
-  /** The last complete dump: without one no update would count. */
-  lastDump() {
-    const content = this.capture.bytes();
-    for (let at = content.length - SIZES[DUMP_ID]; at >= 0; at -= 1) {
-      const frame = content.slice(at, at + SIZES[DUMP_ID]);
-      const begins = frame[0] === DUMP_ID && frame[1] === 0 && frame[2] === SIZES[DUMP_ID];
-      if (begins && frame.slice(1).every((byte) => byte < 0x80)) return frame;
-    }
-    return new Uint8Array(0);
   }
 
   /** The next game begins with this. It has the same options, unless others are given. The game before it has ended so. */

@@ -81,13 +81,17 @@ export class Frames {
   }
 }
 
-/** The frame of a board that shows this picture: field by field; field n of a rotated board is square 63 - n. */
-export function dump(picture, rotated) {
-  const size = SIZES[DUMP_ID];
-  return Uint8Array.from([DUMP_ID, Math.floor(size / 128), size % 128, ...(rotated ? [...picture].reverse() : picture)]);
+/** The last complete dump in these bytes: without one no update counts. Empty if there is none. */
+export function lastDump(content) {
+  for (let at = content.length - SIZES[DUMP_ID]; at >= 0; at -= 1) {
+    const frame = content.slice(at, at + SIZES[DUMP_ID]);
+    const begins = frame[0] === DUMP_ID && frame[1] === 0 && frame[2] === SIZES[DUMP_ID];
+    if (begins && frame.slice(1).every((byte) => byte < 0x80)) return frame;
+  }
+  return new Uint8Array(0);
 }
 
-/** The picture that a complete dump shows. */
+/** The picture that a complete dump shows: field by field; field n of a rotated board is square 63 - n. */
 export function pictureOfDump(frame, rotated) {
   const fields = [...frame].slice(HEADER);
   return rotated ? fields.reverse() : fields;
