@@ -238,8 +238,8 @@ def full_site(folder: pathlib.Path) -> None:
     full.unlink()
     live = record()
     until_there("1. e4 e5 2. Nf3 *")
-    same([name for name in files_of(www) if name.endswith(".new")], [])
     same(stop(live), 0)
+    same([name for name in files_of(www) if name.endswith(".new")], [])
 
 
 def carried_away(folder: pathlib.Path) -> None:
