@@ -10,11 +10,11 @@ _dgt() {
         *,--first) words='white black' ;;
         *,--fen | *,--event | *,--site | *,--date | *,--round | *,--white | *,--black | *,--tag | *,--add | *,--back | *,--line | *,--to) return ;;
         *,--linger | *,--page | *,--page-host | *,--arbiter-page | *,--delay | *,--publish | *,--encoding | *,--embed) return ;;
-        dgt_live,*) words="--series --once --add --back --devices $game $tags $shown" ;;
+        dgt_live,*) words="--series --once --add --back --devices --pack $game $tags $shown" ;;
         dgt_round,*) words="--new --encoding --embed --web --event --site --date --round $shown" ;;
         dgt_replay,*)
             if [ "$COMP_CWORD" -eq 1 ]; then
-                words='record follow watch recover add back show pictures check moves positions help --help --version'
+                words='record follow watch recover add back show pictures check times moves positions help --help --version'
             else
                 case ${COMP_WORDS[1]} in
                     record) words="$game $tags --help" ;;

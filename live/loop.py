@@ -8,18 +8,19 @@ import functools
 import heapq
 import itertools
 import os
-import selectors
+import select
 import signal
 import socket
 import time
 from dataclasses import dataclass
-from typing import Callable, Deque, List, Optional, Protocol, Tuple
+from typing import Callable, Deque, Dict, List, Optional, Protocol, Tuple
 
 from live.time_away import LONGEST, Turn, time_away
 
 Callback = Callable[[], None]
 ENDING = (signal.SIGINT, signal.SIGTERM, signal.SIGHUP)
 PULSE = 1.0  # seconds after which the loop turns at the latest
+READS, WRITES = select.EPOLLIN, select.EPOLLOUT  # what else is reported, as that a line is gone, counts as both
 
 
 @dataclass
@@ -31,7 +32,7 @@ class Watch:
     is_over: bool = False  # whether the descriptor is watched for something else now, or for nothing
 
     def events(self) -> int:
-        return (selectors.EVENT_READ if self.readable else 0) | (selectors.EVENT_WRITE if self.writable else 0)
+        return (READS if self.readable else 0) | (WRITES if self.writable else 0)
 
 
 @dataclass
@@ -75,7 +76,8 @@ class Loop:
     """Calls what is ready, one after the other, until it is stopped. No call may wait for long."""
 
     def __init__(self) -> None:
-        self._selector = selectors.DefaultSelector()
+        self._epoll = select.epoll()
+        self._watches: Dict[int, Watch] = {}  # by their file descriptors
         self._timers: List[Tuple[float, int, Timer]] = []  # a heap: those for the same time are called in their order
         self._numbers = itertools.count()
         self._stopped = False
@@ -86,10 +88,7 @@ class Loop:
         self._wakes.setblocking(False)
         self.watch(self._woken.fileno(), self._call_soon)
 
-    @staticmethod
-    def now() -> float:
-        """The time of all timers; it never goes back."""
-        return time.monotonic()
+    now: Callable[[], float] = time.monotonic  # the time of all timers; it never goes back
 
     # Two clocks that nobody can set: one stands still while the computer sleeps, the other counts on.
     running = staticmethod(time.monotonic)
@@ -108,17 +107,18 @@ class Loop:
 
     def watch(self, number: int, readable: Optional[Callback] = None, writable: Optional[Callback] = None) -> None:
         """Calls these from now on for the file descriptor; none if both are None."""
-        watch = Watch(readable, writable)
-        before = self._selector.get_map().get(number)
-        if before is None:
-            if watch.events():
-                self._selector.register(number, watch.events(), watch)
-            return
+        watch, before = Watch(readable, writable), self._watches.pop(number, None)
+        if before:
+            before.is_over = True
         if watch.events():
-            self._selector.modify(number, watch.events(), watch)
-        else:
-            self._selector.unregister(number)
-        before.data.is_over = True
+            if before:
+                self._epoll.modify(number, watch.events())
+            else:
+                self._epoll.register(number, watch.events())
+            self._watches[number] = watch
+        elif before:
+            with contextlib.suppress(OSError):  # it is closed
+                self._epoll.unregister(number)
 
     def forget(self, number: int) -> None:
         """Call this before you close the file descriptor."""
@@ -160,9 +160,9 @@ class Loop:
         self._stopped = False
         while not self._stopped:
             for watch, events in self._ready():
-                if events & selectors.EVENT_READ:
+                if events & ~WRITES:
                     self._call(watch, watch.readable)
-                if events & selectors.EVENT_WRITE:
+                if events & ~READS:
                     self._call(watch, watch.writable)
             self._call_timers()
             if self._soon:  # and the loop couldn't be woken for it
@@ -178,7 +178,8 @@ class Loop:
         while self._timers and self._timers[0][2].cancelled:
             heapq.heappop(self._timers)
         wait = min(PULSE, max(0.0, self._timers[0][0] - self.now())) if self._timers else PULSE
-        ready = [(key.data, events) for key, events in self._selector.select(wait)]
+        found = self._epoll.poll(wait, len(self._watches))
+        ready = [(self._watches[number], events) for number, events in found if number in self._watches]
         self._turned(wait)
         return ready
 

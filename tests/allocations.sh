@@ -1,7 +1,7 @@
 #!/bin/sh
-# Fails each allocation of the calls in crates/test_allocations in turn. The program is built once, so that its 1,500th allocation
-# fails, and run once for each number: run n spends 1,500 less n of them first, so that the calls' nth is the one. Each run
-# must say that one call was refused, left all as it was and was granted when made again, up to the calls' last allocation. `add`
+# Fails each allocation of the calls in crates/test_allocations in turn. The program is built once, so that its 1,800th allocation
+# fails, and run once for each number: run n spends 1,800 less n of them first, so that the calls' nth is the one. Each run
+# ends with a call that was refused, left all as it was and was granted when made again, up to the calls' last allocation. `add`
 # does without some: there all calls are granted, and how many those are is known. The last runs meet no allocation, and no refusal.
 #
 # Prints each run that is broken, and last how many failing allocations were met well, and how many runs are broken:
@@ -16,8 +16,8 @@ if ! command -v rt > /dev/null; then
     exit
 fi
 cd crates/test_allocations
-calls=20
-runs=1450
+calls=21
+runs=1750
 spared=43
 folder=$(mktemp -d)
 trap 'rm -rf "$folder"' EXIT
@@ -25,29 +25,30 @@ trap 'rm -rf "$folder"' EXIT
 mkdir "$folder/runs"
 run=1
 while [ "$run" -le "$runs" ]; do
-    printf '%s' $((1500 - run)) > "$folder/runs/$(printf '%04d' "$run")"
+    printf '%s' $((1800 - run)) > "$folder/runs/$(printf '%04d' "$run")"
     run=$((run + 1))
 done
 
 # One step of the interpreter, which is slow here: only the program as it is compiled with checks is judged.
-rt try --steps 1 --fail-alloc 1500 --cases "$folder/runs" > "$folder/log" 2>&1 || true
+rt try --steps 1 --fail-alloc 1800 --cases "$folder/runs" > "$folder/log" 2>&1 || true
 
 awk -v calls="$calls" -v runs="$runs" -v spared="$spared" '
     { text = text $0 "\n" }
+    / (granted|refused|broken)$/ { ends = $NF }
     / granted$/ { granted++ }
-    / refused$/ { refused++ }
+    / broken$/ { broken++ }
     /^case=/ {
         seen++
-        all = granted + refused == calls && / run=ended status=0 /
-        if (all && refused == 1) {
+        well = !broken && / run=ended status=0 /
+        if (well && ends == "refused") {
             passed++
             last = seen
-        } else if (!(all && refused == 0)) {
+        } else if (!(well && granted == calls)) {
             failed++
             printf "%s", text
         }
-        granted = refused = 0
-        text = ""
+        granted = broken = 0
+        ends = text = ""
     }
     END {
         if (seen != runs) {

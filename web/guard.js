@@ -20,6 +20,10 @@ export class Guard {
     return this.loop.away();
   }
 
+  counted() {
+    return this.loop.counted();
+  }
+
   /** Calls it once, after this many seconds. */
   after(seconds, call) {
     return this.loop.after(seconds, () => this.call(call));

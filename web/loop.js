@@ -1,7 +1,7 @@
 // The time, and what is called later. A timer runs in a worker of its own: in a tab that nobody sees a browser lets
 // timers wait for up to a minute, and a board must be asked each second.
 
-import { timeAway } from './time_away.js';
+import { stoodStill, timeAway } from './time_away.js';
 
 const PULSE = 250; // milliseconds after which the loop turns at the latest
 const WAITS = `
@@ -19,6 +19,7 @@ export class Loop {
     this.worker.onmessage = ({ data }) => this.due(data);
     this.turn = this.clocks();
     this.wasAway = 0;
+    this.stoodStill = 0;
   }
 
   /** In seconds since 1970. It never goes back, whatever is done to the computer's clock. */
@@ -36,7 +37,14 @@ export class Loop {
     const before = this.turn;
     this.turn = this.clocks();
     this.wasAway += timeAway(before, this.turn, PULSE / 1000);
+    this.stoodStill += stoodStill(before, this.turn, PULSE / 1000);
     return this.wasAway;
+  }
+
+  /** In milliseconds, by a clock that nobody sets, and that counts on while the computer sleeps, as far as that is noticed. */
+  counted() {
+    this.away();
+    return Math.floor(1000 * (this.turn.running + this.stoodStill));
   }
 
   /** Calls it once, after this many seconds; `cancel` on what this returns takes that back. */

@@ -16,3 +16,11 @@ export function timeAway(before, now, waited) {
   const seconds = Math.max(now.running - before.running, now.counting - before.counting);
   return seconds - waited > LONGEST ? seconds : 0;
 }
+
+/**
+ * The seconds of that for which the first clock stood still: so much must be added to it, if it is to count on while the computer
+ * sleeps. A sleep that is no time away isn't noticed.
+ */
+export function stoodStill(before, now, waited) {
+  return Math.max(0, timeAway(before, now, waited) - (now.running - before.running));
+}

@@ -3,112 +3,89 @@
 from __future__ import annotations
 
 import functools
-from typing import Optional, Tuple
+from typing import Tuple
 
 from live.board.game_over import Listening
-from live.board.obeying import JUST_ENDED, Obeys
-from live.board.plan import HearsRecorder
+from live.board.obeying import JUST_ENDED, Obeying
 from live.board.recording import Recording
 from live.game import answers
 from live.game.answers import ILLEGAL, LONG, Said, meaning, whose_move
 from live.game.changing import add_and_make, add_by_name
 from live.game.course import Course
 from live.game.files import Paths
-from live.game.game import Game, end_mark
-from live.game.made_anew import forget_question
+from live.game.game import Game, end_mark, forget_question
 from live.game.reading import game_of
-from live.game.typed import Answer, Refused
+from live.game.reply import Answer, Refused
 from live.refused import DONE
-from live.steps import Resume, Steps
-from live.terminal.screen import Screen
+from live.steps import Steps
 
 ADDED = "added"
 
 
-class Adds(Obeys):
-    """What a recorder does with moves and results."""
+def add(obeying: Obeying, line: str, sure: bool) -> Steps[Answer]:
+    """Adds to the game. Unless it is `sure` which game of a series is meant, a result needs a move before it."""
+    games = obeying.games
+    if not isinstance(games.now, Recording):
+        return (yield from _add_last(obeying, line))
+    said = yield from obeying.asked(ADDED, functools.partial(_said_of, games.game, line))
+    now, had = obeying.recorded(ADDED), games.course.result
+    if said.outcome and games.before and not sure and not games.course.plies:
+        name = games.game.paths.name
+        raise Refused(f"{name} has no move yet. Type {said.outcome} {games.before.name}, or {said.outcome} {name}")
+    if not said.put or not games.game.capture.has_room(len(said.put)):
+        raise _refusal(games.game, games.course, said, line)
+    now.put(said.put, said.outcome)
+    yield from obeying.on_the_disk()
+    if not (yield from now.reports_put()):
+        raise Refused(JUST_ENDED)
+    forget_question(games.game.paths)
+    what = meaning(said, line)
+    if not said.outcome and had != "*":
+        what += f"; the result {had} is gone: add it again"
+    obeying.screen.say(f"added by hand: {what}")
+    if said.outcome:
+        now.ends_with_put()
+        yield games.wait_until_closed
+    return DONE, f"added to {games.game.paths.name}: {what}"
 
-    course: Course
-    _screen: Screen
-    _hears: HearsRecorder
-    _before: Optional[Paths]
 
-    def _wait_until_closed(self, resume: Resume) -> None:
-        raise NotImplementedError
+def _refusal(game: Game, course: Course, said: Said, line: str) -> Refused:
+    """Why nothing is added to the recorded game."""
+    if said.put:
+        return answers.refuse(Said(LONG), line, "")
+    if said.kind != ILLEGAL:
+        return answers.refuse(said, line, "")
+    played = [ply.san for ply in course.plies]
+    return answers.refuse(said, line, whose_move(game.options.fen, played, line, int(said.words[0])))
 
-    def _await_moves(self) -> None:
-        raise NotImplementedError
 
-    def _lingers(self) -> None:
-        raise NotImplementedError
+def add_before(obeying: Obeying, paths: Paths, text: str) -> Steps[Answer]:
+    """Adds to the game before this one."""
+    program = obeying.games.game.program
+    status, answer = yield from obeying.beside(functools.partial(add_by_name, program, paths, text, 0))
+    if status == DONE:
+        obeying.screen.say(answer.replace("added to", "added by hand to", 1))
+    return status, answer
 
-    def _look_for_start(self, end: int) -> None:
-        raise NotImplementedError
 
-    def _add(self, line: str, sure: bool) -> Steps[Answer]:
-        """Adds to the game. Unless it is `sure` which game of a series is meant, a result needs a move before it."""
-        if not isinstance(self._now, Recording):
-            return (yield from self._add_last(line))
-        said = yield from self._asked(ADDED, functools.partial(_said_of, self.game, line))
-        now, had = self._recorded(ADDED), self.course.result
-        if said.outcome and self._before and not sure and not self.course.plies:
-            name = self.game.paths.name
-            raise Refused(f"{name} has no move yet. Type {said.outcome} {self._before.name}, or {said.outcome} {name}")
-        if not said.put or not self.game.capture.has_room(len(said.put)):
-            raise self._refusal(said, line)
-        now.put(said.put, said.outcome)
-        yield from self._on_the_disk()
-        if not (yield from now.reports_put()):
-            raise Refused(JUST_ENDED)
-        forget_question(self.game.paths)
-        what = meaning(said, line)
-        if not said.outcome and had != "*":
-            what += f"; the result {had} is gone: add it again"
-        self._screen.say(f"added by hand: {what}")
-        if said.outcome:
-            now.ends_with_put()
-            yield self._wait_until_closed
-        return DONE, f"added to {self.game.paths.name}: {what}"
-
-    def _refusal(self, said: Said, line: str) -> Refused:
-        """Why nothing is added to the recorded game."""
-        if said.put:
-            return answers.refuse(Said(LONG), line, "")
-        if said.kind != ILLEGAL:
-            return answers.refuse(said, line, "")
-        played = [ply.san for ply in self.course.plies]
-        return answers.refuse(said, line, whose_move(self.game.options.fen, played, line, int(said.words[0])))
-
-    def _add_before(self, paths: Paths, text: str) -> Steps[Answer]:
-        """Adds to the game before this one."""
-        status, answer = yield from self._beside(functools.partial(add_by_name, self.game.program, paths, text, 0))
-        if status == DONE:
-            self._screen.say(answer.replace("added to", "added by hand to", 1))
-        return status, answer
-
-    def _add_last(self, line: str) -> Steps[Answer]:
-        """Adds to the game that is over while its board is watched, or while the pieces are set up."""
-        now, name = self._now, self.game.paths.name
-        what, outcome, course = yield from self._changed(ADDED, functools.partial(_added, self.game, line))
-        self._screen.say(f"added by hand to {name}: {what}")
-        if isinstance(now, Listening):
-            self._hears.placed()
-            self._goes_on_watching(now, outcome, course)
-        elif now:
-            now.close()
-            self._look_for_start(self._end())
-        return DONE, f"added to {name}: {what}"
-
-    def _goes_on_watching(self, listening: Listening, outcome: str, course: Course) -> None:
-        """The board of a game that is over is watched further: for moves after its result, or after its new last move."""
-        if outcome:
-            listening.ends_with(outcome)
-            listening.go_on()
-            self._lingers()
-        else:
-            listening.close()
-            self.course = course
-            self._await_moves()
+def _add_last(obeying: Obeying, line: str) -> Steps[Answer]:
+    """Adds to the game that is over while its board is watched, or while the pieces are set up."""
+    games = obeying.games
+    now, name = games.now, games.game.paths.name
+    what, outcome, course = yield from obeying.changed(ADDED, functools.partial(_added, games.game, line))
+    obeying.screen.say(f"added by hand to {name}: {what}")
+    if isinstance(now, Listening):
+        obeying.hears.placed()
+    if isinstance(now, Listening) and outcome:  # it is watched for moves after its result
+        now.ends_with(outcome)
+        now.go_on()
+        games.linger()
+    elif now:
+        now.close()
+        if isinstance(now, Listening):  # or after its new last move
+            games.course = course
+        games.watch_on()
+    return DONE, f"added to {name}: {what}"
 
 
 def _said_of(game: Game, line: str, sent: bytes) -> Said:

@@ -19,20 +19,20 @@ from live.board.typed_lines import Line, TypedLines
 from live.board.whose import Owner
 from live.game import files
 from live.game.alarms import kept_looks
-from live.game.changing import add_by_name
 from live.game.course import Course
 from live.game.forfeiting import forfeit_of
 from live.game.files import Paths
 from live.game.game import kept_serial, result_of
+from live.game.log import Log, log_once
 from live.game.looks import Looks
 from live.game.names import today
 from live.game.opening import Opened, Opening
 from live.game.options import Options
 from live.game.program import Program
 from live.game.reading import new_course
+from live.game.reply import Answer, reason_of, refusal
+from live.game.reply import Refused as NotDone
 from live.game.report import Clock, Move
-from live.game.typed import Answer, reason_of, refusal
-from live.game.typed import Refused as NotDone
 from live.guard import Guard, traced
 from live.loop import Timer, Turns
 from live.refused import DONE, FAILED, Refused
@@ -120,7 +120,13 @@ class Board:
         worker = Worker(guard)
         guard.opened(worker.close)
         opening = wanted.opening()
-        guard.opened(opening.drop)
+
+        def drop() -> None:
+            opening.drop()
+            for text in opening.untold:
+                self._screen.say(text)
+
+        guard.opened(drop)
         now = self._loop.now()
         asked: List[AskedFirst] = []
 
@@ -131,6 +137,7 @@ class Board:
             close = guard.opened(found.game.capture.close)
             opening.take()
             self._opened(guard, worker, wanted.plan, dataclasses.replace(found, close=close), asked[0] if asked else None)
+            opening.untold = ()  # it has been said
 
         if not wanted.plan.shows:
             opening.held = lambda: guard.soon(held)
@@ -143,7 +150,7 @@ class Board:
         self._paths, self._options, self.course = opened.game.paths, opened.game.options, opened.old.course
         self._read_pgn()
         guard.opened(lambda: self._screen.keep(None))
-        self._screen.keep(files.Log(self._paths.log))
+        self._screen.keep(Log(self._paths.log))
         for line in opened.told:
             self._screen.say(line)
         anew = (*opened.read_anew, *opened.results)
@@ -313,7 +320,8 @@ class Board:
             return refusal(text, NotDone(BEING_OPENED))
         if recorder is None:
             return (yield from self._add_to_closed(text))
-        return (yield from (recorder.typed(text) if is_typed else recorder.add(text)))
+        arbiter = yield from recorder.arbiter()
+        return (yield from (arbiter.typed(text) if is_typed else arbiter.add(text)))
 
     def _refuses(self, text: str, error: Exception) -> Answer:
         """The answer to a line that raised an error: it ends nothing."""
@@ -324,7 +332,7 @@ class Board:
         """Adds to a game that isn't recorded now, and reads its new state."""
         worker, self._is_changed = Worker(self._loop), True
         try:
-            answer = yield from beside(worker, functools.partial(add_by_name, self._program, self.paths, text, 0))
+            answer = yield from beside(worker, functools.partial(_add_by_name, self._program, self.paths, text))
         finally:
             worker.close()
             self._is_changed = False
@@ -340,7 +348,7 @@ class Board:
         if isinstance(error, Refused):
             return
         try:
-            files.log_once(self.paths, *traced(error).split("\n"))
+            log_once(self.paths, *traced(error).split("\n"))
         except Exception as another:
             for one in (error, another):
                 self._screen.say(f"{type(one).__name__}: {one}")
@@ -447,3 +455,9 @@ class Board:
         with contextlib.suppress(OSError):
             self.pgn = files.existing(self.paths.pgn) if written is None else written
         self.forfeit = forfeit_of(self.paths, self.pgn)
+
+
+def _add_by_name(program: Program, paths: Paths, text: str) -> Answer:
+    from live.game.changing import add_by_name  # beside the loop
+
+    return add_by_name(program, paths, text, 0)

@@ -83,7 +83,8 @@ class Cable:
     @property
     def lacks(self) -> str:
         """The serial number of the game's board, if that isn't on this cable; else empty."""
-        return self._whose.own if self._unplugged or self._whose.is_other else ""
+        own = self._whose.own
+        return own if own and (self._unplugged or self._whose.is_other) else ""
 
     @property
     def holds(self) -> str:

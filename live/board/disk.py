@@ -6,8 +6,10 @@ import os
 from typing import Protocol
 
 from live.board.standing import Standing
-from live.board.state import DISK_FULL
-from live.game.files import Capture, folder_of, text_of
+from live.board.state import DISK_FULL, mend_of, trouble_of
+from live.game.files import Capture, folder_of, text_of, unwritten
+from live.game.game import Game
+from live.game.making_pgn import Made
 from live.terminal.screen import Screen
 
 
@@ -27,6 +29,7 @@ class Disk:
     def __init__(self, screen: Screen, standing: Standing, capture: Capture, hears: HearsDisk) -> None:
         self._screen, self._standing, self._capture, self._hears = screen, standing, capture, hears
         self._not_restored = ""
+        self._told = ""  # why the capture can't be written, as it was reported
 
     def append(self, sent: bytes) -> None:
         """Appends what the board has sent or somebody has added."""
@@ -34,24 +37,26 @@ class Disk:
         self._capture.append(sent)
         self.look()
         if self._capture.lost and not lost and not self._capture.at_limit:
-            self._screen.say("the disk has been full for too long: what comes now is lost, up to a dump after there is room")
+            path = self._capture.path
+            self._screen.say(f"{path} couldn't be written for too long: what comes now is lost, up to a dump after it can be")
 
     def try_again(self) -> None:
         """Tries again what has failed. Call this each second."""
         self.restore()
-        if self._capture.full:
+        if self._capture.waits:
             self._capture.write()
         self.look()
 
     def look(self) -> None:
         """Reports changes."""
-        before = self._standing.trouble
-        trouble = DISK_FULL if self._capture.full else self._hears.text_trouble()
-        if trouble == before:
+        before, why, full = self._standing.trouble, self._capture.trouble, self._capture.full
+        trouble = trouble_of(full) if self._capture.waits else self._hears.text_trouble()
+        if trouble == before and why == self._told:
             return
-        if self._capture.full:
+        self._told = why
+        if self._capture.waits:
             self._screen.say(
-                f"DISK FULL: {self._capture.path} can't be written ({self._capture.trouble}). Make room:",
+                f"{trouble}: {self._capture.path} can't be written ({why}). {mend_of(full)}:",
                 "what comes is kept in memory, and is tried again each second",
             )
         elif not trouble:
@@ -75,3 +80,10 @@ class Disk:
         self._screen.say(f"{path} was removed: it is written anew, whole")
         self._hears.restored()
         return True
+
+
+def unwritten_of(game: Game, made: Made) -> str:
+    """That the capture or the text of a game can't be written, and why; empty if both are."""
+    if game.capture.waits:
+        return unwritten(game.capture.path, game.capture.trouble, game.capture.full)
+    return made.told(game.paths.pgn) if made.trouble else ""

@@ -6,7 +6,6 @@ import os
 from typing import Callable, Dict, FrozenSet, Optional, Protocol, Sequence, Set, Tuple
 
 from live.beside import Worker
-from live.device.numbers import ask
 from live.device.serial_line import devices
 from live.guard import traced
 from live.loop import Turns
@@ -37,6 +36,8 @@ def on_free_devices(used: Set[str], asked: FrozenSet[str]) -> Found:
     free = {device: name or device for device, name in devices() if device not in used}
     if not free or asked == frozenset(free):
         return frozenset(free), {}
+    from live.device.numbers import ask  # few boards are missing
+
     return frozenset(free), {number: free[device] for device, number in ask(list(free)).numbers.items()}
 
 

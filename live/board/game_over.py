@@ -3,8 +3,9 @@ the kings may have been in the centre by mistake. What it sends is kept after th
 
 from __future__ import annotations
 
-from typing import List, Protocol
+from typing import List, Optional, Protocol
 
+from live.board.standing import Standing
 from live.game.after_the_end import AfterTheEnd
 from live.game.alarms import keep_looks, kept_looks
 from live.game.course import Course
@@ -57,6 +58,8 @@ class Heard:
 class Listening:
     """Reports moves that are made after the end of a game."""
 
+    standing: Optional[Standing] = None  # its board may stand as it likes
+
     def __init__(self, guard: Guard, screen: Screen, game: Game, course: Course, hears: HearsListening) -> None:
         self._guard, self._screen, self._game, self._hears = guard, screen, game, hears
         self.looks = kept_looks(game.paths)
@@ -86,6 +89,7 @@ class Listening:
         self._tick = self._guard.after(TICK, self._each_second)
         if not self._is_paused:
             self._game.capture.write()
+            self._game.times.wake()
         self._watch.wake()
         self._watch.feed()
 
@@ -124,8 +128,8 @@ class Listening:
         """Another result was typed."""
         self._after.result = result
 
-    def acknowledged(self) -> None:
-        """Somebody has acknowledged the alarms."""
+    def look_again(self) -> None:
+        """The alarms that are kept have changed."""
         self.looks = kept_looks(self._game.paths)
 
     def says(self, text: str) -> None:

@@ -1,4 +1,4 @@
-"""What a recorder needs to obey a typed line while its board plays on.
+"""How a typed line is obeyed while its board plays on: what it needs of the board's games, and the steps that all lines have in common.
 
 The program answers beside the loop, and what the board sends is kept and recorded meanwhile. If the capture has grown by then, the
 program is asked again, since its answer holds for the bytes that it has read. At the last try, and while files are put in place,
@@ -10,18 +10,22 @@ from __future__ import annotations
 import contextlib
 import functools
 import os
-from typing import Callable, List, Optional, TypeVar, Union
+from typing import Callable, Optional, Protocol, TypeVar, Union
 
 from live.beside import Worker
-from live.board.cable import Cable, Heard, keep
 from live.board.game_over import Listening
-from live.board.recording import Reason, Recording
+from live.board.plan import HearsRecorder, Plan
+from live.board.recording import Recording
 from live.board.setting_up import SettingUp
-from live.game.files import open_regular, part_of
-from live.game.game import Game, end_mark
-from live.game.typed import Refused
+from live.board.state import mend_of
+from live.game.course import Course
+from live.game.files import Paths, open_regular, part_of
+from live.game.game import Game
+from live.game.opening import Opened
+from live.game.reply import Answer, Refused
 from live.guard import Guard
-from live.steps import Steps, beside
+from live.steps import Resume, Steps, beside
+from live.terminal.screen import Screen
 
 TRIES = 3  # calls before what the board sends is held
 JUST_ENDED = "the game is just being ended. Type it again"
@@ -29,115 +33,121 @@ Answered = TypeVar("Answered")
 Result = TypeVar("Result")
 
 
-class Obeys:
-    """The steps that all typed lines have in common."""
+class Games(Protocol):
+    """The games of one board, as far as typed lines see and change them."""
 
     game: Game
-    _guard: Guard
-    _worker: Worker
-    _cable: Cable
-    _now: Union[Recording, SettingUp, Listening, None]
-    _reason: Optional[Reason]
-    _closing: bool
-    _begins_anew: bool
-    _held: Optional[List[Heard]]  # what the board has sent, if it is held
-    _ends_later: bool  # whether to end once nothing is held any more
+    course: Course
 
-    def heard(self, heard: Heard) -> None:
-        """The board has sent this."""
-        raise NotImplementedError
+    @property
+    def before(self) -> Optional[Paths]:
+        """The game before this one, in this call."""
 
-    def end(self) -> None:
-        """Ends everything in order."""
-        raise NotImplementedError
+    @property
+    def now(self) -> Union[Recording, SettingUp, Listening, None]:
+        """What takes the board's bytes."""
+
+    @property
+    def is_closing(self) -> bool:
+        """Whether the recorded game is just being ended."""
+
+    @property
+    def begins_anew(self) -> bool:
+        """Whether the start on the board begins this game, and not the next one."""
+
+    def hold(self) -> None:
+        """From now on what the board sends is held, until the line is answered."""
+
+    def let_go(self) -> None:
+        """What was held is recorded. Nothing more is held."""
 
     def restored(self) -> None:
         """The capture is another file now."""
-        raise NotImplementedError
 
-    def _go_on_listening(self) -> None:
+    def asks(self, put: bytes) -> None:
+        """These bytes are in the capture now, and may have cut a frame: the board is asked for a dump."""
+
+    def record_anew(self, opened: Opened) -> None:
+        """The game is recorded, from its new capture. Nothing of it is reported again."""
+
+    def watch_on(self) -> None:
         """The game is over, and its board is watched as before."""
-        raise NotImplementedError
 
-    def _beside(self, job: Callable[[], Result]) -> Steps[Result]:
+    def linger(self) -> None:
+        """The game has a typed result: a recording that ends with it ends soon, unless the result is taken off."""
+
+    def wait_until_closed(self, resume: Resume) -> None:
+        """The game has ended, and the next typed line finds it closed."""
+
+    def acknowledge(self, before: Optional[Paths]) -> Answer:
+        """Acknowledges the alarms of this game, or of the one before it."""
+
+    def end(self) -> None:
+        """Ends everything in order."""
+
+
+class Obeying:
+    """The steps that all typed lines have in common."""
+
+    def __init__(self, guard: Guard, worker: Worker, screen: Screen, plan: Plan, hears: HearsRecorder, games: Games) -> None:
+        self.guard, self.screen, self.plan, self.hears, self.games = guard, screen, plan, hears, games
+        self._worker = worker
+
+    def beside(self, job: Callable[[], Result]) -> Steps[Result]:
         """Waits for a job that is done beside the loop."""
         return beside(self._worker, job)
 
-    def _hold(self) -> None:
-        """From now on what the board sends is held."""
-        if self._held is None:
-            self._held = []
-
-    def _holds(self, heard: Heard) -> bool:
-        """Whether this is held."""
-        if self._held is None:
-            return False
-        keep(self._held, heard)
-        return True
-
-    def _let_go(self) -> None:
-        """What was held is recorded. Nothing more is held."""
-        held, self._held = self._held, None
-        if self._guard.ended:
-            return
-        for heard in held or ():
-            self.heard(heard)
-        if self._ends_later:
-            self._ends_later = False
-            self.end()
-
-    def _recorded(self, done: str) -> Recording:
+    def recorded(self, done: str) -> Recording:
         """The recording of the game. Refused if it is just being ended, or if its capture can't be written: then nothing can be
         `added`, or `taken off`."""
-        if not isinstance(self._now, Recording) or self._now.is_over or self._closing or self._reason is not None:
+        games = self.games
+        if not isinstance(games.now, Recording) or games.now.is_over or games.is_closing:
             raise Refused(JUST_ENDED)
-        if self.game.capture.full:
-            raise Refused(f"the disk is full, and nothing can be {done}. Make room, and type it again")
-        return self._now
+        capture = games.game.capture
+        if capture.waits:
+            why = "the disk is full" if capture.full else f"{capture.path} can't be written ({capture.trouble})"
+            raise Refused(f"{why}, and nothing can be {done}. {mend_of(capture.full)}, and type it again")
+        return games.now
 
-    def _asked(self, done: str, asks: Callable[[bytes], Answered]) -> Steps[Answered]:
+    def asked(self, done: str, asks: Callable[[bytes], Answered]) -> Steps[Answered]:
         """What the program answers, given all that the board has sent by then."""
+        game = self.games.game
         for tries in range(TRIES + 1):
             if tries == TRIES:
-                self._hold()
-            recording, path, size = self._recorded(done), self.game.paths.capture, self.game.capture.size
-            answer = yield from self._beside(functools.partial(_asked_of, asks, path, size))
-            if self._recorded(done) is not recording:
+                self.games.hold()
+            recording, path, size = self.recorded(done), game.paths.capture, game.capture.size
+            answer = yield from self.beside(functools.partial(_asked_of, asks, path, size))
+            if self.recorded(done) is not recording:
                 raise Refused(JUST_ENDED)
-            if self.game.capture.size == size:
+            if game.capture.size == size:
                 break
         return answer
 
-    def _on_the_disk(self) -> Steps[None]:
+    def on_the_disk(self) -> Steps[None]:
         """Waits until the capture is on the disk. If the disk has a fault, its text says so."""
-        number = os.dup(self.game.capture.number)
-        yield from self._beside(functools.partial(_sync, number))
+        number = os.dup(self.games.game.capture.number)
+        yield from self.beside(functools.partial(_sync, number))
 
-    def _changed(self, done: str, change: Callable[[], Result]) -> Steps[Result]:
+    def changed(self, done: str, change: Callable[[], Result]) -> Steps[Result]:
         """Changes the files of a game that is over, while its board isn't watched; the caller watches it again, or records it. If it
         is refused, everything stays as it was."""
-        now = self._now
-        if not isinstance(now, (Listening, SettingUp)) or self._begins_anew or self.game.capture.full:
+        games, now = self.games, self.games.now
+        if not isinstance(now, (Listening, SettingUp)) or games.begins_anew or games.game.capture.waits:
             raise Refused(f"nothing can be {done} just now. Type it again")
-        self._hold()
+        games.hold()
         now.pause()
         try:
-            changed = yield from self._beside(change)
+            changed = yield from self.beside(change)
         except OSError:  # its capture may have lost what came after its end
             now.close()
-            self.restored()
-            self._go_on_listening()
+            games.restored()
+            games.watch_on()
             raise
         except Exception:
             now.go_on()
             raise
-        self.restored()
+        games.restored()
         return changed
-
-    def _end(self) -> int:
-        """The number of bytes of the game."""
-        mark = end_mark(self.game.paths)
-        return self.game.capture.size if mark is None else mark
 
 
 def _asked_of(asks: Callable[[bytes], Answered], path: str, size: int) -> Answered:

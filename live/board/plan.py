@@ -10,7 +10,7 @@ from live.board.cable import Heard
 from live.board.recording import Rules
 from live.board.whose import Owner
 from live.game.files import Paths
-from live.game.typed import Answer
+from live.game.reply import Answer
 from live.refused import Refused
 
 

@@ -3,46 +3,44 @@
 from __future__ import annotations
 
 import contextlib
-import dataclasses
+import importlib
 import os
-from typing import Optional, Type, Union
+from typing import TYPE_CHECKING, List, Optional, Type, Union
 
 from live.beside import Worker
 from live.board.asked_first import AskedFirst
-from live.board.cable import Cable, Heard
-from live.board.forfeited import Forfeits
-from live.board.game_over import Listening
+from live.board.cable import Cable, Heard, keep
+from live.board.disk import unwritten_of
 from live.board.lingering import Lingering
 from live.board.plan import HearsRecorder, Plan, numbered
 from live.board.recording import Reason, Recording
-from live.board.renaming import Renames
-from live.board.setting_up import SettingUp
 from live.board.standing import Standing
 from live.board.whose import another, back, may_take
-from live.game.alarms import acknowledge, carry_over, keep_looks, kept_looks
+from live.game.alarms import acknowledge, keep_looks, kept_looks
 from live.game.control import Control
-from live.game.files import Capture, Log, Paths, put_in_place, remove, text_of
-from live.game.forfeits import Forfeit, read_typed
-from live.game.game import Game, end_mark, keep_options, keep_other, keep_serial, kept_other, kept_serial, mark_end, mebibytes
-from live.game.made_anew import forget_question
+from live.game.files import Paths, text_of
+from live.game.game import Game, end_mark, forget_question, mark_end, mebibytes
+from live.game.game import keep_other, keep_serial, kept_other, kept_serial
+from live.game.log import Log
 from live.game.looks import Look, Looks
-from live.game.making_pgn import Text
-from live.game.names import today
-from live.game.naming import is_naming
+from live.game.making_pgn import Made
 from live.game.opening import Opened
-from live.game.options import Options
 from live.game.reading import nothing_old
-from live.game.typed import ALL_WAYS, ONE_BOARD, WAYS, Acknowledged, Answer, Nothing, Quit, reason_of, refusal, with_more
-from live.game.typed import Refused as NotDone
+from live.game.reply import Answer
 from live.guard import Guard
 from live.loop import Callback
 from live.refused import DONE, FAILED, Broken, Refused
-from live.steps import Resume, Steps
+from live.steps import Resume, Steps, beside
 from live.terminal.screen import Screen
 
+if TYPE_CHECKING:
+    from live.board.arbiter import Arbiter
+    from live.board.game_over import Listening
+    from live.board.setting_up import SettingUp
 
-class Recorder(Renames, Forfeits):
-    """Records the games of one board, one after the other, until it is ended."""
+
+class Recorder:
+    """Records the games of one board, one after the other, until it is ended. What few games need is loaded when one needs it."""
 
     def __init__(
         self, guard: Guard, worker: Worker, screen: Screen, plan: Plan, opened: Opened, hears: HearsRecorder,
@@ -50,16 +48,18 @@ class Recorder(Renames, Forfeits):
     ) -> None:  # fmt: skip
         self._guard, self._worker, self._screen, self._plan, self._hears = guard, worker, screen, plan, hears
         self._refused: Optional[Refused] = None
-        self._before: Optional[Paths] = None  # the game before this one, in this call
+        self._arbiter: Optional[Arbiter] = None  # what obeys typed lines, once one was typed
+        self.before: Optional[Paths] = None  # the game before this one, in this call
         self._reason: Optional[Reason] = None  # why the game is over
         self._ending = self._closing = False
-        self._begins_anew = False  # whether the start begins this game, and not the next one
-        self._held, self._ends_later = None, False
+        self.begins_anew = False  # whether the start begins this game, and not the next one
+        self._held: Optional[List[Heard]] = None  # what the board has sent, if it is held
+        self._ends_later = False  # whether to end once nothing is held any more
         self._closes: Optional[Resume] = None  # a typed line that waits until its game is closed
         self._waits_to_end = Lingering(guard, plan.rules.linger, self.end)
         number = plan.serial or kept_serial(opened.game.paths)
         self._cable = Cable(guard, screen, plan.device, plan.once, number, self, asked)
-        self._now: Union[Recording, SettingUp, Listening, None] = None  # what takes the board's bytes
+        self.now: Union[Recording, SettingUp, Listening, None] = None  # what takes the board's bytes
         self._take(opened.game, opened.close)
         if plan.serial:
             self.numbered(plan.serial)
@@ -118,53 +118,52 @@ class Recorder(Renames, Forfeits):
         self._guard.after(0, self._close_game)
 
     def _close_game(self) -> None:
-        if self._ending or self._closing or not isinstance(self._now, Recording):
+        if self._ending or self._closing or not isinstance(self.now, Recording):
             return
         self._closing = True
         listens = self._reason is Reason.TYPED or (self._plan.rules.listens and self._reason is Reason.RESULT)
         if not self._plan.rules.series and not listens:
             self._ending = True
             self._cable.last_words()
-        self._now.finish(self._game_closed)
+        self.now.finish(self._game_closed)
 
-    def _game_closed(self, written: bool) -> None:
-        assert isinstance(self._now, Recording)
-        end = self._now.end
+    def _game_closed(self, unwritten: str) -> None:
+        assert isinstance(self.now, Recording)
+        end = self.now.end
         if self._reason:
             self._screen.say(f"{self.game.paths.name} is over: {self._reason.value}")
         self._closing = False
-        self._now.close()
-        self._now = None
+        self.now.close()
+        self.now = None
         if self._ending:
-            self._all_closed(written)
+            self._all_closed(unwritten)
         elif self._plan.rules.series:
             self._await_start(end)
-        elif written:
+        elif unwritten:
+            self._end_with(unwritten)
+        else:
             self._await_moves()
             self._hears.over()
-        else:
-            self._end_with(written)
         closes, self._closes = self._closes, None
         if closes:
             closes(lambda: None)
 
-    def _wait_until_closed(self, resume: Resume) -> None:
-        """The game has ended, and the next typed line finds it closed."""
-        self._closes = resume
-
     def _await_moves(self) -> None:
         """The game is over: moves that are still made are reported."""
-        self._now = Listening(self._guard, self._screen, self.game, self.course, self)
-        self._lingers()
+        from live.board.game_over import Listening
 
-    def _go_on_listening(self) -> None:
+        self.now = Listening(self._guard, self._screen, self.game, self.course, self)
+        self.linger()
+
+    def watch_on(self) -> None:
         """The game is over, and its board is watched as before."""
         if self._plan.rules.series:
-            self._look_for_start(self._end())
+            mark = end_mark(self.game.paths)
+            self._look_for_start(self.game.capture.size if mark is None else mark)
         else:
             self._await_moves()
 
-    def _lingers(self) -> None:
+    def linger(self) -> None:
         """The recording of a single board ends soon after its result was typed. Until then that can be taken off."""
         if not self._plan.rules.listens:
             seconds, reopens = self._plan.rules.linger, self._screen.reopens()
@@ -179,10 +178,10 @@ class Recorder(Renames, Forfeits):
         """There is an alarm in a game that is over."""
         self._hears.placed()
 
-    def _end_with(self, written: bool) -> None:
+    def _end_with(self, unwritten: str) -> None:
         self._ending = True
         self._cable.last_words()
-        self._all_closed(written)
+        self._all_closed(unwritten)
 
     def _await_start(self, end: Optional[int]) -> None:
         """The game is over, and the next one begins when the pieces are at the start."""
@@ -200,6 +199,8 @@ class Recorder(Renames, Forfeits):
         self._look_for_start(end)
 
     def _look_for_start(self, end: int) -> None:
+        from live.board.setting_up import SettingUp
+
         self._look_at(SettingUp(self._guard, self._screen, self.game, end, self))
 
     def _next(self) -> Paths:
@@ -210,71 +211,52 @@ class Recorder(Renames, Forfeits):
         self._guard.after(0, self._look_for_this_start)
 
     def _look_for_this_start(self) -> None:
-        if isinstance(self._now, Recording) and not self._ending and not self._closing:
-            self._now.close()
-            self._begins_anew = True
+        if isinstance(self.now, Recording) and not self._ending and not self._closing:
+            self.now.close()
+            self.begins_anew = True
             self._look_for_start(0)
 
     def ready(self, content: bytes) -> bool:
         """The pieces are at the start: a capture begins with it. Returns whether it could begin."""
-        game = self._begin_this(content) if self._begins_anew else self._begin_next(content)
+        game = self._begin_this(content) if self.begins_anew else self._begin_next(content)
         if game is None:
             return False
-        if self._now:
-            self._now.close()
+        if self.now:
+            self.now.close()
         self._leave()
         self._take(game)
         if self.number:
             self.numbered(self.number)
-        self._begins_anew = False
+        self.begins_anew = False
         self._record(Opened(game, nothing_old(game.options, game.capture.size)))
-        if isinstance(self._now, Recording):
-            self._now.remake()  # what is under way for the game before may arrive late
+        if isinstance(self.now, Recording):
+            self.now.remake()  # what is under way for the game before may arrive late
         return True
 
     def _begin_next(self, content: bytes) -> Optional[Game]:
         """Begins the next game."""
+        from live.board.beginning import begin_next, not_begun
+
         paths = self._next()
         try:
             if os.path.exists(paths.pgn):
                 self._fail(f"{paths.pgn} is there without {paths.capture}: choose another name, or move it away")
                 return None
-            options = self.game.options.begun(today())
-            keep_options(paths, options)
-            carry_over(self.game.paths, paths)
-            game = self._begun(paths, content, options)
-        except (OSError, Refused) as error:
-            if isinstance(self._now, SettingUp) and not self._now.standing.trouble:
-                self._screen.say(f"DISK FULL: {paths.name} can't be begun ({reason_of(error)}). Make room: it is tried again")
+            game = begin_next(self.game, paths, content)
+        except OSError as error:
+            if self.standing and not self.standing.trouble:
+                self._screen.say(not_begun(paths.name, error))
             return None
-        self._before = self.game.paths
+        self.before = self.game.paths
         return game
 
     def _begin_this(self, content: bytes) -> Optional[Game]:
         """The capture begins with the start; what came before is kept beside it."""
-        paths = self.game.paths
-        try:
-            put_in_place(paths.before, self.game.capture.bytes())
-            self.game.times.set_aside(paths.before)
-            remove(paths.front)
-            game = self._begun(paths, content, self.game.options)
-        except OSError:
-            self.game.times.come_back(paths.before)
-            return None
-        with contextlib.suppress(OSError):
-            keep_looks(paths, Looks())  # the alarms were about the set-up
-        self._screen.say(f"the pieces have been set up: {paths.name} begins now")
-        return game
+        from live.board.beginning import begin_anew
 
-    def _begun(self, paths: Paths, content: bytes, options: Options) -> Game:
-        """A game whose capture has this content, with its text made. Raises OSError if it can't be made."""
-        capture = Capture.begin(paths.capture, content)
-        times = self.game.times.next(paths, capture)
-        game = dataclasses.replace(self.game, paths=paths, capture=capture, options=options, times=times)
-        made = Text(game).make(None)
-        if made.trouble:
-            game.capture.close()
-            raise OSError(made.trouble)
+        game = begin_anew(self.game, content)
+        if game:
+            self._screen.say(f"the pieces have been set up: {game.paths.name} begins now")
         return game
 
     def placed(self) -> None:
@@ -310,26 +292,27 @@ class Recorder(Renames, Forfeits):
     @property
     def standing(self) -> Optional[Standing]:
         """The board's state; None if its game is over."""
-        return self._now.standing if isinstance(self._now, (Recording, SettingUp)) else None
+        return self.now.standing if self.now else None
 
     @property
     def looks(self) -> Looks:
         """The alarms of the game."""
-        return self._now.looks if isinstance(self._now, (Recording, Listening)) else kept_looks(self.game.paths)
+        return self.now.looks if self.now else kept_looks(self.game.paths)
 
     # What its cable brings.
 
     def heard(self, heard: Heard) -> None:
         """The board has sent this, on its own cable or on another one."""
-        if self._holds(heard):
+        if self._held is not None:
+            keep(self._held, heard)
             return
         sent, ended = heard
-        if self._now:
-            self._now.came(sent)
-        if self._now and ended.dumped:
-            self._now.dumped()
-        if isinstance(self._now, Recording) and ended.time:
-            self._now.timed(ended.time)
+        if self.now:
+            self.now.came(sent)
+        if self.now and ended.dumped:
+            self.now.dumped()
+        if isinstance(self.now, Recording) and ended.time:
+            self.now.timed(ended.time)
 
     def happened(self, what: str, count: Optional[int] = None) -> None:
         """This happens on its cable."""
@@ -363,16 +346,14 @@ class Recorder(Renames, Forfeits):
 
     def _look(self, look: Look) -> None:
         """Raises an alarm."""
-        if isinstance(self._now, Recording):
-            self._now.look_at(look)
+        if isinstance(self.now, Recording):
+            self.now.look_at(look)
             return
         with contextlib.suppress(OSError):
             keep_looks(self.game.paths, kept_looks(self.game.paths).with_one_more(look))
         self._screen.say(f"{look.text}. Look at it, and type {self._screen.ok()}")
-        if self.standing:
-            self.standing.look(self.looks.short)
-        elif isinstance(self._now, Listening):
-            self._now.acknowledged()
+        if self.now:
+            self.now.look_again()
 
     def _may_take(self) -> bool:
         """Whether the board on the cable is another one, and `ok` gives it to this game."""
@@ -383,14 +364,14 @@ class Recorder(Renames, Forfeits):
 
     def gone(self, message: str, was_there: bool) -> None:
         """The board isn't there and isn't waited for, or another process has its line."""
-        if isinstance(self._now, Listening) and not self._plan.board:
+        if self.now and not self.standing and not self._plan.board:  # its game is over
             self._guard.after(0, self.end)
             return
         self._fail(f"{message}; what was played is in {self.game.paths.pgn}" if was_there else message)
 
     def _look_at(self, now: Union[Recording, SettingUp]) -> None:
         """From now on this takes the board's bytes and the cable's state."""
-        self._now = now
+        self.now = now
         now.standing.look(self.looks.short)
         self._cable.tell(now.standing)
 
@@ -410,61 +391,61 @@ class Recorder(Renames, Forfeits):
 
     # Typed lines.
 
-    def typed(self, text: str) -> Steps[Answer]:
-        """A line of the terminal. It may end with the name of this game or of the one before."""
-        words, _, name = text.rpartition(" ")
-        named = self._before is not None and name in (self._before.name, self.game.paths.name)
-        before = self._before if self._before and name == self._before.name else None
-        status, answer = yield from self._obeyed(words if named else text, before, sure=named, may_quit=True)
-        is_list = answer.endswith((WAYS, ALL_WAYS))
-        return status, with_more(answer, *ONE_BOARD) if is_list else answer
+    def arbiter(self) -> Steps[Arbiter]:
+        """What obeys typed lines. It is loaded beside the loop."""
+        if self._arbiter is None:
+            yield from beside(self._worker, lambda: importlib.import_module("live.board.arbiter"))
+            from live.board.arbiter import Arbiter
+            from live.board.obeying import Obeying
 
-    def add(self, text: str) -> Steps[Answer]:
-        """A line that was typed elsewhere. Returns an answer, with its status."""
-        return (yield from self._obeyed(text, None, sure=True, may_quit=False))
+            self._arbiter = Arbiter(Obeying(self._guard, self._worker, self._screen, self._plan, self._hears, self))
+        return self._arbiter
 
-    def _obeyed(self, text: str, before: Optional[Paths], sure: bool, may_quit: bool) -> Steps[Answer]:
-        try:
-            answer = yield from self._obeys(text, before, sure, may_quit)
-        except (NotDone, OSError, Refused) as error:
-            answer = refusal(text, error)
-        except Exception:
-            self._let_go()
-            raise
-        self._let_go()
-        return answer
+    @property
+    def is_closing(self) -> bool:
+        """Whether the recorded game is just being ended."""
+        return self._closing or self._reason is not None
 
-    def _obeys(self, text: str, before: Optional[Paths], sure: bool, may_quit: bool) -> Steps[Answer]:
-        if is_naming(text):
-            return (yield from self._rename(text))
-        typed = read_typed(text, os.path.basename(self.game.paths.name))
-        if isinstance(typed, Nothing):
-            return DONE, ""
-        if isinstance(typed, Forfeit):
-            return (yield from (self._add_before(before, text) if before else self._forfeit(typed)))
-        if isinstance(typed, Quit) and may_quit:
+    def hold(self) -> None:
+        """From now on what the board sends is held, until the line is answered."""
+        if self._held is None:
+            self._held = []
+
+    def let_go(self) -> None:
+        """What was held is recorded. Nothing more is held."""
+        held, self._held = self._held, None
+        if self._guard.ended:
+            return
+        for heard in held or ():
+            self.heard(heard)
+        if self._ends_later:
+            self._ends_later = False
             self.end()
-            return DONE, "it ends"
-        if isinstance(typed, Acknowledged):
-            return self._acknowledge(before)
-        if before:
-            return (yield from self._add_before(before, text))
-        return (yield from self._plays_on(typed, sure))
 
-    def _acknowledge(self, before: Optional[Paths]) -> Answer:
-        """Acknowledges the alarms of this game and of the one before it."""
+    def record_anew(self, opened: Opened) -> None:
+        """The game is recorded, from its new capture. Nothing of it is reported again."""
+        self.restored()
+        opened.old.course.news.clear()
+        self._record(opened, says=False)
+        if isinstance(self.now, Recording):
+            self.now.remake()  # what was under way may arrive late
+
+    def wait_until_closed(self, resume: Resume) -> None:
+        """The game has ended, and the next typed line finds it closed."""
+        self._closes = resume
+
+    def acknowledge(self, before: Optional[Paths]) -> Answer:
+        """Acknowledges the alarms of this game, or of the one before it."""
         takes = before is None and self._may_take()
         if before is None and self._cable.other and not takes:
             keep_other(self.game.paths, self._cable.other)
-        if before is None and isinstance(self._now, Recording):
-            seen = self._now.acknowledge()
+        if before is None and isinstance(self.now, Recording):
+            seen = self.now.acknowledge()
         else:
             seen = acknowledge(before or self.game.paths)
             self._screen.say(seen)
-            if self.standing and before is None:
-                self.standing.look("")
-            elif isinstance(self._now, Listening):
-                self._now.acknowledged()
+            if self.now and not isinstance(self.now, Recording):
+                self.now.look_again()
         if takes:
             self._cable.take()
             seen = f"{seen}; the board with serial number {self.number} is recorded here"
@@ -484,17 +465,16 @@ class Recorder(Renames, Forfeits):
         self._cable.last_words()
         if self._closing:
             return  # the game is being closed, and everything after it
-        if isinstance(self._now, Recording):
-            self._now.finish(self._game_closed)
+        if isinstance(self.now, Recording):
+            self.now.finish(self._game_closed)
         else:
-            if self._now:
-                self._now.close()
-                self._now = None
-            self._all_closed(not self.game.capture.full)
+            if self.now:
+                self.now.close()
+                self.now = None
+            self._all_closed(unwritten_of(self.game, Made()))
 
-    def _all_closed(self, written: bool) -> None:
+    def _all_closed(self, unwritten: str) -> None:
         forget_question(self.game.paths)
-        if not written and self._refused is None:
-            pgn, again = self.game.paths.pgn, "Make room, and start again with the same NAME"
-            self._refused = Refused(FAILED, f"{pgn} can't be written: is the disk full?", again)
+        if unwritten and self._refused is None:
+            self._refused = Refused(FAILED, unwritten, "When that is put right, start again with the same NAME")
         self._hears.stopped(self._refused)

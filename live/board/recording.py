@@ -5,24 +5,25 @@ from __future__ import annotations
 import enum
 import functools
 import itertools
+import operator
 import os
 from dataclasses import dataclass
 from typing import Callable, List, Optional, Protocol, Sequence
 
 from live.beside import Worker
 from live.board.arrivals import Arrivals
-from live.board.disk import Disk
+from live.board.disk import Disk, unwritten_of
 from live.board.lingering import Lingering
 from live.board.standing import Standing
-from live.board.state import DISK_FULL, NOT_WRITTEN, lasting
+from live.board.state import lasting, mend_of, trouble_of
 from live.game import ending
 from live.game.alarms import Alarms, acknowledged
 from live.game.course import Start
 from live.game.edited import told_of_edit
 from live.game.files import text_of
-from live.game.game import Game, largest, mark_end, mebibytes
+from live.game.front import front_of
+from live.game.game import Game, forget_question, largest, mark_end, mebibytes
 from live.game.looks import Look, Looks
-from live.game.made_anew import forget_question, front_of
 from live.game.making_pgn import Made, Maker
 from live.game.opening import Opened
 from live.game.report import Clock, Fault, Line, Move, Picture, Position, Recovered, Result
@@ -37,6 +38,7 @@ TICK = 1.0  # seconds between two looks at what waits
 PATIENCE = 5.0  # seconds that the last lines may take
 SETTLES = 0.2  # seconds after which all lines of a byte have been heard
 SURELY_SETTLES = 1.0  # the same, if a late line would be taken for another one
+OF_A_BYTE = operator.attrgetter("offset")  # lines of one byte have the same
 LARGE = 48 * 1024 * 1024  # bytes of a capture, at which somebody may still look at its board
 
 
@@ -100,7 +102,7 @@ class Recording:
         self._begins_anew = False  # the start of this game was reported just now, and what follows belongs to its new capture
         self._is_over = self._has_ended = False  # whether it is recorded no more; and whether that is because the game has ended
         self._marks = False  # and whether NAME.end must say how many bytes are the game's
-        self._done: Callable[[bool], None] = lambda written: None
+        self._done: Callable[[str], None] = lambda unwritten: None
         self._watchdog: Optional[Timer] = None
         self._lingering = Lingering(guard, rules.linger, lambda: self._end(Reason.RESULT))
         self.standing = Standing(guard, screen, self.course.start, self.game.options.rotated)
@@ -157,22 +159,24 @@ class Recording:
             self._alarms.away(silence, self._gap > 0)
             self._was_away = True
         self.standing.was_away, self._gap, self._came_at = False, 0.0, self.game.capture.size
-        self._append(sent)
+        self._append(sent, now)
 
     def timed(self, data: bytes) -> None:
         """The last bytes end a time message. These are its seven bytes."""
         self._alarms.time(self._guard.now(), data, self._came_at)
 
-    def _append(self, sent: bytes, what: str = HEARD) -> None:
+    def _append(self, sent: bytes, now: float, what: str = HEARD) -> None:
         """Appends what the board has sent or somebody has added."""
         before = self.game.capture.total
         self._disk.append(sent)
-        self._arrivals.came(self._guard.now(), self.game.capture.size)
+        self._arrivals.came(now, self.game.capture.size)
         if self.game.capture.size >= LARGE and not self._is_large:
             self._is_large = True
             most = mebibytes(self.game.options)
-            what = f"{self.game.paths.capture} has 48 MiB, and none may have more than {most}: does a piece stand badly, and its square chatter?"
-            self._screen.say(what, f"At {most} MiB the recording ends; the game can go on under another name, with --fen")
+            self._screen.say(
+                f"{self.game.paths.capture} has 48 MiB, and none may have more than {most}: does a piece stand badly, and its square chatter?",
+                f"At {most} MiB the recording ends; the game can go on under another name, with --fen",
+            )
         self._watching.feed()
         self.game.times.grew(before, what)  # while the program reads
         if self.game.capture.at_limit:
@@ -212,6 +216,7 @@ class Recording:
         self._disk.try_again()
         if self._alarms.trouble:
             self._keep_looks()
+        self.game.times.wake()
         self._watching.feed()
         self._watching.wake()
         self._maker.wake()
@@ -226,7 +231,7 @@ class Recording:
     def heard(self, lines: Sequence[Line]) -> None:
         """Takes the next lines of its report, which came at once. The state is shown last and once: states that lasted no time would
         help nobody."""
-        news = [self._hear(list(of_a_byte)) for _, of_a_byte in itertools.groupby(lines, lambda line: line.offset)]
+        news = [self._hear(list(of_a_byte)) for _, of_a_byte in itertools.groupby(lines, OF_A_BYTE)]
         if any(news):
             self.standing.show()
 
@@ -244,14 +249,14 @@ class Recording:
         if is_changed:
             self._maker.want()
             os.sched_yield()  # whoever reads these lines need not wait for what follows
-        is_news, means = False, None
+        is_news, means, now = False, None, self._guard.now()
         for line in lines:
-            is_news = self._take(line) or is_news
+            is_news = self._take(line, now) or is_news
             if self._rules.series or line.offset >= self._old:  # a single game that goes on hasn't ended where it seemed to
                 means = means or self.course.stands_again
         if means:
             self._is_at_start(means)
-        if self._is_put is None and any(line.offset in self._by_hand for line in lines):
+        if self._by_hand and self._is_put is None and any(line.offset in self._by_hand for line in lines):
             self._put_ends(not self._is_over)
         return is_news
 
@@ -265,17 +270,17 @@ class Recording:
             self._begins_anew = True
             self._hears.anew()
 
-    def _take(self, line: Line) -> bool:
-        """Takes a line. Returns whether the state may have changed."""
+    def _take(self, line: Line, now: float) -> bool:
+        """Takes a line that is reported now. Returns whether the state may have changed."""
         is_old = line.offset < self._old
         event = line.event
         if isinstance(event, Fault):
             if not is_old:
                 self._faults.append(f"{event.words} at {line.offset}")
             return False
-        now = self._arrivals.at(line.offset, self._guard.now())
-        self.course.take(line, now)
-        look = None if is_old else self._alarms.take(now, line, line.offset in self._by_hand)
+        came = self._arrivals.at(line.offset, now)
+        self.course.take(line, came)
+        look = None if is_old else self._alarms.take(came, line, line.offset in self._by_hand)
         if isinstance(event, (Position, Clock)):
             return False
         is_news = True
@@ -284,7 +289,7 @@ class Recording:
         elif not isinstance(event, Recovered):
             if not is_old:
                 self.standing.board.shows_itself()
-            self.standing.board.told(now, event)
+            self.standing.board.told(came, event)
             if isinstance(event, Result):
                 self._hear_result(event.outcome)
         self.course.news.clear()
@@ -353,9 +358,8 @@ class Recording:
         """NAME.pgn can't be made."""
         if self._disk.restore():
             return  # the capture was gone, and is there again
-        what = "Make room:" if made.full else "Put that right:"
         self._screen.say(
-            f"{self.game.paths.pgn} can't be written ({made.trouble}); {self.game.paths.capture} is. {what}",
+            f"{self.game.paths.pgn} can't be written ({made.trouble}); {self.game.paths.capture} is. {mend_of(made.full)}:",
             "it is tried again and again",
         )
         self._disk.look()
@@ -363,7 +367,7 @@ class Recording:
     def text_trouble(self) -> str:
         """What keeps the text from being written, in the words of a state; empty if nothing does."""
         made = self._maker.last
-        return "" if not made.trouble else DISK_FULL if made.full else NOT_WRITTEN
+        return trouble_of(made.full) if made.trouble else ""
 
     def restored(self) -> None:
         """The capture was removed, and is written anew."""
@@ -379,7 +383,7 @@ class Recording:
         self._is_put = True if outcome == self.course.result else None  # then there is nothing to report
         if outcome:
             self._typed, self.end = outcome, self._by_hand.stop
-        self._append(put, ADDED)
+        self._append(put, self._guard.now(), ADDED)
         self._hears.asks(put)
 
     def reports_put(self) -> Steps[bool]:
@@ -439,13 +443,13 @@ class Recording:
         if not found.sure:
             self._screen.say(f"LOOK at the last moves of {self.game.paths.pgn}: where the game ended isn't sure")
 
-    def finish(self, done: Callable[[bool], None]) -> None:
-        """Hears the last lines, makes the text a last time, and reports whether it could be written."""
+    def finish(self, done: Callable[[str], None]) -> None:
+        """Hears the last lines, makes the text a last time, and reports what can't be written, and why; nothing if all is."""
         self._is_over, self._done = True, done
         self._lingering.cancel()
         forget_question(self.game.paths)
         self.game.capture.write()
-        if self._marks and not self.game.capture.full:
+        if self._marks and not self.game.capture.waits:
             self._mark()
         if self._has_ended and not self._marks:
             self._note_end()
@@ -477,7 +481,7 @@ class Recording:
         if self._typed not in ("", course.result):
             self._screen.say(f"LOOK at {pgn}: its result should be {self._typed}, and isn't")
         self._maker.limit = self.end
-        self._maker.finish(lambda written: self._done(written and not self.game.capture.full))
+        self._maker.finish(lambda written: self._done(unwritten_of(self.game, Made() if written else self._maker.last)))
 
     def close(self) -> None:
         """Ends everything under way. The capture stays open."""

@@ -8,9 +8,11 @@ from live.board.disk import Disk
 from live.board.standing import Standing
 from live.device import protocol
 from live.device.protocol import DUMP_BEGINS
+from live.game.alarms import kept_looks
 from live.game.answers import dump_at_end
 from live.game.files import LARGEST
 from live.game.game import Game
+from live.game.looks import Looks
 from live.game.program import Listing, Task
 from live.game.report import Picture, line_of
 from live.guard import Guard
@@ -85,6 +87,7 @@ class SettingUp:
     def _each_second(self) -> None:
         self._tick = self._guard.after(TICK, self._each_second)
         self._disk.try_again()
+        self._game.times.wake()
         self._watch.wake()
         self._feed()
         self.standing.lasts()
@@ -109,6 +112,15 @@ class SettingUp:
         start = dump_at_end(self._game.program, self._game.options, self._game.capture.bytes(self._from, behind))
         if not self._hears.ready(start + self._game.capture.bytes(behind)):
             self._tries = self._guard.after(TICK, lambda: self._begin(self._end))
+
+    @property
+    def looks(self) -> Looks:
+        """The alarms of the game that is over."""
+        return kept_looks(self._game.paths)
+
+    def look_again(self) -> None:
+        """The alarms that are kept have changed."""
+        self.standing.look(self.looks.short)
 
     def pause(self) -> None:
         """The capture isn't used: it is just being changed."""

@@ -5,7 +5,7 @@ from __future__ import annotations
 import dataclasses
 import os
 from dataclasses import dataclass
-from typing import Callable, Optional, Tuple
+from typing import TYPE_CHECKING, Callable, Optional, Tuple
 
 from live.board.board import Board, Wanted
 from live.board.plan import Plan
@@ -16,12 +16,15 @@ from live.game.game import end_mark, largest, mebibytes
 from live.game.opening import Chooses, Chosen, Opening, added_to_kept
 from live.game.options import Options, as_typed
 from live.game.program import Program
+from live.game.reply import Answer, reason_of, refusal
 from live.game.tags import Tags
-from live.game.typed import Answer, reason_of, refusal
 from live.guard import traced
 from live.loop import Loop
 from live.refused import DONE, FAILED, REFUSED, Broken, Refused
 from live.terminal.screen import Screen
+
+if TYPE_CHECKING:
+    from live.board.finding import Finder
 
 QUITS = ("q", "quit")
 
@@ -55,6 +58,7 @@ class Single:
         self.secret = ""  # a line with a password, to print after that
         self.is_open = False  # whether its game has been opened
         self._is_faulty = False  # whether an error has ended its recording
+        self._finder: Optional[Finder] = None  # looks for it, once it was missing
 
     def begin(self) -> None:
         """Records it."""
@@ -96,7 +100,16 @@ class Single:
             self._opened()
             self._is_faulty = False
             self.goes_on()
+        if self.board.lacks and self._finder is None:
+            from live.board.finding import Finder
+
+            self._finder = Finder(self._loop, lambda: [self.board], self.trouble)
         self.on_change()
+
+    def close(self) -> None:
+        """The loop has ended: the board isn't looked for any more."""
+        if self._finder:
+            self._finder.close()
 
     def _opened(self) -> None:
         """Its game is open."""

@@ -31,6 +31,16 @@ OTHER_BOARD = "another board may be on this cable"
 DISK_FULL, NOT_WRITTEN = "DISK FULL", "NOT WRITTEN"  # the disk has no room, or a file can't be written for another reason
 
 
+def trouble_of(full: bool) -> str:
+    """What keeps a file from being written, as the state names it: the disk is `full`, or there is another reason."""
+    return DISK_FULL if full else NOT_WRITTEN
+
+
+def mend_of(full: bool) -> str:
+    """What to do about it."""
+    return "Make room" if full else "Put that right"
+
+
 class Kind(enum.Enum):
     """What an arbiter reads first."""
 

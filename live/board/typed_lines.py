@@ -7,7 +7,7 @@ import functools
 from dataclasses import dataclass
 from typing import Callable, Deque, List, Optional, Union
 
-from live.game.typed import Answer
+from live.game.reply import Answer
 from live.loop import Callback
 from live.steps import Steps, walk
 

@@ -13,7 +13,7 @@ from live.broadcast.late import Late
 from live.broadcast.publishing import Publisher
 from live.broadcast.view import Player, SpectatorBoard
 from live.game.files import AnyPath, Paths
-from live.game.forfeiting import told_to_readers
+from live.game.forfeits import told_to_readers
 from live.game.tags import published
 from live.guard import Guard, traced
 from live.loop import Loop, Timer

@@ -4,11 +4,11 @@ game of the round or series for which it was given."""
 from __future__ import annotations
 
 import math
-import os
 from dataclasses import dataclass
-from typing import List, Optional, Sequence, Tuple
+from typing import Optional, Sequence, Tuple
 
-from live.game.files import NO_SUCH_FILE, ROUND, Paths, beginning, existing, not_written, put_in_place, remove, text_of
+from live.game.file_names import has_delay, owners_of
+from live.game.files import NO_SUCH_FILE, Paths, beginning, existing, not_written, put_in_place, remove, text_of
 from live.refused import ARGUMENTS, FAILED, REFUSED, Refused
 
 MINUTE = 60.0
@@ -54,20 +54,6 @@ def minutes(seconds: float) -> str:
     """`15 minutes`."""
     whole = f"{seconds / MINUTE:.2f}".rstrip("0").rstrip(".")
     return f"{whole} minute{'' if whole == '1' else 's'}"
-
-
-def owners_of(paths: Paths) -> List[Paths]:
-    """A game's own files, and those of the round and of the series to which it may belong."""
-    folder, _, name = paths.name.rpartition("/")
-    front = paths.name[: len(paths.name) - len(name)]
-    series, dash, number = name.rpartition("-")
-    names = [name, ROUND] if name != ROUND else [name]
-    return [Paths(front + one) for one in (*names, *([series] if dash and series and number.isdigit() else []))]
-
-
-def has_delay(paths: Paths) -> bool:
-    """Whether a delay was given for a game, or for the round or series to which it may belong."""
-    return any(os.path.lexists(owner.delay) for owner in owners_of(paths))
 
 
 def kept_delay(paths: Paths) -> float:

@@ -8,8 +8,9 @@ import os
 from typing import Callable, Optional
 
 from live.broadcast import kept
-from live.broadcast.going_out import has_delay, kept_delay
+from live.broadcast.going_out import kept_delay
 from live.broadcast.history import NOTHING, History, Shot
+from live.game.file_names import has_delay
 from live.game.files import NO_SUCH_FILE, Paths, existing, folder_of, new_of, open_new, sync_folder
 from live.game.forfeiting import forfeit_of
 from live.game.game import result_of

@@ -3,8 +3,8 @@ game late."""
 
 from __future__ import annotations
 
-import datetime
 import os
+import time
 from typing import Callable, Optional
 
 from live.broadcast.broadcast import Broadcast
@@ -18,8 +18,7 @@ LOOK = 0.5  # seconds
 
 def clock_in(seconds: float) -> str:
     """The time of day after this many seconds: the next full minute."""
-    at = datetime.datetime.now() + datetime.timedelta(seconds=seconds + 59)
-    return f"{at:%H:%M}"
+    return time.strftime("%H:%M", time.localtime(time.time() + seconds + 59))
 
 
 def hold(paths: Paths) -> Optional[int]:

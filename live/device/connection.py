@@ -3,16 +3,18 @@
 from __future__ import annotations
 
 import math
-from typing import Optional, Protocol
+from typing import TYPE_CHECKING, Optional, Protocol
 
 from live.device.asking import Asking, Came
 from live.device.line import Line, line_of
 from live.device.protocol import START_REQUEST
 from live.device.serial_line import BUSY_PATIENCE, Busy, SerialLine, cable_name
-from live.device.trial import Trial
 from live.game.times import ANSWERED, ASKED, CALLED, GONE, OPENED
 from live.guard import Guard
 from live.loop import Timer
+
+if TYPE_CHECKING:
+    from live.device.trial import Trial
 
 LOOK_AGAIN = 0.5  # seconds between two tries to open a device that isn't there
 CONNECT_AGAIN = 2.0  # and to connect to a serial server
@@ -125,6 +127,8 @@ class Connection:
         if isinstance(self._line, SerialLine):
             self._plugged()
         else:
+            from live.device.trial import Trial  # of serial servers alone
+
             self._trial = Trial(now)
             self._call_again_later()
         self._ask()
@@ -146,7 +150,7 @@ class Connection:
             passed = self._trial.passes(heard) if self._trial else [heard]
             if passed and not had_answered:
                 self._hears.happened(ANSWERED)
-            if passed:
+            if passed and not self._is_plugged:
                 self._plugged()
             for one in passed:
                 self._hears.came(*one)

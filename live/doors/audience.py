@@ -8,13 +8,15 @@ from typing import Sequence, Tuple
 
 from live.board.single import QUITS, Single
 from live.broadcast.broadcast import Broadcast
-from live.broadcast.going_out import GoingOut, delay_of, has_delay, keep_delay, minutes
+from live.broadcast.going_out import GoingOut, delay_of, keep_delay, minutes
 from live.broadcast.late import is_hidden, is_unseen
 from live.broadcast.leaving import Leaving, clock_in, hold
 from live.doors.calls import Call
 from live.game import files
-from live.game.forfeiting import forfeit_of, told_to_readers
+from live.game.file_names import has_delay
 from live.game.files import Paths
+from live.game.forfeiting import forfeit_of
+from live.game.forfeits import told_to_readers
 from live.game.game import end_mark, kept_options, kept_tags
 from live.game.options import Options
 from live.game.tags import published

@@ -5,10 +5,9 @@ from __future__ import annotations
 from dataclasses import dataclass
 from typing import TYPE_CHECKING, Dict, List, Optional, Sequence, Tuple
 
-from live.broadcast.going_out import read_command, read_delay
 from live.game.options import PLAIN, RECOVER, SEE_HELP, STRICT, TAG, VALUED, Options
 from live.game.options import assigned, no_option, typed_tag, typed_value
-from live.game.typed import BACK
+from live.game.reply import BACK
 from live.refused import ARGUMENTS, Refused
 
 if TYPE_CHECKING:
@@ -34,6 +33,7 @@ class Call:
     help: bool = False
     version: bool = False
     devices: bool = False
+    packs: bool = False
     typed: Tuple[str, ...] = ()  # lines for an existing game
     pages: Optional[Pages] = None
     delay: Optional[float] = None  # seconds; None leaves it as it was
@@ -50,7 +50,7 @@ def parse(arguments: Sequence[str]) -> Call:
     left = list(arguments)
     plain: List[str] = []
     words: List[str] = []
-    flags = {"--series": False, "--once": False, "--devices": False}
+    flags = {"--series": False, "--once": False, "--devices": False, "--pack": False}
     values: Dict[str, str] = {}
     typed: List[str] = []
     hosts: List[str] = []
@@ -85,11 +85,15 @@ def parse(arguments: Sequence[str]) -> Call:
     refuse_hosts(page or arbiter_page, hosts)
     seconds = linger_of(values.get("--linger", str(LINGER)))
     pages = pages_of(page, arbiter_page, hosts)
-    late, command = None if delay is None else read_delay(delay), () if publish is None else read_command(publish)
+    late, command = going_out(delay, publish)
     if flags["--devices"]:
         if len(arguments) > 1:
             raise Refused(ARGUMENTS, f"--devices takes nothing else: {SEE_HELP}")
         return Call(devices=True)
+    if flags["--pack"]:
+        if len(arguments) != 2 or not "".join(plain):
+            raise Refused(ARGUMENTS, f"--pack takes the NAME of a game, and nothing else: {SEE_HELP}")
+        return Call(name=plain[0], packs=True)
     options = Options.of_words(words)
     reads_otherwise = bool(words) and options.lies_as(Options()) and not options.unrotated
     has_name = not typed and len(plain) == 1 and not flags["--series"]
@@ -127,6 +131,15 @@ def pages_of(page: Optional[str], arbiter_page: Optional[str], hosts: Sequence[s
     from live.web.address import read_pages
 
     return read_pages(page, arbiter_page, hosts)
+
+
+def going_out(delay: Optional[str], publish: Optional[str]) -> Tuple[Optional[float], Tuple[str, ...]]:
+    """The delay in seconds, if one is given, and the words of the command that publishes."""
+    if delay is None and publish is None:
+        return None, ()
+    from live.broadcast.going_out import read_command, read_delay
+
+    return None if delay is None else read_delay(delay), () if publish is None else read_command(publish)
 
 
 def linger_of(text: str) -> int:

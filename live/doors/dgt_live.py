@@ -5,27 +5,24 @@ from __future__ import annotations
 import os
 from typing import TYPE_CHECKING, List, Optional, Sequence
 
-from live.board.finding import Finder
 from live.board.plan import Plan, last_number, numbered
 from live.board.recording import Rules
 from live.board.single import Choice, Single
-from live.broadcast.going_out import has_delay
 from live.device import serial_line
-from live.device.numbers import ask, listing, told_of_shut
 from live.doors import calls
 from live.doors.calls import Call
 from live.doors.door import Outcome, through
-from live.game import control, files, refusal
-from live.game.changing import add_by_name
-from live.game.file_names import check_name
+from live.game import control, files
+from live.game.file_names import check_name, has_delay
 from live.game.files import LOCK_PATIENCE, Paths
 from live.game.game import kept_tags
+from live.game.log import log_once
 from live.game.names import today
-from live.game.naming import line_of
 from live.game.opening import Opening, checked, read_otherwise
 from live.game.options import Options
 from live.game.program import Program
-from live.game.typed import Answer
+from live.game.reply import Answer
+from live.later import keep_what_is_loaded_later
 from live.loop import Loop, Signals
 from live.refused import DONE, FAILED, REFUSED, Refused, printable
 from live.terminal.screen import Screen
@@ -56,8 +53,8 @@ OPTION says how the board lies, how the game begins, and what its tags say:
   --first SIDE       whose time comes first, white (without it) or black
   --fen TEXT         the position at the start
   --event, --site, --date, --round, --white, --black TEXT; --tag NAME=VALUE
-  --devices, --version   the boards that are plugged in. Set up the pieces:
-  dgt_live /dev/ttyUSB0 game --white Anna --black Ben --date 31.05.2024
+  --devices, --pack NAME, --version   what is plugged in; a game in one file
+Set up the pieces: dgt_live /dev/ttyUSB0 game --white Anna --black Ben
 """
 PRINTED = 2.0  # seconds that a slow terminal has for the last lines
 
@@ -77,6 +74,7 @@ def record(call: Call, program: Program, signals: Signals) -> Outcome:
 
 def record_in(call: Call, program: Program, signals: Signals) -> Outcome:
     """The same, with files that may be left."""
+    keep_what_is_loaded_later()
     given = checked(program, call.options)
     loop = Loop()
     audience = audience_of(loop, call, given)
@@ -91,13 +89,12 @@ def record_in(call: Call, program: Program, signals: Signals) -> Outcome:
         if audience is None or audience.hears(text):
             single.typed(text)
 
-    finder = Finder(loop, lambda: [single.board], single.trouble)
     single.begin()
     signals.tell(loop, single.end)
     reader = Typed(loop, typed, single.refuses)
     loop.run()
     reader.close()
-    finder.close()
+    single.close()
     complaints, unseen = audience.close() if audience else ((), "")
     if audience is None and kept_tags(single.board.paths):  # the first of them was typed
         publish_anew(single.board.paths, single.board.options)
@@ -146,6 +143,9 @@ def existing_game(name: str, *more: str) -> Paths:
 def remake(call: Call, program: Program) -> Outcome:
     """Makes anew the text of a game that nobody records: with or without its recovered pairs, with the other side's time first, or
     with other names. The call that records a game takes names from here too."""
+    from live.game.naming import line_of
+    from live.game.refusal import is_recorded
+
     line = line_of(call.options)
     device_first = f"To record a new game, type its DEVICE first, as dgt_live /dev/ttyUSB0 {call.name}"
     paths = existing_game(call.name, *([device_first] if line else []))
@@ -156,7 +156,7 @@ def remake(call: Call, program: Program) -> Outcome:
     try:
         opened = Opening(program, paths, lambda: read_otherwise(given)).open(Loop.now(), today())
     except files.Recorded:
-        raise Refused(REFUSED, *refusal.is_recorded(paths.name, control.board_of(paths.capture), call.options)) from None
+        raise Refused(REFUSED, *is_recorded(paths.name, control.board_of(paths.capture), call.options)) from None
     opened.game.capture.close()
     options = opened.game.options
     said = [f"{options.side.capitalize()}'s time comes first"] if call.options.first else []
@@ -165,7 +165,7 @@ def remake(call: Call, program: Program) -> Outcome:
         said.append("nothing recovered")
     said += publish_anew(paths, given)
     what = "; ".join([*(said or ["nothing has changed"]), *opened.results])
-    files.log_once(paths, f"made anew: {what}")
+    log_once(paths, f"made anew: {what}")
     print(printable(f"dgt_live: {paths.pgn} is made anew: {what}"))
     return DONE, ()
 
@@ -181,6 +181,8 @@ def answered(answer: Answer) -> Outcome:
 
 def add(call: Call, program: Program) -> Outcome:
     """Changes a game that is recorded, or one that is over, line by line. The first refused line ends this."""
+    from live.game.changing import add_by_name
+
     paths = existing_game(call.name)
     for line in call.typed:
         asked = control.ask(paths.capture, line)
@@ -190,8 +192,24 @@ def add(call: Call, program: Program) -> Outcome:
     return DONE, ()
 
 
+def pack(call: Call, here: str) -> Outcome:
+    """Packs all that belongs to a game into one file."""
+    from live.game import packing
+
+    paths = existing_game(call.name)
+    try:
+        version = Program.find(here).version()
+    except Refused:
+        version = "of unknown version"
+    packed = packing.pack(paths, version)
+    print(printable(f"dgt_live: {packed.path} is made. It has {', '.join(packed.names)}, and the names of the players"))
+    return (FAILED if packed.left_out else DONE), packed.left_out
+
+
 def list_devices() -> Outcome:
     """Prints the list of the devices that are plugged in."""
+    from live.device.numbers import ask, listing, told_of_shut
+
     found = serial_line.devices()
     devices = ask([device for device, _ in found])
     print("\n".join(listing(found, devices)))
@@ -213,6 +231,8 @@ def main(arguments: Sequence[str], here: str) -> int:
         if asked.devices:
             return list_devices()
         check_name(asked.name)
+        if asked.packs:
+            return pack(asked, here)
         program = Program.find(here)
         if asked.typed:
             return add(asked, program)

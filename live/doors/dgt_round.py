@@ -12,13 +12,15 @@ from live.broadcast.going_out import GoingOut, delay_of, minutes, read_command, 
 from live.doors import calls
 from live.doors.calls import LINGER, QUOTES, linger_of, refuse_both, refuse_hosts
 from live.doors.door import Outcome, through
-from live.game.files import LOCK_PATIENCE, ROUND, Paths, text_of
+from live.game.file_names import ROUND
+from live.game.files import LOCK_PATIENCE, Paths, text_of
 from live.game.game import keep_options, kept_options
 from live.game.opening import recordable, turned, unknown
 from live.game.options import RECOVER, STRICT, TAG, UNKNOWN, Options
 from live.game.options import as_typed, assigned, no_option, typed_tag, typed_value
 from live.game.program import Program
 from live.lock import locked
+from live.later import keep_what_is_loaded_later
 from live.loop import Loop, Signals
 from live.refused import ARGUMENTS, DONE, FAILED, REFUSED, Refused
 from live.round.display import terminal_of_lines
@@ -195,6 +197,7 @@ def told_of_kept(given: Options, kept: Options) -> str:
 
 def play(asked: Asked, program: Program, signals: Signals) -> Outcome:
     """Records the round."""
+    keep_what_is_loaded_later()
     asked.options.refuse_breaks()
     given = turned(recordable(asked.options, unknown))
     file = pathlib.Path(asked.file)

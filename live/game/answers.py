@@ -9,7 +9,8 @@ from typing import List, Optional, Sequence, Tuple
 from live.device.protocol import DUMP_BEGINS, DUMP_ID, SIZES
 from live.game.options import RECOVER, Options
 from live.game.program import Program, ending_of
-from live.game.typed import WAYS, Refused
+from live.game.reply import Refused
+from live.game.typed import WAYS
 
 SLOWEST = 60.0  # seconds that a call may take
 TOO_LONG = "input: too long"

@@ -9,20 +9,22 @@ from typing import Tuple
 from live.game import answers
 from live.game.alarms import acknowledge
 from live.game.answers import ILLEGAL, Said, meaning, whose_move
-from live.game.files import Paths, log_once, open_game, text_of
+from live.game.files import Paths, not_written, open_game
 from live.game.forfeiting import drop_forfeit, keep_forfeit
 from live.game.forfeits import NO_RESULT, Forfeit, read_typed, refuse_played
-from live.game.game import Game, end_mark, keep_options, kept_options, mark_end, result_in
-from live.game.made_anew import forget_question, go_back_closed, made_of, reopen
+from live.game.game import Game, end_mark, forget_question, keep_options, kept_options, mark_end, result_in
+from live.game.log import log_once
+from live.game.made_anew import go_back_closed, made_of, reopen
 from live.game.making_pgn import Text, told_of_result
 from live.game.naming import is_naming, read_names, told_of_names
 from live.game.opening import checked
 from live.game.options import Options
 from live.game.program import Program
 from live.game.reading import game_of
+from live.game.reply import Answer, Refused, refusal
 from live.game.timed import Times
 from live.game.times import ADDED, OVER
-from live.game.typed import Acknowledged, Answer, Back, Nothing, Quit, Refused, Reopened, WAYS, refusal
+from live.game.typed import WAYS, Acknowledged, Back, Nothing, Quit, Reopened
 from live.refused import DONE, FAILED
 
 
@@ -99,7 +101,7 @@ def add_by_name(program: Program, paths: Paths, text: str, patience: float) -> A
     except Refused as refused:
         return refusal(text, refused)
     except OSError as error:
-        return FAILED, cannot_be_written(paths, text_of(error))
+        return FAILED, not_written(paths.name, error)
     finally:
         times.close()
         capture.close()
@@ -130,8 +132,3 @@ def rename_closed(game: Game, text: str) -> str:
     told += made_of(game, Text(renamed).make(end_mark(game.paths)))
     log_once(game.paths, told)
     return f"{game.paths.name}: {told}"
-
-
-def cannot_be_written(paths: Paths, why: str) -> str:
-    """The message for a game's file that can't be written."""
-    return f"{paths.name} can't be written ({why}): is the disk full?"

@@ -15,7 +15,7 @@ import struct
 from typing import Callable, Dict, Optional, Set
 
 from live.game.files import open_regular
-from live.game.typed import NO_TEXT, Answer
+from live.game.reply import NO_TEXT, Answer
 from live.loop import Turns
 from live.refused import DONE, REFUSED, printable
 

@@ -1,18 +1,23 @@
-"""The names that a game's files may have."""
+"""The names that a game's files may have, and to what else a game may belong by its name."""
 
 from __future__ import annotations
 
 import os
+import re
 import stat
+from typing import List
 
-from live.game.files import OF_A_GAME, OF_A_ROUND, ROUND, Paths, plain, size_of
+from live.game.files import Paths, plain, size_of
 from live.refused import ARGUMENTS, REFUSED, Refused
 
 # A shell completes to the last one.
 ENDINGS = (
     ".before.dgt", ".dgt", ".edited.pgn", ".broadcast.pgn", ".pgn", ".options", ".log", ".look", ".back", ".serial", ".end",
-    ".forfeit", ".front", ".delayed", ".delay", ".pages", ".cable", ".times", ".",
+    ".forfeit", ".front", ".delayed", ".delay", ".pages", ".cable", ".times", ".zip", ".",
 )  # fmt: skip
+ROUND, BROADCAST = "round", "broadcast"
+OF_A_ROUND = (ROUND, BROADCAST)  # the names of a round's own files, in lower case
+OF_A_GAME = re.compile(r"\.(?:(?:before|edited)(?:-[0-9]+)?|broadcast)$", re.IGNORECASE)  # a game's own files end so, before .dgt or .pgn
 DEVICES = ("/dev/tty", "/dev/serial/", "/dev/rfcomm", "tcp://")  # what a board's device begins with
 
 
@@ -36,3 +41,17 @@ def check_name(name: str) -> None:
     folder, _, last = plain(name).rpartition("/")
     if last.lower() in OF_A_ROUND and os.path.lexists(f"{folder or '.'}/{ROUND}.log"):
         raise Refused(REFUSED, f"{name} may be a file of the round in {folder or 'this folder'}: choose another name")
+
+
+def owners_of(paths: Paths) -> List[Paths]:
+    """A game's own files, and those of the round and of the series to which it may belong."""
+    folder, _, name = paths.name.rpartition("/")
+    front = paths.name[: len(paths.name) - len(name)]
+    series, dash, number = name.rpartition("-")
+    names = [name, ROUND] if name != ROUND else [name]
+    return [Paths(front + one) for one in (*names, *([series] if dash and series and number.isdigit() else []))]
+
+
+def has_delay(paths: Paths) -> bool:
+    """Whether a delay was given for a game, or for the round or series to which it may belong."""
+    return any(os.path.lexists(owner.delay) for owner in owners_of(paths))

@@ -1,30 +1,24 @@
-"""The files of a game: the capture, which only grows; the log; and files that are replaced as a whole."""
+"""The files of a game: the capture, which only grows, and files that are replaced as a whole."""
 
 from __future__ import annotations
 
 import contextlib
-import datetime
 import errno
 import fcntl
 import functools
 import os
-import re
 import stat
 from dataclasses import dataclass
-from typing import Dict, Optional, Union
+from typing import Optional, Union
 
 from live.lock import locked
 from live.refused import ANOTHER_CALL, FAILED, REFUSED, Refused
 
 LARGEST = 64 * 1024 * 1024  # bytes of a capture: the program reads no more
-MEMORY = 1024 * 1024  # bytes that are kept in memory while the disk is full
-MOST_TROUBLES = 8  # messages about a log
+MEMORY = 1024 * 1024  # bytes that are kept in memory while they can't be written
 NO_SUCH_FILE = (errno.ENOENT, errno.ENOTDIR, errno.ENAMETOOLONG)  # no file can have this name, and nothing is kept under it
 NO_ROOM = (errno.ENOSPC, errno.EDQUOT, errno.EFBIG)
 LOCK_PATIENCE = 3.0  # seconds: a call that was just killed may still have the lock
-ROUND, BROADCAST = "round", "broadcast"
-OF_A_ROUND = (ROUND, BROADCAST)  # the names of a round's own files, in lower case
-OF_A_GAME = re.compile(r"\.(?:(?:before|edited)(?:-[0-9]+)?|broadcast)$", re.IGNORECASE)  # a game's own files end so, before .dgt or .pgn
 AnyPath = Union[str, "os.PathLike[str]"]
 
 
@@ -159,12 +153,12 @@ def sync_folder(folder: AnyPath) -> None:
 
 def open_regular(path: AnyPath, flags: int) -> int:
     """Opens a file without waiting. Raises OSError if it isn't a regular file: a pipe might hold up all boards; or if it is a link
-    and would be written."""
-    writes = flags & (os.O_WRONLY | os.O_RDWR)
+    and would be written, or no link is to be followed."""
+    refuses = flags & (os.O_WRONLY | os.O_RDWR | os.O_NOFOLLOW)
     try:
-        number = os.open(path, flags | os.O_NONBLOCK | os.O_NOCTTY | (os.O_NOFOLLOW if writes else 0), 0o666)
+        number = os.open(path, flags | os.O_NONBLOCK | os.O_NOCTTY | (os.O_NOFOLLOW if refuses else 0), 0o666)
     except OSError as error:
-        if writes and error.errno == errno.ELOOP:
+        if refuses and error.errno == errno.ELOOP:
             raise OSError(errno.ELOOP, f"{os.path.basename(path)} is a link", os.fspath(path)) from None
         raise
     try:
@@ -229,7 +223,12 @@ def text_of(error: OSError) -> str:
 
 def not_written(path: AnyPath, error: OSError) -> str:
     """That a file can't be written, why, and what to do."""
-    return f"{path} can't be written ({text_of(error)}): {'is the disk full?' if error.errno in NO_ROOM else 'put that right'}"
+    return unwritten(path, text_of(error), error.errno in NO_ROOM)
+
+
+def unwritten(path: AnyPath, why: str, full: bool) -> str:
+    """The same, given the reason in words, and whether the disk has no room."""
+    return f"{path} can't be written ({why}): {'is the disk full?' if full else 'put that right'}"
 
 
 class Recorded(Refused):
@@ -246,7 +245,8 @@ class Capture:
         self.pending = bytearray()
         self.lost = 0  # bytes that were dropped because the memory for them was full
         self.limit: Optional[int] = LARGEST
-        self.trouble = ""
+        self.trouble = ""  # why something waits, in the system's words
+        self.full = False  # and whether that is for want of room
 
     @staticmethod
     def open(path: str, patience: float = LOCK_PATIENCE) -> Capture:
@@ -294,7 +294,7 @@ class Capture:
         self.number, self.size = new.number, new.size
 
     @property
-    def full(self) -> bool:
+    def waits(self) -> bool:
         """Whether something waits in memory."""
         return bool(self.pending)
 
@@ -328,9 +328,9 @@ class Capture:
                 count = os.write(self.number, self.pending)
                 self.size += count
                 del self.pending[:count]
-            self.trouble = ""
+            self.trouble, self.full = "", False
         except OSError as error:
-            self.trouble = text_of(error)
+            self.trouble, self.full = text_of(error), error.errno in NO_ROOM
 
     def read(self, offset: int, count: int) -> bytes:
         return os.pread(self.number, count, offset)
@@ -409,89 +409,3 @@ def open_game(paths: Paths, patience: float = LOCK_PATIENCE) -> Capture:
     except OSError as error:
         raise Refused(FAILED, f"{paths.capture} can't be written ({text_of(error)}): choose another name") from None
     return Capture.open(paths.capture, patience)
-
-
-def logged_at(now: datetime.datetime) -> str:
-    """The date and the time of day in front of a line of a log, as `2024-05-31 14:02:59`."""
-    return now.isoformat(" ", "seconds")
-
-
-class Log:
-    """NAME.log: a line for each message, with date and time of day. If it can't be written the game goes on, and the reason is
-    written before the next line."""
-
-    def __init__(self, path: AnyPath) -> None:
-        self._path = path
-        self._number: Optional[int] = None
-        self._missing = 0
-        self._troubles: Dict[str, None] = {}  # since the last written line, each once
-        self._unexpected: Optional[Exception] = None  # the last of these errors that isn't the system's
-        self._open()
-
-    def _open(self) -> None:
-        """Opens it if possible: else the next line tries again."""
-        try:
-            self._number = open_regular(self._path, os.O_WRONLY | os.O_APPEND | os.O_CREAT)
-        except Exception as error:
-            self._fails(error)
-
-    def _fails(self, error: Exception) -> None:
-        if isinstance(error, OSError):
-            text = text_of(error)
-        else:
-            text, self._unexpected = f"{type(error).__name__}: {error}", error
-        if len(self._troubles) < MOST_TROUBLES:
-            self._troubles[text] = None
-
-    def write(self, when: str, text: str) -> None:
-        if self._number is None:
-            self._open()
-        if self._number is None:
-            self._missing += 1
-            return
-        if self._troubles:
-            text = f"{self._gap()}\n{when}  {text}"
-        try:
-            self._put(self._number, f"{when}  {text}")
-        except Exception as error:
-            self._missing += 1
-            self._fails(error)
-
-    def _put(self, number: int, line: str) -> None:
-        os.write(number, f"{line}\n".encode("utf-8", "backslashreplace"))
-        self._missing, self._unexpected = 0, None
-        self._troubles.clear()
-
-    def _gap(self) -> str:
-        why = "; ".join(self._troubles)
-        if self._missing == 0:
-            return f"(the log couldn't be opened at first: {why})"
-        lines = "1 line is" if self._missing == 1 else f"{self._missing} lines are"
-        return f"({lines} missing here: the log couldn't be written: {why})"
-
-    def close(self) -> None:
-        """Writes nothing further. An unexpected error is raised here if the log couldn't report it."""
-        if self._number is None and self._unexpected:
-            self._open()
-        number, self._number = self._number, None
-        if number is None:
-            if self._unexpected:
-                raise self._unexpected
-            return
-        try:
-            if self._troubles:
-                self._put(number, self._gap())
-        except Exception as error:
-            if self._unexpected:
-                raise self._unexpected from error
-            raise
-        finally:
-            os.close(number)
-
-
-def log_once(paths: Paths, *lines: str) -> None:
-    """Writes lines to the log of a game that nobody records now."""
-    log = Log(paths.log)
-    for line in lines:
-        log.write(logged_at(datetime.datetime.now()), line)
-    log.close()

@@ -3,11 +3,9 @@
 from __future__ import annotations
 
 import contextlib
-from typing import Mapping
 
 from live.game.files import Paths, beginning, put_in_place, remove
-from live.game.forfeits import TERMINATION, fits, is_unplayed
-from live.game.game import result_of
+from live.game.game import is_unplayed, result_of
 
 LONGEST = 16  # bytes of the file, whoever wrote it
 
@@ -23,6 +21,10 @@ def kept_forfeit(paths: Paths) -> str:
 def forfeit_of(paths: Paths, pgn: bytes) -> str:
     """How the game with this text was forfeited; empty if it wasn't."""
     kind = kept_forfeit(paths) if is_unplayed(pgn) else ""
+    if not kind:
+        return ""
+    from live.game.forfeits import fits  # few games are forfeited
+
     return kind if fits(kind, result_of(pgn), pgn) else ""
 
 
@@ -35,8 +37,3 @@ def drop_forfeit(paths: Paths) -> None:
     """The game is played after all."""
     with contextlib.suppress(OSError):
         remove(paths.forfeit)
-
-
-def told_to_readers(kind: str) -> Mapping[str, str]:
-    """The tag of what is published of a forfeited game."""
-    return {"Termination": TERMINATION} if kind else {}

@@ -8,10 +8,12 @@ from __future__ import annotations
 
 import re
 from dataclasses import dataclass
-from typing import Dict, Union
+from typing import Dict, Mapping, Union
 
+from live.game.game import is_unplayed
+from live.game.reply import REOPENS, Refused
+from live.game.typed import NOUGHTS, Typed, read_words, refuse_no_text
 from live.game.typed import BOTH_LOSE as NO_SCORE
-from live.game.typed import NOUGHTS, REOPENS, Refused, Typed, read_words, refuse_no_text
 
 WHITE, BLACK, BOTH = "+-", "-+", "--"  # White wins, Black wins, nobody does
 SCORES: Dict[str, str] = {WHITE: "1-0", BLACK: "0-1", BOTH: NOUGHTS}
@@ -84,14 +86,14 @@ def read_typed(text: str, name: str = "") -> Union[Forfeit, Typed]:
     return read_words(text)
 
 
-def is_unplayed(pgn: bytes) -> bool:
-    """Whether a text has no move."""
-    return len(pgn.partition(b"\n\n")[2].split()) <= 1
-
-
 def fits(kind: str, result: str, pgn: bytes) -> bool:
     """Whether a game with this text and this result is the one that was forfeited: it has no move, and no other result was typed."""
     return kind in SCORES and Forfeit(kind).result == result and is_unplayed(pgn)
+
+
+def told_to_readers(kind: str) -> Mapping[str, str]:
+    """The tag of what is published of a forfeited game."""
+    return {"Termination": TERMINATION} if kind else {}
 
 
 def refuse_played(plies: int, result: str, typed: Forfeit) -> None:

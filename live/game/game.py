@@ -1,13 +1,15 @@
-"""An open game, and what is kept beside its capture: its options, its board's number, and the mark of its end."""
+"""An open game, and what is kept beside its capture: its options, its board's number, the mark of its end, and a question."""
 
 from __future__ import annotations
 
+import contextlib
 import os
 import re
 from dataclasses import dataclass, field
 from typing import Optional
 
-from live.game.files import NO_SUCH_FILE, LARGEST, Capture, Paths, beginning, existing, not_written, put_in_place, sync_folder, text_of
+from live.game.files import NO_SUCH_FILE, LARGEST, Capture, Paths
+from live.game.files import beginning, existing, not_written, put_in_place, remove, sync_folder, text_of
 from live.game.options import Options
 from live.game.program import Program
 from live.game.tags import Tags
@@ -58,6 +60,11 @@ def result_of(pgn: bytes) -> str:
     return found.group(1).decode("ascii", "replace") if found else "*"
 
 
+def is_unplayed(pgn: bytes) -> bool:
+    """Whether a text has no move."""
+    return len(pgn.partition(b"\n\n")[2].split()) <= 1
+
+
 def result_in(paths: Paths) -> str:
     """The result in NAME.pgn, as far as it can be read."""
     try:
@@ -82,6 +89,12 @@ def unmark_end(paths: Paths) -> None:
     """The game isn't over any more. Raises OSError on failure."""
     os.unlink(paths.end)
     sync_folder(paths.folder)
+
+
+def forget_question(paths: Paths) -> None:
+    """The game has changed, or ends: a question from before would be asked again."""
+    with contextlib.suppress(OSError):
+        remove(paths.question)
 
 
 def _number_in(path: str) -> str:
@@ -141,9 +154,14 @@ def kept_tags(paths: Paths) -> Tags:
     return dict(kept.tags) if kept else {}
 
 
+def put_options(paths: Paths, options: Options) -> None:
+    """Keeps the options. Raises OSError if they can't be written."""
+    put_in_place(paths.options, options.text().encode("utf-8", "surrogateescape"))
+
+
 def keep_options(paths: Paths, options: Options) -> None:
-    """Keeps the options. Refused if they can't be written."""
+    """The same. Refused if they can't be written."""
     try:
-        put_in_place(paths.options, options.text().encode("utf-8", "surrogateescape"))
+        put_options(paths, options)
     except OSError as error:
         raise Refused(FAILED, not_written(paths.options, error)) from None

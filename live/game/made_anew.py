@@ -6,10 +6,8 @@ one, which the program has made and read, is put in place at once.
 
 from __future__ import annotations
 
-import contextlib
 import errno
 import os
-import zlib
 from typing import Optional, Sequence
 
 from live.game import answers
@@ -17,18 +15,18 @@ from live.game.alarms import keep_looks, kept_looks
 from live.game.answers import Said
 from live.game.course import Course
 from live.game.edited import told_of_edit
-from live.game.files import Capture, Paths, existing, put_in_place, remove, sync_folder
+from live.game.files import Capture, Paths, existing, put_in_place, sync_folder
 from live.game.forfeiting import kept_forfeit
-from live.game.game import Game, end_mark, mark_end, unmark_end
+from live.game.front import keep_front
+from live.game.game import Game, end_mark, forget_question, mark_end, unmark_end
 from live.game.making_pgn import Made, Text
 from live.game.reading import game_of, read_game
+from live.game.reply import Asked, Refused
 from live.game.report import Move
 from live.game.times import OVER
-from live.game.typed import Asked, Refused
 from live.game.way_back import ALL, NO_RESULT, PLIES, STILL_SHOWN, Way, nothing_goes, refuse, stays_of, way_of
 
 NO_LINKS = (errno.EPERM, errno.EOPNOTSUPP, errno.EMLINK)  # a file system without hard links
-LONGEST_FRONT = 64  # bytes of NAME.front, whoever wrote it
 
 
 def keep_before(capture: Capture, paths: Paths) -> str:
@@ -95,23 +93,6 @@ def _settle(paths: Paths, way: Way) -> str:
     except OSError:
         return ""  # it stays, and must be acknowledged
     return f"Settled: {', '.join(look.short for look in before.open if look not in left.open)}. "
-
-
-# The bytes that a way back has made: no end of the game comes before them.
-
-
-def keep_front(paths: Paths, content: bytes) -> None:
-    """Keeps how many bytes the new capture begins with, and their checksum. Raises OSError if that fails."""
-    put_in_place(paths.front, b"%d %d\n" % (len(content), zlib.crc32(content)))
-
-
-def front_of(paths: Paths, capture: Capture) -> int:
-    """How many bytes a way back has made at the beginning of this capture; 0 if none, or of another one."""
-    with contextlib.suppress(OSError, ValueError):
-        size, checksum = map(int, existing(paths.front)[:LONGEST_FRONT].split())
-        if 0 < size <= capture.size and zlib.crc32(capture.bytes(0, size)) == checksum:
-            return size
-    return 0
 
 
 # Games that nobody records, or that are over.
@@ -210,7 +191,7 @@ def _put_closed(game: Game, way: Way, is_over: bool = False, says: bool = True) 
 def made_of(game: Game, made: Made) -> str:
     """What is added to a message about a text that was made. Raises OSError if it couldn't be made."""
     if made.trouble:
-        raise OSError(made.trouble)
+        raise made.error()
     return f"; {told_of_edit(game.paths.pgn, made.edited)}" if made.edited else ""
 
 
@@ -223,9 +204,3 @@ def ask_first(paths: Paths, way: Way) -> None:
     if asked and existing(paths.question) != asked.encode():
         put_in_place(paths.question, asked.encode())
         raise Asked(asked)
-
-
-def forget_question(paths: Paths) -> None:
-    """The game has changed, or ends: a question from before would be asked again."""
-    with contextlib.suppress(OSError):
-        remove(paths.question)

@@ -3,6 +3,7 @@
 from __future__ import annotations
 
 import contextlib
+import errno
 import os
 import signal
 import subprocess
@@ -11,7 +12,8 @@ from typing import Callable, List, Optional, Protocol, Sequence, Tuple
 
 from live.beside import Worker
 from live.game.edited import is_recorded, keep
-from live.game.files import LARGEST, NO_ROOM, content_of, existing, new_of, open_new, open_regular, sync_folder, text_of
+from live.game.files import LARGEST, NO_ROOM, AnyPath
+from live.game.files import content_of, existing, new_of, open_new, open_regular, sync_folder, text_of, unwritten
 from live.game.game import Game
 from live.game.options import Options
 from live.game.program import ending_of, wake
@@ -52,6 +54,14 @@ class Made:
     def of_error(error: OSError) -> Made:
         """What went wrong, in the system's words."""
         return Made(text_of(error), error.errno in NO_ROOM)
+
+    def error(self) -> OSError:
+        """The same as an error, to be raised."""
+        return OSError(errno.ENOSPC, self.trouble) if self.full else OSError(self.trouble)
+
+    def told(self, path: AnyPath) -> str:
+        """That this file can't be written, why, and what to do."""
+        return unwritten(path, self.trouble, self.full)
 
 
 class Text:

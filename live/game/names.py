@@ -5,8 +5,8 @@ A tag's value has at most 100 characters, all printable ASCII. A date is `2024.0
 
 from __future__ import annotations
 
-import datetime
 import re
+import time
 import unicodedata
 from typing import Dict, List, Match, Optional
 
@@ -87,11 +87,13 @@ def pgn_date(text: str) -> str:
 
 def today() -> str:
     """Today's local date, as PGN has it."""
-    return f"{datetime.date.today():%Y.%m.%d}"
+    return time.strftime("%Y.%m.%d")
 
 
 def _date(text: str, match: Match[str]) -> str:
     """The date with these parts, if there is such a day."""
+    import datetime  # it takes much memory, and few dates are typed
+
     given = match.groupdict()
     year, month, day = given["year"], _padded(given.get("month")), _padded(given.get("day"))
     # A leap year and a long month replace unknown ones.

@@ -6,8 +6,8 @@ import re
 from typing import Dict, List, Optional
 
 from live.game.options import DATE, PUBLISHED, TAG, UNKNOWN, Options
+from live.game.reply import Refused
 from live.game.tags import Malformed, pair_of
-from live.game.typed import Refused
 
 NAME = "name"
 OPTION_OF = {"Date": DATE, **{name: option for option, name in PUBLISHED.items()}}

@@ -9,7 +9,7 @@ import threading
 from dataclasses import dataclass
 from typing import Callable, Dict, List, Optional, Protocol, Sequence, Tuple
 
-from live.game import names, refusal, tags
+from live.game import names, tags
 from live.game.edited import told_of_edit
 from live.game.files import LOCK_PATIENCE, Capture, Paths, open_game, size_of
 from live.game.game import Game, end_mark, is_over, keep_options, kept_options, result_in
@@ -87,7 +87,9 @@ def checked(program: Program, typed: Options) -> Options:
     given = turned(recordable(typed))
     answer = program.run("record", *given.of_record())
     if answer.returncode != 0:
-        raise Refused(answer.returncode, refusal.reason(answer.stderr.decode("utf-8", "replace")))
+        from live.game.refusal import reason
+
+        raise Refused(answer.returncode, reason(answer.stderr.decode("utf-8", "replace")))
     return given
 
 
@@ -132,6 +134,7 @@ class Opening:
         self._lock = threading.Lock()
         self._capture: Optional[Capture] = None
         self._dropped = False
+        self.untold: Tuple[str, ...] = ()  # errors that aren't the system's, to be said even if nobody gets what is opened
         self.held: Callback = lambda: None  # called in the worker's thread when a game that goes on is held, and is to be read
 
     def open(self, now: float, today: str) -> Opened:
@@ -173,6 +176,7 @@ class Opening:
     def _read(self, capture: Capture, chooses: Chooses, now: float, today: str) -> Opened:
         paths, times = self._paths, Times(self._paths, capture)
         times.look()
+        self.untold = times.unexpected
         before = kept_options(paths) if capture.size else None
 
         def has_moves() -> bool:
@@ -194,8 +198,7 @@ class Opening:
         result, end = result_in(paths), end_mark(paths)
         made = Text(game).make(end)
         if made.trouble:
-            is_full = "is the disk full?" if made.full else "put that right"
-            raise Refused(FAILED, f"{paths.pgn} can't be written ({made.trouble}): {is_full}")
+            raise Refused(FAILED, made.told(paths.pgn))
         told = (*chosen.told, told_of_edit(paths.pgn, made.edited)) if made.edited else chosen.told
         old = read_game(game, end, now) if capture.size else nothing_old(options, 0)
         pairs = old.course.recovered if before and bool(before.recover) != bool(options.recover) else []

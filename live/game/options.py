@@ -268,13 +268,21 @@ class Options:
 
     def told_of_tags(self, before: Options) -> str:
         """The message if the tags differ from before; empty if they are the same."""
-        told = []
-        if self.players != before.players:
-            told.append(f"its game is now {self.players}, and was {before.players}")
-        for option in TAGS:
-            if option not in PLAYERS and self.shown(option) != before.shown(option):
-                told.append(f"its {option[2:]} is now {self.shown(option)}, and was {before.shown(option)}")
-        return "; ".join(told)
+        names = [options.shown(option) for options in (self, before) for option in PLAYERS]
+        if UNKNOWN in names:
+            told = [self._told_of_tag(option, PUBLISHED[option], before) for option in PLAYERS]
+        else:
+            told = [f"its game is now {self.players}, and was {before.players}"] if self.players != before.players else []
+        told += [self._told_of_tag(option, f"its {option[2:]}", before) for option in TAGS if option not in PLAYERS]
+        return "; ".join(filter(None, told))
+
+    def _told_of_tag(self, option: str, called: str, before: Options) -> str:
+        """The message about one tag, which is called so."""
+        value, was = self.shown(option), before.shown(option)
+        if value == was:
+            return ""
+        says = f"{called} is unknown now" if value == UNKNOWN else f"{called} is now {value}"
+        return says if was == UNKNOWN else f"{says}, and was {was}"
 
     def told_of_all(self, before: Options) -> str:
         """The message if a game without a move has other options than before; empty if it doesn't."""

@@ -18,6 +18,7 @@ from live.refused import NO_PROGRAM, Refused
 
 CHUNK = 65536  # bytes that are read or written at once
 FAILURES = 5  # failures of one child in a row, with no line in between
+BINARY = b"\x7fELF"  # how a program begins that isn't a script
 FRESH = 60.0  # seconds after which earlier failures no longer count
 
 
@@ -31,11 +32,34 @@ def _deaf_children() -> Iterator[None]:
         signal.pthread_sigmask(signal.SIG_SETMASK, before)
 
 
+def _runs(path: str, held: str) -> bool:
+    """Whether the program runs, started by this name of its file."""
+    try:
+        with _deaf_children():
+            words = [path, "--help"]
+            return subprocess.run(words, executable=held, stdin=subprocess.DEVNULL, stdout=subprocess.DEVNULL).returncode == 0
+    except OSError:
+        return False
+
+
+def _held(path: str) -> str:
+    """A name by which the file stays open; empty if there is none, or if it is a script, which looks for what is beside it."""
+    try:
+        number = os.open(path, os.O_RDONLY)
+        if os.pread(number, len(BINARY), 0) == BINARY:
+            return f"/proc/{os.getpid()}/fd/{number}"
+        os.close(number)
+    except OSError:
+        pass
+    return ""
+
+
 @dataclass(frozen=True)
 class Program:
-    """The proved program."""
+    """The proved program. What is started is what was found, whatever takes the place of its file meanwhile."""
 
     path: str
+    held: str = ""  # another name of the file, which stays its own
 
     @staticmethod
     def find(beside: str) -> Program:
@@ -52,12 +76,10 @@ class Program:
             path = os.fsdecode(found.stdout.rstrip(b"\n"))
         if not os.access(path, os.X_OK):
             raise Refused(NO_PROGRAM, f"there is no dgt_replay in {beside}: it belongs beside dgt_live")
-        try:
-            with _deaf_children():
-                status = subprocess.run([path, "--help"], stdin=subprocess.DEVNULL, stdout=subprocess.DEVNULL).returncode
-        except OSError:
-            status = NO_PROGRAM
-        if status != 0:
+        held = _held(path)
+        if held and _runs(path, held):
+            return Program(path, held)
+        if not _runs(path, path):
             needed = f"Linux with glibc 2.34 or later, and the archive for this processor, which is {os.uname().machine}"
             raise Refused(NO_PROGRAM, f"{path} doesn't run: it needs {needed}")
         return Program(path)
@@ -70,7 +92,11 @@ class Program:
         """Calls it and waits: for calls of a few milliseconds. After so many seconds it is killed."""
         with _deaf_children():
             child = subprocess.Popen(
-                [self.path, *words], stdin=subprocess.PIPE, stdout=subprocess.PIPE, stderr=subprocess.PIPE
+                [self.path, *words],
+                executable=self.held or None,
+                stdin=subprocess.PIPE,
+                stdout=subprocess.PIPE,
+                stderr=subprocess.PIPE,
             )
         try:
             output, error = child.communicate(given, patience)
@@ -105,7 +131,8 @@ class Program:
     def start(self, words: Sequence[str], stdin: int, stdout: int, stderr: int) -> subprocess.Popen[bytes]:
         """Starts it without waiting."""
         with _deaf_children():
-            return subprocess.Popen([self.path, *words], stdin=stdin, stdout=stdout, stderr=stderr, bufsize=0)
+            named = self.held or None
+            return subprocess.Popen([self.path, *words], executable=named, stdin=stdin, stdout=stdout, stderr=stderr, bufsize=0)
 
 
 class Source(Protocol):

@@ -9,7 +9,7 @@ import os
 import subprocess
 import time
 from dataclasses import dataclass
-from typing import Iterator, List, Optional, Sequence
+from typing import TYPE_CHECKING, Iterator, List, Optional, Sequence, Tuple
 
 from live.device import protocol
 from live.device.protocol import DUMP_BEGINS
@@ -20,7 +20,9 @@ from live.game.making_pgn import source_of
 from live.game.options import Options
 from live.game.program import CHUNK, Program, ending_of
 from live.game.report import Agrees, Clock, Differs, Picture, event_of, line_of
-from live.game.whole import Pair, Places, pairs_in
+
+if TYPE_CHECKING:
+    from live.game.whole import Places
 
 
 @dataclass(frozen=True)
@@ -50,13 +52,11 @@ def read_game(game: Game, limit: Optional[int], now: float) -> Old:
         opened.callback(os.close, source)
         times = Times(source, now)
         gap = max(0.0, time.time() - os.fstat(source).st_mtime)
-        content: Sequence[int] = b""
-        pairs: List[Pair] = []
+        places: Optional[Places] = None
         if game.options.recover:
-            source, pairs = _recovered(game, source, opened)
-            content = _mapped(source, opened)
+            source, places = _recovered(game, source, opened)
         course = new_course(game.options)
-        count = take_all(course, game.program, ("watch", *game.options.of_board()), source, Places(content, pairs), times)
+        count = take_all(course, game.program, ("watch", *game.options.of_board()), source, places, times)
     return Old(times.size, count, course, gap)
 
 
@@ -102,8 +102,10 @@ def dumps_in(source: int, size: int) -> Iterator[int]:
         before = text[1 - len(DUMP_BEGINS) :]
 
 
-def take_all(course: Course, program: Program, words: Sequence[str], source: int, places: Places, times: Times) -> int:
-    """Takes the lines of a child that reads a file. Returns their number."""
+def take_all(
+    course: Course, program: Program, words: Sequence[str], source: int, places: Optional[Places], times: Times
+) -> int:
+    """Takes the lines of a child that reads a file. `places` are known if pairs may have been added. Returns the lines' number."""
     into, out = os.pipe()
     try:
         child = program.start(words, source, out, subprocess.DEVNULL)
@@ -112,13 +114,13 @@ def take_all(course: Course, program: Program, words: Sequence[str], source: int
         raise
     finally:
         os.close(out)
-    count, game_has_pairs = 0, places.has_pairs
+    count = 0
     try:
         for texts in _lines(into):
             count += len(texts) - texts[-1].startswith("rest ")
-            for text in texts if game_has_pairs else wanted(texts, course.start):
+            for text in texts if places and places.has_pairs else wanted(texts, course.start):
                 line = line_of(text)
-                for one in places.of(line) if line else ():
+                for one in () if line is None else places.of(line) if places else (line,):
                     course.take(one, times.of(one.offset))
     finally:
         os.close(into)
@@ -166,8 +168,10 @@ def _last(words: Sequence[str], letter: str) -> Sequence[int]:
     return next(([at] for at in range(len(words) - 1, -1, -1) if words[at][0] == letter), [])
 
 
-def _recovered(game: Game, source: int, opened: contextlib.ExitStack) -> "tuple[int, List[Pair]]":
-    """A file with the recovered pairs added, and the pairs."""
+def _recovered(game: Game, source: int, opened: contextlib.ExitStack) -> Tuple[int, Places]:
+    """A file with the recovered pairs added, and where its lines come from."""
+    from live.game.whole import Places, pairs_in
+
     files = [os.memfd_create(name) for name in ("whole", "pairs")]
     for file in files:
         opened.callback(os.close, file)
@@ -175,7 +179,8 @@ def _recovered(game: Game, source: int, opened: contextlib.ExitStack) -> "tuple[
     if status != 0:
         raise OSError(f"recover {ending_of(status)}")
     os.lseek(files[0], 0, os.SEEK_SET)
-    return files[0], pairs_in(os.pread(files[1], os.fstat(files[1]).st_size, 0))
+    pairs = pairs_in(os.pread(files[1], os.fstat(files[1]).st_size, 0))
+    return files[0], Places(_mapped(files[0], opened), pairs)
 
 
 def _mapped(source: int, opened: contextlib.ExitStack) -> Sequence[int]:

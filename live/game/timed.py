@@ -21,6 +21,7 @@ from live.loop import Callback, Loop
 TRIES_AGAIN = 1.0  # seconds after a write has failed
 MOST_WAIT = 1000  # events that wait for the first bytes of a capture
 DUMP = 67  # bytes of a capture that a new file waits for
+OFTEN = (times.HEARD, times.ASKED)  # a move comes in several reads
 NOTHING = "Nothing is to be done"
 
 
@@ -174,16 +175,22 @@ class Times:
         self._events.append((now, what, count))
 
     def happened(self, what: str, count: Optional[int] = None) -> None:
-        """The same, in the loop: it is written at once."""
+        """The same, in the loop: it is written at once; what comes often, within a second."""
         self.note(what, count)
+        if what not in OFTEN or self._number is None:
+            self.wake()
+
+    def wake(self) -> None:
+        """Writes what has happened, and says what fails. Call this each second."""
         self.write()
         if self._told:
             self._tell()
 
     def grew(self, before: int, what: str = times.HEARD) -> None:
         """The capture had this many bytes, those in memory with them; it has more now."""
-        if self._capture.total > before:
-            self.happened(what, self._capture.total - before)
+        more = self._capture.total - before
+        if more > 0:
+            self.happened(what, more)
 
     def over(self, size: int) -> None:
         """The game is over: it is this many bytes of the capture."""

@@ -3,42 +3,22 @@ is for the program to read, which also says why it can't be."""
 
 from __future__ import annotations
 
-import os
 import re
 from dataclasses import dataclass
-from typing import Tuple, Union
+from typing import Union
 
-from live import refused
-from live.refused import REFUSED
+from live.game.reply import BACK, NO_TEXT, OK, REOPENS, Helped, Refused
 
 WAYS = "Type 1-0, 0-1, 1/2-1/2, moves as Nf3 Nc6, back, *, ok or help"
 ALL_WAYS = "Type 1-0, 0-1, 1/2-1/2, moves (Nf3 Nc6), back (a ply off), back 14. Bxf6, * (no result) or ok"
 HELPS = ("help", "?", "undo")
 QUITS = (["q"], ["quit"])
-BACK = "back"
-OK = "ok"  # acknowledges the alarms
-REOPENS = "*"  # takes a typed result off
 NOUGHTS = "0-0"  # a result, or castling typed with noughts
 BOTH_LOSE = f"{NOUGHTS}: do both lose? PGN has no such result: leave the game without one, and note it. Castling is O-O"
 ABSENT = "+- (Black has not come; -+ White, -- both)"
 ONE_BOARD = (ABSENT, "name White=Anna (a name put right)", "or q to end the recording")  # what can be typed there too
-NO_TEXT = "it is no text in UTF-8, so nothing of it counts. Type it again; a terminal in another encoding must be set to UTF-8"
 WHICH_PLY = "which ply? Type it as the screen printed it, as back 14. Bxf6 or back 14... Qd7; or back alone, or back 0"
 OF_A_PLY = re.compile(r"(\d{1,4})((?: ?\.)+) ?", re.ASCII)  # its number, and one full stop for White or more for Black
-SHOWN = 60  # characters of a line that an answer shows
-Answer = Tuple[int, str]  # a status, and its message
-
-
-class Refused(Exception):
-    """What was typed isn't done. The text says why, and what to type."""
-
-
-class Asked(Refused):
-    """What was typed would remove a lot: it is done if it is typed again."""
-
-
-class Helped(Refused):
-    """Somebody asks what can be typed."""
 
 
 @dataclass(frozen=True)
@@ -133,24 +113,3 @@ def with_more(ways: str, *more: str) -> str:
     """A list of what can be typed, with more behind it."""
     front, _, last = ways.rpartition(" or ")
     return ", ".join((front, last, *more))
-
-
-def printable(text: str) -> str:
-    """The beginning of what was typed, with only what can be printed."""
-    return refused.printable(text[:SHOWN])
-
-
-def reason_of(error: Exception) -> str:
-    """The message for an error."""
-    if isinstance(error, OSError):
-        name = f"{os.fsdecode(error.filename)}: " if isinstance(error.filename, (str, bytes)) else ""
-        return name + (error.strerror or str(error))
-    return error.lines[0] if isinstance(error, refused.Refused) else str(error)
-
-
-def refusal(text: str, error: Exception) -> Answer:
-    """The answer to what was typed, if that isn't done, or not yet."""
-    if isinstance(error, (Asked, Helped)):
-        return REFUSED, str(error)
-    reason = reason_of(error)
-    return REFUSED, f"refused: {reason}" if text in reason else f"refused: {printable(text)}: {reason}"

@@ -4,13 +4,15 @@ from __future__ import annotations
 
 import functools
 import subprocess
-from typing import Callable, List, Optional, Protocol, Sequence
+from typing import TYPE_CHECKING, Callable, List, Optional, Protocol, Sequence
 
 from live.game.game import Game
 from live.game.program import HearsChild, Listing, Reader, Task
 from live.game.report import Line, line_of
-from live.game.whole import Places, Whole
 from live.guard import Guard
+
+if TYPE_CHECKING:
+    from live.game.whole import Places, Whole
 
 
 class HearsReport(HearsChild, Protocol):
@@ -30,11 +32,16 @@ class Watching:
         self._places: Optional[Places] = None
         if options.recover:
             recover = Task(game.program, ("recover", *options.of_board()), capture, errors=subprocess.PIPE)
-            self._whole = Whole(guard, recover, self._feed_watch, hears)
+            self._whole = self._with_pairs(guard, recover)
             self._places = self._whole.places()
         watch = Task(game.program, ("watch", *options.of_board()), self._whole or capture)
         self._watch: Optional[Listing] = None
         self._watch = Listing(guard, watch, self._heard, hears, known)
+
+    def _with_pairs(self, guard: Guard, recover: Task) -> Whole:
+        from live.game.whole import Whole  # few games need it
+
+        return Whole(guard, recover, self._feed_watch, self._hears)
 
     def _feed_watch(self) -> None:
         if self._watch:

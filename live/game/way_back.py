@@ -7,8 +7,9 @@ from dataclasses import dataclass
 from typing import List, Optional, Sequence
 
 from live.game.answers import LONG, Said
+from live.game.reply import Refused
 from live.game.report import Move
-from live.game.typed import WHICH_PLY, Refused, numbered
+from live.game.typed import WHICH_PLY, numbered
 
 ALL = "*"  # all plies stay, and only a result goes
 PLIES, NEAREST, NO_PLY, MOVED, ENDED, SIGNED, BOARD, UNSEEN = "plies", "nearest", "none", "moved", "ended", "signed", "board", "unseen"

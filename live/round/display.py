@@ -2,15 +2,15 @@
 
 from __future__ import annotations
 
-import datetime
 import os
+import time
 from typing import Callable, List, Optional
 
+from live.game.log import time_of
 from live.guard import traced
 from live.loop import Loop, Timer
 from live.round.table import RowView, screen
 from live.terminal.painter import Painter
-from live.terminal.screen import time_of
 from live.terminal.terminal import Terminal
 
 NARROWEST = 40  # columns of a terminal: if it has fewer, the rows are broken
@@ -47,7 +47,7 @@ class Display:
 
     def say(self, text: str) -> None:
         """A line for the screen."""
-        line = f"{time_of(datetime.datetime.now())}  {text}"
+        line = f"{time_of(time.time())}  {text}"
         self._messages = [*self._messages[1 - KEPT :], line]
         if self._terminal:
             self._terminal.line(line)
@@ -75,7 +75,7 @@ class Display:
     def _draw_now(self) -> None:
         if self._painter:
             columns, lines = self._painter.size()
-            title = f"{time_of(datetime.datetime.now())}  {self._title}"
+            title = f"{time_of(time.time())}  {self._title}"
             now = self._loop.now()
             self._painter.draw(screen(title, self._views(), self._messages, now, lines, max(NARROWEST, columns)))
 

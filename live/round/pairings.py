@@ -8,7 +8,7 @@ from typing import Dict, List, Optional, Sequence, Tuple, Union
 
 from live.device.network_address import HOW, is_network, read_address
 from live.device.protocol import SERIAL_LENGTH
-from live.game.files import OF_A_GAME, OF_A_ROUND
+from live.game.file_names import OF_A_GAME, OF_A_ROUND
 from live.game.forfeits import in_a_table, in_one_word
 from live.game.options import FEN, FIRST, PLAYERS, RECOVER, STRICT, TAG, assigned
 from live.game.tags import OTHERS, Malformed, cleaned, is_seen, value_of

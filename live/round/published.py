@@ -5,6 +5,7 @@ from __future__ import annotations
 from typing import Callable, Optional
 
 from live.beside import Worker
+from live.board.state import trouble_of
 from live.game.files import AnyPath, put_in_place
 from live.game.making_pgn import Made
 from live.loop import Timer, Turns
@@ -29,7 +30,7 @@ class Published:
         self._writing = False
         self._written: Optional[bytes] = None
         self._gathered = GATHERED
-        self._trouble = ""
+        self._made = Made()  # the last outcome
 
     def changed(self) -> None:
         """The text of a game has changed."""
@@ -60,14 +61,13 @@ class Published:
         """Takes the outcome of a writing."""
         if not made.trouble:
             is_news, self._written = text != self._written, text
-            if self._trouble:
+            if self._made.trouble:
                 self._says(f"{self.path} is written again")
             if is_news:
                 self.on_written()
-        elif not self._trouble:
-            what = "DISK FULL" if made.full else "NOT WRITTEN"
-            self._says(f"{what}: {self.path} can't be written ({made.trouble}); it is tried again each second")
-        self._trouble = made.trouble
+        elif not self._made.trouble:
+            self._says(f"{trouble_of(made.full)}: {self.path} can't be written ({made.trouble}); it is tried again each second")
+        self._made = made
 
     @property
     def is_written(self) -> bool:
@@ -81,12 +81,12 @@ class Published:
         self._worker.close()
 
     def close(self) -> str:
-        """Writes it a last time. Returns what keeps it from being written, if anything does."""
+        """Writes it a last time. Returns that it can't be written, and why; empty if it is."""
         self.stop()
         self._worker.wait()
         text = self._text()
         self._put(text, written(self.path, text))
-        return self._trouble
+        return self._made.told(self.path) if self._made.trouble else ""
 
 
 def written(path: AnyPath, text: bytes) -> Made:

@@ -2,12 +2,12 @@
 
 from __future__ import annotations
 
-import datetime
 import functools
 import os
 import pathlib
 import re
 import shlex
+import time
 from typing import Callable, Dict, List, Optional, Sequence, Set, Tuple, Union
 
 from live.beside import Worker
@@ -19,14 +19,16 @@ from live.broadcast.leaving import clock_in
 from live.device.line import same_line
 from live.game import answers
 from live.game.answers import ILLEGAL, MEANT, MOVES, RESULT, UNKNOWN, Said, moves_in
-from live.game.files import ROUND, Log, Paths, logged_at, text_of
+from live.game.file_names import ROUND
+from live.game.files import Paths, text_of
 from live.game.forfeits import NO_RESULT, score_of, typed_forfeit
+from live.game.log import Log, logged_at
 from live.game.naming import IN_A_TABLE, is_naming
 from live.game.options import Options
 from live.game.program import Program
-from live.game.typed import ABSENT, ALL_WAYS, HELPS, Acknowledged, Answer, Back, Reopened
-from live.game.typed import printable, read_words, refusal, refuse_no_text, with_more
-from live.game.typed import Refused as NotDone
+from live.game.reply import Answer, printable, refusal
+from live.game.reply import Refused as NotDone
+from live.game.typed import ABSENT, ALL_WAYS, HELPS, Acknowledged, Back, Reopened, read_words, refuse_no_text, with_more
 from live.guard import traced
 from live.loop import Loop
 from live.refused import DONE, FAILED, REFUSED, Refused
@@ -398,7 +400,7 @@ class Round:
 
     def trouble(self, text: str) -> None:
         """Writes an error that should never happen, and where, to the round's log."""
-        self._log.write(logged_at(datetime.datetime.now()), text)
+        self._log.write(logged_at(time.time()), text)
 
     # How it ends.
 
@@ -451,9 +453,7 @@ class Round:
         if self._asker:
             self._asker.close()
         complaints = [f"board {row.number}: {row.board.trouble}" for row in self.boards() if row.board.trouble]
-        trouble = self._published.close()
-        if trouble:
-            complaints.append(f"{self._published.path} can't be written ({trouble}): is the disk full?")
+        complaints += filter(None, [self._published.close()])
         left = self.broadcast.hidden_for
         if left is not None:
             self.say(f"spectators haven't seen all moves. Start it again to show them, the last ones at {clock_in(left)}")

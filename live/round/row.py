@@ -25,8 +25,8 @@ from live.game.opening import Chooses, Opening, checked, of_a_line, recordable, 
 from live.game.options import PLAYERS, UNKNOWN, Options
 from live.game.program import Program
 from live.game.reading import game_of
+from live.game.reply import REOPENS, Answer, refusal
 from live.game.tags import SIDES, Tags
-from live.game.typed import REOPENS, Answer, refusal
 from live.loop import Turns
 from live.refused import REFUSED, Refused
 from live.round.pairings import Pairing
@@ -34,7 +34,8 @@ from live.round.table import NOT_RECORDED, RowView
 from live.terminal.screen import Screen
 from live.terminal.terminal import Terminal
 
-UNSAID = ("records ", "added by hand", "acknowledged: ", " has the cable ")  # not below a table: its rows and the answers show it
+ANSWERED = ("added by hand", "acknowledged: ")  # the answer to a typed line says it in other words
+UNSAID = ("records ", " has the cable ", *ANSWERED)  # not below a table: its rows and the answers show it
 BEGUN_ANEW = "is begun anew"  # if its line has changed
 TURNED, OTHER = "turned round?", "other board?"  # in a row, for a hint that has no room there
 
@@ -76,30 +77,32 @@ class RowScreen(Screen):
         self._number, self._hears = number, hears
         self.on_change = functools.partial(hears.changed, number)
         self._has_table = terminal is None
-        self._held: Optional[List[str]] = None  # what is said while a typed line is obeyed
+        self._held: Optional[List[Tuple[str, ...]]] = None  # what is said while a typed line is obeyed
 
     def say(self, text: str, *more: str) -> None:
-        super().say(text, *more)
-        if self._has_table and not any(part in text for part in UNSAID):
-            self._below(" ".join([text, *more]))
-
-    def _below(self, text: str) -> None:
-        """Shows this below the table, or holds it back."""
+        for line in (text, *more):
+            self.note(line)
         if self._held is None:
-            self._hears.say(f"{self._number}: {text}")
+            self._shows(text, *more)
         else:
-            self._held.append(text)
+            self._held.append((text, *more))
+
+    def _shows(self, text: str, *more: str) -> None:
+        """Shows this in a line of a pipe, or below the table."""
+        self.show(text, *more)
+        if self._has_table and not any(part in text for part in UNSAID):
+            self._hears.say(f"{self._number}: {' '.join([text, *more])}")
 
     def obeys(self) -> None:
         """A typed line is obeyed from now on: what is said meanwhile is held back."""
         self._held = []
 
     def answers(self, answer: Answer) -> None:
-        """It is answered. Of what was said meanwhile, only what the answer doesn't have is shown below the table."""
+        """It is answered. Of what was said meanwhile, only what the answer doesn't have is shown."""
         held, self._held = self._held, None
-        for text in held or ():
-            if text not in answer[1]:
-                self._below(text)
+        for text, *more in held or ():
+            if text not in answer[1] and not text.startswith(ANSWERED):
+                self._shows(text, *more)
 
     def _print(self, line: str) -> None:
         super()._print(f"{line[:10]}{self._number:>3}  {line[10:]}")

@@ -15,6 +15,7 @@ import time
 from typing import Callable, Dict, List, Mapping, Sequence
 
 from live.beside import Worker
+from live.board.state import trouble_of
 from live.broadcast.view import SpectatorBoard
 from live.game.files import put_in_place
 from live.game.making_pgn import Made
@@ -169,8 +170,7 @@ class SiteFiles:
     def _take(self, texts: Texts, made: Made) -> None:
         if made.trouble:
             if not self._told:
-                what = "DISK FULL" if made.full else "NOT WRITTEN"
-                self._says(f"{what}: the site in {self._folder} can't be written ({made.trouble}); it is tried again")
+                self._says(f"{trouble_of(made.full)}: the site in {self._folder} can't be written ({made.trouble}); it is tried again")
         else:
             self._written.update(texts)
             if self._told:

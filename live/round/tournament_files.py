@@ -92,6 +92,6 @@ class TournamentFiles:
     def close(self) -> List[str]:
         """Writes once more what has changed since then or couldn't be written. Returns what can't be written."""
         self._closed = True
-        troubles = [(file.path, "" if file.is_written else file.close()) for file in self._files]
+        troubles = ["" if file.is_written else file.close() for file in self._files]
         self._guard.end()
-        return [f"{path} can't be written ({trouble}): is the disk full?" for path, trouble in troubles if trouble]
+        return list(filter(None, troubles))

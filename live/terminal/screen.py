@@ -3,31 +3,32 @@
 from __future__ import annotations
 
 import collections
-import datetime
+import math
+import time
 from typing import Callable, Deque, Optional
 
-from live.game.files import Log, logged_at
+from live.game.log import Log, logged_at, time_of
 from live.game.options import NOT_ROTATED, ROTATED
-from live.game.typed import OK, REOPENS
+from live.game.reply import OK, REOPENS
 from live.refused import printable
 from live.terminal.terminal import INDENT, Terminal
 
 NO_TIME = "--:--:--"
 PROMPT = "  > "
 LASTS = 10.0  # seconds between two writings of an unchanged state
-Clock = Callable[[], datetime.datetime]
+Clock = Callable[[], float]  # seconds, as `time.time`
 
 
 class Screen:
     """Lines with the time of day, and the state of the board."""
 
-    def __init__(self, terminal: Optional[Terminal], clock: Clock = datetime.datetime.now) -> None:
+    def __init__(self, terminal: Optional[Terminal], clock: Clock = time.time) -> None:
         self._terminal, self._clock = terminal, clock
         self.on_change: Callable[[], None] = lambda: None  # called at each move and each state
         self._log: Optional[Log] = None
         self._news: object = None
         self._last: Deque[str] = collections.deque(maxlen=3)  # the texts of the last lines
-        self._state_at = datetime.datetime.min
+        self._state_at = -math.inf
 
     @property
     def shows_time(self) -> bool:
@@ -41,14 +42,17 @@ class Screen:
         self._log = log
 
     def say(self, text: str, *more: str) -> None:
-        """Shows a line, and those that belong to it."""
-        now = self._clock()
+        """Shows a line, and those that belong to it. The log has them too."""
+        self.show(text, *more)
+        for line in (text, *more):
+            self.note(line)
+
+    def show(self, text: str, *more: str) -> None:
+        """The same, without the log."""
         self._last.append(text)
-        self._print(f"{time_of(now)}  {text}")
-        self._write(now, text)
+        self._print(f"{time_of(self._clock())}  {text}")
         for line in more:
             self._print(INDENT + line)
-            self._write(now, line)
 
     def secret(self, text: str) -> None:
         """Shows a line that isn't kept in the log."""
@@ -108,7 +112,7 @@ class Screen:
             self._tell_state(self._clock(), text, is_news)
         self.on_change()
 
-    def _tell_state(self, now: datetime.datetime, text: str, is_news: bool) -> None:
+    def _tell_state(self, now: float, text: str, is_news: bool) -> None:
         """Shows it if it has changed; on a terminal, also after it has lasted for a while."""
         # A result that was just shown as a line needs no second one.
         is_line = is_news and text not in self._last
@@ -116,7 +120,7 @@ class Screen:
             self._write(now, text)
         if self._terminal and self._terminal.in_place:
             # An unchanged state isn't written each second: that would disturb what is typed below.
-            if is_news or abs((now - self._state_at).total_seconds()) >= LASTS:
+            if is_news or abs(now - self._state_at) >= LASTS:
                 self._state_at = now
                 self._terminal.state(f"{time_of(now)}  {text}{PROMPT}")
         elif is_line:
@@ -126,11 +130,7 @@ class Screen:
         if self._terminal:
             self._terminal.line(line)
 
-    def _write(self, now: datetime.datetime, text: str) -> None:
+    def _write(self, now: float, text: str) -> None:
         if self._log:
             self._log.write(logged_at(now), printable(text))
 
-
-def time_of(now: datetime.datetime) -> str:
-    """The time of day, as `14:02:59`."""
-    return now.time().isoformat("seconds")

@@ -5,14 +5,15 @@
  * written goes to the test by the binding `tellBoards`: {what: "file", name, bytes in base64}, {what: "move", name, to},
  * {what: "remove", name}. `folder.permission` is what the page is told: "granted", "prompt" or "denied"; `folder.answers` is what it
  * is given when it asks. `folder.refuses` has the window that asks for a folder refuse it, as Cancel and Don't Allow do.
- * `folder.fails` is the name of the error with which a file can't be written, if it can't.
+ * `folder.fails` is the name of the error with which a file can't be written, if it can't: with `folder.failing` only one whose name
+ * ends so.
  */
 function provideFolder(start) {
   const tell = (message) => window.tellBoards(JSON.stringify(message));
   const bytesIn = (base64) => Uint8Array.from(atob(base64), (letter) => letter.charCodeAt(0));
   const files = new Map(start.files.map(([name, base64]) => [name, bytesIn(base64)])); // what is there
   let handle = null;
-  window.folder = { permission: start.permission, answers: "granted", refuses: false, fails: "", get has() { return handle?.name ?? ""; } };
+  window.folder = { permission: start.permission, answers: "granted", refuses: false, fails: "", failing: "", get has() { return handle?.name ?? ""; } };
 
   addEventListener("dragover", (event) => event.preventDefault(), { capture: true });
   addEventListener(
@@ -40,11 +41,11 @@ function provideFolder(start) {
     return btoa(letters.join(""));
   };
 
-  function check() {
+  function check(name) {
     if (window.folder.permission !== "granted") {
       throw new DOMException("The request is not allowed by the user agent or the platform in the current context.", "NotAllowedError");
     }
-    if (window.folder.fails) {
+    if (window.folder.fails && name.endsWith(window.folder.failing)) {
       throw new DOMException("The file can't be written.", window.folder.fails);
     }
   }
@@ -63,13 +64,13 @@ function provideFolder(start) {
     }
 
     async write(given) {
-      check();
+      check(this.#name);
       const data = given?.type === "write" ? given.data : given;
       this.#parts.push(data);
     }
 
     async close() {
-      check();
+      check(this.#name);
       put(this.#name, new Uint8Array(await new Blob(this.#parts).arrayBuffer()));
     }
 
@@ -86,7 +87,7 @@ function provideFolder(start) {
     }
 
     async createWritable() {
-      check();
+      check(this.name);
       return new Writable(this.name);
     }
 
@@ -95,7 +96,7 @@ function provideFolder(start) {
     }
 
     async move(to) {
-      check();
+      check(to);
       files.set(to, files.get(this.name));
       files.delete(this.name);
       tell({ what: "move", name: this.name, to });
@@ -123,13 +124,13 @@ function provideFolder(start) {
         if (!options.create) {
           throw new DOMException("A requested file or directory could not be found at the time an operation was processed.", "NotFoundError");
         }
-        check();
+        check(name);
         put(name, new Uint8Array());
       }
       return new FileHandle(name);
     },
     async removeEntry(name) {
-      check();
+      check(name);
       if (!files.delete(name)) {
         throw new DOMException("A requested file or directory could not be found at the time an operation was processed.", "NotFoundError");
       }

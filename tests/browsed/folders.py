@@ -6,7 +6,7 @@ import pathlib
 import time
 from typing import Dict, List, Tuple
 
-from browsed.games import QUEENS, QUEENS_SANS, RUY, RUY_SANS, of_record, play, until_agrees
+from browsed.games import QUEENS, QUEENS_SANS, RUY, RUY_SANS, answered, of_record, play, until_agrees
 from browsed.hall import DROPPED, TRIES, Hall, Port
 from browsed.page import Page
 from browsed.stage import with_chromium
@@ -23,6 +23,7 @@ class Chosen:
         self.path = stage.folder / "chosen"
         self.path.mkdir()
         self.files: Dict[str, bytes] = {}
+        self.order: List[str] = []  # in which they were written
         stage.others = self.told
 
     def script(self, permission: str = "granted") -> str:
@@ -33,6 +34,7 @@ class Chosen:
     def told(self, message: Json) -> None:
         if message["what"] == "file":
             self.files[message["name"]] = base64.b64decode(message["bytes"])
+            self.order.append(message["name"])
         elif message["what"] == "move":
             self.files[message["to"]] = self.files.pop(message["name"])
         else:
@@ -94,7 +96,8 @@ def folder_chosen(folder: pathlib.Path) -> None:
         same(text, chosen.files[name])
         same(text, of_record(text, capture))
         same((capture[: len(kept)], of_record(text, kept)), (kept, text))
-        same({name.rpartition(".")[2] for name in chosen.files}, {"pgn", "dgt"})
+        stage.until(lambda: name.replace(".pgn", ".times") in chosen.files, "the times of the capture")
+        same({name.rpartition(".")[2] for name in chosen.files}, {"pgn", "dgt", "times"})
 
 
 @with_chromium
@@ -135,6 +138,54 @@ def folder_full(folder: pathlib.Path) -> None:
         until_text(stage, chosen, name, "1. e4 e5 *")
         page.value("folder.fails = ''")
         until_text(stage, chosen, name, "1. e4 e5 2. Nf3 Nc6 *")
+
+
+@with_chromium
+def folder_in_order(folder: pathlib.Path) -> None:
+    """A capture that can't be written holds up the texts that tell of it, and nothing of other games. When it can, it goes out first:
+    so it does after plies were taken off, behind what it was before."""
+    with Hall(folder) as stage:
+        chosen = Chosen(stage)
+        page, port = begin_in(stage, chosen)
+        chosen.choose(stage, page)
+        play(stage, page, port, RUY[:2], RUY_SANS[:2])
+        stage.until(lambda: names_of(chosen, ".times"), "times in the folder")
+        name = names_of(chosen, ".pgn")[0]
+        until_text(stage, chosen, name, "1. e4 e5 *")
+        capture, times = name.replace(".pgn", ".dgt"), name.replace(".pgn", ".times")
+        page.value(f"folder.failing = {capture!r}; folder.fails = 'QuotaExceededError'")
+        play(stage, page, port, RUY[2:3], RUY_SANS[2:3])
+        stage.until(lambda: f"{capture} can't be written" in page_text(page), "a word on the capture")
+        kept = {file: chosen.files[file] for file in (name, capture, times)}
+        other = stage.board()
+        page.click("#back")
+        stage.add(page, other)
+        stage.enlarge(page, 2)
+        until_agrees(stage, page)
+        play(stage, page, other, QUEENS[:2], QUEENS_SANS[:2])
+        stage.until(lambda: any(b"1. d4 d5" in text for text in chosen.files.values()), "the second game in the folder")
+        page.click("#back")
+        stage.enlarge(page, 1)
+        for ply in (3, 4):
+            play(stage, page, port, RUY[ply : ply + 1], RUY_SANS[ply : ply + 1])
+            stage.rest(6)  # it is tried again each five seconds
+            same({file: chosen.files[file] for file in kept}, kept)
+        chosen.order.clear()
+        page.value("folder.fails = ''")
+        until_text(stage, chosen, name, "1. e4 e5 2. Nf3 Nc6 3. Bb5 *")
+        same([file for file in dict.fromkeys(chosen.order) if file in kept][:2], [capture, name])
+        before = name.replace(".pgn", ".before-1.dgt")
+        port.board.play("b5f1")
+        stage.until_dumped(page, port)
+        longer = chosen.files[capture]
+        page.value(f"folder.failing = {before!r}; folder.fails = 'QuotaExceededError'")
+        answered(stage, page, "back", "back to 2... Nc6; taken off: 3. Bb5")
+        stage.until(lambda: f"{before} can't be written" in page_text(page), "a word on the capture as it was before")
+        stage.rest(6)
+        same(chosen.files[capture][: len(longer)], longer)
+        page.value("folder.fails = ''")
+        until_text(stage, chosen, name, "1. e4 e5 2. Nf3 Nc6 *")
+        same(chosen.files[before][: len(longer)], longer)
 
 
 @with_chromium

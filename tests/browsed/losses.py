@@ -9,7 +9,7 @@ import subprocess
 from typing import List
 
 from browsed.folders import Chosen, begin_in, names_of, until_text
-from browsed.games import QUEENS, QUEENS_SANS, RUY, RUY_SANS, begin, of_record, play, until_agrees
+from browsed.games import QUEENS, QUEENS_SANS, RUY, RUY_SANS, answered, begin, of_record, play, until_agrees
 from browsed.hall import Hall, Port
 from browsed.page import Page
 from browsed.series import movetext_of
@@ -41,12 +41,13 @@ IDBFactory.prototype.open = function (...given) {
   return open.apply(this, given);
 };
 """
-# The database takes nothing while `isFull`.
+# The database takes nothing while `isFull`, nor while it `isBroken`.
 NO_ROOM = """
-window.isFull = false;
+window.isFull = window.isBroken = false;
 const transaction = IDBDatabase.prototype.transaction;
 IDBDatabase.prototype.transaction = function (stores, mode, ...more) {
   if (window.isFull && mode === 'readwrite') throw new DOMException('there is no room', 'QuotaExceededError');
+  if (window.isBroken && mode === 'readwrite') throw new DOMException('it is broken', 'UnknownError');
   return transaction.call(this, stores, mode, ...more);
 };
 """
@@ -257,6 +258,33 @@ def changed_while_full(folder: pathlib.Path) -> None:
         stage.enlarge(page, 1)
         stage.until_moves(page, [])
         same(movetext_of(stage.saved(page, "#save-round")), "1. e4 e5 2. Nf3 Nc6 *")
+
+
+@with_chromium
+def broken_or_full(folder: pathlib.Path) -> None:
+    """The browser can't keep anything: the state, the card and the answer to a typed line speak of a full disk where the disk is
+    full, and else give the browser's reason."""
+    with Hall(folder) as stage:
+        port = stage.board()
+        page = stage.tab([NO_ROOM])
+        stage.add(page, port)
+        stage.enlarge(page, 1)
+        until_agrees(stage, page)
+        play(stage, page, port, RUY[:2], RUY_SANS[:2])
+        stage.until_dumped(page, port)
+        broken = "the browser can't keep what the board sends (it is broken), and nothing can be changed. Is there room on the disk?"
+        for what, state, mend, answer in (
+            ("isBroken", "NOT WRITTEN", "Is there room on the disk? Choose a folder.", broken),
+            ("isFull", "DISK FULL", "Make room on the disk, and choose a folder.", "the disk is full, and nothing can be changed."),
+        ):
+            page.value(f"{what} = true")
+            port.board.clock(600, 600)
+            stage.until_part(page, "#state", state)
+            stage.until_part(page, "#mend", mend)
+            answered(stage, page, "1-0", answer)
+            page.value(f"{what} = false")
+            stage.until(lambda: not is_troubled(page), "no alarm any more")
+        stage.until_moves(page, RUY_SANS[:2])
 
 
 @with_chromium

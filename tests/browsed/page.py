@@ -73,6 +73,11 @@ const {{ game }} = await read('boards', (store) => store.get({number}));
 const chunks = await read('chunks', (store) => store.getAll(IDBKeyRange.bound([game, 0], [game, Infinity])));
 return chunks.flatMap(({{ bytes }}) => [...bytes]);
 """
+TIMES = """
+const {{ game }} = await read('boards', (store) => store.get({number}));
+const rows = await read('settings', (store) => store.getAll(IDBKeyRange.bound(['{what}', game, 0], ['{what}', game, Infinity])));
+return rows.map(({{ value }}) => value.text ?? value);
+"""
 SETTING = "return ((await read('settings', (store) => store.get('{name}'))) ?? {{}}).value ?? null;"
 
 
@@ -170,6 +175,10 @@ class Page:
     def kept(self, number: int) -> bytes:
         """What a board has sent of its game, as far as it is on the disk."""
         return bytes(self.value(DATABASE.format(body=CAPTURE.format(number=number))) or ())
+
+    def kept_times(self, number: int, what: str = "times") -> List[str]:
+        """The lines about when a board has sent that, in rows, as far as they are on the disk; or what isn't of its game."""
+        return list(self.value(DATABASE.format(body=TIMES.format(number=number, what=what))) or [])
 
     @property
     def messages(self) -> List[str]:

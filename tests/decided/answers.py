@@ -6,7 +6,8 @@ import json
 from typing import Any, Dict
 
 from live.game.answers import Said, meaning, read_answer, refuse, whose_move
-from live.game.typed import ALL_WAYS, BOTH_LOSE, NO_TEXT, WHICH_PLY, Asked, Back, Helped, Refused, Typed, read_words, refusal, with_more
+from live.game.reply import NO_TEXT, Asked, Helped, Refused, refusal
+from live.game.typed import ALL_WAYS, BOTH_LOSE, WHICH_PLY, Back, Typed, read_words, with_more
 from live.refused import REFUSED
 
 from decided.cases import cases

@@ -2,8 +2,10 @@
 
 from typing import Dict
 
-from live.game.forfeits import Forfeit, fits, in_a_table, is_unplayed, read_typed, refuse_played, typed_forfeit
-from live.game.typed import Added, Refused
+from live.game.forfeits import Forfeit, fits, in_a_table, read_typed, refuse_played, typed_forfeit
+from live.game.game import is_unplayed
+from live.game.reply import Refused
+from live.game.typed import Added
 from live.round.pairings import result_of
 from live.round.trf import outcome_of
 

@@ -1,23 +1,27 @@
 """What is told where options or a NAME are refused, a device or a program can't be had, where a disk has room again, and
 where a round has no such board."""
 
+import ast
 import errno
 import os
 import pathlib
 import pwd
+import re
 import subprocess
 import sys
 import tempfile
-from typing import List, Tuple, cast
+from typing import Callable, Dict, List, Set, Tuple, cast
 
 from live.board.disk import Disk, HearsDisk
 from live.board.standing import Standing
 from live.board.state import DISK_FULL, NOT_WRITTEN
 from live.doors import dgt_round
 from live.game import files
+from live.game import log as log_file
 from live.game.answers import Said
 from live.game.file_names import check_name
-from live.game.files import Capture, Log, not_written, plain
+from live.game.files import Capture, not_written, open_regular, plain
+from live.game.log import Log
 from live.game.options import Options
 from live.game.program import Program
 from live.game.refusal import is_recorded, reason
@@ -185,17 +189,15 @@ def devices_listed() -> None:
     same("none", listing([], Asked()), [none])
 
 
-class Full:
-    """A capture, a screen and a state of the board, as far as a disk asks for them."""
+class Told:
+    """A screen and a state of the board, as far as a disk asks for them, and what keeps the text from being written."""
 
     def __init__(self) -> None:
-        self.full = False
-        self.path, self.trouble, self.lost = pathlib.Path("no folder/game.dgt"), "", 0
-        self.text = ""
+        self.trouble = self.text = ""
         self.said: List[str] = []
 
     def say(self, *lines: str) -> None:
-        self.said.append(lines[0])
+        self.said.append(" ".join(lines))
 
     def disk(self, trouble: str) -> None:
         self.trouble = trouble
@@ -203,22 +205,70 @@ class Full:
     def text_trouble(self) -> str:
         return self.text
 
-    def write(self) -> None:
-        self.full = False
+
+def texts_alone() -> None:
+    """The text couldn't be written, and is."""
+    for text, room in ((DISK_FULL, "there is room again, and all"), (NOT_WRITTEN, "all")):
+        told = Told()
+        told.text = text
+        with open(os.devnull, "r+b") as nothing:
+            capture = Capture("no folder/game.dgt", nothing.fileno())
+            disk = Disk(cast(Screen, told), cast(Standing, told), capture, cast(HearsDisk, told))  # it asks for no more
+            disk.look()
+            same("it can't be written", (told.trouble, told.said), (text, []))
+            told.text = ""
+            disk.try_again()
+        same("what is told names no file", (told.trouble, told.said), ("", [f"{room} is written"]))
 
 
-def disks() -> None:
-    """Each file that couldn't be written is written again; the text alone, or the capture alone."""
-    for text, told in (("", DISK_FULL), (DISK_FULL, DISK_FULL), (NOT_WRITTEN, NOT_WRITTEN)):
-        full = Full()
-        full.text, full.full = text, not text
-        disk = Disk(cast(Screen, full), cast(Standing, full), cast(Capture, full), cast(HearsDisk, full))  # it asks for no more
-        disk.look()
-        same("it can't be written", (full.trouble, len(full.said)), (told, 0 if text else 1))
-        full.text = ""
-        disk.try_again()
-        room = "all" if told == NOT_WRITTEN else "there is room again, and all"
-        same("what is told names no file", (full.trouble, full.said[-1]), ("", f"{room} is written"))
+def full_device() -> int:
+    return os.open("/dev/full", os.O_RDWR)
+
+
+def closed_device() -> int:
+    """A file that may only be read."""
+    return os.open(os.devnull, os.O_RDONLY)
+
+
+def gone_device() -> int:
+    """A terminal that is gone."""
+    master, slave = os.openpty()
+    os.close(master)
+    return slave
+
+
+def captures_alone() -> None:
+    """A capture that can't be written: the state and the line say DISK FULL where the disk is full, and else what the system says.
+    Another error is told too, and then all is written."""
+    wait = "what comes is kept in memory, and is tried again each second"
+    full = f"DISK FULL: no folder/game.dgt can't be written (No space left on device). Make room: {wait}"
+    gone = f"NOT WRITTEN: no folder/game.dgt can't be written (Input/output error). Put that right: {wait}"
+    closed = f"NOT WRITTEN: no folder/game.dgt can't be written (Bad file descriptor). Put that right: {wait}"
+    room, no_room = "there is room again, and all is written", "all is written"
+    kinds: Dict[str, Callable[[], int]] = {full: full_device, gone: gone_device, closed: closed_device}
+    for lines in ((full, room), (gone, no_room), (full, gone, no_room), (gone, full, room), (gone, closed, no_room)):
+        told, number = Told(), closed_device()
+        capture = Capture("no folder/game.dgt", number)
+        disk = Disk(cast(Screen, told), cast(Standing, told), capture, cast(HearsDisk, told))
+        for turn, line in enumerate(lines):
+            device = kinds[line]() if line in kinds else os.open(os.devnull, os.O_WRONLY)
+            os.dup2(device, number)
+            os.close(device)
+            for _ in range(2):  # it is told once
+                disk.append(b"e4") if turn == 0 else disk.try_again()
+            same(f"what is told of {line}", (told.said, told.trouble), (list(lines[: turn + 1]), line.partition(":")[0] if line in kinds else ""))
+        os.close(number)
+
+
+def lost() -> None:
+    """More than is kept in memory: that is said once, whatever keeps it from being written."""
+    told, number = Told(), gone_device()
+    disk = Disk(cast(Screen, told), cast(Standing, told), Capture("no folder/game.dgt", number), cast(HearsDisk, told))
+    for _ in range(3):
+        disk.append(bytes(700_000))
+    os.close(number)
+    expected = ["no folder/game.dgt couldn't be written for too long: what comes now is lost, up to a dump after it can be"]
+    same("what is told of lost bytes", told.said[1:], expected)
 
 
 def logs() -> None:
@@ -239,7 +289,7 @@ def logs() -> None:
 def errors_of_logs() -> None:
     """What keeps a log from being written stands in it before the next line; nobody reckons with a ValueError, which is raised
     where the log can't tell of it."""
-    real = files.open_regular
+    real = open_regular
     with tempfile.TemporaryDirectory() as folder:
         path = pathlib.Path(folder) / "game.log"
         errors: List[Exception] = []
@@ -249,7 +299,7 @@ def errors_of_logs() -> None:
                 raise errors.pop(0)
             return real(path, flags)
 
-        setattr(files, "open_regular", opens)
+        setattr(log_file, "open_regular", opens)
         try:
             errors = [ValueError("first")]
             log = Log(path)
@@ -265,7 +315,7 @@ def errors_of_logs() -> None:
             errors = [OSError(24, "Too many open files")] * 2
             Log(path).close()
         finally:
-            setattr(files, "open_regular", real)
+            setattr(log_file, "open_regular", real)
         same(
             "a log and its errors",
             path.read_text().splitlines(),
@@ -329,14 +379,93 @@ def plain_paths() -> None:
         same(f"plain {path}", plain(path), expected)
 
 
+TOP = pathlib.Path(__file__).resolve().parents[2]
+# The modules of live/ that each recorder of one board has from its start. What waits for a rare event isn't among them.
+AT_THE_START = {
+    "": "beside descriptors guard later lock loop refused steps time_away",
+    "board": "agreement arrivals asked_first board cable disk lingering plan recorder recording single standing state typed_lines whose",
+    "device": "asking connection line network_address protocol serial_line",
+    "doors": "calls dgt_live door",
+    "game": "alarms control course doubts edited ending file_names files forfeiting front game log looks making_pgn names opening options "
+    "program reading reply report stopped_clock tags timed times watching",
+    "terminal": "columns screen terminal",
+}
+HEAVY = ["pathlib", "urllib", "hashlib", "json", "email", "traceback", "datetime", "zlib", "zipfile", "shlex"]
+OF_INSPECT = ["ast", "dis", "tokenize"]  # which it imports, and dataclasses do with it
+LOADS = """
+import sys; sys.path.insert(0, sys.argv[1])
+from live.later import load_rare_ones_later
+load_rare_ones_later()
+import live.doors.dgt_live
+print(*sys.modules)
+"""
+KEEPS = """
+import sys; sys.path.insert(0, sys.argv[1])
+from live.later import keep_what_is_loaded_later
+import live.doors.{door}
+keep_what_is_loaded_later()
+print(*sys.modules)
+print(*sys.meta_path[0]._places)
+"""
+USES_LATER = """
+import sys; sys.path.insert(0, sys.argv[1])
+from live.later import load_later
+load_later("inspect")
+import dataclasses, inspect
+before = "ast" in sys.modules
+dataclasses.dataclass(type("Point", (), {"__annotations__": {"x": int}}))
+print(before, "ast" in sys.modules, inspect.signature(lambda a, *b: a), inspect is sys.modules["inspect"], inspect.__name__)
+import inspect
+print(inspect.isclass(int), inspect.__name__)
+"""
+
+
 def loaded() -> None:
-    """A recorder of one board that nobody else sees loads neither pages nor broadcasts, nor what takes much memory."""
-    top = pathlib.Path(__file__).resolve().parents[2]
-    asks = "import sys; sys.path.insert(0, sys.argv[1]); import live.doors.dgt_live; print(*sys.modules)"
-    words = [sys.executable, "-S", "-c", asks, str(top)]
-    names = subprocess.run(words, stdout=subprocess.PIPE, check=True).stdout.decode().split()
-    heavy = ("live.web", "live.broadcast.broadcast", "pathlib", "urllib", "hashlib", "json", "email", "traceback")
-    same("what is loaded", [name for name in names if name.startswith(heavy)], [])
+    """A recorder of one board that nobody else sees loads neither pages nor broadcasts, nor what obeys typed lines, nor what takes
+    much memory."""
+    names = said_by(LOADS).split()
+    heavy = [*HEAVY, *(OF_INSPECT if sys.version_info < (3, 12) else [])]
+    allowed = {"live", *(f"live.{folder}" for folder in AT_THE_START if folder)}
+    allowed |= {f"live.{folder}.{name}".replace("..", ".") for folder, those in AT_THE_START.items() for name in those.split()}
+    same("what is loaded of live/", sorted(name for name in names if name.partition(".")[0] == "live"), sorted(allowed))
+    same("what is loaded of Python's library", [name for name in names if name.partition(".")[0] in heavy], [])
+    if sys.version_info < (3, 12):
+        same("what is loaded later", said_by(USES_LATER), "False True (a, *b) False inspect\nTrue inspect\n")
 
 
-TABLES = [reasons, no_names, no_right, not_had, devices_listed, disks, logs, errors_of_logs, rounds, recorded, plain_paths, loaded]
+def imported(name: str) -> Set[str]:
+    """The modules of live/ that this one imports, at its beginning or later, but for those that only a reader of types needs."""
+    tree = ast.parse((TOP / f"{name.replace('.', '/')}.py").read_text())
+    nodes: List[ast.AST] = [tree]
+    found: Set[str] = set()
+    while nodes:
+        node = nodes.pop()
+        if isinstance(node, ast.If) and isinstance(node.test, ast.Name) and node.test.id == "TYPE_CHECKING":
+            continue
+        if isinstance(node, ast.ImportFrom) and (node.module or "").partition(".")[0] == "live":
+            names = [f"{node.module}.{alias.name}" for alias in node.names]
+            found |= {one if (TOP / f"{one.replace('.', '/')}.py").exists() else str(node.module) for one in names}
+        nodes += ast.iter_child_nodes(node)
+    return found
+
+
+def kept() -> None:
+    """What a recording may load after its beginning is kept then: all that its modules import, and what those import."""
+    for door in ("dgt_live", "dgt_round"):
+        modules, found = (set(line.split()) for line in said_by(KEEPS.format(door=door)).splitlines())
+        same(f"{door}: something is kept", "live.board.arbiter" in found and not found & modules, True)
+        inner = [name for name in modules | found if re.fullmatch(r"live\.(?!doors)\w+\.\w+", name)]
+        needed = set().union(*map(imported, inner)) - {"live.broadcast.kept"}  # which is needed as a call begins
+        same(f"{door}: what is needed later", sorted(needed - modules - found), [])
+
+
+def said_by(code: str) -> str:
+    """What this prints, given where `live` is."""
+    words = [sys.executable, "-S", "-c", code, str(TOP)]
+    return subprocess.run(words, stdout=subprocess.PIPE, check=True).stdout.decode()
+
+
+TABLES = [
+    *(reasons, no_names, no_right, not_had, devices_listed, texts_alone, captures_alone, lost, logs, errors_of_logs, rounds, recorded),
+    *(plain_paths, loaded, kept),
+]

@@ -63,9 +63,9 @@ TAGS = [
     (TWO, ("--black", "Ben", "--white=Anna"), ""),
     (TWO, TWO + TURNED + BLACK + YES, ""),  # they are no tags
     (("--white", "Anne", "--black", "Ben"), TWO, "its game is now Anna - Ben, and was Anne - Ben"),
-    (ANNA, TWO, "its game is now Anna - Ben, and was Anna - ?"),
+    (ANNA, TWO, "Black is now Ben"),
     (TWO + ("--round", "3"), TWO + ("--round", "4"), "its round is now 4, and was 3"),
-    (TWO, ("--event", "Club"), "its game is now ? - ?, and was Anna - Ben; its event is now Club, and was ?"),
+    (TWO, ("--event", "Club"), "White is unknown now, and was Anna; Black is unknown now, and was Ben; its event is now Club"),
 ]
 # The options of before and of now, of a game without a move, and what is told of that.
 ALL = [

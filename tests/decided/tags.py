@@ -1,9 +1,9 @@
 """Tags: which values they may have, and the text of a game as it is published. With the options that keep them."""
 
-from live.game.typed import Refused as NotNamed
 from live.game.naming import is_naming, line_of, read_names, told_of_names
 from live.game.opening import added_to_kept, read_otherwise, recordable, strictly
 from live.game.options import Options
+from live.game.reply import Refused as NotNamed
 from live.game.tags import Malformed, pair_of, published, value_of
 from live.refused import Refused
 
@@ -101,11 +101,12 @@ ADDED = [
     (("--recover", *TWO), ("--date", "2024.05.31"), False, (*TWO, "--date", "2024.05.31", "--recover"),
      "its options are now --recover --date 2024.05.31 --white Anna --black Ben, and were --recover --white Anna --black Ben"),
     (TWO, ("--white", "Anne"), True, ("--white", "Anne", "--black", "Ben"), "its game is now Anne - Ben, and was Anna - Ben"),
-    (TWO, ("--black", "Ben", "--round", "3"), True, (*TWO, "--round", "3"), "its round is now 3, and was ?"),
-    (("--white", "Anna"), TWO, True, TWO, "its game is now Anna - Ben, and was Anna - ?"),
-    ((), TWO, True, TWO, "its game is now Anna - Ben, and was ? - ?"),
-    (JOERG, ("--white", "Anna"), True, ("--white", "Anna"), "its game is now Anna - ?, and was Jörg - ?"),
-    (JOERG, ("--event", "Club"), True, ("--event", "Club", *JOERG), "its event is now Club, and was ?"),
+    (TWO, ("--black", "Ben", "--round", "3"), True, (*TWO, "--round", "3"), "its round is now 3"),
+    (("--white", "Anna"), TWO, True, TWO, "Black is now Ben"),
+    ((), TWO, True, TWO, "White is now Anna; Black is now Ben"),
+    (JOERG, ("--white", "Anna"), True, ("--white", "Anna"), "White is now Anna, and was Jörg"),
+    (TWO, ("--black", "?"), True, ("--white", "Anna", "--black", "?"), "Black is unknown now, and was Ben"),
+    (JOERG, ("--event", "Club"), True, ("--event", "Club", *JOERG), "its event is now Club"),
     (TWO, ("--first", "black"), True, ("--first", "black", *TWO), ""),
     (("--rotated", *TWO), ("--rotated",), True, ("--rotated", *TWO), ""),
 ]

@@ -40,15 +40,15 @@ class Killing:
 def main() -> None:
     killing = Killing(int(sys.argv[1]), sys.argv[2])
     sys.path.insert(0, str(TOP))
-    from live.board.taking_off import TakesOff
+    from live.board import taking_off
 
-    goes_back = TakesOff._go_back
+    goes_back = taking_off.go_back
 
-    def counted(one: TakesOff, *words: Any) -> Any:
+    def counted(*words: Any) -> Any:
         killing.begin()
-        return goes_back(one, *words)
+        return goes_back(*words)
 
-    setattr(TakesOff, "_go_back", counted)
+    setattr(taking_off, "go_back", counted)
     threading.setprofile(killing.sees)
     sys.setprofile(killing.sees)
     sys.argv = sys.argv[3:]

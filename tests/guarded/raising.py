@@ -15,7 +15,7 @@ import os
 import pathlib
 import queue
 import runpy
-import selectors
+import select
 import sys
 import threading
 import time
@@ -190,14 +190,23 @@ def named(one: object) -> str:
 
 def put_back_at_each_turn(raising: Raising) -> None:
     """Python forgets who is to see the calls of a thread where an error comes of it."""
-    select = selectors.EpollSelector.select
+    epoll = select.epoll
 
-    def selects(selector: selectors.EpollSelector, timeout: Optional[float] = None) -> Any:
-        sys.setprofile(None)
-        raising.turned()
-        ready = select(selector, timeout)
-        sys.setprofile(raising.sees)
-        return ready
+    class Epoll:
+        """What the loop waits with: each wait is a turn."""
+
+        def __init__(self) -> None:
+            self._epoll = epoll()
+
+        def poll(self, *words: Any) -> Any:
+            sys.setprofile(None)
+            raising.turned()
+            ready = self._epoll.poll(*words)
+            sys.setprofile(raising.sees)
+            return ready
+
+        def __getattr__(self, name: str) -> Any:
+            return getattr(self._epoll, name)
 
     class Queue(queue.SimpleQueue):  # type: ignore[type-arg]
         def get(self, *words: Any, **more: Any) -> Any:
@@ -206,7 +215,7 @@ def put_back_at_each_turn(raising: Raising) -> None:
             sys.setprofile(raising.sees)
             return job
 
-    setattr(selectors.EpollSelector, "select", selects)
+    setattr(select, "epoll", Epoll)
     setattr(queue, "SimpleQueue", Queue)
 
 

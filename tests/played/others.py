@@ -4,6 +4,7 @@ process in the place of its socket, and the terminal in the place of a board."""
 import fcntl
 import os
 import pathlib
+import signal
 import subprocess
 import sys
 
@@ -27,6 +28,7 @@ from played.stage import (
     stop,
     until,
     until_game,
+    until_line,
 )
 
 NOBODY = 65534
@@ -92,6 +94,17 @@ def replaced_while_locked(folder: pathlib.Path) -> None:
     kept = bytes_of(capture)
     assert kept.startswith(before) and len(kept) > len(before) + 3, "the new capture has what came"
     same(recorded(kept, name), bytes_of(f"{name}.pgn"))
+
+
+def text_is_a_folder(folder: pathlib.Path) -> None:
+    """A folder takes the place of NAME.pgn: the end says that, and asks nobody about the disk."""
+    board, live = begin_game(folder)
+    os.unlink(f"{live.name}.pgn")
+    os.mkdir(f"{live.name}.pgn")
+    board.play("g1f3")
+    until_line(live, f"{live.name}.pgn can't be written (Is a directory)")
+    live.send(signal.SIGINT)
+    refuses(live, 3, f"dgt_live: {live.name}.pgn can't be written (Is a directory): put that right\n")
 
 
 def removed_while_locked(folder: pathlib.Path) -> None:

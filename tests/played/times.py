@@ -8,6 +8,7 @@ from typing import List, Optional, Tuple
 
 from play_board import BLACK, KING
 from played import words
+from played.across import ser2net
 from played.asleep import Clocks
 from played.recorder import Live
 from played.stage import (
@@ -170,8 +171,8 @@ def times_of_the_way_back(folder: pathlib.Path) -> None:
     until_line(again, words.AGREES)
     again.type("1/2-1/2")
     until_line(again, "is over: its result was typed")
-    rest(0.2)
-    same(accounted(live.name).numbers("over"), [int(bytes_of(f"{live.name}.end"))])
+    over = [int(bytes_of(f"{live.name}.end"))]
+    until(lambda: read(live.name).numbers("over") == over and read(live.name).total() == len(bytes_of(f"{live.name}.dgt")), "all times")
     again.type("*")
     until_line(again, "goes on")
     board.play("g1f3")
@@ -454,6 +455,24 @@ def times_behind_a_server(folder: pathlib.Path) -> None:
     same(accounted(live.name).words().count("took"), 1)
 
 
+def times_behind_ser2net(folder: pathlib.Path) -> None:
+    """The same behind ser2net, whose board has no power for a while: it is called again, and answers again."""
+    board = a_board(folder)
+    with ser2net(folder, board.device, "kickolduser: true") as server:
+        live = Live(server.address, folder / "game")
+        begun(live)
+        board.switch_off()
+        until_line(live, words.SILENT)
+        until(lambda: read(live.name).words()[-1:] == ["called"], "that it is called again", 0.1)
+        board.switch_on()
+        until_line(live, "answers again")
+        board.play("e2e4")
+        until_game(live.name, "1. e4 *")
+        same(stop(live), 0)
+    happened = [word for word in accounted(live.name).words() if word in ALONE]
+    same(happened, ["opened", "answered", "called", "opened", "answered", "gone"])
+
+
 CASES = [
     times_of_a_game,
     times_after_a_kill,
@@ -470,4 +489,5 @@ CASES = [
     times_on_a_full_disk,
     times_removed,
     times_behind_a_server,
+    times_behind_ser2net,
 ]

@@ -45,6 +45,8 @@ import subprocess, sys
 start = subprocess.Popen.__init__
 def starts(self, words, *more, **named):
     late = [sys.executable, "-S", "-c", {script!r}] if any(word in words for word in {calls!r}) else []
+    if late:
+        named.pop("executable", None)
     start(self, [*late, *words], *more, **named)
 subprocess.Popen.__init__ = starts
 """

@@ -13,6 +13,7 @@ from played import words
 from played.ports import free_port
 from played.recorder import Live, command, processes, signal_to
 from played.stage import bytes_of, movetext, refuses, rest, same, stop, until, until_line
+from played.times import read
 from rounds.delayed import stuck_program
 from rounds.hall import Hall, agrees, moves, told
 
@@ -278,7 +279,7 @@ def square_that_chatters(folder: pathlib.Path) -> None:
 
 def asked_first(folder: pathlib.Path) -> None:
     """A game that goes on is read, and that takes long: its board is asked before, and no ply of two is lost that are played meanwhile.
-    A capture of 48 MiB is said to be large."""
+    A capture of 48 MiB is said to be large, and its times go on."""
     hall, stuck = Hall(folder, 1), folder / "stuck"
     live = hall.record()
     hall.begun(live)
@@ -296,7 +297,7 @@ def asked_first(folder: pathlib.Path) -> None:
     same(stop(live), 0)
     time_message = bytes([0x8D, 0, 10, 0, 0x10, 0, 0, 0x10, 0, 0])
     with open(hall.name(1) + ".dgt", "ab") as capture:
-        capture.write(time_message * ((48 << 20) // len(time_message) - 2000))
+        capture.write(time_message * ((48 << 20) // len(time_message) - 200))
     live = hall.record()
 
     def is_said() -> bool:
@@ -305,3 +306,5 @@ def asked_first(folder: pathlib.Path) -> None:
 
     until(is_said, "that it is large", 0.05)
     same(stop(live), 0)
+    times = read(hall.name(1))
+    same((times.torn, times.total()), (False, len(bytes_of(f"{hall.name(1)}.dgt"))))

@@ -50,7 +50,7 @@ def another_round(folder: pathlib.Path) -> None:
     hall.begun(live)
     until_line(live, "  1  its game is now Anna - Ben, and was Anne - Ben\n")
     until_line(live, "  2  its game is now Müller - Hal, and was Müller - Kern\n")
-    until_line(live, "  3  its game is now Ida - Jan, and was ? - ?\n")
+    until_line(live, "  3  White is now Ida; Black is now Jan\n")
     assert "Kim" not in live.lines(), live.lines()
     write("Anna,Ben", "Gus,Nora", "Ida,Jan", "Kim,Lea")
     live.type("2 name White=Gus")
@@ -61,7 +61,7 @@ def another_round(folder: pathlib.Path) -> None:
     until(lambda: [tags(number) for number in (1, 3, 4)] == ["Anna - Ben", "Ida - Jan", "Kim - Lea"], "the names of the others")
     same(stop(live), 0)
     live = hall.record("--round", "4")
-    until_line(live, "  2  its round is now 4, and was ?\n")
+    until_line(live, "  2  its round is now 4\n")
     same(stop(live), 0)
 
 

@@ -54,6 +54,20 @@ def odd_names(folder: pathlib.Path) -> None:
     same(stop(again, signal.SIGTERM), 0)
 
 
+def round_pgn_is_a_folder(folder: pathlib.Path) -> None:
+    """A folder takes the place of round.pgn: the end says that, and asks nobody about the disk."""
+    hall = Hall(folder, 1)
+    live = hall.record()
+    hall.begun(live)
+    hall.until_round()
+    os.unlink(hall.games / "round.pgn")
+    os.mkdir(hall.games / "round.pgn")
+    hall.play(0, 1)
+    until_line(live, f"NOT WRITTEN: {hall.games}/round.pgn can't be written (Is a directory)")
+    live.send(signal.SIGINT)
+    refuses(live, 3, f"dgt_round: {hall.games}/round.pgn can't be written (Is a directory): put that right\n")
+
+
 def pipes(folder: pathlib.Path) -> None:
     """A pipe stands in the place of the table, and of each file of a game: the table is refused, such a board isn't recorded and
     says why, the others play on, and TERM is heard."""

@@ -7,6 +7,7 @@ import shutil
 import subprocess
 import sys
 import urllib.request
+import zipfile
 from typing import List
 
 from paged.web import Told
@@ -94,7 +95,7 @@ def troubles(folder: pathlib.Path) -> None:
 
 
 def typed(folder: pathlib.Path) -> None:
-    """Results and missed moves are typed; each is answered, and nonsense too. A result that was typed wrong is typed again."""
+    """Results and missed moves are typed; each is answered, once, and nonsense too. A result that was typed wrong is typed again."""
     hall = Hall(folder, 3)
     live = hall.record(typed=True)
     hall.begun(live)
@@ -106,6 +107,8 @@ def typed(folder: pathlib.Path) -> None:
     live.type("3 1-0")
     hall.until_text(3, "1. e4 c5 1-0")
     until_line(live, "3: added to ")
+    same([live.lines().count(told) for told in ("the result 1-0", "Nf3 Nc6")], [1, 1])
+    assert "added by hand: the result 1-0" in bytes_of(f"{hall.name(3)}.log").decode()
     for line, answer in (
         ("2 Qh5", "2 refused"),
         ("9 1-0", "refused: there is no board 9: the boards are 1 to 3"),
@@ -131,6 +134,20 @@ def typed(folder: pathlib.Path) -> None:
     live.type("q")
     same(ended(live), 0)
     same(hall.text(3), "1. e4 c5 0-1")
+
+
+def packed(folder: pathlib.Path) -> None:
+    """A board of a round is packed by the name of its files while the round goes on: its own game alone."""
+    hall = Hall(folder, 2)
+    live = hall.record()
+    hall.begun(live)
+    hall.play(0, 2)
+    same(ended(Live("", "", "--pack", hall.name(2))), 0)
+    endings = ("dgt", "times", "pgn", "options", "log")
+    same(zipfile.ZipFile(f"{hall.name(2)}.zip").namelist(), ["02/README.txt", *(f"02/02.{ending}" for ending in endings)])
+    hall.play(2, 4)
+    hall.until_round()
+    same(stop(live), 0)
 
 
 def all_over(folder: pathlib.Path) -> None:

@@ -3,6 +3,7 @@
 
 import { Connection } from '../device/connection.js';
 import { Taken } from '../device/line.js';
+import { GONE, OPENED, TOOK } from '../game/times.js';
 import { Whose } from './whose.js';
 
 const AGAIN = 2.0; // seconds until a port that another program has is tried again
@@ -76,6 +77,7 @@ export class Cable {
     connection.guard = this.guard;
     this.isTaken = false;
     this.whose.connected(this.guard.now());
+    this.happened(OPENED);
     this.hears.plugged();
     for (const { bytes, ended } of came) this.came(bytes, ended);
   }
@@ -84,6 +86,7 @@ export class Cable {
   leave() {
     const { connection, unsure } = this;
     this.connection = null;
+    this.happened(GONE);
     this.close();
     return { connection, came: unsure };
   }
@@ -102,6 +105,10 @@ export class Cable {
   }
 
   // What the line does.
+
+  happened(what, count) {
+    this.hears.happened(what, count);
+  }
 
   asked() {
     this.whose.asked(this.guard.now());
@@ -151,6 +158,7 @@ export class Cable {
   /** From now on the board on the cable is the game's, with all that it has sent. */
   takeOther() {
     if (!this.whose.isOther) return;
+    this.happened(TOOK);
     this.isOwn(this.whose.shown);
     this.told = '';
     const heard = this.foreign;

@@ -12,12 +12,14 @@ import { ProgramError } from '../game/program.js';
 import { gameOf, newCourse } from '../game/reading.js';
 import { codesOf, shortOf, shownOf } from '../game/report.js';
 import { ABSENT, Refused } from '../game/typed.js';
+import { ADDED, HEARD, OVER, isOf, kept as foundIn } from '../game/times.js';
 import { reached, readBack } from '../game/way_back.js';
 import { Capture, LARGEST } from '../kept/capture.js';
 import { spread, withMore } from '../kept/spread.js';
+import { Times } from '../kept/times.js';
 import { Cable } from './cable.js';
 import { Reader } from './reader.js';
-import { BoardState, Kind, TURNED_ROUND, lasting } from './state.js';
+import { BoardState, DISK_FULL, Kind, TURNED_ROUND, lasting } from './state.js';
 import { Typing } from './typing.js';
 import { another, back as backAgain, mayTake } from './whose.js';
 
@@ -41,8 +43,8 @@ const Reason = {
 
 export class Recorder {
   /**
-   * `kept` is what the database has: { board, game, chunks }; or, from a recorder that an error has ended before all was
-   * kept, { board, game, capture }. `hears` gets says(text), changed(), placed() when the PGN
+   * `kept` is what the database has: { board, game, chunks, times }; or, from a recorder that an error has ended before all
+   * was kept, { board, game, capture, times }. `hears` gets says(text), changed(), placed() when the PGN
    * has changed, begun(game) with the last game when another one begins, and keeps(before) with the old capture when a
    * new one was made; it answers owner(number) and lends(number, heard).
    */
@@ -61,20 +63,25 @@ export class Recorder {
     this.isPutBack = false; // whether plies were taken off, or the game goes on, and that isn't reported yet
     this.gap = null; // how long it wasn't heard, while the report is read anew
     this.isUnkept = false; // whether the game's record couldn't be kept
+    this.keeping = null; // a promise that ends when it was last kept, or couldn't be
     this.isLate = false; // whether the next game couldn't be begun
     this.nextTry = null; // when that is tried again
+    guard.opened(() => this.times.close()); // after the cable
     this.typing = new Typing(this);
     this.reader = new Reader(hall, guard, this);
     this.cable = new Cable(guard, kept.board.serial || '', this);
-    this.takeGame(kept.game, kept.chunks, kept.capture);
+    const capture = kept.capture || new Capture(this.database, kept.game.id, kept.chunks);
+    this.takeGame(kept.game, capture, new Times(this.database, guard, kept.game, capture, this));
+    this.times.open(kept.times, Boolean(kept.capture));
     this.tick = guard.after(TICK, () => this.eachSecond());
     this.reread(true);
   }
 
   /** Records this game from now on. */
-  takeGame(game, chunks, capture = new Capture(this.database, game.id, chunks)) {
+  takeGame(game, capture, times) {
     this.game = game;
     this.capture = capture;
+    this.times = times;
     capture.hearBy({
       kept: (bytes) => this.guard.call(() => this.reader.kept(bytes)),
       changed: () => this.guard.call(() => this.diskChanged()),
@@ -89,12 +96,21 @@ export class Recorder {
     this.byHand = [0, 0]; // the bytes that were added last
   }
 
+  get name() {
+    return this.game.name;
+  }
+
   get options() {
     return this.game.options;
   }
 
   get isOver() {
     return this.game.end !== null;
+  }
+
+  /** How often it has gone back. */
+  get goneBack() {
+    return this.game.goneBack || 0;
   }
 
   /** Where the last bytes end that somebody has typed; 0 if there are none. */
@@ -105,6 +121,12 @@ export class Recorder {
   /** Where the game ended before plies were taken off it, if it stays over; else 0. */
   get overTo() {
     return this.game.overTo || 0;
+  }
+
+  /** What a recorder begins with, after this one, if the database may lack some of it. */
+  get kept() {
+    const { board, game, capture, times } = this;
+    return { board, game, capture, times: times.rows };
   }
 
   // Reading the capture.
@@ -234,9 +256,15 @@ export class Recorder {
     this.wasAway = false;
     this.isRestart = false;
     if (ended.time.length > 0) this.alarms.time(now, ended.time, this.capture.size);
-    this.capture.append(bytes.slice(0, room), now);
+    this.append(bytes.slice(0, room), HEARD);
     if (ended.dumped) this.dumped();
     this.lookAtLimit();
+  }
+
+  /** Appends what the board has sent, or somebody has added. */
+  append(bytes, what) {
+    this.capture.append(bytes, this.guard.now());
+    this.times.note(what, bytes.length);
   }
 
   /** A game is over when its capture has as many bytes as the program reads. */
@@ -264,6 +292,15 @@ export class Recorder {
       this.awaitsDump = false;
       this.guard.after(SURELY_SETTLES, () => this.tellLook(this.alarms.stands(this.guard.now())));
     }
+  }
+
+  says(text) {
+    this.hears.says(text);
+  }
+
+  /** This happens on its cable. */
+  happened(what, count) {
+    this.times.note(what, count);
   }
 
   plugged() {
@@ -353,7 +390,7 @@ export class Recorder {
 
   /** Keeps the game's record. If that fails, it is tried again. The promise ends in any case. */
   keepGame() {
-    return this.database.putGame(this.game).then(
+    this.keeping = this.database.putGame(this.game).then(
       () => {
         this.isUnkept = false;
       },
@@ -362,6 +399,7 @@ export class Recorder {
         this.isUnkept = true;
       },
     );
+    return this.keeping;
   }
 
   /** Keeps the texts that the game's file may have soon: so the page knows them again, whenever its tab is killed. */
@@ -378,9 +416,10 @@ export class Recorder {
   diskChanged() {
     this.state.disk(this.capture.trouble);
     const { trouble, why } = this.capture;
-    const what = `${trouble}: the browser can't keep what the board sends (${why}). Don't reload this page. Make room on the disk`;
+    const what = `${trouble}: the browser can't keep what the board sends (${why}). Don't reload this page.`;
+    const room = trouble === DISK_FULL ? 'Make room on the disk' : 'Is there room on the disk?';
     const until = 'what comes is in memory alone until then, and is tried again each second';
-    this.hears.says(trouble ? `${what}: ${until}` : 'all that the board has sent is kept again');
+    this.hears.says(trouble ? `${what} ${room}: ${until}` : 'all that the board has sent is kept again');
     this.hears.changed();
   }
 
@@ -491,11 +530,13 @@ export class Recorder {
   }
 
   /** The game is not over any more. */
-  goOn() {
+  async goOn() {
     this.game = { ...this.game, end: null, overTo: 0 };
     this.isPutBack = true;
     this.reread();
-    return this.keepGame();
+    this.times.isNotOver();
+    await this.times.write(); // before the game's record: the times would have an end that the game lacks
+    await this.keepGame();
   }
 
   /** The game stays over, and ends with this ply; what came up to its earlier end counts no more. */
@@ -503,13 +544,17 @@ export class Recorder {
     const end = stays > 0 ? this.course.settledAt[stays - 1] + 1 : 0;
     this.game = { ...this.game, end, overTo: Math.max(this.game.end, this.overTo), looks };
     this.reread();
-    return this.keepGame();
+    const done = this.keepGame();
+    this.times.isNotOver();
+    this.times.note(OVER, end);
+    return done;
   }
 
   closeGame(end, reason) {
     this.cancelLingering();
     this.game = { ...this.game, end, looks: this.alarms.looks.open };
     this.keepGame();
+    this.times.note(OVER, end);
     this.hears.says(`${this.game.name} is over: ${reason}`);
     this.reread();
   }
@@ -611,8 +656,12 @@ export class Recorder {
     game.id = await this.database.beginGame(board, game, chunks, before);
     this.cancelLingering();
     this.board = { ...board, game: game.id };
-    this.hears.begun({ ...before, pgn, bytes: this.capture.bytes() });
-    this.takeGame(game, chunks);
+    if (!this.isOver) this.times.note(OVER, before.end);
+    this.hears.begun({ ...before, pgn, bytes: this.capture.bytes(), times: this.times.all });
+    this.times.close();
+    const capture = new Capture(this.database, game.id, chunks);
+    this.takeGame(game, capture, this.times.next(game, capture));
+    this.times.goOn();
     this.isRestart = false;
     this.showsItself = true;
     this.pgn = '';
@@ -625,7 +674,7 @@ export class Recorder {
   /** Adds this by hand. */
   async add(put) {
     this.byHand = [this.capture.size, this.capture.size + put.length];
-    this.capture.append(put, this.guard.now());
+    this.append(put, ADDED);
     this.game = { ...this.game, typedTo: this.capture.size };
     this.cable.added(put);
     await Promise.all([this.capture.write(), this.keepGame()]);
@@ -653,22 +702,31 @@ export class Recorder {
     throw new Refused(`${this.game.name} has no move yet, so it has no result${how}. If a player hasn't come, type ${ABSENT}`);
   }
 
-  /** The capture is this from now on; the old one is kept beside it, if wanted. Up to `typedTo` it is what was typed. */
-  async renew(content, keepsBefore, changes = {}) {
+  /**
+   * The capture is this from now on; the old one is kept beside it, if wanted. Up to `typedTo` it is what was typed. `timesOf`
+   * makes the times of the new capture of this game.
+   */
+  async renew(content, keepsBefore, changes = {}, timesOf = (game, capture) => this.times.next(game, capture, 0)) {
     this.cancelLingering();
+    await this.times.hold();
     const chunks = spread(content, this.guard.now());
-    const before = { game: this.game.id, name: this.game.name, at: this.guard.now(), bytes: this.capture.bytes() };
+    const { all } = this.times;
+    const before = { game: this.game.id, name: this.game.name, at: this.guard.now(), bytes: this.capture.bytes(), times: all };
     const game = { ...this.game, hasBefore: this.game.hasBefore || keepsBefore, typedTo: 0, overTo: 0, ...changes };
+    const capture = new Capture(this.database, game.id, chunks);
+    const times = timesOf(game, capture);
+    const { row } = times;
     try {
-      await this.database.renew(game, chunks, keepsBefore ? before : null);
+      await this.database.renew(game, chunks, row, keepsBefore ? before : null);
     } catch (error) {
+      this.times.goOn();
       this.hearResult(this.course.result, true);
       throw error;
     }
     if (keepsBefore) this.hears.keeps(before);
-    const { trouble } = this.capture;
-    this.takeGame(game, chunks);
-    this.capture.trouble = trouble;
+    times.goOnFrom(row, this.times);
+    capture.trouble = this.capture.trouble;
+    this.takeGame(game, capture, times);
     this.isRestart = false;
     this.showsItself = true;
     this.wasAway = true; // pieces may have been moved meanwhile
@@ -677,14 +735,17 @@ export class Recorder {
     this.cable.added(STRAY);
   }
 
-  /** Puts in what a longer capture of this game has beyond what was kept when the game was opened. */
-  async takeUp(longer, name) {
+  /** Puts in what a longer capture of this game has beyond what was kept when the game was opened, with its times. */
+  async takeUp(longer, lines, name) {
     await this.typing.exclusively(async () => {
       const content = withMore(this.capture.bytes(), this.opened, longer);
       if (!content) return;
       const { opened } = this;
       const more = this.typedTo > opened ? content.length - this.capture.size : 0;
-      await this.renew(content, false, { typedTo: this.typedTo + more, overTo: this.overTo });
+      const isOfLonger = isOf(foundIn(lines), longer);
+      const timesOf = (game, capture) =>
+        isOfLonger ? this.times.upTo(longer.length, game, capture, 0, lines) : this.times.upTo(opened, game, capture);
+      await this.renew(content, false, { typedTo: this.typedTo + more, overTo: this.overTo }, timesOf);
       this.hears.says(`${name} in the folder has more of ${this.game.name} than the browser had kept: the game goes on with it`);
     });
   }

@@ -7,6 +7,7 @@ import { BOTH, resultOf, whyPlayed, wordsOfForfeit } from '../game/forfeits.js';
 import { shortOfLook } from '../game/looks.js';
 import { Asked, HELP, Refused, readWords, refusal } from '../game/typed.js';
 import { isStillShown, question, reached, readBack, refuseBack, refuseNothing, settled, wordsOfBack } from '../game/way_back.js';
+import { DISK_FULL } from './state.js';
 
 const TRIES = 4; // calls for one line, if the board sends something while each of them runs; the last one lets it wait
 const REOPENS = Symbol('a result is to be taken off');
@@ -15,8 +16,13 @@ const ENDING = 'the pieces are at the start, so the game is just being ended. No
 const JUST_PLAY = 'the game has no result: if it is played after all, just play';
 const STAYS_OVER = 'The board still shows it, so the game stays over';
 const KEPT = 'What the board had sent is kept';
-const FULL = 'the disk is full, and nothing can be changed. Make room, and type it again';
 const UNKEPT = '. The browser can\'t keep it yet: don\'t reload this page, and make room on the disk';
+
+/** That nothing can be changed while a capture can't be kept, why, and what to do. */
+function unkept({ trouble, why }) {
+  if (trouble === DISK_FULL) return 'the disk is full, and nothing can be changed. Make room, and type it again';
+  return `the browser can't keep what the board sends (${why}), and nothing can be changed. Is there room on the disk? Type it again`;
+}
 
 export class Typing {
   constructor(recorder) {
@@ -68,7 +74,7 @@ export class Typing {
       if (typed.kind === 'helped') return { done: true, said: HELP };
       if (typed.kind === 'quit') throw new Refused('press Stop recording to end the recording');
       if (typed.kind === 'acknowledged') return { done: true, said: recorder.acknowledge() };
-      if (recorder.capture.trouble) throw new Refused(FULL);
+      if (recorder.capture.trouble) throw new Refused(unkept(recorder.capture));
       const said = await this.does(typed);
       recorder.hears.says(said);
       return { done: true, said: said + (recorder.capture.trouble ? UNKEPT : '') };
@@ -156,7 +162,9 @@ export class Typing {
         const bytes = recorder.capture.bytes();
         const typedTo = end + put.length;
         const overTo = Math.max(recorder.overTo + put.length, typedTo);
-        await recorder.renew(joined(bytes.slice(0, end), put, bytes.slice(end)), false, { end: typedTo, typedTo, overTo });
+        const content = joined(bytes.slice(0, end), put, bytes.slice(end));
+        const timesOf = (game, capture) => recorder.times.upTo(end, game, capture, put.length);
+        await recorder.renew(content, false, { end: typedTo, typedTo, overTo }, timesOf);
       } else {
         await recorder.add(put);
       }
@@ -208,7 +216,7 @@ export class Typing {
     const left = looks.without(settled(plies, stays));
     const done = wordsOfBack(plies, stays, result);
     if (staysOver) await recorder.endWith(stays, left.open);
-    else await recorder.renew(said.put, true, { end: null, typedTo: said.put.length, looks: left.open });
+    else await recorder.renew(said.put, true, { end: null, typedTo: said.put.length, looks: left.open, goneBack: recorder.goneBack + 1 });
     const gone = looks.open.filter((look) => !left.open.includes(look)).map(shortOfLook);
     const about = gone.length > 0 ? ` Settled: ${gone.join(', ')}.` : '';
     return `${done}.${about} ${staysOver ? STAYS_OVER : KEPT}`;

@@ -4,7 +4,7 @@ import { clocksOf } from '../game/course.js';
 import { countingForfeit, scoreOf } from '../game/forfeits.js';
 import { written } from '../game/options.js';
 import { NO_TIME } from '../game/report.js';
-import { Kind, State, TURNED_ROUND } from './state.js';
+import { DISK_FULL, Kind, State, TURNED_ROUND } from './state.js';
 
 /** The clocks as they run; if there is no clock, each player's time after his last move. */
 function clocks(course) {
@@ -30,7 +30,8 @@ const MENDS = {
 
 /** What somebody may do about a state; empty if it isn't an alarm. */
 export function mendOf({ kind, disk }) {
-  if (disk) return 'Make room on the disk, and choose a folder. What the board sends is in memory until then.';
+  const room = disk === DISK_FULL ? 'Make room on the disk, and choose' : 'Is there room on the disk? Choose';
+  if (disk) return `${room} a folder. What the board sends is in memory until then.`;
   return MENDS[kind] || '';
 }
 

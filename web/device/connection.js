@@ -1,10 +1,14 @@
 // The connection to one board: its line, and the requests that `asking` decides.
 
+import { ASKED, GONE, OPENED } from '../game/times.js';
 import { Asking } from './asking.js';
 import { Line } from './line.js';
 
 export class Connection {
-  /** `hears` gets came(bytes, ended), asked() when the board is asked for its number, silence(isSilent), lost(). */
+  /**
+   * `hears` gets came(bytes, ended), asked() when the board is asked for its number, silence(isSilent), lost(); and
+   * happened(what, count) with what happens on the line, as NAME.times has it.
+   */
   constructor(guard, port, hears) {
     this.guard = guard;
     this.port = port;
@@ -13,6 +17,7 @@ export class Connection {
     this.isSilent = false;
     this.timer = null;
     this.closed = false;
+    this.isOpen = false;
     this.away = guard.away(); // the seconds that the page was away before the board was asked last
     this.line = new Line(port, {
       heard: (bytes) => this.guard.call(() => this.heard(bytes)),
@@ -24,6 +29,8 @@ export class Connection {
   async open() {
     await this.line.open();
     if (this.closed) return;
+    this.isOpen = true;
+    this.hears.happened(OPENED);
     this.asking.connected(this.guard.now());
     this.ask();
   }
@@ -57,6 +64,7 @@ export class Connection {
     const request = this.asking.request(now);
     if (request.length > 0) {
       this.line.write(request);
+      this.hears.happened(ASKED, request.length);
       if (request.includes(0x4b)) this.hears.asked(); // with a start: another board may be on the line
     }
     this.tellSilence();
@@ -90,6 +98,7 @@ export class Connection {
   async close() {
     if (this.closed) return;
     this.closed = true;
+    if (this.isOpen) this.hears.happened(GONE);
     if (this.timer) this.timer.cancel();
     this.asking.disconnected();
     await this.line.close();

@@ -16,6 +16,7 @@ export class Folders {
     this.isPersistent = false;
     this.timer = null;
     this.lastRound = Promise.resolve(); // ends when the last text of all games is waiting to be written
+    this.lastBefore = Promise.resolve(); // ends when the last capture as it was before is waiting to be written
   }
 
   /** Goes on with the earlier folder, if the browser allows it. */
@@ -95,7 +96,8 @@ export class Folders {
     const { filed } = recorder.game;
     if (!filed || filed.folder !== folder.name) return;
     const bytes = await folder.bytesOf(`${filed.name}.dgt`).catch(() => null);
-    if (bytes) await recorder.takeUp(bytes, `${filed.name}.dgt`);
+    const times = await folder.textOf(`${filed.name}.times`).catch(() => null);
+    if (bytes) await recorder.takeUp(bytes, times || '', `${filed.name}.dgt`);
   }
 
   trouble(text) {
@@ -130,10 +132,13 @@ export class Folders {
       while (seat.wantsFiles) {
         seat.wantsFiles = false;
         await this.nameFiles(seat, folder);
+        await this.lastBefore;
+        const [name, text, times] = [`${seat.name}.pgn`, seat.pgn, seat.times()];
         folder.put(`${seat.name}.dgt`, seat.bytes());
-        const [name, text] = [`${seat.name}.pgn`, seat.pgn];
         await this.soonKept(seat.recorder.keepTexts([...folder.textsOf(name), text]));
         folder.put(name, text);
+        await seat.recorder.times.write(); // so that the folder never has lines that the browser lacks
+        this.putTimes(folder, name, times);
       }
     } finally {
       seat.isFiling = false;
@@ -150,7 +155,13 @@ export class Folders {
     if (filed && filed.folder === folder.name) {
       folder.remove(`${filed.name}.pgn`);
       folder.remove(`${filed.name}.dgt`);
+      folder.remove(`${filed.name}.times`);
     }
+  }
+
+  /** Writes the times of a capture beside the file of this name, if there are any. */
+  putTimes(folder, name, times) {
+    if (times) folder.put(name.replace(/(?:pgn|dgt)$/, 'times'), times);
   }
 
   finishes(game) {
@@ -165,18 +176,19 @@ export class Folders {
     if (!filed || filed.folder !== folder.name || filed.name !== game.name) {
       game.name = await this.free(game.name, folder);
       game.filed = { folder: folder.name, name: game.name };
-      const { pgn, bytes, ...kept } = game;
+      const { pgn, bytes, times, ...kept } = game;
       await this.hall.database.putGame(kept).catch(() => {}); // its files are written all the same
     }
     folder.put(`${game.name}.dgt`, game.bytes);
     folder.put(`${game.name}.pgn`, game.pgn);
+    this.putTimes(folder, `${game.name}.pgn`, game.times);
   }
 
   /** The name, or another one if the folder has files of this name: they aren't this game's, and are left alone. */
   async free(wanted, folder) {
     let name = wanted;
     const taken = this.hall.names().filter((other) => other !== wanted);
-    while ((await folder.has(`${name}.pgn`)) || (await folder.has(`${name}.dgt`))) {
+    while ((await folder.has(`${name}.pgn`)) || (await folder.has(`${name}.dgt`)) || (await folder.has(`${name}.times`))) {
       taken.push(name);
       name = freeName(wanted, taken);
     }
@@ -184,11 +196,19 @@ export class Folders {
     return name;
   }
 
-  /** Keeps a capture as it was before plies were taken off. */
-  async before(name, bytes) {
+  /** Keeps a capture as it was before plies were taken off, with its times, before the new one is written. */
+  before(given) {
+    const keeping = this.keepBefore(given);
+    this.lastBefore = Promise.allSettled([this.lastBefore, keeping]);
+    return keeping;
+  }
+
+  async keepBefore({ name, bytes, times }) {
     const { folder } = this;
     if (!folder) return;
-    folder.put(await folder.freeBefore(name), bytes);
+    const kept = await folder.freeBefore(name);
+    folder.put(kept, bytes);
+    this.putTimes(folder, kept, times);
   }
 
   /** The text of all games has changed. */

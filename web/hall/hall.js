@@ -10,6 +10,7 @@ import { Loop } from '../loop.js';
 import { save } from '../page/saving.js';
 import { Devices } from './devices.js';
 import { Folders } from './folders.js';
+import { Log } from './log.js';
 import { Ports } from './ports.js';
 import { Rounds } from './rounds.js';
 import { Seat } from './seat.js';
@@ -30,6 +31,7 @@ export class Hall {
    */
   constructor(code, module, hears) {
     this.hears = hears;
+    this.log = new Log();
     this.loop = new Loop();
     this.program = new Program(code, module);
     this.typing = new Program(code, module); // in a worker of its own, so that a typed line holds up no board
@@ -82,18 +84,21 @@ export class Hall {
     const { handle } = this.folders.folder || {};
     return {
       boards: recorders.map(({ board }) => board),
-      games: [...recorders.map(({ game }) => game), ...finished.map(({ pgn, bytes, ...game }) => game)],
+      games: [...recorders.map(({ game }) => game), ...finished.map(({ pgn, bytes, times, ...game }) => game)],
       captures: finished.map(({ id, bytes }) => ({ game: id, number: 0, at: this.loop.now(), bytes })),
+      times: finished.map(({ id, times }) => ({ game: id, number: 0, at: Date.now(), text: times })),
       settings: [{ name: 'given', value: this.given }, ...(handle ? [{ name: 'folder', value: handle }] : [])],
     };
   }
 
   says(text, number = null, isMove = false) {
+    this.log.add(text, number);
     this.hears.says(text, number, isMove);
   }
 
-  notice(...given) {
-    this.hears.notice(...given);
+  notice(name, text, ...given) {
+    if (text) this.log.add(text, null);
+    this.hears.notice(name, text, ...given);
   }
 
   changed() {
@@ -203,7 +208,7 @@ export class Hall {
         this.folders.finishes(before);
         this.changed();
       },
-      keeps: (one, { name, bytes }) => this.folders.before(name, bytes).catch((error) => this.folders.trouble(error.message)),
+      keeps: (one, before) => this.folders.before(before).catch((error) => this.folders.trouble(error.message)),
       nextName: (name) => this.nextName(name),
       seatOf: (number, asks) => this.seatOf(number, asks),
       numbered: (one, number) => this.devices.numbered(one, number),

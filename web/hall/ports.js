@@ -127,6 +127,7 @@ export class Ports {
           if (ended.serial || dumps >= DUMPS) decide(ended.serial);
         },
         asked: () => {},
+        happened: () => {}, // no game has the board yet
         silence: (isSilent) => isSilent && decide(''),
         lost: () => done(null),
       });

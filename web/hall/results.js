@@ -5,6 +5,7 @@ import { joined } from '../device/protocol.js';
 import { readAnswer, refuse } from '../game/answers.js';
 import { forfeitOf } from '../game/forfeits.js';
 import { textOf } from '../game/reading.js';
+import { withAdded } from '../game/times.js';
 import { spread } from '../kept/spread.js';
 
 /** The last game of a board before the one that is on, if it has no result; else null. */
@@ -22,9 +23,11 @@ export async function giveResult(hall, game, outcome) {
   const bytes = joined(sent, put, game.bytes.slice(game.end));
   const end = sent.length + put.length;
   const text = await textOf(hall.program, game.options, bytes.slice(0, end));
-  const { pgn, bytes: before, ...kept } = game;
-  await hall.database.renew({ ...kept, end }, spread(bytes, hall.loop.now()), null);
-  Object.assign(game, { end, bytes, pgn: text });
+  const { pgn, bytes: before, times, ...kept } = game;
+  const lines = withAdded(times, sent.length, put.length, bytes);
+  const row = { number: 0, at: Date.now(), text: lines };
+  await hall.database.renew({ ...kept, end }, spread(bytes, hall.loop.now()), row, null);
+  Object.assign(game, { end, bytes, times: lines, pgn: text });
   hall.folders.finishes(game);
   hall.folders.round();
   hall.says(`added by hand: the result ${outcome} of ${game.name}`, game.board);

@@ -150,7 +150,7 @@ export class Rounds {
       if (again(seat.game.id)) await seat.edit({ isAgain: true });
       for (const game of seat.finished.filter(({ id }) => again(id))) {
         game.isAgain = true;
-        const { pgn, bytes, ...kept } = game;
+        const { pgn, bytes, times, ...kept } = game;
         await this.hall.database.putGame(kept);
       }
     }

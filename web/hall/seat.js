@@ -8,6 +8,7 @@ import { dayOf } from '../game/names.js';
 import { forfeitOf, isUnplayed, wordsOfForfeit } from '../game/forfeits.js';
 import { optionsOf } from '../game/options.js';
 import { newCourse, textOf } from '../game/reading.js';
+import { textOf as textOfTimes } from '../kept/times.js';
 import { Guard } from '../guard.js';
 import { unended } from './results.js';
 
@@ -34,7 +35,7 @@ export class Seat {
     const guard = new Guard(this.hall.loop, (error) => this.broke(error));
     this.guard = guard;
     const { recorder } = this;
-    const kept = recorder && recorder.capture.isUnkept ? recorder : await this.read(guard);
+    const kept = recorder && recorder.capture.isUnkept ? recorder.kept : await this.read(guard);
     guard.call(() => {
       this.recorder = new Recorder(this.hall, guard, kept, this);
       this.trouble = '';
@@ -49,8 +50,14 @@ export class Seat {
     const game = (await database.games()).find(({ id }) => id === board.game);
     if (!game) throw new Error('its game is no more in this browser: remove the board, and add it again');
     const chunks = await database.chunks(game.id);
+    const times = await this.readTimes(game.id);
     await this.readFinished(guard);
-    return { board, game, chunks };
+    return { board, game, chunks, times };
+  }
+
+  /** The rows of a game's times; null if they can't be read, which costs nothing else. */
+  readTimes(game) {
+    return this.hall.database.times(game).catch(() => null);
   }
 
   /** Reads the games of this board that began today and are over. */
@@ -63,8 +70,9 @@ export class Seat {
     for (const game of games.filter(({ id }) => id !== current)) {
       const bytes = joined(...(await database.chunks(game.id)).map((chunk) => chunk.bytes));
       const sent = bytes.slice(0, game.end === null ? bytes.length : game.end);
+      const times = textOfTimes((await this.readTimes(game.id)) || []);
       const pgn = await textOf(program, game.options, sent, game.forfeit);
-      if (!guard.ended && (!isUnplayed(pgn) || forfeitOf(game.forfeit, pgn))) this.finished.push({ ...game, bytes, pgn });
+      if (!guard.ended && (!isUnplayed(pgn) || forfeitOf(game.forfeit, pgn))) this.finished.push({ ...game, bytes, times, pgn });
     }
   }
 
@@ -190,7 +198,12 @@ export class Seat {
     return this.recorder.capture.bytes();
   }
 
-  /** What its board had sent each time before plies were taken off: [{ name, bytes }]. */
+  /** When they came, and what else happened: the lines of NAME.times. */
+  times() {
+    return this.recorder.times.all;
+  }
+
+  /** What its board had sent each time before plies were taken off: [{ name, bytes, times }]. */
   async before() {
     const all = await this.hall.database.before();
     return all.filter(({ game }) => game === this.recorder.game.id);

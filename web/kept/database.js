@@ -1,11 +1,13 @@
 // What the page keeps, in IndexedDB: boards, games, what the boards sent, captures as they were before `back`,
-// settings.
+// settings; and among these the times of captures, so that an older page can open the database too.
 //
-// Each transaction is strict: it ends only after its data was handed to the disk.
+// Each transaction but those of times alone is strict: it ends only after its data was handed to the disk.
 
 const NAME = 'dgt_recorder';
 const VERSION = 1;
 const LAST = Number.MAX_SAFE_INTEGER;
+const STRICT = 'strict';
+const RELAXED = 'relaxed'; // behind what was strict before it, at once or soon
 
 /** The answer to a request. */
 function answerOf(request) {
@@ -15,10 +17,10 @@ function answerOf(request) {
   });
 }
 
-/** Makes changes in one transaction. When this ends, all of them are on the disk; if it fails, none. */
-function changed(database, stores, make) {
+/** Makes changes in one transaction. When this ends, all of them are on the disk, if it is strict; if it fails, none. */
+function changed(database, stores, make, durability = STRICT) {
   return new Promise((done, failed) => {
-    const transaction = database.transaction(stores, 'readwrite', { durability: 'strict' });
+    const transaction = database.transaction(stores, 'readwrite', { durability });
     let made;
     transaction.oncomplete = () => done(made && made.result);
     transaction.onabort = () => failed(transaction.error || new Error('the browser has ended the transaction'));
@@ -27,13 +29,23 @@ function changed(database, stores, make) {
 }
 
 const chunksOf = (game) => IDBKeyRange.bound([game, 0], [game, LAST]);
+const [TIMES, OTHER_TIMES] = ['times', 'other times']; // of a game's capture; and what was found there and isn't of it
+const settingsOf = (what, game) => IDBKeyRange.bound([what, game, 0], [what, game, LAST]);
+
+/** Puts lines of a game's times, { number, at, text }: instead of all, if that is said. */
+function putTimes(transaction, game, { number, at, text }, isAll) {
+  const store = transaction.objectStore('settings');
+  if (isAll) store.delete(settingsOf(TIMES, game));
+  if (text) store.put({ name: [TIMES, game, number], value: { at, text } });
+}
 
 export class Database {
   constructor() {
     this.database = null; // the open connection
     this.opening = null;
     this.epoch = 0; // how often it was opened
-    this.remembers = () => ({ boards: [], games: [], captures: [], settings: [] }); // what must be in it when it is opened again
+    // What must be in it when it is opened again.
+    this.remembers = () => ({ boards: [], games: [], captures: [], times: [], settings: [] });
   }
 
   static async open() {
@@ -88,7 +100,7 @@ export class Database {
 
   /** Puts what the page remembers into a database that was just opened again; captures that are whole only if they are gone. */
   async keepAnew(database) {
-    const { boards, games, captures, settings } = this.remembers();
+    const { boards, games, captures, times, settings } = this.remembers();
     try {
       await changed(database, ['boards', 'games', 'chunks', 'settings'], (transaction) => {
         const put = (store) => (one) => transaction.objectStore(store).put(one);
@@ -99,6 +111,7 @@ export class Database {
           const counted = transaction.objectStore('chunks').count(chunksOf(chunk.game));
           counted.onsuccess = () => counted.result === 0 && put('chunks')(chunk);
         }
+        for (const { game, ...lines } of times) putTimes(transaction, game, lines, true);
       });
     } catch (error) {
       this.lose(database);
@@ -107,9 +120,9 @@ export class Database {
   }
 
   /** Makes changes. When this ends, all of them are on the disk; if it fails, none. */
-  async change(stores, make) {
+  async change(stores, make, durability) {
     const database = await this.connection();
-    return this.watched(database, () => changed(database, stores, make));
+    return this.watched(database, () => changed(database, stores, make, durability));
   }
 
   async read(store, query) {
@@ -165,11 +178,12 @@ export class Database {
 
   /** Removes a board and its games. */
   removeBoard(id, games) {
-    return this.change(['boards', 'games', 'chunks'], (transaction) => {
+    return this.change(['boards', 'games', 'chunks', 'settings'], (transaction) => {
       transaction.objectStore('boards').delete(id);
       for (const game of games) {
         transaction.objectStore('games').delete(game);
         transaction.objectStore('chunks').delete(chunksOf(game));
+        for (const what of [TIMES, OTHER_TIMES]) transaction.objectStore('settings').delete(settingsOf(what, game));
       }
     });
   }
@@ -191,14 +205,36 @@ export class Database {
     });
   }
 
-  /** The capture of a game is this from now on; `before` is kept too, if given. */
-  renew(game, chunks, before) {
-    return this.change(['games', 'chunks', 'before'], (transaction) => {
+  /** The capture of a game is this from now on, and its times are these; `before` is kept too, if given. */
+  renew(game, chunks, times, before) {
+    return this.change(['games', 'chunks', 'before', 'settings'], (transaction) => {
       if (before) transaction.objectStore('before').put(before);
       transaction.objectStore('chunks').delete(chunksOf(game.id));
       for (const chunk of chunks) transaction.objectStore('chunks').put({ game: game.id, ...chunk });
+      putTimes(transaction, game.id, times, true);
       transaction.objectStore('games').put(game);
     });
+  }
+
+  /** The lines of a game's times, in order: [{ number, at, text }]. */
+  async times(game) {
+    const rows = await this.read('settings', (store) => store.getAll(settingsOf(TIMES, game)));
+    return rows.map(({ name, value }) => ({ number: name[2], at: value.at, text: value.text }));
+  }
+
+  /** Keeps lines of a game's times behind the others; or instead of them, if they are all; and what isn't of its capture beside. */
+  appendTimes(game, lines, isAll, other) {
+    const make = (transaction) => {
+      putTimes(transaction, game, lines, isAll);
+      if (other) transaction.objectStore('settings').put({ name: [OTHER_TIMES, game, lines.at], value: other });
+    };
+    return this.change(['settings'], make, RELAXED);
+  }
+
+  /** What was found instead of a game's times, the oldest first. */
+  async otherTimes(game) {
+    const rows = await this.read('settings', (store) => store.getAll(settingsOf(OTHER_TIMES, game)));
+    return rows.map(({ value }) => value);
   }
 
   /** All captures as they were before they were made anew. */

@@ -21,6 +21,11 @@ export function freeName(typed, taken) {
   return free;
 }
 
+/** The name of the file that keeps times that aren't the capture's: `game.other.times`, `game.other-2.times`. */
+export function otherName(name, number) {
+  return name.replace(/times$/, number === 1 ? 'other.times' : `other-${number}.times`);
+}
+
 /** Both players' names in one: `Anna - Ben`; empty if neither is known. */
 export function nameOfPlayers(white, black) {
   return white || black ? `${white || 'White'} - ${black || 'Black'}` : '';

@@ -1,6 +1,9 @@
 // The folder that somebody has chosen. Each file is written as another one, and moved to its place when it is whole.
 
+import { isEarlier as areEarlierTimes } from '../game/times.js';
 import { editedName, isEarlier } from './edited.js';
+import { otherName } from './file_names.js';
+import { nextFile } from './order.js';
 
 const AGAIN = 5.0; // seconds until a file that couldn't be written is tried again
 
@@ -16,6 +19,7 @@ export class Folder {
     this.before = new Map(); // texts of this page that a file may have had when the page was closed
     this.isWriting = false;
     this.failed = '';
+    this.timer = null; // until what couldn't be written is tried again
   }
 
   get name() {
@@ -54,25 +58,33 @@ export class Folder {
   async write() {
     if (this.isWriting) return;
     this.isWriting = true;
-    let failed = '';
-    while (this.waiting.size > 0) {
-      const [[name, content]] = this.waiting;
+    const tried = new Map(); // what can't be written, and why
+    for (let name = nextFile(this.waiting, tried); name; name = nextFile(this.waiting, tried)) {
+      const content = this.waiting.get(name);
       this.waiting.delete(name);
       this.writing = { name, content };
       try {
         await this.writeOne(name, content);
       } catch (error) {
-        failed = `${name} can't be written in the folder ${this.name} (${error.message || error.name})`;
+        tried.set(name, `${name} can't be written in the folder ${this.name} (${error.message || error.name})`);
         if (!this.waiting.has(name)) this.waiting.set(name, content);
-        break;
       }
     }
     this.isWriting = false;
     this.writing = null;
+    const [failed = ''] = tried.values();
     const isNews = Boolean(failed) !== Boolean(this.failed);
     this.failed = failed;
     if (isNews) this.hears.trouble(failed);
-    if (failed) this.loop.after(AGAIN, () => this.write());
+    if (failed) this.tryAgain();
+  }
+
+  tryAgain() {
+    if (this.timer) return;
+    this.timer = this.loop.after(AGAIN, () => {
+      this.timer = null;
+      this.write();
+    });
   }
 
   async writeOne(name, content) {
@@ -84,6 +96,7 @@ export class Folder {
     }
     if (name.endsWith('.pgn')) await this.keepEdited(name, content);
     if (name.endsWith('.dgt')) await this.keepLonger(name, content);
+    if (name.endsWith('.times')) await this.keepOther(name, content);
     const file = await this.handle.getFileHandle(name, { create: true });
     const stream = await file.createWritable(); // another file, which replaces this one when it is closed
     try {
@@ -117,6 +130,18 @@ export class Folder {
     const kept = await this.freeBefore(name.replace(/\.dgt$/, ''));
     await this.writeOne(kept, found);
     this.hears.says(`${name} had more than this page has of the game: it is kept in ${kept}`);
+  }
+
+  /** Keeps times that this page hasn't written under another name, before others replace them. */
+  async keepOther(name, content) {
+    if (this.written.has(name)) return;
+    const found = await this.bytesOf(name);
+    if (found === null || areEarlierTimes(new TextDecoder().decode(found), content)) return;
+    let number = 1;
+    while (await this.has(otherName(name, number))) number += 1;
+    const kept = otherName(name, number);
+    await this.writeOne(kept, found);
+    this.hears.says(`${name} had other times than this page has of the game: they are kept in ${kept}. Nothing is to be done`);
   }
 
   /** A free name for a capture as it was before. */

@@ -5,6 +5,7 @@ import { TURNED_ROUND } from '../board/state.js';
 import { pgnDate } from '../game/names.js';
 import { UNKNOWN, written } from '../game/options.js';
 import { OF_ALL } from '../game/rounds.js';
+import { allOf } from '../hall/all_of.js';
 import { giveResult } from '../hall/results.js';
 import { at, failed } from './elements.js';
 import { save } from './saving.js';
@@ -41,6 +42,7 @@ export class Panel {
     at('save-game').addEventListener('click', () => this.does(this.saveGame(), "the game can't be saved"));
     at('save-capture').addEventListener('click', () => save(`${this.seat.name}.dgt`, this.seat.bytes(), 'application/octet-stream'));
     at('save-before').addEventListener('click', () => this.does(this.saveBefore(), "what was taken off can't be saved"));
+    at('save-all').addEventListener('click', () => this.does(this.saveAll(), "it can't be saved"));
     at('next-game').addEventListener('click', () => this.nextGame());
     at('connect').addEventListener('click', () => this.chooseDevice());
     at('choose').addEventListener('click', () => this.chooseDevice());
@@ -116,6 +118,7 @@ export class Panel {
     at('before-game').hidden = isShown || !seat.unended;
     if (seat.unended) say(at('before-which'), `The game before, ${seat.unended.name}, has no result. What was it?`);
     at('save-before').hidden = isShown || !seat.hasBefore;
+    at('save-all').hidden = isShown;
     this.showAsked(seat);
   }
 
@@ -213,7 +216,16 @@ export class Panel {
   /** What the board had sent before moves were taken off. */
   async saveBefore() {
     const kept = await this.seat.before();
-    kept.forEach(({ name, bytes }, number) => save(`${name}.before-${number + 1}.dgt`, bytes, 'application/octet-stream'));
+    kept.forEach(({ name, bytes, times }, number) => {
+      save(`${name}.before-${number + 1}.dgt`, bytes, 'application/octet-stream');
+      if (times) save(`${name}.before-${number + 1}.times`, times, 'text/plain');
+    });
+  }
+
+  /** All that is kept of this board. */
+  async saveAll() {
+    const { seat } = this;
+    save(`${seat.name}.zip`, await allOf(this.hall, seat), 'application/zip');
   }
 
   async rename() {

@@ -3,7 +3,7 @@ ghost use Rattle.std.specs.Prelude.{◌≡◌, ◌<◌, ◌≤◌, ◌∷◌, []
 ghost use Rattle.board_asking.specs.declared.line.Event.{Event as EventOf};
 ghost use Rattle.board_asking.specs.Pace.{AsksAlike, asks};
 ghost use Rattle.board_asking.specs.Silence.{is_silent};
-ghost use Rattle.board_asking.specs.Whose.{HandledAlike, handling_at, own_number};
+ghost use Rattle.board_asking.specs.Whose.{HandledAlike, handling_at, own_number, shown_number};
 ghost use Rattle.board_asking.specs.Asking.{StandsFor, next_request, request_at, with_request};
 
 use crate::line::{Event, Happening, Request};
@@ -106,6 +106,13 @@ impl Asking {
         ensures { (past : List EventOf) → StandsFor self.now past → result ≡ own_number past }
     {
         self.whose.own()
+    }
+
+    /// The serial number of the board on the cable, if it has sent one since the line was opened.
+    pub fn shown(&self) -> Option<[u8; 5]>
+        ensures { (past : List EventOf) → StandsFor self.now past → result ≡ shown_number past }
+    {
+        self.whose.shown()
     }
 
     /// What is done now with what the board sends.

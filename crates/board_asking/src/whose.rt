@@ -2,7 +2,7 @@
 ghost use Rattle.std.specs.Prelude.{◌≡◌, ◌<◌, ◌∷◌, [], ℕ, List, IfSome};
 ghost use Rattle.std.specs.Str.{bytes_eq};
 ghost use Rattle.board_asking.specs.declared.line.Event.{Event as EventOf};
-ghost use Rattle.board_asking.specs.Whose.{HandledAlike, HasWhose, awaited_by, dumps_by, handling_at, handling_by, handling_of, is_awaited, is_number_asked, left_by, own_by, own_number, shown_by};
+ghost use Rattle.board_asking.specs.Whose.{HandledAlike, HasWhose, awaited_by, dumps_by, handling_at, handling_by, handling_of, is_awaited, is_number_asked, left_by, own_by, own_number, shown_by, shown_number};
 
 use crate::lasting::{lasted, sooner};
 use crate::line::{Event, Happening, Request};
@@ -166,6 +166,13 @@ impl Whose {
         ensures { (past : List EventOf) → HasWhose self.now past → result ≡ own_number past }
     {
         self.own
+    }
+
+    /// The number of the board on the cable, if it has sent one since the line was opened.
+    pub fn shown(&self) -> Option<[u8; 5]>
+        ensures { (past : List EventOf) → HasWhose self.now past → result ≡ shown_number past }
+    {
+        self.shown
     }
 
     /// Whether the number is asked for with the next request, though it doesn't ask for updates.

@@ -19,4 +19,6 @@ mod watch_lines;
 mod watcher;
 
 pub use listing::Listing;
+pub use printer::add_first;
 pub use stream::{ListError, list_stream};
+pub use watcher::Watcher;

@@ -23,7 +23,7 @@ use crate::events::add_line;
 use crate::follower::{Follower, add_seen, is_news, is_same, result_now};
 use crate::game_lines::{add_result, add_waiting_words};
 use crate::watch_lines::{ROOM, add_picture, add_position, add_reading};
-use board_events::Taken;
+use board_events::{Session, Taken};
 use chess_clock::Reading;
 use chess_rules::Position;
 use chess_text::PlacementText;
@@ -196,6 +196,20 @@ impl Watcher {
         self.tell(lines, offset, event, taken);
         add_new_reading(lines, offset, event, &old, &self.follower.session.reading());
         Ok(())
+    }
+
+    /// The session, for callers who show more of the game.
+    pub fn session(&self) -> &Session
+        ensures { result.now ≡ self.now.follower.session }
+    {
+        &self.follower.session
+    }
+
+    /// The result of the game so far.
+    pub fn result(&self) -> Option<Outcome>
+        ensures { result ≡ self.now.follower.told }
+    {
+        self.follower.told
     }
 
     /// Adds the lines of what an event shows and makes of the game, once the session has taken it. What the session

@@ -1,4 +1,5 @@
 mod TextLemmas
 mod LineLemmas
+mod ListingLemmas
 mod EventLemmas
 mod HeadingLemmas

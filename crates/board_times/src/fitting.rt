@@ -35,7 +35,8 @@ pub fn digest(bytes: &[u8]) -> u64
     hash
 }
 
-fn after(what: What, before: u64) -> u64
+/// How many bytes of the capture are accounted for behind an event, if so many were before it.
+pub(crate) fn after(what: What, before: u64) -> u64
     ensures { result ≡ covered_after what before }
 {
     match what {

@@ -13,11 +13,12 @@ use Rattle.board_listing.specs.declared.listing.Listing.TheVariants.{Game, Watch
 use Rattle.dgt_frame.specs.Streams.{Timed}
 use Rattle.chess_game.specs.declared.values.Tag.{Tag}
 use Rattle.replay_arguments.specs.declared.arguments.Subcommand.{Subcommand}
-use Rattle.replay_arguments.specs.Subcommands.{Asks, AsksFor, AsksForPictures, AsksToAdd, AsksToCheck, AsksToFollow, AsksToGoBack, AsksToRecord, AsksToRecover, AsksToShow, AsksToWatch}
+use Rattle.replay_arguments.specs.Subcommands.{Asks, AsksFor, AsksForPictures, AsksForTimes, AsksToAdd, AsksToCheck, AsksToFollow, AsksToGoBack, AsksToRecord, AsksToRecover, AsksToShow, AsksToWatch}
 use Rattle.replay_arguments.specs.Setups.{SetsUpNothing, tag_text}
 use Rattle.chess_text.specs.Start.{HasNoStart, StartsAt, given}
 use Rattle.replay_arguments.specs.TagOptions.{option_of}
 use Rattle.text_subcommands.specs.Checked.{RefusesPgn, text_limit, Checks}
+use Rattle.text_subcommands.specs.Timed.{RefusesTimes, TellsTimes, times_limit}
 use Rattle.dgt_replay.specs.Add.{AddsLine}
 use Rattle.dgt_replay.specs.Back.{TakesBack}
 use Rattle.dgt_replay.specs.Edit.{Edits, text_in}
@@ -34,7 +35,7 @@ use Rattle.dgt_replay.proofs.EndLemmas.{ends_for_memory, none_read, not_both}
 use Rattle.text_subcommands.proofs.MessageLemmas.{tells_alike, tells_memory}
 use Rattle.dgt_replay.proofs.RefusalLemmas.{refuses_alike}
 use Rattle.dgt_replay.proofs.SetupLemmas.{meets_nothing, meets_board}
-use Rattle.dgt_replay.proofs.SubcommandLemmas.{add_chosen, back_chosen, chooses_check, chooses_follow, chooses_pictures, chooses_record, chooses_recover, chooses_show, chooses_watch, follow_chosen, moves_chosen, positions_chosen, record_chosen, recover_chosen, watch_chosen}
+use Rattle.dgt_replay.proofs.SubcommandLemmas.{add_chosen, back_chosen, chooses_check, chooses_follow, chooses_pictures, chooses_record, chooses_recover, chooses_show, chooses_times, chooses_watch, follow_chosen, moves_chosen, positions_chosen, record_chosen, recover_chosen, watch_chosen}
 
 -- Memory ran out before anything was read, or written to the output.
 pub record LacksMemory (status : ℕ) (s : Streams) : Type 0 where
@@ -120,6 +121,19 @@ checks_memory status s lacks =
       silent = λ e. lacks.untouched.1;
     }
 
+pub times_memory : (status : ℕ) (s : Streams) → LacksMemory status s → TellsTimes status s
+times_memory status s lacks =
+    let four : status ≡ 4 = lacks.four in
+    record {
+      done = λ e. absurd (omega arith);
+      tells = tells_memory status (RefusesTimes s.input) s.said s.said' s.reader_failed s.out_failed s.err_failed four lacks.says;
+      bounded = none_read times_limit s.input s.input' lacks.untouched.0;
+      fault = λ e. absurd (omega arith);
+      unread = λ e. lacks.untouched.1;
+      read = λ e. not_both s.reader_failed e lacks.reading;
+      silent = λ e. lacks.untouched.1;
+    }
+
 pub prints_memory : (fen : Option Text) (status : ℕ) (s : Streams) → LacksMemory status s → Prints fen status s
 prints_memory fen status s lacks =
     let four : status ≡ 4 = lacks.four in
@@ -173,6 +187,10 @@ does_pictures arguments subcommand status s asked does rotated asks = does_as su
 pub does_check : (arguments : List Text) (subcommand : Subcommand) (status : ℕ) (s : Streams) → AsksFor arguments subcommand → Does subcommand status s
     → AsksToCheck arguments → Checks status s
 does_check arguments subcommand status s asked does asks = does_as subcommand _ status s (chooses_check arguments subcommand asks asked) does
+
+pub does_times : (arguments : List Text) (subcommand : Subcommand) (status : ℕ) (s : Streams) → AsksFor arguments subcommand → Does subcommand status s
+    → AsksForTimes arguments → TellsTimes status s
+does_times arguments subcommand status s asked does asks = does_as subcommand _ status s (chooses_times arguments subcommand asks asked) does
 
 pub does_record : (arguments : List Text) (subcommand : Subcommand) (status : ℕ) (s : Streams) → AsksFor arguments subcommand → Does subcommand status s
     → (setup : Setup) → AsksToRecord arguments setup → Records setup status s

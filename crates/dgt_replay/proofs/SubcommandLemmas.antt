@@ -8,12 +8,12 @@ use Rattle.clap.specs.Simple.{subcommand_of}
 use Rattle.board_events.specs.declared.setup.Setup.{Setup}
 use Rattle.board_events.specs.Settings.{Setting}
 use Rattle.replay_arguments.specs.declared.arguments.Subcommand.{Subcommand}
-use Rattle.replay_arguments.specs.declared.arguments.Subcommand.TheVariants.{Show, Pictures, Record, Follow, Watch, Recover, Add, Back, Check, Moves, Positions}
+use Rattle.replay_arguments.specs.declared.arguments.Subcommand.TheVariants.{Show, Pictures, Record, Follow, Watch, Recover, Add, Back, Check, Times, Moves, Positions}
 use Rattle.replay_arguments.specs.declared.arguments.BoardArguments.{BoardArguments}
 use Rattle.replay_arguments.specs.declared.arguments.EditArguments.{EditArguments}
 use Rattle.replay_arguments.specs.declared.arguments.RecordArguments.{RecordArguments}
 use Rattle.replay_arguments.specs.Command.{replay}
-use Rattle.replay_arguments.specs.Subcommands.{Asks, AsksForPictures, AsksToCheck, AsksToShow, AsksFor, AsksToFollow, AsksToRecord, AsksToRecover, AsksToWatch, Chooses, IsRefused, is_subcommand}
+use Rattle.replay_arguments.specs.Subcommands.{Asks, AsksForPictures, AsksForTimes, AsksToCheck, AsksToShow, AsksFor, AsksToFollow, AsksToRecord, AsksToRecover, AsksToWatch, Chooses, IsRefused, is_subcommand}
 use Rattle.replay_arguments.specs.Setups.{Meets, MeetsBoard, Wants, WantsBoard, WantsEdit}
 use Rattle.chess_text.specs.Start.{given}
 use Rattle.dgt_replay.proofs.SetupLemmas.{meets, meets_board}
@@ -48,6 +48,10 @@ chooses_pictures rotated arguments subcommand (rows, asks, turned) asked =
 -- `check` asks for a check
 pub chooses_check : (arguments : List Text) (subcommand : Subcommand) → AsksToCheck arguments → AsksFor arguments subcommand → subcommand ≡ Check
 chooses_check arguments subcommand (rows, asks) asked = same_subcommand subcommand Check ((chosen arguments (codes "check") rows subcommand asks asked).check refl)
+
+-- `times` asks for the lines of a file of times
+pub chooses_times : (arguments : List Text) (subcommand : Subcommand) → AsksForTimes arguments → AsksFor arguments subcommand → subcommand ≡ Times
+chooses_times arguments subcommand (rows, asks) asked = same_subcommand subcommand Times ((chosen arguments (codes "times") rows subcommand asks asked).times refl)
 
 -- `record` asks for a recording as its options say
 pub record_chosen : (arguments : List Text) (rows : List Row) (subcommand : Subcommand) → Asks arguments (codes "record") rows → AsksFor arguments subcommand
@@ -138,6 +142,9 @@ pictures_unrefused rotated arguments (rows, asks, turned) = unrefused arguments 
 
 pub check_unrefused : (arguments : List Text) → AsksToCheck arguments → IsRefused arguments → ⊥
 check_unrefused arguments (rows, asks) = unrefused arguments (codes "check") rows asks
+
+pub times_unrefused : (arguments : List Text) → AsksForTimes arguments → IsRefused arguments → ⊥
+times_unrefused arguments (rows, asks) = unrefused arguments (codes "times") rows asks
 
 pub record_unrefused : (arguments : List Text) (setup : Setup) → AsksToRecord arguments setup → IsRefused arguments → ⊥
 record_unrefused arguments setup (rows, asks, sets) = unrefused arguments (codes "record") rows asks

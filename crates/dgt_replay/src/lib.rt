@@ -1,7 +1,7 @@
 //! The subcommands of the program, over any streams.
 //!
 //! Begin with `program.rt`, which has `run`. `record.rt` and `recover.rt` are the subcommands of these names, `edit.rt` has
-//! `add` and `back`; `check`, `moves` and `positions` stand in `text_subcommands`. A call marked `For its clause` changes
+//! `add` and `back`; `check`, `times`, `moves` and `positions` stand in `text_subcommands`. A call marked `For its clause` changes
 //! nothing: the proof needs what its contract says.
 #![tactic(auto)]
 

@@ -9,7 +9,7 @@ ghost use Rattle.clap.specs.Values.{kind_of};
 ghost use Rattle.clap.specs.Walk.{Row, first_of};
 ghost use Rattle.watched_streams.specs.Watch.{IsFlushed, inner_of, has_failed};
 ghost use Rattle.replay_arguments.specs.declared.arguments.BoardArguments.{BoardArguments as BoardOptions};
-ghost use Rattle.replay_arguments.specs.Subcommands.{AreMistaken, Asks, AsksForHelp, AsksForVersion, AsksToAdd, AsksToFollow, AsksToGoBack, AsksToRecord, AsksToRecover, AsksToWatch, IsCheck, IsPictures, IsRefused, IsShow};
+ghost use Rattle.replay_arguments.specs.Subcommands.{AreMistaken, Asks, AsksForHelp, AsksForVersion, AsksToAdd, AsksToFollow, AsksToGoBack, AsksToRecord, AsksToRecover, AsksToWatch, IsCheck, IsPictures, IsRefused, IsShow, IsTimes};
 ghost use Rattle.board_listing.specs.declared.listing.Listing.{Listing};
 ghost use Rattle.board_listing.specs.EventLines.{rest_line};
 ghost use Rattle.board_listing.specs.OneText.{event_lines, no_line, picture_lines};
@@ -24,6 +24,7 @@ ghost use Rattle.dgt_replay.specs.Inside.Dispatching.{Does, game_listing};
 ghost use Rattle.dgt_replay.specs.Edit.{text_in};
 ghost use Rattle.text_subcommands.specs.Played.{Plays};
 ghost use Rattle.text_subcommands.specs.Printed.{Prints};
+ghost use Rattle.text_subcommands.specs.Timed.{TellsTimes};
 ghost use Rattle.text_subcommands.specs.Refusals.{Refuses, RefusesStart};
 ghost use Rattle.dgt_replay.specs.Refusals.{RefusesSetup};
 ghost use Rattle.dgt_replay.specs.Messages.{GivesText, RefusesArguments};
@@ -43,7 +44,7 @@ use replay_arguments::laws::without_options;
 use replay_arguments::{BoardArguments, Subcommand, read_arguments};
 use std::alloc::Global;
 use std::io::{Read, Write};
-use text_subcommands::{check, moves, positions, put_answer, refused, refused_fen};
+use text_subcommands::{check, moves, positions, put_answer, refused, refused_fen, times};
 use watched_streams::{Watch, flush_unless_failed};
 
 /// The text, or where help is if it is empty: `clap` promises nothing of its texts.
@@ -209,6 +210,7 @@ fn dispatch<R: Read, O: Write, E: Write>(
         Subcommand::Add(options) => edit(alloc, EditKind::Add, options, reader, out, err),
         Subcommand::Back(options) => edit(alloc, EditKind::Back, options, reader, out, err),
         Subcommand::Check => check(alloc, reader, out, err),
+        Subcommand::Times => times(alloc, reader, out, err),
         Subcommand::Moves { fen } => moves(alloc, *fen, out, err),
         Subcommand::Positions { fen } => positions(alloc, *fen, reader, out, err),
     }
@@ -287,6 +289,9 @@ pub fn run<R: Read, O: Write, E: Write>(
 
     // `check`: the input is the export text of a game.
     ensures check { IsCheck (map string_bytes arguments.now) → Checks result (streams R.remaining O.contents E.contents reader.old reader.new out.old out.new err.old err.new) }
+
+    // `times`: the input is a file of times, and its lines were written.
+    ensures times { IsTimes (map string_bytes arguments.now) → TellsTimes result (streams R.remaining O.contents E.contents reader.old reader.new out.old out.new err.old err.new) }
 
     // `moves` with any options: the legal moves of the position that they say. It reads nothing.
     ensures moves { (rows : List Row) → Asks (map string_bytes arguments.now) (codes "moves") rows → Prints (first_of (codes "fen") rows) result

@@ -135,7 +135,7 @@ none_returned once start past entry score waiting r (Replaced m) valid folds tel
 none_returned once start past entry score waiting r Waits valid folds tells new told =
     never_shown r Waits (tells_same once start past entry score waiting r (Shown Waits) valid folds tells told)
 
-found_is : RecoversOnce → (setting : Setting) (past : List Event) (event : Event) (score : Score) (waiting : List Entry) (r : Recovery) (found : Option Recovery) → Valid setting.start
+pub found_is : RecoversOnce → (setting : Setting) (past : List Event) (event : Event) (score : Score) (waiting : List Entry) (r : Recovery) (found : Option Recovery) → Valid setting.start
     → is_entry event past ≡ true → repeats (entry_at setting.first setting.rotated (event ∷ past)).picture (entries_in setting past) ≡ false
     → FoldsRecovering setting.start (deduplicated (entries_in setting past)) score waiting
     → TellsAs setting.start (moves_of score.plies) waiting (entry_at setting.first setting.rotated (event ∷ past)).picture (Recovered r)

@@ -13,5 +13,7 @@ mod passer;
 mod refusal;
 mod stream;
 
+pub use keeper::Keeper;
+pub use passer::{Frames, hear};
 pub use refusal::RecoverError;
 pub use stream::recover_stream;

@@ -1,14 +1,14 @@
 -- What the parse of arguments gives.
-use Rattle.std.proofs.Common.{◌≡◌, ◌⊎◌, ℕ, ◌∷◌, ◌++◌, [], ◌∙◌, Bool, true, false, List, Option, Some, None, ap, refl, sym, inl, inr, codes, option_map, subst}
+use Rattle.std.proofs.Common.{◌≡◌, ◌⊎◌, ◌&&◌, ℕ, ◌∷◌, ◌++◌, [], ◌∙◌, Bool, true, false, List, Option, Some, None, ap, refl, sym, inl, inr, codes, option_map, subst}
 use Rattle.std.specs.Prelude.{IfSome, MatchOption, is_some}
 use Rattle.std.specs.Option.{option_map_or}
 use Rattle.std.specs.Borrow.{Bor}
 use Rattle.std.specs.Str.{bytes_eq}
 use Rattle.std.proofs.lemmas.Slice.Eq.{bytes_eq-Decides}
-use Rattle.clap.specs.Walk.{Row, Text, first_of, one_of, rows_of}
+use Rattle.clap.specs.Walk.{Row, Text, first_of, nothing_held, one_of, rows_of}
 use Rattle.clap.specs.Matches.{first_value, one_text}
-use Rattle.clap.specs.Simple.{App, HasMatchesOf, is_simple, subcommand_of, subcommand_rows_of}
-use Rattle.clap.specs.Takes.{takes}
+use Rattle.clap.specs.Simple.{App, HasMatchesOf, argument_words, built, is_simple, subcommand_of, subcommand_rows_of}
+use Rattle.clap.specs.Takes.{built_takes, takes}
 use Rattle.clap.specs.declared.parser.matches.ArgMatches.{ArgMatches}
 use Rattle.clap.specs.declared.builder.value_parser.Reading.TheVariants.{AsWritten}
 use Rattle.clap.specs.declared.parser.matches.Found.{Found}
@@ -22,7 +22,7 @@ use Rattle.chess_game.specs.declared.values.Tag.TheVariants.{Event, Site, Date, 
 use Rattle.board_events.specs.Settings.{setting_of}
 use Rattle.replay_arguments.specs.declared.arguments.Subcommand.{Subcommand}
 use Rattle.replay_arguments.specs.Command.{replay}
-use Rattle.replay_arguments.specs.Subcommands.{Asks, AsksForPictures, AsksToAdd, AsksToCheck, AsksToShow, AsksForMoves, AsksForPositions, AsksToFollow, AsksToGoBack, AsksToRecord, AsksToRecover, AsksToWatch, Chooses, IsAdd, IsBack, IsCheck, IsFollow, IsMoves, IsPictures, IsPositions, IsRecord, IsRecover, IsWatch, IsShow, is_subcommand}
+use Rattle.replay_arguments.specs.Subcommands.{Asks, AsksForPictures, AsksForTimes, AsksToAdd, AsksToCheck, AsksToShow, AsksForMoves, AsksForPositions, AsksToFollow, AsksToGoBack, AsksToRecord, AsksToRecover, AsksToWatch, Chooses, IsAdd, IsBack, IsCheck, IsFollow, IsMoves, IsPictures, IsPositions, IsRecord, IsRecover, IsTimes, IsWatch, IsShow, is_subcommand}
 use Rattle.replay_arguments.specs.Setups.{SetsBoardUp, flag_text, plain_setup, side_in}
 use Rattle.chess_text.specs.Start.{given}
 use Rattle.replay_arguments.specs.TagOptions.{option_of}
@@ -102,61 +102,69 @@ flag_found : (rotated : Bool) → one_of (codes "rotated") (flag_row rotated ∷
 flag_found true = refl
 flag_found false = refl
 
+-- That the command is simple is known: what is left to compute is whether it takes these arguments.
+takes_by : (arguments : List Text) → built_takes (built replay) nothing_held (argument_words replay arguments) ≡ true → takes replay arguments ≡ true
+takes_by arguments passes = ap (λ simple. simple && built_takes (built replay) nothing_held (argument_words replay arguments)) replay_is_simple ∙ passes
+
 show_found : (name : Text) → Finds (name ∷ codes "show" ∷ []) (codes "show") []
 unfolding clap_on_literals
-show_found name = (refl, refl)
+show_found name = (refl, takes_by (name ∷ codes "show" ∷ []) refl)
 
 check_found : (name : Text) → Finds (name ∷ codes "check" ∷ []) (codes "check") []
 unfolding clap_on_literals
-check_found name = (refl, refl)
+check_found name = (refl, takes_by (name ∷ codes "check" ∷ []) refl)
+
+times_found : (name : Text) → Finds (name ∷ codes "times" ∷ []) (codes "times") []
+unfolding clap_on_literals
+times_found name = (refl, takes_by (name ∷ codes "times" ∷ []) refl)
 
 moves_found : (name : Text) → Finds (name ∷ codes "moves" ∷ []) (codes "moves") []
 unfolding clap_on_literals
-moves_found name = (refl, refl)
+moves_found name = (refl, takes_by (name ∷ codes "moves" ∷ []) refl)
 
 positions_found : (name : Text) → Finds (name ∷ codes "positions" ∷ []) (codes "positions") []
 unfolding clap_on_literals
-positions_found name = (refl, refl)
+positions_found name = (refl, takes_by (name ∷ codes "positions" ∷ []) refl)
 
 plain_pictures : (name : Text) → FindsFlag (name ∷ codes "pictures" ∷ []) (codes "pictures") false
 unfolding clap_on_literals
-plain_pictures name = (refl, refl)
+plain_pictures name = (refl, takes_by (name ∷ codes "pictures" ∷ []) refl)
 
 turned_pictures : (name : Text) → FindsFlag (name ∷ codes "pictures" ∷ codes "--rotated" ∷ []) (codes "pictures") true
 unfolding clap_on_literals
-turned_pictures name = (refl, refl)
+turned_pictures name = (refl, takes_by (name ∷ codes "pictures" ∷ codes "--rotated" ∷ []) refl)
 
 plain_record : (name : Text) → FindsFlag (name ∷ codes "record" ∷ []) (codes "record") false
 unfolding clap_on_literals
-plain_record name = (refl, refl)
+plain_record name = (refl, takes_by (name ∷ codes "record" ∷ []) refl)
 
 turned_record : (name : Text) → FindsFlag (name ∷ codes "record" ∷ codes "--rotated" ∷ []) (codes "record") true
 unfolding clap_on_literals
-turned_record name = (refl, refl)
+turned_record name = (refl, takes_by (name ∷ codes "record" ∷ codes "--rotated" ∷ []) refl)
 
 plain_follow : (name : Text) → FindsFlag (name ∷ codes "follow" ∷ []) (codes "follow") false
 unfolding clap_on_literals
-plain_follow name = (refl, refl)
+plain_follow name = (refl, takes_by (name ∷ codes "follow" ∷ []) refl)
 
 turned_follow : (name : Text) → FindsFlag (name ∷ codes "follow" ∷ codes "--rotated" ∷ []) (codes "follow") true
 unfolding clap_on_literals
-turned_follow name = (refl, refl)
+turned_follow name = (refl, takes_by (name ∷ codes "follow" ∷ codes "--rotated" ∷ []) refl)
 
 plain_watch : (name : Text) → FindsFlag (name ∷ codes "watch" ∷ []) (codes "watch") false
 unfolding clap_on_literals
-plain_watch name = (refl, refl)
+plain_watch name = (refl, takes_by (name ∷ codes "watch" ∷ []) refl)
 
 turned_watch : (name : Text) → FindsFlag (name ∷ codes "watch" ∷ codes "--rotated" ∷ []) (codes "watch") true
 unfolding clap_on_literals
-turned_watch name = (refl, refl)
+turned_watch name = (refl, takes_by (name ∷ codes "watch" ∷ codes "--rotated" ∷ []) refl)
 
 plain_recover : (name : Text) → FindsFlag (name ∷ codes "recover" ∷ []) (codes "recover") false
 unfolding clap_on_literals
-plain_recover name = (refl, refl)
+plain_recover name = (refl, takes_by (name ∷ codes "recover" ∷ []) refl)
 
 turned_recover : (name : Text) → FindsFlag (name ∷ codes "recover" ∷ codes "--rotated" ∷ []) (codes "recover") true
 unfolding clap_on_literals
-turned_recover name = (refl, refl)
+turned_recover name = (refl, takes_by (name ∷ codes "recover" ∷ codes "--rotated" ∷ []) refl)
 
 -- ---- what they ask for
 
@@ -168,6 +176,9 @@ show_asks arguments (name, is) = subst AsksToShow (sym is) ([], asks_by (name �
 
 pub check_asks : (arguments : List Text) → IsCheck arguments → AsksToCheck arguments
 check_asks arguments (name, is) = subst AsksToCheck (sym is) ([], asks_by (name ∷ codes "check" ∷ []) (codes "check") [] (check_found name) refl)
+
+pub times_asks : (arguments : List Text) → IsTimes arguments → AsksForTimes arguments
+times_asks arguments (name, is) = subst AsksForTimes (sym is) ([], asks_by (name ∷ codes "times" ∷ []) (codes "times") [] (times_found name) refl)
 
 pub moves_asks : (arguments : List Text) → IsMoves arguments → AsksForMoves arguments initial
 moves_asks arguments (name, is) =
@@ -259,19 +270,19 @@ edit_rows option text true true = text_row option text ∷ flag_row true ∷ rec
 
 plain_add : (name text : Text) → Finds (name ∷ codes "add" ∷ (codes "--line=" ++ text) ∷ []) (codes "add") (edit_rows (codes "line") text false false)
 unfolding clap_on_literals
-plain_add name text = (refl, refl)
+plain_add name text = (refl, takes_by (name ∷ codes "add" ∷ (codes "--line=" ++ text) ∷ []) refl)
 
 turned_add : (name text : Text) → Finds (name ∷ codes "add" ∷ (codes "--line=" ++ text) ∷ codes "--rotated" ∷ []) (codes "add") (edit_rows (codes "line") text true false)
 unfolding clap_on_literals
-turned_add name text = (refl, refl)
+turned_add name text = (refl, takes_by (name ∷ codes "add" ∷ (codes "--line=" ++ text) ∷ codes "--rotated" ∷ []) refl)
 
 recovered_add : (name text : Text) → Finds (name ∷ codes "add" ∷ (codes "--line=" ++ text) ∷ codes "--recover" ∷ []) (codes "add") (edit_rows (codes "line") text false true)
 unfolding clap_on_literals
-recovered_add name text = (refl, refl)
+recovered_add name text = (refl, takes_by (name ∷ codes "add" ∷ (codes "--line=" ++ text) ∷ codes "--recover" ∷ []) refl)
 
 turned_recovered_add : (name text : Text) → Finds (name ∷ codes "add" ∷ (codes "--line=" ++ text) ∷ codes "--rotated" ∷ codes "--recover" ∷ []) (codes "add") (edit_rows (codes "line") text true true)
 unfolding clap_on_literals
-turned_recovered_add name text = (refl, refl)
+turned_recovered_add name text = (refl, takes_by (name ∷ codes "add" ∷ (codes "--line=" ++ text) ∷ codes "--rotated" ∷ codes "--recover" ∷ []) refl)
 
 add_by : (text : Text) (rotated recovers : Bool) (arguments : List Text) → Finds arguments (codes "add") (edit_rows (codes "line") text rotated recovers)
     → AsksToAdd arguments (setting_of (plain_setup rotated)) recovers (Some text)
@@ -320,19 +331,19 @@ add_asks text true true arguments (name, is) =
 
 plain_back : (name text : Text) → Finds (name ∷ codes "back" ∷ (codes "--to=" ++ text) ∷ []) (codes "back") (edit_rows (codes "to") text false false)
 unfolding clap_on_literals
-plain_back name text = (refl, refl)
+plain_back name text = (refl, takes_by (name ∷ codes "back" ∷ (codes "--to=" ++ text) ∷ []) refl)
 
 turned_back : (name text : Text) → Finds (name ∷ codes "back" ∷ (codes "--to=" ++ text) ∷ codes "--rotated" ∷ []) (codes "back") (edit_rows (codes "to") text true false)
 unfolding clap_on_literals
-turned_back name text = (refl, refl)
+turned_back name text = (refl, takes_by (name ∷ codes "back" ∷ (codes "--to=" ++ text) ∷ codes "--rotated" ∷ []) refl)
 
 recovered_back : (name text : Text) → Finds (name ∷ codes "back" ∷ (codes "--to=" ++ text) ∷ codes "--recover" ∷ []) (codes "back") (edit_rows (codes "to") text false true)
 unfolding clap_on_literals
-recovered_back name text = (refl, refl)
+recovered_back name text = (refl, takes_by (name ∷ codes "back" ∷ (codes "--to=" ++ text) ∷ codes "--recover" ∷ []) refl)
 
 turned_recovered_back : (name text : Text) → Finds (name ∷ codes "back" ∷ (codes "--to=" ++ text) ∷ codes "--rotated" ∷ codes "--recover" ∷ []) (codes "back") (edit_rows (codes "to") text true true)
 unfolding clap_on_literals
-turned_recovered_back name text = (refl, refl)
+turned_recovered_back name text = (refl, takes_by (name ∷ codes "back" ∷ (codes "--to=" ++ text) ∷ codes "--rotated" ∷ codes "--recover" ∷ []) refl)
 
 back_by : (text : Text) (rotated recovers : Bool) (arguments : List Text) → Finds arguments (codes "back") (edit_rows (codes "to") text rotated recovers)
     → AsksToGoBack arguments (setting_of (plain_setup rotated)) recovers (Some text)

@@ -49,6 +49,9 @@ record_app = with_tags (with_board (new_app (codes "record")))
 abbrev pub check_app : App
 check_app = new_app (codes "check")
 
+abbrev pub times_app : App
+times_app = new_app (codes "times")
+
 abbrev pub moves_app : App
 moves_app = with_text (new_app (codes "moves")) (codes "fen")
 
@@ -89,7 +92,7 @@ with_edit_subcommands app = with_subcommand (with_subcommand app add_app.top) ba
 
 -- with those that read texts, or nothing
 abbrev pub with_text_subcommands : App → App
-with_text_subcommands app = with_subcommand (with_subcommand (with_subcommand app check_app.top) moves_app.top) positions_app.top
+with_text_subcommands app = with_subcommand (with_subcommand (with_subcommand (with_subcommand app check_app.top) times_app.top) moves_app.top) positions_app.top
 
 -- the command with its subcommands
 abbrev pub replay : App

@@ -13,7 +13,7 @@ use Rattle.chess_rules.specs.declared.parts.Parts.{Parts}
 use Rattle.board_events.specs.declared.setup.Setup.{Setup}
 use Rattle.board_events.specs.Settings.{Setting}
 use Rattle.replay_arguments.specs.declared.arguments.Subcommand.{Subcommand}
-use Rattle.replay_arguments.specs.declared.arguments.Subcommand.TheVariants.{Show, Pictures, Record, Follow, Watch, Recover, Add, Back, Check, Moves, Positions}
+use Rattle.replay_arguments.specs.declared.arguments.Subcommand.TheVariants.{Show, Pictures, Record, Follow, Watch, Recover, Add, Back, Check, Times, Moves, Positions}
 use Rattle.replay_arguments.specs.declared.arguments.BoardArguments.{BoardArguments}
 use Rattle.replay_arguments.specs.declared.arguments.RecordArguments.{RecordArguments}
 use Rattle.replay_arguments.specs.declared.arguments.EditArguments.{EditArguments}
@@ -24,7 +24,7 @@ use Rattle.chess_text.specs.Start.{StartsAt, given}
 -- whether the subcommand is one of the program's, and the side after `--first`, if there is one, is white or black
 abbrev pub is_subcommand : Text → List Row → Bool
 is_subcommand name rows = if bytes_eq name (codes "record") || bytes_eq name (codes "follow") || bytes_eq name (codes "watch") || bytes_eq name (codes "recover") || bytes_eq name (codes "add") || bytes_eq name (codes "back") then is_some (side_in (first_of (codes "first") rows))
-    else (bytes_eq name (codes "show") || bytes_eq name (codes "pictures") || bytes_eq name (codes "check") || bytes_eq name (codes "moves") || bytes_eq name (codes "positions"))
+    else (bytes_eq name (codes "show") || bytes_eq name (codes "pictures") || bytes_eq name (codes "check") || bytes_eq name (codes "times") || bytes_eq name (codes "moves") || bytes_eq name (codes "positions"))
 
 -- what a subcommand with these arguments asks for
 pub record Chooses (name : Text) (rows : List Row) (subcommand : Option Subcommand) : Type 0 where
@@ -37,6 +37,7 @@ pub record Chooses (name : Text) (rows : List Row) (subcommand : Option Subcomma
   pub add : name ≡ codes "add" → IfSome subcommand (λ chosen. (options : EditArguments) × (chosen ≡ Add options) × WantsEdit (codes "line") rows options)
   pub back : name ≡ codes "back" → IfSome subcommand (λ chosen. (options : EditArguments) × (chosen ≡ Back options) × WantsEdit (codes "to") rows options)
   pub check : name ≡ codes "check" → subcommand ≡ Some Check
+  pub times : name ≡ codes "times" → subcommand ≡ Some Times
   pub moves : name ≡ codes "moves" → (fen : Option (Bor Text)) × (subcommand ≡ Some (Moves fen)) × (given fen ≡ first_of (codes "fen") rows)
   pub positions : name ≡ codes "positions" → (fen : Option (Bor Text)) × (subcommand ≡ Some (Positions fen)) × (given fen ≡ first_of (codes "fen") rows)
   pub known : is_some subcommand ≡ is_subcommand name rows
@@ -81,6 +82,10 @@ AsksForPictures rotated arguments = (rows : List Row) × Asks arguments (codes "
 -- The arguments ask whether a text is PGN in export form.
 abbrev pub AsksToCheck : List Text → Type 0
 AsksToCheck arguments = (rows : List Row) × Asks arguments (codes "check") rows
+
+-- The arguments ask for the lines of a file of times.
+abbrev pub AsksForTimes : List Text → Type 0
+AsksForTimes arguments = (rows : List Row) × Asks arguments (codes "times") rows
 
 -- The arguments ask for a recording that is set up so.
 abbrev pub AsksToRecord : List Text → Setup → Type 0
@@ -159,6 +164,10 @@ IsBack text rotated recovers arguments = IsEdit (codes "back") (codes "--to=") t
 -- The arguments are a program's name, whatever it is, and `check`.
 abbrev pub IsCheck : List Text → Type 0
 IsCheck arguments = (name : Text) × (arguments ≡ name ∷ codes "check" ∷ [])
+
+-- The arguments are a program's name, whatever it is, and `times`.
+abbrev pub IsTimes : List Text → Type 0
+IsTimes arguments = (name : Text) × (arguments ≡ name ∷ codes "times" ∷ [])
 
 -- The arguments are a program's name, whatever it is, and `moves`.
 abbrev pub IsMoves : List Text → Type 0

@@ -41,6 +41,8 @@ pub enum Subcommand<'a> {
     Back(EditArguments<'a>),
     /// Whether a text is PGN in export form.
     Check,
+    /// What a file of times says.
+    Times,
     /// The legal moves of a position.
     Moves { fen: Option<&'a str> },
     /// The positions of a line of moves.
@@ -195,6 +197,7 @@ fn subcommand_named<'a>(name: &str, matches: &ArgMatches<'a>) -> Option<Subcomma
             None => None,
         },
         "check" => Some(Subcommand::Check),
+        "times" => Some(Subcommand::Times),
         "moves" => Some(Subcommand::Moves {
             fen: matches.get_str("fen"),
         }),

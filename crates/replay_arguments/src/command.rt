@@ -1,7 +1,7 @@
 //! The command line of the program, as `clap` parses it.
 ghost use Rattle.std.specs.Prelude.{◌≡◌, IfOk};
 ghost use Rattle.clap.specs.Simple.{App, app_of, new_app};
-ghost use Rattle.replay_arguments.specs.Command.{AddsRule, AddsApp, IsApp, Makes, add_app, back_app, check_app, follow_app, moves_app, pictures_app, positions_app, record_app, recover_app, recover_rule, replay, rotated_rule, show_app, text_rule, watch_app, with_board, with_board_subcommands, with_edit, with_edit_subcommands, with_tags, with_text_subcommands};
+ghost use Rattle.replay_arguments.specs.Command.{AddsRule, AddsApp, IsApp, Makes, add_app, back_app, check_app, follow_app, moves_app, pictures_app, positions_app, record_app, recover_app, recover_rule, replay, rotated_rule, show_app, text_rule, times_app, watch_app, with_board, with_board_subcommands, with_edit, with_edit_subcommands, with_tags, with_text_subcommands};
 
 use crate::tag_options::{option_help, option_name};
 use chess_game::Tag;
@@ -233,6 +233,16 @@ fn check<'a>(alloc: Global) -> Command<'a>
     )
 }
 
+fn times<'a>(alloc: Global) -> Command<'a>
+    ensures { IsApp result times_app }
+{
+    named(
+        alloc,
+        "times",
+        "Prints what the file of times on standard input says: when a capture's bytes came",
+    )
+}
+
 fn moves<'a>(alloc: Global) -> Result<Command<'a>, AllocError>
     ensures { IfOk result (λ command. IsApp command moves_app) }
 {
@@ -291,6 +301,7 @@ fn with_text_subcommands<'a>(
     ensures { (app : App) → Makes command.entry app → Makes result (with_text_subcommands app) }
 {
     let command = with_subcommand(command, Ok(check(alloc)));
+    let command = with_subcommand(command, Ok(times(alloc)));
     let command = with_subcommand(command, moves(alloc));
     with_subcommand(command, positions(alloc))
 }

@@ -3,12 +3,12 @@ ghost use Rattle.std.specs.Prelude.{Bool, List, Some, ℕ, [], ◌∷◌, codes}
 ghost use Rattle.board_events.specs.Settings.{setting_of};
 ghost use Rattle.chess_rules.specs.Initial.{initial};
 ghost use Rattle.replay_arguments.specs.Setups.{plain_setup};
-ghost use Rattle.replay_arguments.specs.Subcommands.{AreMistaken, AsksForHelp, AsksForMoves, AsksForPictures, AsksForPositions, AsksForVersion, AsksToAdd, AsksToCheck, AsksToFollow, AsksToGoBack, AsksToRecord, AsksToRecover, AsksToShow, AsksToWatch, IsAdd, IsBack, IsCheck, IsFollow, IsHelp, IsMoves, IsPictures, IsPositions, IsRecord, IsRecover, IsShow, IsVersion, IsWatch};
+ghost use Rattle.replay_arguments.specs.Subcommands.{AreMistaken, AsksForHelp, AsksForMoves, AsksForPictures, AsksForPositions, AsksForTimes, AsksForVersion, AsksToAdd, AsksToCheck, AsksToFollow, AsksToGoBack, AsksToRecord, AsksToRecover, AsksToShow, AsksToWatch, IsAdd, IsBack, IsCheck, IsFollow, IsHelp, IsMoves, IsPictures, IsPositions, IsRecord, IsRecover, IsShow, IsTimes, IsVersion, IsWatch};
 
 /// `record` asks for a recording from the initial position, with White's time first and unknown tags, turned where
 /// `--rotated` is given; `follow` asks that a game be followed that is set up so, `watch` that one be watched, and
 /// `recover` that one be recovered; `moves` asks for those of the initial position, and `positions` for those of a line
-/// from it; `show`, `pictures` and `check` ask for what they are called.
+/// from it; `show`, `pictures`, `check` and `times` ask for what they are called.
 pub fn without_options()
     ensures shows { (arguments : List (List ℕ)) → IsShow arguments → AsksToShow arguments }
     ensures pictures { (rotated : Bool) (arguments : List (List ℕ)) → IsPictures rotated arguments → AsksForPictures rotated arguments }
@@ -17,6 +17,7 @@ pub fn without_options()
     ensures watches { (rotated : Bool) (arguments : List (List ℕ)) → IsWatch rotated arguments → AsksToWatch arguments (setting_of (plain_setup rotated)) }
     ensures recovers { (rotated : Bool) (arguments : List (List ℕ)) → IsRecover rotated arguments → AsksToRecover arguments (setting_of (plain_setup rotated)) }
     ensures checks { (arguments : List (List ℕ)) → IsCheck arguments → AsksToCheck arguments }
+    ensures times { (arguments : List (List ℕ)) → IsTimes arguments → AsksForTimes arguments }
     ensures moves { (arguments : List (List ℕ)) → IsMoves arguments → AsksForMoves arguments initial }
     ensures positions { (arguments : List (List ℕ)) → IsPositions arguments → AsksForPositions arguments initial }
 {}

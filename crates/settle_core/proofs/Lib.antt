@@ -7,6 +7,7 @@ pub mod Lines
 pub mod Lists
 pub mod Masking
 pub mod Changing
+pub mod Clearing
 pub mod Signing
 pub mod Counting
 pub mod Tracing

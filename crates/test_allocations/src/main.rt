@@ -66,12 +66,14 @@ fn spend(alloc: Global, count: u32) {
     }
 }
 
-/// Says how the call of this kind and name went.
-fn say(rt: &HostRuntime, kind: &str, name: &str, outcome: Outcome) -> io::Result<()> {
-    println!(rt; "{kind}{name} {}", outcome.word())
+/// Says how the call of this kind and name went, and returns whether the next one is made: none is after a refusal, since the
+/// allocation that fails was met.
+fn say(rt: &HostRuntime, kind: &str, name: &str, outcome: Outcome) -> io::Result<bool> {
+    println!(rt; "{kind}{name} {}", outcome.word())?;
+    Ok(!matches!(outcome, Outcome::Refused))
 }
 
-fn make_calls(rt: &HostRuntime) -> io::Result<()> {
+fn make_calls(rt: &HostRuntime) -> io::Result<bool> {
     let alloc = rt.alloc();
     let outcomes = [
         ("legal_moves", calls::legal_moves(alloc)),
@@ -82,23 +84,29 @@ fn make_calls(rt: &HostRuntime) -> io::Result<()> {
         ("take", settling::take(alloc)),
     ];
     for (name, outcome) in outcomes {
-        say(rt, "", name, outcome)?;
+        if !say(rt, "", name, outcome)? {
+            return Ok(false);
+        }
     }
-    Ok(())
+    Ok(true)
 }
 
-fn make_recordings(rt: &HostRuntime) -> io::Result<()> {
+fn make_recordings(rt: &HostRuntime) -> io::Result<bool> {
     for (row, fronts) in &recordings::CAPTURES {
         let outcome = recordings::records(rt.alloc(), row, fronts);
-        say(rt, "record, ", row.name, outcome)?;
+        if !say(rt, "record, ", row.name, outcome)? {
+            return Ok(false);
+        }
     }
     let outcome = recordings::takes_no_memory(rt.alloc());
     say(rt, "record without a move", "", outcome)
 }
 
-fn make_runs(rt: &HostRuntime) -> io::Result<()> {
+fn make_runs(rt: &HostRuntime) -> io::Result<bool> {
     for case in &runs::CASES {
-        say(rt, "run ", case.name, runs::runs(rt.alloc(), case))?;
+        if !say(rt, "run ", case.name, runs::runs(rt.alloc(), case))? {
+            return Ok(false);
+        }
     }
     say(rt, "run ", "recover", recoveries::recovers(rt.alloc()))
 }
@@ -116,13 +124,14 @@ fn number_in(text: &[u8]) -> u32 {
     number
 }
 
-/// Standard input has a number, or nothing: so many allocations are spent before the calls. So where the 1,000th one
-/// fails, and 1,000 less n are spent, the calls' nth is the one.
+/// Standard input has a number, or nothing: so many allocations are spent before the calls. So where the 1,800th one
+/// fails, and 1,800 less n are spent, the calls' nth is the one.
 fn main(rt: HostRuntime) -> io::Result<()> {
     let mut buffer = [0u8; 16];
     let count = rt.stdin().read(&mut buffer)?;
     spend(rt.alloc(), number_in(buffer.get(..count).unwrap_or(&[])));
-    make_calls(&rt)?;
-    make_recordings(&rt)?;
-    make_runs(&rt)
+    if make_calls(&rt)? && make_recordings(&rt)? {
+        make_runs(&rt)?;
+    }
+    Ok(())
 }

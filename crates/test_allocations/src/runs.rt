@@ -52,7 +52,7 @@ const E4_E5: &str = "rnbqkbnr/pppp1ppp/8/4p3/4P3/8/PPPP1PPP/RNBQKBNR";
 
 const NO_CLOCK: Signal<'static> = Time([0x00, 0x00, 0x00, 0x00, 0x00, 0x00, 0x20]);
 
-pub static CASES: [Case<'static>; 9] = [
+pub static CASES: [Case<'static>; 10] = [
     Case {
         name: "record",
         arguments: &["record"],
@@ -121,6 +121,13 @@ pub static CASES: [Case<'static>; 9] = [
         arguments: &["check"],
         text: Some(ONE_MOVE),
         out: "moves 1, result *\n",
+        ..PLAIN
+    },
+    Case {
+        name: "times",
+        arguments: &["times"],
+        moves: "1 times 0\n0 digest 14695981039346656037\n0 begin 0\n",
+        out: "generation 0, bytes when it began: 0\n0:00:00.000 a call begins, bytes in the capture: 0\n",
         ..PLAIN
     },
     Case {

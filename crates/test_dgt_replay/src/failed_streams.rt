@@ -19,7 +19,7 @@ pub const FAILED_READ: Case<'static> = Case {
     ..PLAIN
 };
 
-static FAILED_READS: [Case<'static>; 6] = [
+static FAILED_READS: [Case<'static>; 7] = [
     Case {
         arguments: &["show"],
         out: &[INITIAL_LINE, b"71 update 52 0\n76 update 36 1\n"],
@@ -43,6 +43,10 @@ static FAILED_READS: [Case<'static>; 6] = [
     },
     Case {
         arguments: &["check"],
+        ..FAILED_READ
+    },
+    Case {
+        arguments: &["times"],
         ..FAILED_READ
     },
     Case {

@@ -7,7 +7,7 @@ use dgt_vectors::bytes::Bytes;
 use dgt_vectors::streams::{Sink, Source};
 use std::alloc::Global;
 
-static REFUSED_ARGUMENTS: [&[&str]; 19] = [
+static REFUSED_ARGUMENTS: [&[&str]; 20] = [
     &[],
     &["fly"],
     &["record", "--first", "green"],
@@ -26,6 +26,7 @@ static REFUSED_ARGUMENTS: [&[&str]; 19] = [
     &["moves", "--rotated"],
     &["positions", "e4"],
     &["check", "game.pgn"],
+    &["times", "game.times"],
     &["pictures", "--rotated", "--rotated"],
 ];
 

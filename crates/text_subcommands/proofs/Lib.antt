@@ -4,3 +4,4 @@ pub mod MoveLemmas
 pub mod PlayedLemmas
 pub mod RefusalLemmas
 pub mod TestLemmas
+pub mod TimesLemmas

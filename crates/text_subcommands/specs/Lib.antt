@@ -5,4 +5,5 @@ pub mod Played
 pub mod Printed
 pub mod Refusals
 pub mod Streams
+pub mod Timed
 pub mod Words

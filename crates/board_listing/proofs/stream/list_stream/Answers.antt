@@ -1,9 +1,10 @@
 use Prim.{search}
-use Rattle.std.proofs.Common.{◌≡◌, ◌∙◌, [], take, subst, sym, inl, inr, arith, rules}
+use Rattle.std.proofs.Common.{◌≡◌, ◌∙◌, ℕ, ◌+◌, ◌-◌, ◌≤◌, Bool, true, false, ◌||◌, [], Result, Ok, ap, take, subst, sym, inl, inr, arith, rules}
+use Rattle.std.specs.Prelude.{is_err}
 use Rattle.watched_streams.proofs.ResultLemmas.{at_err, at_ok}
 use Rattle.std.specs.Io.KnownBytes.{Consumes, IsAtEnd}
 use Rattle.watched_streams.specs.Input.{GivesChunk}
-use Rattle.watched_streams.specs.Watch.{inner_of}
+use Rattle.watched_streams.specs.Watch.{has_failed, inner_of}
 use Rattle.board_listing.specs.Inside.Progress.{BreaksOff, Finishes}
 use Rattle.board_listing.proofs.StreamLemmas.{all_at_end, first_at_limit, front_at_begin, front_at_end, front_at_chunk, front_of_read, front_past_limit, has_begun, listed_more, listed_none, no_other, read_so_far, reads_no_more, reads_none, reads_within, refused_at_chunk}
 use Rattle.board_listing.proofs.GatherLemmas.{ok_through}
@@ -11,6 +12,41 @@ use Rattle.board_listing.specs.Listings.{ListsAll}
 use Rattle.board_listing.specs.declared.stream.ListError.{ListError}
 use Rattle.board_listing.specs.declared.stream.ListError.TheVariants.{Memory, Read, TooLong}
 use Rattle.board_listing.proofs.stream.list_stream.Goals as goal
+
+-- A read that ended well has not failed.
+read_on : {T E : Type 0} (before after : Bool) (r : Result T E) (read : T) → after ≡ (before || is_err r) → before ≡ false → r ≡ Ok read → after ≡ false
+read_on before after r read fails well is = fails ∙ ap (λ b. b || is_err r) well ∙ ap is_err is
+
+not_both : {A : Type 0} (b : Bool) → b ≡ true → b ≡ false → A
+not_both b is isnt = let bad : true ≡ false = sym is ∙ isnt in cc
+
+rest_up : (total most : ℕ) → total ≤ most → total + (most - total) ≡ most
+rest_up total most within = omega arith
+
+more_within : (total more most : ℕ) → total ≤ most → more ≤ most - total → total + more ≤ most
+more_within total more most within fits = omega arith
+
+pub returns-in_default-read-clause-reader_blamed : goal.returns-in_default-read-clause-reader_blamed
+returns-in_default-read-clause-reader_blamed g c failed =
+    let reading = read_on (has_failed c.chunks.reader) (has_failed c.read_chunk.new.reader) c.read_chunk.result c.in-Ok.read c.read_chunk.ensures.failed c.chunks.invariant.reading c.in-Ok.is in
+    not_both (has_failed c.read_chunk.new.reader) failed reading
+
+pub returns-in_default-read-clause-whole : goal.returns-in_default-read-clause-whole
+returns-in_default-read-clause-whole g c =
+    let reading : has_failed c.read_chunk.new.reader ≡ false =
+    read_on (has_failed c.chunks.reader) (has_failed c.read_chunk.new.reader) c.read_chunk.result c.in-Ok.read c.read_chunk.ensures.failed c.chunks.invariant.reading c.in-Ok.is in
+    ok_through (has_failed c.finish.new.out ≡ false) ((has_failed c.read_chunk.new.reader ≡ false) × (has_failed c.finish.new.out ≡ false)) c.finish.result c.map_err.result c.map_err.ensures.variant
+    c.finish.ensures.working (λ working. (reading, working))
+
+pub returns-in-Err-clause-reader_blamed : goal.returns-in-Err-clause-reader_blamed
+returns-in-Err-clause-reader_blamed g c failed =
+    let reading = read_on (has_failed c.chunks.reader) (has_failed c.read_chunk.new.reader) c.read_chunk.result c.in-Ok.read c.read_chunk.ensures.failed c.chunks.invariant.reading c.in-Ok.is in
+    not_both (has_failed c.read_chunk.new.reader) failed reading
+
+pub returns-then-chunk-clause-reader_blamed : goal.returns-then-chunk-clause-reader_blamed
+returns-then-chunk-clause-reader_blamed g c failed =
+    let reading = read_on (has_failed c.chunks.reader) (has_failed c.read_chunk.new.reader) c.read_chunk.result c.in-Ok.read c.read_chunk.ensures.failed c.chunks.invariant.reading c.in-Ok.is in
+    not_both (has_failed c.read_chunk.new.reader) failed reading
 
 pub returns-in_default-clause-front : goal.returns-in_default-clause-front
 returns-in_default-clause-front g c =
@@ -73,7 +109,7 @@ returns-then-chunk-clause-long g c same =
     let after = g.O.Write.contents (inner_of c.list_chunk.new.out) in
     first_at_limit c.chunks.decoder c.list_chunk.new.decoder c.chunks.printer c.list_chunk.new.printer c.args.listing c.chunks.total c.pending-then-chunk.result _ c.read_chunk.new.buffer c.in-Some.chunk
     (g.R.Read.remaining (inner_of c.args.reader.now)) (g.R.Read.remaining (inner_of c.chunks.reader)) (g.R.Read.remaining (inner_of c.read_chunk.new.reader))
-    (g.O.Write.contents (inner_of c.args.out.now)) so_far after (omega (arith, c.chunks.invariant.within)) c.if-chunk.true
+    (g.O.Write.contents (inner_of c.args.out.now)) so_far after (rest_up c.chunks.total 67108864 c.chunks.invariant.within) c.if-chunk.true
     c.chunks.invariant.done (rw c.in-Some.is at c.in-Ok.ensures.bytes)
     c.in_default-list_chunk.ensures.ok
     c.pending-then-chunk.ensures
@@ -86,8 +122,8 @@ chunks-preserved g c =
     let left = g.R.Read.remaining (inner_of c.read_chunk.new.reader) in
     let gives : GivesChunk _ c.read_chunk.new.buffer c.in-Some.chunk now left = rw c.in-Some.is at c.in-Ok.ensures.bytes in
     record {
-      within = omega (arith, c.chunks.invariant.within, (gives.none_past c.if-chunk.false).1);
-      reading = search rules;
+      within = more_within c.chunks.total c.in-Some.chunk.within 67108864 c.chunks.invariant.within (gives.none_past c.if-chunk.false).1;
+      reading = read_on (has_failed c.chunks.reader) (has_failed c.read_chunk.new.reader) c.read_chunk.result c.in-Ok.read c.read_chunk.ensures.failed c.chunks.invariant.reading c.in-Ok.is;
       working = c.in_default-list_chunk.ensures.working;
       done = listed_more c.chunks.decoder c.list_chunk.new.decoder c.chunks.printer c.list_chunk.new.printer c.args.listing c.chunks.total _
           c.read_chunk.new.buffer c.in-Some.chunk (g.R.Read.remaining (inner_of c.args.reader.now)) now left (g.O.Write.contents (inner_of c.args.out.now)) so_far after
@@ -98,14 +134,14 @@ pub returns-in-Err-clause-bounded : goal.returns-in-Err-clause-bounded
 returns-in-Err-clause-bounded g c =
     reads_within c.chunks.decoder c.chunks.printer c.args.listing c.chunks.total _ c.read_chunk.new.buffer c.in-Some.chunk
     (g.R.Read.remaining (inner_of c.args.reader.now)) (g.R.Read.remaining (inner_of c.chunks.reader)) (g.R.Read.remaining (inner_of c.read_chunk.new.reader))
-    (g.O.Write.contents (inner_of c.args.out.now)) (g.O.Write.contents (inner_of c.chunks.out)) (omega (arith, c.chunks.invariant.within))
+    (g.O.Write.contents (inner_of c.args.out.now)) (g.O.Write.contents (inner_of c.chunks.out)) (rest_up c.chunks.total 67108864 c.chunks.invariant.within)
     c.chunks.invariant.done (rw c.in-Some.is at c.in-Ok.ensures.bytes)
 
 pub returns-then-chunk-clause-bounded : goal.returns-then-chunk-clause-bounded
 returns-then-chunk-clause-bounded g c =
     reads_within c.chunks.decoder c.chunks.printer c.args.listing c.chunks.total _ c.read_chunk.new.buffer c.in-Some.chunk
     (g.R.Read.remaining (inner_of c.args.reader.now)) (g.R.Read.remaining (inner_of c.chunks.reader)) (g.R.Read.remaining (inner_of c.read_chunk.new.reader))
-    (g.O.Write.contents (inner_of c.args.out.now)) (g.O.Write.contents (inner_of c.chunks.out)) (omega (arith, c.chunks.invariant.within))
+    (g.O.Write.contents (inner_of c.args.out.now)) (g.O.Write.contents (inner_of c.chunks.out)) (rest_up c.chunks.total 67108864 c.chunks.invariant.within)
     c.chunks.invariant.done (rw c.in-Some.is at c.in-Ok.ensures.bytes)
 
 pub returns-in-Err-clause-reading : goal.returns-in-Err-clause-reading

@@ -31,6 +31,11 @@ returns-in-Check-clause-does g c =
     let ends = c.check.ensures in
     rw c.in-Check.is (record { done = ends.passes; tells = ends.tells; bounded = ends.bounded; fault = ends.fault; unread = ends.unread; read = ends.blamed; silent = ends.silent })
 
+pub returns-in-Times-clause-does : goal.returns-in-Times-clause-does
+returns-in-Times-clause-does g c =
+    let ends = c.times.ensures in
+    rw c.in-Times.is (record { done = ends.passes; tells = ends.tells; bounded = ends.bounded; fault = ends.fault; unread = ends.unread; read = ends.blamed; silent = ends.silent })
+
 pub returns-in-Moves-clause-does : goal.returns-in-Moves-clause-does
 returns-in-Moves-clause-does g c =
     let ends = c.moves.ensures in

@@ -14,9 +14,9 @@ use Rattle.dgt_replay.specs.Back.{AnswersBack}
 use Rattle.dgt_replay.specs.Edit.{text_in}
 use Rattle.dgt_replay.specs.Refusals.{RefusesSetup}
 use Rattle.text_subcommands.specs.Refusals.{RefusesStart}
-use Rattle.dgt_replay.proofs.DoesLemmas.{checks_memory, does_add, does_back, does_refuse_add, does_refuse_back, edits_memory, does_check, does_follow, does_moves, does_pictures, does_positions, does_record, does_recover, does_refuse_positions, does_refuse_recover, does_refuse_setup, does_refuse_start, does_refuse_watch, does_show, does_watch, lacks_memory, lists_memory, plays_memory, prints_memory, records_memory, recovers_memory, refuses_memory, text_memory}
+use Rattle.dgt_replay.proofs.DoesLemmas.{checks_memory, does_add, does_back, does_refuse_add, does_refuse_back, edits_memory, does_check, does_follow, does_moves, does_pictures, does_positions, does_record, does_recover, does_refuse_positions, does_refuse_recover, does_refuse_setup, does_refuse_start, does_refuse_watch, does_show, does_times, does_watch, lacks_memory, lists_memory, plays_memory, prints_memory, records_memory, recovers_memory, refuses_memory, text_memory, times_memory}
 use Rattle.dgt_replay.proofs.FaultLemmas.{mistaken_asks_nothing, mistaken_kind, one_fault, one_kind, text_out_of_memory}
-use Rattle.dgt_replay.proofs.SubcommandLemmas.{check_unrefused, follow_unrefused, moves_chosen, or_refused, pictures_unrefused, record_unrefused, recover_chosen, recover_unrefused, show_unrefused, unrefused, watch_unrefused}
+use Rattle.dgt_replay.proofs.SubcommandLemmas.{check_unrefused, follow_unrefused, moves_chosen, or_refused, pictures_unrefused, record_unrefused, recover_chosen, recover_unrefused, show_unrefused, times_unrefused, unrefused, watch_unrefused}
 use Rattle.dgt_replay.proofs.program.run.Goals as goal
 
 pub returns-in-Err-clause-show : goal.returns-in-Err-clause-show
@@ -168,6 +168,16 @@ pub returns-in-Ok-clause-check : goal.returns-in-Ok-clause-check
 returns-in-Ok-clause-check g c is =
     let arguments = map string_bytes c.args.arguments.now in
     does_check arguments c.in-Ok.subcommand c.dispatch.result _ c.in-Ok.ensures.chooses c.dispatch.ensures.does (c.without_options.ensures.checks arguments is)
+
+pub returns-in-Err-clause-times : goal.returns-in-Err-clause-times
+returns-in-Err-clause-times g c is =
+    let arguments = map string_bytes c.args.arguments.now in
+    times_memory _ _ (lacks_memory _ _ (Keeps-refl (g.R.Read.remaining (inner_of c.args.reader.now))) c.requires.reading (c.refused_arguments.ensures.memory (or_refused c.in-Err.ensures.refused (times_unrefused arguments (c.without_options.ensures.times arguments is)))))
+
+pub returns-in-Ok-clause-times : goal.returns-in-Ok-clause-times
+returns-in-Ok-clause-times g c is =
+    let arguments = map string_bytes c.args.arguments.now in
+    does_times arguments c.in-Ok.subcommand c.dispatch.result _ c.in-Ok.ensures.chooses c.dispatch.ensures.does (c.without_options.ensures.times arguments is)
 
 pub returns-in-Err-clause-moves : goal.returns-in-Err-clause-moves
 returns-in-Err-clause-moves g c rows asks =

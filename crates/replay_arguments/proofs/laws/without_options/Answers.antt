@@ -1,4 +1,4 @@
-use Rattle.replay_arguments.proofs.ArgumentLemmas.{check_asks, follow_asks, moves_asks, pictures_asks, positions_asks, record_asks, recover_asks, show_asks, watch_asks}
+use Rattle.replay_arguments.proofs.ArgumentLemmas.{check_asks, follow_asks, moves_asks, pictures_asks, positions_asks, record_asks, recover_asks, show_asks, times_asks, watch_asks}
 use Rattle.replay_arguments.proofs.laws.without_options.Goals as goal
 
 pub returns-clause-shows : goal.returns-clause-shows
@@ -21,6 +21,9 @@ returns-clause-recovers c = recover_asks
 
 pub returns-clause-checks : goal.returns-clause-checks
 returns-clause-checks c = check_asks
+
+pub returns-clause-times : goal.returns-clause-times
+returns-clause-times c = times_asks
 
 pub returns-clause-moves : goal.returns-clause-moves
 returns-clause-moves c = moves_asks

@@ -1,6 +1,8 @@
-use Rattle.std.proofs.Common.{◌≡◌, ℕ, List, drop, reverse, refl, ap, subst, ◌∙◌}
+use Prim.{search}
+use Rattle.std.proofs.Common.{◌≡◌, ℕ, List, Some, rules, drop, reverse, refl, sym, ap, subst, ◌∙◌}
 use Rattle.chess_rules.specs.declared.chess_move.Move.{Move}
 use Rattle.chess_rules.specs.declared.parts.Parts.{Parts}
+use Rattle.chess_rules.specs.Legal.{Legal}
 use Rattle.chess_rules.specs.Picture.{picture}
 use Rattle.settle_core.specs.declared.plies.Outcome.{Outcome}
 use Rattle.settle_core.specs.declared.plies.Seen.TheVariants.{Waits}
@@ -69,3 +71,35 @@ returns-in-Some-settled_by-clause-ok c picture seen =
       elsewhere S _ _ _ _ at shown c.in-Some-settled_by.ensures.some,
       c.in_ok-add.ensures.ok ∙ ap (λ (m : Move). record { start = now.start; score = played now.start now.score.plies c.args.clock m; last = now.last }) c.copy.ensures,
     )
+
+pub returns-in-Some-sign_of-clause-ok : goal.returns-in-Some-sign_of-clause-ok
+returns-in-Some-sign_of-clause-ok c picture seen =
+    let now : SettlerState = c.args.self.now in
+    let at : c.self.inside.here.position ≡ position_of now = c.self.invariant.position ∙ ap position_of c.self.view_is in
+    let shown : c.self.inside.picture ≡ picture = last_is c.self.inside.seen c.self.inside.picture picture (ap (λ (s : SettlerState). s.last) c.self.view_is ∙ seen) in
+    let S : Parts → List ℕ → Type 0 = λ p xs. IsSign p xs c.in-Some-sign_of.outcome in (
+      elsewhere S _ _ _ _ at shown c.in-Some-sign_of.ensures.some,
+      ap (λ (s : SettlerState). record { start = s.start; score = record { plies = s.score.plies; sign = Some c.in-Some-sign_of.outcome }; last = s.last }) c.self.view_is,
+    )
+
+pub returns-in_err-add-clause-memory : goal.returns-in_err-add-clause-memory
+returns-in_err-add-clause-memory c picture seen =
+    let now : SettlerState = c.args.self.now in
+    let at : c.self.inside.here.position ≡ position_of now = c.self.invariant.position ∙ ap position_of c.self.view_is in
+    let shown : c.self.inside.picture ≡ picture = last_is c.self.inside.seen c.self.inside.picture picture (ap (λ (s : SettlerState). s.last) c.self.view_is ∙ seen) in
+    let S : Parts → List ℕ → Type 0 = λ p xs. Settles p xs c.in-Some-settled_by.m in
+    let gives : (m : Move) × Settles (position_of now) picture m = (c.in-Some-settled_by.m, elsewhere S _ _ _ _ at shown c.in-Some-settled_by.ensures.some) in
+    search rules
+
+pub add-requires : goal.add-requires
+add-requires c =
+    let at : c.self.inside.here.position ≡ position_of c.args.self.now = c.self.invariant.position ∙ ap position_of c.self.view_is in
+    let P : Parts → Type 0 = λ p. Legal p c.in-Some-settled_by.m in
+    let M : Move → Type 0 = λ m. Legal (position_of c.args.self.now) m in
+    subst M (sym c.copy.ensures) (subst P at (c.in-Some-settled_by.ensures.some).legal)
+
+pub landed-requires-clause-compared : goal.landed-requires-clause-compared
+landed-requires-clause-compared c = c.self.invariant.here_compared
+
+pub settled_by-requires-clause-compared : goal.settled_by-requires-clause-compared
+settled_by-requires-clause-compared c = c.self.invariant.here_compared

@@ -7,7 +7,7 @@ use Rattle.settle_core.specs.Settler.{HasSettled, ReturnsSeen}
 use Rattle.unseen_pairs.specs.declared.pair.SeenOrRecovered.{SeenOrRecovered}
 use Rattle.unseen_pairs.specs.Recoverer.{HasRecovered, RecovererState, ReturnsTold, written_after}
 use Rattle.unseen_pairs.specs.Inside.Telling.{HasTold, IsWaiting}
-use Rattle.unseen_pairs.proofs.Telling.{shown_told, to_wait}
+use Rattle.unseen_pairs.proofs.Telling.{same_told, shown_told, to_wait}
 use Rattle.unseen_pairs.proofs.recoverer.Recoverer.see.Goals as goal
 
 pub returns-in-Waits-clause-stands : goal.returns-in-Waits-clause-stands
@@ -62,4 +62,28 @@ returns-in_default-clause-answer c = λ start past written st.
     let answer = c.in_ok-seen.ensures.answer start written stands.settles in
     let new : RecovererState = record { settler = c.see.new.self; candidates = c.clear.new.self.items } in
     let told = shown_told old new start past written entry c.in_ok-seen.seen valid stands next c.clear.ensures.items c.in_default.not-Same c.in_default.not-Waits answer in
+    told.answer
+
+pub returns-in-Same-clause-stands : goal.returns-in-Same-clause-stands
+returns-in-Same-clause-stands c = λ start past written st.
+    let entry : Entry = entry_of c.args.picture.now c.args.clock in
+    let old : RecovererState = record { settler = c.self.inside.settler; candidates = c.self.inside.candidates.items } in
+    let stands : HasRecovered old start past written = subst (λ (d : RecovererState). HasRecovered d start past written) (sym c.self.view_is) st in
+    let valid : Valid start = subst Valid (c.start.ensures ∙ (stands.settles).start_is) c.parts.ensures.valid in
+    let S : Option Reading → Type 0 = λ reading. HasSettled c.see.new.self start (entry_of c.args.picture.now reading ∷ written) in
+    let next : HasSettled c.see.new.self start (entry ∷ written) = subst S c.copy.ensures (c.in_ok-seen.ensures.stands start written stands.settles) in
+    let answer = c.in_ok-seen.ensures.answer start written stands.settles in
+    let told = same_told old c.see.new.self start past written entry valid stands next (subst (ReturnsSeen start written c.args.picture.now) c.in-Same.is answer) in
+    told.stands
+
+pub returns-in-Same-clause-answer : goal.returns-in-Same-clause-answer
+returns-in-Same-clause-answer c = λ start past written st.
+    let entry : Entry = entry_of c.args.picture.now c.args.clock in
+    let old : RecovererState = record { settler = c.self.inside.settler; candidates = c.self.inside.candidates.items } in
+    let stands : HasRecovered old start past written = subst (λ (d : RecovererState). HasRecovered d start past written) (sym c.self.view_is) st in
+    let valid : Valid start = subst Valid (c.start.ensures ∙ (stands.settles).start_is) c.parts.ensures.valid in
+    let S : Option Reading → Type 0 = λ reading. HasSettled c.see.new.self start (entry_of c.args.picture.now reading ∷ written) in
+    let next : HasSettled c.see.new.self start (entry ∷ written) = subst S c.copy.ensures (c.in_ok-seen.ensures.stands start written stands.settles) in
+    let answer = c.in_ok-seen.ensures.answer start written stands.settles in
+    let told = same_told old c.see.new.self start past written entry valid stands next (subst (ReturnsSeen start written c.args.picture.now) c.in-Same.is answer) in
     told.answer

@@ -1,0 +1,10 @@
+mod Once
+mod Fives
+mod Shown
+mod Kept
+mod Owned
+mod Numberless
+mod Closed
+mod Others
+mod Early
+mod BackLemmas

@@ -1,0 +1,6 @@
+use Rattle.std.proofs.Common.{◌∙◌}
+use Rattle.board_cable.proofs.Once.{back_after}
+use Rattle.board_cable.proofs.cable.Cable.released.Goals as goal
+
+pub returns : goal.returns
+returns c past turns stands h = c.released.ensures ∙ (back_after c.args.self.now past turns stands h).released_is

@@ -1,0 +1,9 @@
+pub mod HearLemmas
+pub mod ItemLemmas
+pub mod OnceLemmas
+pub mod PlainLemmas
+pub mod PlyLemmas
+pub mod SeeLemmas
+pub mod ShownLemmas
+pub mod TakeLemmas
+pub mod WithinLemmas

@@ -1,0 +1,34 @@
+-- What is told of an event by itself.
+use Rattle.std.proofs.Common.{◌≡◌, ◌++◌, ℕ, List, [], ◌∷◌, Option, refl, ap, ◌∙◌}
+use Rattle.dgt_frame.specs.Streams.{Timed}
+use Rattle.board_events.specs.Settings.{Setting}
+use Rattle.board_listing.specs.GivenGame.{GameLine, text_of}
+use Rattle.board_listing.specs.Inside.Watchers.{HasWatched}
+use Rattle.board_listing.specs.WatchText.{WatchesEvent}
+use Rattle.board_standing.specs.declared.heard.Heard.{Heard}
+use Rattle.board_standing.specs.Keeping.{StandsFor as StandingStands}
+use Rattle.board_game.specs.declared.telling.Teller.{Teller}
+use Rattle.board_game.specs.Hearing.{HearsEvent, with_heard}
+use Rattle.board_game.specs.History.{Item, Sent, events_of}
+use Rattle.board_game.specs.Inside.Shown.{HasSeen}
+use Rattle.board_game.specs.Inside.Telling.{HasTold}
+
+-- The parts of the teller have taken the event: so it is told.
+pub told_event : (old new : Teller) (setting : Setting) (items : List Item) (text : List ℕ) (time : ℕ) (x : Timed) (lines lines' space : List ℕ) (h : HasTold old setting items text)
+    → HasWatched new.watcher setting (x.event ∷ events_of items) × ((more : List GameLine) × (space ≡ [] ++ text_of more) × WatchesEvent setting (events_of items) x more)
+    → HasSeen new.pictures setting (x.event ∷ events_of items)
+    → (picture ended : Option Heard) × HearsEvent setting (events_of items) x.event picture ended × StandingStands new.standing (with_heard time ended (with_heard time picture h.heard))
+    → lines' ≡ lines ++ space
+    → (more : List ℕ) × (lines' ≡ lines ++ more) × HasTold new setting (Sent time x ∷ items) (text ++ more)
+told_event old new setting items text time x lines lines' space h watched seen hears is = (
+  text_of watched.1.0,
+  is ∙ ap (λ (t : List ℕ). lines ++ t) watched.1.1,
+  record {
+    watched = watched.0;
+    seen = seen;
+    heard = with_heard time hears.1 (with_heard time hears.0 h.heard);
+    hears = (h.heard, hears.0, hears.1, h.hears, hears.2, refl);
+    standing = hears.3;
+    reports = (text, watched.1.0, h.reports, watched.1.2, refl);
+  },
+)

@@ -1,0 +1,34 @@
+use Rattle.std.proofs.Common.{◌≡◌, ℕ, Bool, true, false, List, [], ◌∷◌, ◌++◌, sym, subst, ap, ◌∙◌}
+use Rattle.pair_frames.specs.PutIn.{ShowsWhole}
+use Rattle.board_game.specs.History.{Sent, events_of}
+use Rattle.board_game.proofs.HearLemmas.{PutsIn, tells_none, tells_put}
+use Rattle.board_game.proofs.following.Following.take.Goals as goal
+
+clash : (b : Bool) → b ≡ true → b ≡ false → ⊥
+clash true e f = cc
+clash false e f = cc
+
+pub returns-then-is_nothing : goal.returns-then-is_nothing
+returns-then-is_nothing c = λ setting recovers past items text h.
+    let first = c.in_ok-take.ensures setting items text h.told in
+    let kept = c.in_ok-keep.ensures setting recovers past (events_of items) h.keeps in
+    let none : c.keep.new.frames.items ≡ [] = sym c.as_slice-put.ensures.value ∙ c.is_nothing.ensures.0 c.if-is_nothing.true in
+    tells_none c.shows_once.ensures _ setting recovers past items text first.0 c.args.at c.args.offset c.args.event.now c.keep.new.frames.items c.keep.new.line.items
+    c.args.lines.now.items c.take.new.lines.items kept none first.1 first.2
+
+pub put_in-requires : goal.put_in-requires
+put_in-requires c =
+    let b = c.requires.begun in
+    let first = c.in_ok-take.ensures b.0 b.3 b.4 b.5.told in
+    record { begun = (b.0, Sent c.args.at (record { offset = c.args.offset; event = c.args.event.now }) ∷ b.3, b.4 ++ first.0, first.2) }
+
+pub returns : goal.returns
+returns c = λ setting recovers past items text h.
+    let first = c.in_ok-take.ensures setting items text h.told in
+    let kept = c.in_ok-keep.ensures setting recovers past (events_of items) h.keeps in
+    let some : c.keep.new.frames.items ≡ [] → ⊥ = λ e. clash _ (c.is_nothing.ensures.1 (c.as_slice-put.ensures.value ∙ e)) c.if-is_nothing.false in
+    let puts : PutsIn c.take.new.self c.put_in.new.self c.args.at c.args.offset c.keep.new.frames.items c.append.new.out.items c.put_in.new.lines.items =
+    λ s is t es told whole. c.in_ok-put_in.ensures s is t es told (subst (λ (bs : List ℕ). ShowsWhole bs es) (sym c.as_slice-put.ensures.value) whole) in
+    tells_put _ c.take.new.self setting recovers past items text first.0 c.args.at c.args.offset c.args.event.now c.keep.new.frames.items c.keep.new.line.items
+    c.args.lines.now.items c.take.new.lines.items c.append.new.out.items c.put_in.new.lines.items kept some first.1 first.2
+    (c.in_ok-append.ensures ∙ ap (λ (t : List ℕ). c.take.new.lines.items ++ t) c.as_slice.ensures.value) puts

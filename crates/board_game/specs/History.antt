@@ -1,0 +1,79 @@
+-- What came of a board, and what is told of it, one thing after the other. Lists have the latest first, but the events of
+-- bytes and what is put in, which stand in their order.
+use Rattle.std.specs.Prelude.{◌≡◌, ◌-◌, ℕ, Bool, true, false, List, [], ◌∷◌, ◌++◌, length, map, reverse, Option, Some, None}
+use Rattle.dgt_frame.specs.declared.events.Event.{Event}
+use Rattle.dgt_frame.specs.Streams.{Shows, Timed}
+use Rattle.unseen_pairs.specs.declared.pair.Recovery.{Recovery}
+use Rattle.board_events.specs.Commands.{past_of}
+use Rattle.board_events.specs.Entries.{entry_at}
+use Rattle.board_events.specs.Limits.{limit}
+use Rattle.board_events.specs.Settings.{Setting}
+use Rattle.board_standing.specs.declared.heard.Heard.{Heard}
+use Rattle.pair_frames.specs.PutIn.{put_in}
+use Rattle.recovery.specs.Keeping.{RecoversAt}
+
+-- What came at a time: bytes of the board, or news of its line.
+pub data Came : Type 0 where
+  Bytes : ℕ → List ℕ → Came
+  News : ℕ → Heard → Came
+
+-- all bytes that came, in their order
+abbrev pub bytes_of : List Came → List ℕ
+bytes_of [] = []
+bytes_of (Bytes time bytes ∷ past) = bytes_of past ++ bytes
+bytes_of (News time heard ∷ past) = bytes_of past
+
+-- how many bytes more are taken
+abbrev pub room_of : List Came → ℕ
+room_of past = limit - length (bytes_of past)
+
+-- The bytes show these events.
+abbrev pub AreShown : List ℕ → List Timed → Type 0
+AreShown bytes events = (rest : ℕ) × Shows bytes events rest
+
+-- What is told, with its time: an event, which the board sent or which is put in, at its offset; a pair of plies that was
+-- recovered at this offset; or news of the line.
+pub data Item : Type 0 where
+  Sent : ℕ → Timed → Item
+  Pair : ℕ → ℕ → Recovery → Item
+  Noted : ℕ → Heard → Item
+
+-- the events among them
+abbrev pub events_of : List Item → List Event
+events_of [] = []
+events_of (Sent time x ∷ items) = x.event ∷ events_of items
+events_of (Pair time offset r ∷ items) = events_of items
+events_of (Noted time heard ∷ items) = events_of items
+
+-- events that come at one time and at one offset, behind these items
+abbrev pub with_events : ℕ → ℕ → List Event → List Item → List Item
+with_events time offset [] items = items
+with_events time offset (event ∷ events) items = with_events time offset events (Sent time (record { offset = offset; event = event }) ∷ items)
+
+-- an event, and what was recovered at it: the pair, and the events that are put in for it, all with the offset of the
+-- event
+abbrev pub with_found : Setting → List Event → ℕ → Timed → Option Recovery → List Item → List Item
+with_found setting past time x None items = Sent time x ∷ items
+with_found setting past time x (Some r) items = with_events time x.offset
+    (put_in setting.first setting.rotated (entry_at setting.first setting.rotated (x.event ∷ past)) r) (Pair time x.offset r ∷ Sent time x ∷ items)
+
+-- What is recovered at an event after these: what its picture confirms, or nothing where no pairs are recovered.
+abbrev pub Finds : Setting → Bool → List Event → Event → Option Recovery → Type 0
+Finds setting false past event found = found ≡ None
+Finds setting true past event found = RecoversAt setting past event found
+
+-- Behind the first items come those of the second events, all at this time; the first events came before.
+abbrev pub Adds : Setting → Bool → ℕ → List Event → List Timed → List Item → List Item → Type 0
+Adds setting recovers time past [] before items = items ≡ before
+Adds setting recovers time past (x ∷ more) before items = (earlier : List Item) × (found : Option Recovery)
+    × Adds setting recovers time past more before earlier × Finds setting recovers (map (λ t. t.event) more ++ past) x.event found
+    × (items ≡ with_found setting (map (λ t. t.event) more ++ past) time x found earlier)
+
+-- What is told of what came. Bytes bring the events that they complete: those that all bytes so far show more than the
+-- bytes before.
+abbrev pub Makes : Setting → Bool → List Came → List Item → Type 0
+Makes setting recovers [] items = items ≡ []
+Makes setting recovers (Bytes time bytes ∷ past) items = (before : List Item) × (events more : List Timed) × Makes setting recovers past before
+    × AreShown (bytes_of past) events × AreShown (bytes_of past ++ bytes) (events ++ reverse more)
+    × Adds setting recovers time (past_of events) more before items
+Makes setting recovers (News time heard ∷ past) items = (before : List Item) × Makes setting recovers past before × (items ≡ Noted time heard ∷ before)

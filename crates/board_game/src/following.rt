@@ -1,0 +1,125 @@
+//! Events with those that are put in.
+ghost use Rattle.std.specs.Prelude.{◌≡◌, ◌↔◌, ◌∷◌, [], ◌++◌, ℕ, Bool, IsTrue, List, Option, OnOk};
+ghost use Rattle.dgt_frame.specs.declared.events.Event.{Event as EventOf};
+ghost use Rattle.dgt_frame.specs.Streams.{HasFrame};
+ghost use Rattle.unseen_pairs.specs.declared.pair.Recovery.{Recovery};
+ghost use Rattle.board_captures.specs.Reading.{setting_of};
+ghost use Rattle.board_events.specs.History.{IsInRange};
+ghost use Rattle.board_events.specs.Settings.{Setting};
+ghost use Rattle.board_game.specs.History.{Finds, Item, Noted, with_found};
+ghost use Rattle.board_game.specs.Inside.Telling.{HasFollowed, HasKept, KeepsEvent};
+ghost use Rattle.board_game.specs.Report.{first_line};
+
+use crate::telling::{Teller, append};
+use board_captures::Method;
+use board_standing::Heard;
+use dgt_frame::Event;
+use dgt_frame::laws::shows_once;
+use recovery::{Frames, Keeper, hear};
+use std::alloc::{AllocError, Global};
+use watched_streams::Lines;
+
+/// Gives the keeper an event, if there is one, and replaces what `frames` and `line` hold by what is put in there, and its
+/// line.
+fn keep(
+    alloc: Global,
+    keeper: &mut Option<Keeper>,
+    offset: u32,
+    event: &Event,
+    frames: &mut Frames,
+    line: &mut Lines,
+) -> Result<(), AllocError>
+    requires range { IsInRange event.now }
+    requires begun { (setting : Setting) × (recovers : Bool) × (past written : List EventOf) × HasKept keeper.old setting recovers past written }
+    ensures { (setting : Setting) (recovers : Bool) (past written : List EventOf) → HasKept keeper.old setting recovers past written
+        → OnOk result (KeepsEvent keeper.new setting recovers past written offset event.now frames.new.items line.new.items) }
+{
+    match keeper {
+        None => {
+            frames.clear();
+            line.clear();
+            Ok(())
+        }
+        Some(keeper) => hear(alloc, keeper, offset, event, frames, line),
+    }
+}
+
+fn is_nothing(bytes: &[u8]) -> bool
+    ensures { IsTrue result ↔ (bytes.now ≡ []) }
+{
+    bytes.is_empty()
+}
+
+/// Follows the events of a board, and tells them with those that are put in.
+#[derive(Drop)]
+pub struct Following {
+    alloc: Global,
+    /// Where pairs are recovered.
+    keeper: Option<Keeper>,
+    teller: Teller,
+}
+
+impl Following {
+    /// Nothing was sent. Takes no memory.
+    pub fn new(alloc: Global, method: &Method) -> Following
+        ensures { HasFollowed result (setting_of method.now) method.now.recovers [] [] (first_line (setting_of method.now)) }
+    {
+        let keeper = if method.recovers {
+            Some(Keeper::new(alloc, method.start, method.first, method.rotated))
+        } else {
+            None
+        };
+        Following {
+            alloc,
+            keeper,
+            teller: Teller::new(alloc, method.start, method.first, method.rotated),
+        }
+    }
+
+    /// Takes the next event, which came at this time, and appends what is told of it.
+    pub fn take(
+        &mut self,
+        at: u64,
+        offset: u32,
+        event: &Event,
+        frames: &mut Frames,
+        space: &mut Lines,
+        lines: &mut Vec<u8>,
+    ) -> Result<(), AllocError>
+        requires frame { HasFrame event.now }
+        requires begun { (setting : Setting) × (recovers : Bool) × (past : List EventOf) × (items : List Item) × (text : List ℕ)
+            × HasFollowed self.old setting recovers past items text }
+        ensures { (setting : Setting) (recovers : Bool) (past : List EventOf) (items : List Item) (text : List ℕ)
+            → HasFollowed self.old setting recovers past items text → OnOk result ((found : Option Recovery) × (more : List ℕ)
+            × Finds setting recovers past event.now found × (lines.new.items ≡ lines.old.items ++ more)
+            × HasFollowed self.new setting recovers (event.now ∷ past)
+            (with_found setting past at (record { offset = offset; event = event.now }) found items) (text ++ more)) }
+    {
+        // For its clause: no bytes show no event.
+        shows_once();
+        self.teller.take(at, offset, event, space, lines)?;
+        keep(self.alloc, &mut self.keeper, offset, event, frames, space)?;
+        let put = frames.as_slice();
+        if is_nothing(put) {
+            return Ok(());
+        }
+        append(space.as_slice(), lines)?;
+        self.teller.put_in(at, offset, put, space, lines)?;
+        Ok(())
+    }
+
+    /// Hears news of the line.
+    pub fn note(&mut self, at: u64, what: Heard)
+        ensures { (setting : Setting) (recovers : Bool) (past : List EventOf) (items : List Item) (text : List ℕ)
+            → HasFollowed self.old setting recovers past items text → HasFollowed self.new setting recovers past (Noted at what ∷ items) text }
+    {
+        self.teller.note(at, what);
+    }
+
+    /// What tells them.
+    pub fn teller(&self) -> &Teller
+        ensures { result.now ≡ self.now.teller }
+    {
+        &self.teller
+    }
+}

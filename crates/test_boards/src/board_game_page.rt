@@ -1,0 +1,14 @@
+//! The example on the page of `board_game`.
+
+use board_captures::Method;
+use board_game::Game;
+use board_standing::Kind;
+use std::alloc::{AllocError, Global};
+
+/// Whether a board stands wrongly ten seconds after it has sent these bytes.
+fn is_wrong(alloc: Global, method: &Method, bytes: &[u8]) -> Result<bool, AllocError> {
+    let mut game = Game::new(alloc, method);
+    let mut lines = Vec::new(alloc);
+    game.take(0, bytes, &mut lines)?;
+    Ok(game.state(10_000).kind == Kind::Wrong)
+}

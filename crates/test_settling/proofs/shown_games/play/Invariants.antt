@@ -1,5 +1,0 @@
-use Rattle.std.proofs.Common.{All, ◌<◌}
-use Rattle.test_settling.proofs.shown_games.play.Given as goal
-
-abbrev pub invariant-loop-i : goal.invariant-loop-i
-invariant-loop-i l = All (λ code. code < 16) l.picture

@@ -1,0 +1,81 @@
+"""What an arbiter types to the games of one board. This module and those that it needs take 0.3 MiB, so a recorder loads them with
+the first line."""
+
+from __future__ import annotations
+
+import os
+from typing import Optional
+
+from live.board import adding, forfeited, renaming, taking_off
+from live.board.obeying import Obeying
+from live.game.files import Paths
+from live.game.forfeiting import drop_forfeit
+from live.game.forfeits import Forfeit, read_typed
+from live.game.naming import is_naming
+from live.game.reply import Answer, Refused, refusal
+from live.game.typed import ALL_WAYS, ONE_BOARD, WAYS, Acknowledged, Added, Back, Nothing, Quit, Reopened, Typed, with_more
+from live.refused import DONE
+from live.refused import Refused as Failed
+from live.steps import Steps
+
+
+class Arbiter:
+    """Obeys what is typed. Each line gets an answer, with its status."""
+
+    def __init__(self, obeying: Obeying) -> None:
+        self._obeying, self._games = obeying, obeying.games
+
+    def typed(self, text: str) -> Steps[Answer]:
+        """A line of the terminal. It may end with the name of this game or of the one before."""
+        words, _, name = text.rpartition(" ")
+        last, here = self._games.before, self._games.game.paths.name
+        named = last is not None and name in (last.name, here)
+        before = last if last and name == last.name else None
+        status, answer = yield from self._obeyed(words if named else text, before, sure=named, may_quit=True)
+        is_list = answer.endswith((WAYS, ALL_WAYS))
+        return status, with_more(answer, *ONE_BOARD) if is_list else answer
+
+    def add(self, text: str) -> Steps[Answer]:
+        """A line that was typed elsewhere."""
+        return (yield from self._obeyed(text, None, sure=True, may_quit=False))
+
+    def _obeyed(self, text: str, before: Optional[Paths], sure: bool, may_quit: bool) -> Steps[Answer]:
+        try:
+            answer = yield from self._obeys(text, before, sure, may_quit)
+        except (Refused, OSError, Failed) as error:
+            answer = refusal(text, error)
+        except Exception:
+            self._games.let_go()
+            raise
+        self._games.let_go()
+        return answer
+
+    def _obeys(self, text: str, before: Optional[Paths], sure: bool, may_quit: bool) -> Steps[Answer]:
+        if is_naming(text):
+            return (yield from renaming.rename(self._obeying, text))
+        typed = read_typed(text, os.path.basename(self._games.game.paths.name))
+        if isinstance(typed, Nothing):
+            return DONE, ""
+        if isinstance(typed, Quit) and may_quit:
+            self._games.end()
+            return DONE, "it ends"
+        if isinstance(typed, Acknowledged):
+            return self._games.acknowledge(before)
+        if before:
+            return (yield from adding.add_before(self._obeying, before, text))
+        if isinstance(typed, Forfeit):
+            return (yield from forfeited.forfeit(self._obeying, typed))
+        return (yield from self._plays_on(typed, sure))
+
+    def _plays_on(self, typed: Typed, sure: bool) -> Steps[Answer]:
+        """A result, moves, or what takes them off: the game isn't forfeited any more."""
+        if isinstance(typed, Reopened):
+            answer = yield from taking_off.take_result_off(self._obeying)
+        elif isinstance(typed, Back):
+            answer = yield from taking_off.go_back(self._obeying, typed)
+        elif isinstance(typed, Added):
+            answer = yield from adding.add(self._obeying, typed.line, sure)
+        else:
+            raise Refused(WAYS)
+        drop_forfeit(self._games.game.paths)
+        return answer

@@ -1,0 +1,60 @@
+"""The next game of a series, and a game that begins anew once its pieces are set up: their files. Few games need this, and a
+recorder loads it then."""
+
+from __future__ import annotations
+
+import contextlib
+import dataclasses
+from typing import Optional
+
+from live.board.state import mend_of, trouble_of
+from live.game.alarms import carry_over, keep_looks
+from live.game.files import NO_ROOM, Capture, Paths, put_in_place, remove
+from live.game.game import Game, put_options
+from live.game.looks import Looks
+from live.game.making_pgn import Text
+from live.game.names import today
+from live.game.options import Options
+from live.game.reply import reason_of
+
+
+def begin_next(game: Game, paths: Paths, content: bytes) -> Game:
+    """The game after this one, whose capture begins with this. Raises OSError if it can't be begun."""
+    options = game.options.begun(today())
+    put_options(paths, options)
+    carry_over(game.paths, paths)
+    return _begun(game, paths, content, options)
+
+
+def not_begun(name: str, error: OSError) -> str:
+    """That the next game can't be begun, why, and what to do."""
+    full = error.errno in NO_ROOM
+    return f"{trouble_of(full)}: {name} can't be begun ({reason_of(error)}). {mend_of(full)}: it is tried again"
+
+
+def begin_anew(game: Game, content: bytes) -> Optional[Game]:
+    """The same game, whose capture begins with this; what came before is kept beside it. None if it can't be begun."""
+    paths = game.paths
+    try:
+        put_in_place(paths.before, game.capture.bytes())
+        game.times.set_aside(paths.before)
+        remove(paths.front)
+        begun = _begun(game, paths, content, game.options)
+    except OSError:
+        game.times.come_back(paths.before)
+        return None
+    with contextlib.suppress(OSError):
+        keep_looks(paths, Looks())  # the alarms were about the set-up
+    return begun
+
+
+def _begun(before: Game, paths: Paths, content: bytes, options: Options) -> Game:
+    """A game whose capture has this content, with its text made. Raises OSError if it can't be made."""
+    capture = Capture.begin(paths.capture, content)
+    times = before.times.next(paths, capture)
+    game = dataclasses.replace(before, paths=paths, capture=capture, options=options, times=times)
+    made = Text(game).make(None)
+    if made.trouble:
+        capture.close()
+        raise made.error()
+    return game

@@ -1,0 +1,175 @@
+// The lines of NAME.times: when the bytes of a capture came, and what else happened at its board. docs/FORMATS.md has the
+// format. Pure.
+//
+// The game follows from NAME.dgt alone: what is lost here costs times, and never a move.
+
+export const HEADED = 4096; // bytes of a capture that a new heading has the digest of, at most
+export const [BEGIN, AWAY, OPENED, ANSWERED, GONE, CALLED] = ['begin', 'away', 'opened', 'answered', 'gone', 'called'];
+export const [HEARD, ADDED, STOPPED, ASKED, TOOK, OVER] = ['heard', 'added', 'stopped', 'asked', 'took', 'over'];
+
+const VERSION = 1;
+const COUNTS = [BEGIN, AWAY, HEARD, ADDED, STOPPED, ASKED, OVER]; // words with a number
+const ALONE = [OPENED, ANSWERED, GONE, CALLED, TOOK];
+const TOO_LARGE = 2n ** 64n;
+const [FNV_START, FNV_TIMES] = [14695981039346656037n, 1099511628211n]; // of FNV-1a with 64 bits
+const NOTHING = 'Nothing is to be done';
+
+const NUMBER = '(0|[1-9][0-9]{0,19})';
+const EVENT = `${NUMBER} (?:(${COUNTS.join('|')}) ${NUMBER}|(${ALONE.join('|')}))\n`;
+const VERSIONED = new RegExp(`^${NUMBER} times(?: ${NUMBER})?\n`);
+const HEADING = new RegExp(`^${VERSION} times ${NUMBER}\n${NUMBER} digest ${NUMBER}\n`);
+
+const isTooLarge = (number) => BigInt(number) >= TOO_LARGE;
+
+/** FNV-1a with 64 bits. */
+export function digest(content) {
+  return content.reduce((state, byte) => BigInt.asUintN(64, (state ^ BigInt(byte)) * FNV_TIMES), FNV_START);
+}
+
+/** The heading of a file, given how often the game has gone back, and the first bytes of its capture. */
+export function heading(generation, first) {
+  return `${VERSION} times ${generation}\n${first.length} digest ${digest(first)}\n`;
+}
+
+/** The line of an event: [when, what, how much], where the last is null for a word alone. */
+function line([at, what, count]) {
+  return count === null ? `${at} ${what}\n` : `${at} ${what} ${count}\n`;
+}
+
+/** The lines of some events, of a call that began then. What came within a millisecond came at once. */
+export function lines(events, began = 0) {
+  const joined = [];
+  for (const [when, what, count] of events) {
+    const at = Math.max(0, when - began);
+    const before = joined[joined.length - 1];
+    if (before && what === HEARD && before[1] === HEARD && before[0] === at) before[2] += count;
+    else joined.push([at, what, count]);
+  }
+  return joined.map(line).join('');
+}
+
+/** The events from an offset on, up to what is none: where each begins and ends, its time, its word and its number. */
+function* eventsOf(text, start) {
+  const event = new RegExp(EVENT, 'y');
+  event.lastIndex = start;
+  for (;;) {
+    const begins = event.lastIndex;
+    const [, at, counted, count, alone] = event.exec(text) || [];
+    if (at === undefined || isTooLarge(at) || isTooLarge(count || 0)) return;
+    yield { begins, ends: event.lastIndex, at, what: counted || alone, count: Number(count || 0) };
+  }
+}
+
+/** How many bytes are accounted for, after an event. */
+function covers(before, { what, count }) {
+  if (what === BEGIN) return count;
+  return what === HEARD || what === ADDED ? before + count : before;
+}
+
+/**
+ * The content of a file with a heading: how often the game has gone back; how many bytes the heading describes, and their digest;
+ * where the heading ends; where the events end; and how many bytes of the capture they account for. Of a file of another version
+ * of the format, { version } alone. Null if nothing can be read.
+ */
+export function kept(text) {
+  const [headed, ...numbers] = HEADING.exec(text) || [];
+  if (!headed || numbers.some(isTooLarge)) {
+    const [, version] = VERSIONED.exec(text) || [];
+    return version && Number(version) !== VERSION ? { version: Number(version) } : null;
+  }
+  const [generation, size] = numbers.map(Number);
+  const found = { generation, size, digest: BigInt(numbers[2]), begins: headed.length, ends: headed.length, covered: size };
+  for (const event of eventsOf(text, headed.length)) {
+    found.ends = event.ends;
+    found.covered = covers(found.covered, event);
+  }
+  return found;
+}
+
+/** Whether what was found in a file belongs to this capture. */
+export function isOf(found, capture) {
+  if (!found || found.version !== undefined || capture.length === 0 || found.size > capture.length) return false;
+  return digest(capture.subarray(0, found.size)) === found.digest;
+}
+
+/**
+ * A file of which only those events stay that account for the capture's first so many bytes, which begin with `first`; and no
+ * end, since the game goes on, or has another one.
+ */
+export function cut(text, found, size, first) {
+  const parts = [found.size <= size ? text.slice(0, found.begins) : heading(found.generation, first)];
+  let covered = found.size;
+  for (const event of eventsOf(text, found.begins)) {
+    const before = covered;
+    covered = covers(covered, event);
+    if (covered > size) {
+      if (event.what !== BEGIN && size > before) parts.push(line([event.at, event.what, size - before]));
+      break;
+    }
+    if (event.what !== OVER) parts.push(text.slice(event.begins, event.ends));
+  }
+  return parts.join('');
+}
+
+/**
+ * A call that adds so many bytes after a game's end, with which the game ends: what happens in it, and how much. Bytes behind
+ * them have no times any more.
+ */
+export function adding(size, added, total) {
+  const isLast = size + added === total;
+  return [[BEGIN, isLast ? size : total], ...(isLast ? [[ADDED, added]] : []), [OVER, size + added]];
+}
+
+/** The file of a game that nobody records now, after so many bytes of whose capture these were added. */
+export function withAdded(text, size, added, capture) {
+  const found = kept(text);
+  if (!isOf(found, capture.subarray(0, size))) return text;
+  const events = adding(size, added, capture.length).map(([what, count]) => [0, what, count]);
+  return cut(text, found, size, capture.subarray(0, Math.min(HEADED, size))) + lines(events);
+}
+
+/**
+ * Whether a file found instead of this one is an earlier one of the same times: replacing it loses nothing. That the game was over
+ * doesn't count.
+ */
+export function isEarlier(found, now) {
+  const withoutEnds = (text) => text.replace(/^[0-9]+ over [0-9]+\n/gm, '');
+  return withoutEnds(now).startsWith(withoutEnds(found));
+}
+
+/** The words that say how the line is, after one more of them. */
+export function lineAfter(words, what) {
+  if (what === OPENED) return [OPENED];
+  if (what === ANSWERED) return [OPENED, ANSWERED];
+  if (what === GONE || what === CALLED) return [];
+  return words;
+}
+
+/** What is said of a file of this size, whose capture has so many bytes. */
+export function toldOf(found, name, size, capture, have) {
+  const told = [];
+  if (size > found.ends) told.push(`${name} was torn: its last ${size - found.ends} bytes are dropped. ${NOTHING}`);
+  if (found.covered > have) {
+    told.push(`${name} tells of ${found.covered - have} bytes more than ${capture} has, as after a power cut. ${NOTHING}`);
+  } else if (found.covered < have) {
+    told.push(`${name} has no times for the last ${have - found.covered} bytes of ${capture}. ${NOTHING}`);
+  }
+  return told;
+}
+
+/** What is said of a file that isn't the capture's: it is kept under this other name. */
+export function toldOfOther(found, name, other) {
+  const isNewer = found && found.version !== undefined;
+  const why = isNewer ? 'is of a newer program' : found ? 'is of another capture' : "isn't readable";
+  return `${name} ${why}: it is kept as ${other}, and another one is begun. ${NOTHING}`;
+}
+
+/** What is said if there is no file beside so many bytes. */
+export function toldOfMissing(name, have) {
+  return `${name} is missing: when the game's first ${have} bytes came isn't known. ${NOTHING}`;
+}
+
+/** What is said if it can't be read or written. */
+export function toldOfTrouble(name, why) {
+  return `${name} can't be kept (${why}): times may be missing. ${NOTHING}`;
+}

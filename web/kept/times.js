@@ -1,0 +1,267 @@
+// NAME.times beside a capture: in memory, and in the database behind the bytes of which it tells. Whatever goes wrong with it
+// costs times, and never a move.
+
+import {
+  AWAY, BEGIN, HEADED, OVER, STOPPED, adding, cut, heading, isOf, kept, lineAfter, lines, toldOf, toldOfMissing, toldOfOther, toldOfTrouble,
+} from '../game/times.js';
+import { LARGEST } from './capture.js';
+import { otherName } from './file_names.js';
+
+const GATHERED = 0.2; // seconds in which events are gathered; the line of a move is on the screen by then
+const AGAIN = 1.0; // seconds until what couldn't be kept is tried again
+const MOST_WAIT = 1000; // events that wait for the first bytes of a capture
+const DUMP = 67; // bytes of a capture that the heading waits for
+
+/** What the database has of a game's times, in one text. */
+export function textOf(rows) {
+  return rows.map(({ text }) => text).join('');
+}
+
+export class Times {
+  /**
+   * Those of a game's capture. `hears` has name, the game's; keeping, a promise that ends when the game's record is kept, and
+   * isUnkept if it isn't; and gets says(text). Nothing is kept before goOn().
+   */
+  constructor(database, guard, game, capture, hears) {
+    this.database = database;
+    this.guard = guard;
+    this.game = game;
+    this.capture = capture;
+    this.hears = hears;
+    this.text = ''; // all lines
+    this.size = 0; // characters of them that are kept
+    this.number = 0; // of the next row in the database
+    this.isAnew = false; // whether that takes the place of all rows
+    this.edition = 0; // how often lines that may be kept were changed
+    this.other = ''; // what isn't of this capture, until it is kept beside
+    this.epoch = database.epoch; // of the database that has the rows
+    this.events = []; // without lines yet, by the clock's own time
+    this.began = 0; // when the call began, by that clock
+    this.line = []; // what was last noted of the cable
+    this.wasAway = guard.away();
+    this.timer = null;
+    this.writing = null;
+    this.isHeld = true; // whether nothing is kept now
+    this.trouble = ''; // why it can't be kept
+  }
+
+  get name() {
+    return `${this.hears.name}.times`;
+  }
+
+  // What is there when a game is opened.
+
+  /**
+   * A call begins, behind these rows of the database, [{ number, at, text }]; null if they can't be read. Or behind rows of which the
+   * database may lack some.
+   */
+  open(rows, mayLack) {
+    try {
+      this.begin(this.look(rows));
+      this.isAnew = this.isAnew || mayLack;
+      this.goOn();
+    } catch (error) {
+      this.hears.says(toldOfTrouble(this.name, error.message || String(error))); // what is there stays as it is
+      this.begin();
+    }
+  }
+
+  /** Takes over what is there, and returns for how many milliseconds nobody was; null if that isn't known. */
+  look(rows) {
+    if (rows === null) throw new Error("the browser can't read it");
+    const text = textOf(rows);
+    const found = kept(text);
+    const { size } = this.capture;
+    if (!text) {
+      this.isAnew = rows.length > 0;
+      if (size > 0) this.hears.says(toldOfMissing(this.name, size));
+      return null;
+    }
+    if (!isOf(found, this.capture.bytes(found ? found.size : 0))) {
+      this.isAnew = true;
+      this.other = text;
+      this.hears.says(toldOfOther(found, this.name, otherName(this.name, 1)));
+      return null;
+    }
+    toldOf(found, this.name, text.length, `${this.hears.name}.dgt`, size).forEach((told) => this.hears.says(told));
+    this.text = text.slice(0, found.ends);
+    this.size = found.ends;
+    this.isAnew = found.ends < text.length;
+    const last = rows[rows.length - 1];
+    this.number = last.number + 1;
+    return Date.now() >= last.at ? Date.now() - last.at : null;
+  }
+
+  // What happens.
+
+  /** A call begins, or the game goes on from another capture: it has this many bytes. */
+  begin(away = null, size = this.capture.size) {
+    this.began = this.guard.counted();
+    this.events.push([this.began, BEGIN, size]);
+    if (away !== null) this.events.push([this.began, AWAY, away]);
+    for (const what of this.line) this.events.push([this.began, what, null]);
+    this.writeSoon();
+  }
+
+  /** This has happened. */
+  note(what, count = null) {
+    const now = this.guard.counted();
+    const away = this.guard.away();
+    if (away > this.wasAway) this.events.push([now, STOPPED, Math.floor(1000 * (away - this.wasAway))]);
+    this.wasAway = away;
+    if (count === null) this.line = lineAfter(this.line, what);
+    this.events.push([now, what, count]);
+    this.writeSoon();
+  }
+
+  /** The game isn't over any more, or ends elsewhere. */
+  isNotOver() {
+    this.gather();
+    if (!this.text) return;
+    this.text = cut(this.text, kept(this.text), this.capture.size, this.capture.bytes(HEADED));
+    this.isAnew = true;
+    this.edition += 1;
+    this.writeSoon();
+  }
+
+  // When the capture becomes another one.
+
+  /** Those of a new game; or of this game's new capture: then nobody was away. */
+  next(game, capture, away = null) {
+    const times = this.of(game, capture);
+    times.begin(away);
+    return times;
+  }
+
+  /**
+   * Those of a new capture that begins with so many bytes of this one, or of the one with these lines; then come those that somebody
+   * has added, if any.
+   */
+  upTo(size, game, capture, added = 0, text = this.all) {
+    const times = this.of(game, capture);
+    if (text) times.text = cut(text, kept(text), size, capture.bytes(Math.min(HEADED, size)));
+    const over = game.end === null ? [] : [[OVER, game.end]];
+    const [[, begins], ...events] = added > 0 ? adding(size, added, capture.size) : [[BEGIN, capture.size], ...over];
+    times.begin(0, begins);
+    events.forEach(([what, count]) => times.note(what, count));
+    return times;
+  }
+
+  of(game, capture) {
+    const times = new Times(this.database, this.guard, game, capture, this.hears);
+    times.line = this.line;
+    times.isAnew = true;
+    return times;
+  }
+
+  // How they are kept.
+
+  /** All lines. */
+  get all() {
+    this.gather();
+    return this.text;
+  }
+
+  /** Makes lines of what has happened. */
+  gather() {
+    const isTooEarly = !this.text && this.capture.size < DUMP && this.events.length < MOST_WAIT;
+    if (this.events.length === 0 || isTooEarly) return;
+    if (!this.text) this.text = heading(this.game.goneBack || 0, this.capture.bytes(HEADED));
+    const more = lines(this.events, this.began);
+    this.events = [];
+    if (this.text.length + more.length < LARGEST) this.text += more;
+    else this.fails(new Error('it has 64 MiB'));
+  }
+
+  /** What another call goes on behind, if the database may lack some of it. */
+  get rows() {
+    return this.all ? [this.row] : [];
+  }
+
+  /** All lines as a row, for the transaction that keeps the capture too. */
+  get row() {
+    return { number: 0, at: Date.now(), text: this.all };
+  }
+
+  /** That row is kept. What was noted meanwhile with those before is noted here too. */
+  goOnFrom(row, before) {
+    this.size = row.text.length;
+    this.number = 1;
+    this.isAnew = false;
+    this.epoch = this.database.epoch;
+    this.events.push(...before.events);
+    this.line = before.line;
+    this.goOn();
+  }
+
+  /** Nothing is kept now. The promise ends when nothing is being written. */
+  async hold() {
+    this.isHeld = true;
+    while (this.writing) await this.writing;
+  }
+
+  goOn() {
+    this.isHeld = false;
+    this.writeSoon();
+  }
+
+  writeSoon(seconds = GATHERED) {
+    if (this.timer || this.isHeld) return;
+    this.timer = this.guard.after(seconds, () => {
+      this.timer = null;
+      return this.write();
+    });
+  }
+
+  /** Keeps what has happened so far. The promise ends in any case. */
+  async write() {
+    while (this.writing) await this.writing;
+    if (this.isHeld) return;
+    const done = () => {
+      this.writing = null;
+    };
+    this.writing = this.writeNow().catch((error) => this.fails(error)).finally(done);
+    await this.writing;
+  }
+
+  async writeNow() {
+    this.gather();
+    const { text, edition } = this;
+    if (text.length === this.size && !this.isAnew) return;
+    await Promise.all([this.capture.write(), this.hears.keeping]); // of which it tells
+    if (this.capture.trouble || this.hears.isUnkept) {
+      this.writeSoon(AGAIN); // the page has said why
+      return;
+    }
+    await this.database.connection();
+    const { epoch } = this.database;
+    const isAll = this.isAnew || epoch !== this.epoch; // another database lacks the rows
+    if (edition === this.edition) {
+      const row = { number: isAll ? 0 : this.number, at: Date.now(), text: text.slice(isAll ? 0 : this.size) };
+      await this.database.appendTimes(this.game.id, row, isAll, this.other);
+      this.other = '';
+      this.epoch = epoch;
+      this.number = row.number + 1;
+      this.size = text.length;
+      if (edition === this.edition) this.isAnew = false;
+      if (this.trouble) this.hears.says(`${this.name} is kept again`);
+      this.trouble = '';
+    }
+    if (this.events.length > 0 || this.isAnew) this.writeSoon();
+  }
+
+  /** It can't be kept: it waits in memory. */
+  fails(error) {
+    const why = error.message || String(error);
+    if (why !== this.trouble) this.hears.says(toldOfTrouble(this.name, why));
+    this.trouble = why;
+    this.writeSoon(AGAIN);
+  }
+
+  /** Keeps what has happened, and nothing further. */
+  async close() {
+    await this.write();
+    if (this.timer) this.timer.cancel();
+    this.isHeld = true;
+  }
+}
