@@ -9,3 +9,4 @@ pub mod ChunkLemmas
 pub mod StreamLemmas
 pub mod LawLemmas
 pub mod InventedLemmas
+pub mod RangeLemmas

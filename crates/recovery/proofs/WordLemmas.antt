@@ -1,5 +1,8 @@
 -- The line of a pair, word by word.
-use Rattle.std.proofs.Common.{◌≡◌, ℕ, List, ◌++◌, ap, ◌∙◌, append_assoc}
+use Rattle.std.proofs.Common.{◌≡◌, ℕ, List, ◌++◌, codes, decimal, sym, ap, ◌∙◌, append_assoc}
+use Rattle.chess_rules.specs.declared.pieces.Side.{Side}
+use Rattle.chess_rules.specs.declared.pieces.Side.TheVariants.{White, Black}
+use Rattle.pgn_book.specs.Movetext.{number_token}
 
 -- eight texts, one after the other
 eight : (p c d e f g h i j : List ℕ) → p ++ c ++ d ++ e ++ f ++ g ++ h ++ i ++ j ≡ p ++ (c ++ d ++ e ++ f ++ g ++ h ++ i ++ j)
@@ -24,3 +27,12 @@ line_added old l1 l2 l3 l4 l5 l6 l7 a b c d e f g h i j k e1 e2 e3 e4 e5 e6 e7 =
     let fifth : l5 ≡ old ++ (a ++ b) ++ c ++ d ++ e ++ f ++ g = e5 ∙ ap (λ t. t ++ g) fourth in
     let sixth : l6 ≡ old ++ (a ++ b) ++ w = e6 ∙ ap (λ t. t ++ h ++ i ++ j) fifth ∙ eight (old ++ (a ++ b)) c d e f g h i j in
     e7 ∙ ap (λ t. t ++ k) (sixth ∙ append_assoc old (a ++ b) w) ∙ append_assoc old (a ++ b ++ w) k
+
+-- a move's number, as it stands before White's move, and before Black's
+pub dot_added : (old l1 l2 : List ℕ) (side : Side) (n : ℕ) → l1 ≡ old ++ decimal n → l2 ≡ l1 ++ codes "." → side ≡ White → l2 ≡ old ++ number_token side n
+dot_added old l1 l2 side n number dot is =
+    dot ∙ ap (λ t. t ++ codes ".") number ∙ append_assoc old (decimal n) (codes ".") ∙ ap (λ s. old ++ number_token s n) (sym is)
+
+pub dots_added : (old l1 l2 : List ℕ) (side : Side) (n : ℕ) → l1 ≡ old ++ decimal n → l2 ≡ l1 ++ codes "..." → side ≡ Black → l2 ≡ old ++ number_token side n
+dots_added old l1 l2 side n number dots is =
+    dots ∙ ap (λ t. t ++ codes "...") number ∙ append_assoc old (decimal n) (codes "...") ∙ ap (λ s. old ++ number_token s n) (sym is)

@@ -2,6 +2,7 @@ use Rattle.std.proofs.Common.{◌+◌, ◌-◌, ◌∷◌, ◌++◌, refl, subst
 use Rattle.dgt_frame.specs.Decoder.{TakesAll}
 use Rattle.board_events.specs.Commands.{past_of}
 use Rattle.recovery.proofs.GiveLemmas.{is_put_in}
+use Rattle.recovery.proofs.RangeLemmas.{in_range}
 use Rattle.recovery.proofs.PassLemmas.{refuses_event, stands_event, stands_none}
 use Rattle.recovery.proofs.passer.pass.Goals as goal
 
@@ -31,3 +32,8 @@ returns-in-Err-clause-refused c = λ setting bytes woven text s.
     refuses_event c.args.decoder.now c.push_into.new.self c.args.keeper.now setting c.in-Some.taken c.pending.result c.pending-2.result c.push_into.new.event bytes woven text c.args.bytes.now
     c.in-Some.ensures.taken.0 c.in-Some.ensures.taken.1 c.in-Some.ensures.some c.pending.ensures c.pending-2.ensures
     (λ past written carries. c.in-Err.ensures.refused setting past written carries) s
+
+pub hear-requires-clause-range : goal.hear-requires-clause-range
+hear-requires-clause-range c =
+    let begun = c.requires.begun in
+    in_range c.push_into.new.event (c.in-Some.ensures.frame begun.1 begun.5.events begun.5.decoded)

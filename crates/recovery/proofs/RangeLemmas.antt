@@ -1,0 +1,16 @@
+-- A frame says an event in range.
+use Rattle.std.proofs.Common.{ℕ, List, length}
+use Rattle.std.proofs.lemmas.List.Elements.{All-from_recursion}
+use Rattle.dgt_frame.specs.Frames.{IsCode}
+use Rattle.dgt_frame.specs.Streams.{HasFrame}
+use Rattle.dgt_frame.specs.declared.events.Event.{Event}
+use Rattle.dgt_frame.specs.declared.events.Event.TheVariants.{Message, Fault}
+use Rattle.dgt_frame.specs.declared.events.Message.TheVariants.{Dump, Update, Time, Other}
+use Rattle.board_events.specs.History.{IsInRange}
+
+pub in_range : (event : Event) → HasFrame event → IsInRange event
+in_range (Message (Dump codes)) frame = All-from_recursion IsCode codes frame.1.2
+in_range (Message (Update field code)) frame = (frame.1.1, frame.1.2)
+in_range (Message (Time times)) frame = tt
+in_range (Message (Other id size)) frame = tt
+in_range (Fault kind) frame = tt
