@@ -56,6 +56,10 @@ last_legal start (last ∷ earlier) found p ply legal at is =
     let Q : Ply → Type 0 = λ x. Legal p x.mv in
     subst Q ply_is (subst P position legal)
 
+pub last_found : (start : Parts) (plies : List Ply) (found : Option (Parts × Ply)) → LastIsLegal start plies → FindsLast found start plies → found ≡ None → ⊥
+last_found start [] found legal at is = legal
+last_found start (last ∷ earlier) found legal at is = absurd (let bad : true ≡ false = sym (ap is_some (at last earlier refl)) ∙ ap is_some is in cc)
+
 pub last_told : (offset : ℕ) (word lines lines' : List ℕ) (start : Parts) (plies : List Ply) (found : Option (Parts × Ply)) (p : Parts) (ply : Ply) → LastIsLegal start plies
     → FindsLast found start plies → found ≡ Some (p, ply) → ((san : List ℕ) × San p ply.mv san × (lines' ≡ lines ++ line offset (move_words word p san ply.clock)))
     → (text : List ℕ) × TellsPly offset word start plies text × (lines' ≡ lines ++ text)

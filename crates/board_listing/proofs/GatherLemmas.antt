@@ -8,7 +8,7 @@ use Rattle.watched_streams.specs.declared.WriteFault.{WriteFault}
 use Rattle.dgt_frame.specs.Streams.{Timed}
 use Rattle.board_listing.specs.declared.printer.Printer.{Printer}
 use Rattle.board_listing.specs.declared.listing.Listing.{Listing}
-use Rattle.board_listing.specs.Inside.Printers.{AddsLines, Follows}
+use Rattle.board_listing.specs.Inside.Printers.{AddsLines, Follows, HasBegun}
 use Rattle.board_listing.specs.declared.stream.ListError.TheVariants.{Memory, Write}
 use Rattle.board_listing.specs.Inside.Progress.{BreaksLines, GathersEvent}
 use Rattle.board_listing.specs.Listings.{LacksMemory, WritesFront}
@@ -46,6 +46,10 @@ gathers_event old new waiting waiting' x written adds listing events text begin 
       added.0,
       (text ++ more, added.1.2 text lines, (gathered.0, ap (λ bs. bs ++ more) gathered.1 ∙ append_assoc gathered.0 waiting more ∙ ap (λ bs. gathered.0 ++ bs) (sym added.1.1), gathered.2)),
     )
+
+-- A printer that has begun goes on.
+pub begun_on : (old new : Printer) (waiting waiting' : List ℕ) (x : Timed) → HasBegun old → AddsLines old waiting x new waiting' → HasBegun new
+begun_on old new waiting waiting' x begun adds = (begun.0, begun.1 ++ x ∷ [], (adds begun.0 begun.1 begun.2).0)
 
 -- Those that waited were written.
 pub gathers_none : (old new : Printer) (waiting waiting' : List ℕ) (x : Timed) (written written' : Option (List ℕ))

@@ -18,3 +18,4 @@ pub mod WatchPositionLemmas
 pub mod IdleLemmas
 pub mod SameTextLemmas
 pub mod WatchTextLemmas
+pub mod RangeLemmas

@@ -1,11 +1,12 @@
 -- What a printer adds at an event.
 use Rattle.std.specs.Prelude.{⊤}
-use Rattle.std.proofs.Common.{◌≡◌, ℕ, Bool, List, ◌∷◌, ◌++◌, slice_set, Option, None, Some, Result, Ok, Err, OnOk, refl, sym, ap, ◌∙◌, subst, append-nil}
+use Rattle.std.proofs.Common.{◌≡◌, ℕ, Bool, List, ◌∷◌, ◌++◌, slice_set, Option, None, Some, Result, Ok, Err, OnErr, OnOk, refl, sym, ap, ◌∙◌, subst, append-nil}
 use Rattle.dgt_frame.specs.declared.events.Event.{Event}
 use Rattle.dgt_frame.specs.Streams.{Timed}
 use Rattle.board_events.specs.declared.view.View.{View}
 use Rattle.board_events.specs.Commands.{past_of}
 use Rattle.board_events.specs.Settings.{Setting}
+use Rattle.board_events.specs.Session.{WantsMemory}
 use Rattle.board_events.specs.declared.view.Change.TheVariants.{Nothing, Square, Picture}
 use Rattle.board_events.specs.Pictures.{ChangesPictures, IsLast, pictures}
 use Rattle.board_events.proofs.ViewLemmas.{Adds}
@@ -18,9 +19,11 @@ use Rattle.board_listing.specs.PictureLines.{placement_line}
 use Rattle.board_listing.specs.declared.follower.Follower.{Follower}
 use Rattle.board_listing.specs.declared.printer.Printer.{Printer}
 use Rattle.board_listing.specs.declared.printer.Printer.TheVariants.{Events as EachEvent, Pictures as EachPicture, Game as EachMove, Watched as EachThing}
+use Rattle.board_listing.specs.declared.listing.Listing.{Listing}
 use Rattle.board_listing.specs.declared.listing.Listing.TheVariants.{Events, Pictures, Game, Watched}
 use Rattle.board_listing.specs.Inside.Followers.{AddsEvent, HasFollowed}
-use Rattle.board_listing.specs.Inside.Printers.{AddsLines}
+use Rattle.board_listing.specs.Inside.Printers.{AddsLines, Follows, HasBegun}
+use Rattle.board_listing.specs.Listings.{LacksMemory}
 use Rattle.board_listing.specs.declared.watcher.Watcher.{Watcher}
 use Rattle.board_listing.specs.GivenGame.{text_of}
 use Rattle.board_listing.specs.Inside.Watchers.{AddsWatched, HasWatched}
@@ -158,3 +161,53 @@ watch_adds (Err e) old watcher new x lines lines' is adds = tt
 watch_adds (Ok v) old watcher new x lines lines' is adds =
     let P : Printer → Type 0 = λ l. AddsLines l lines x (EachThing new) lines' in
     subst P (sym is) (watch_by watcher new x lines lines' adds)
+
+followed_by : (follower : Follower) (listing : Listing) (events : List Timed) → Follows (EachMove follower) listing events → (setting : Setting) × (past : List Event) × HasFollowed follower setting past
+followed_by follower Events events follows = absurd follows
+followed_by follower (Pictures rotated) events follows = absurd follows
+followed_by follower (Watched start first rotated) events follows = absurd follows
+followed_by follower (Game start first rotated) events follows = (record { start = start; first = first; rotated = rotated }, past_of events, follows)
+
+watched_by : (watcher : Watcher) (listing : Listing) (events : List Timed) → Follows (EachThing watcher) listing events → (setting : Setting) × (past : List Event) × HasWatched watcher setting past
+watched_by watcher Events events follows = absurd follows
+watched_by watcher (Pictures rotated) events follows = absurd follows
+watched_by watcher (Game start first rotated) events follows = absurd follows
+watched_by watcher (Watched start first rotated) events follows = (record { start = start; first = first; rotated = rotated }, past_of events, follows)
+
+-- A printer that has begun has a follower, or a watcher, that has followed some events.
+pub game_begun : (old : Printer) (follower : Follower) → old ≡ EachMove follower → HasBegun old → (setting : Setting) × (past : List Event) × HasFollowed follower setting past
+game_begun old follower is begun =
+    let here = subst (λ (l : Printer). Follows l begun.0 begun.1) is begun.2 in
+    followed_by follower begun.0 begun.1 here
+
+pub watch_begun : (old : Printer) (watcher : Watcher) → old ≡ EachThing watcher → HasBegun old → (setting : Setting) × (past : List Event) × HasWatched watcher setting past
+watch_begun old watcher is begun =
+    let here = subst (λ (l : Printer). Follows l begun.0 begun.1) is begun.2 in
+    watched_by watcher begun.0 begun.1 here
+
+game_lacks : {E : Type 0} (r : Result ⊤ E) (follower : Follower) (x : Timed) → ((setting : Setting) (past : List Event) → HasFollowed follower setting past → OnErr r (WantsMemory setting past x.event))
+    → (listing : Listing) (events : List Timed) → Follows (EachMove follower) listing events → OnErr r (LacksMemory listing events x)
+game_lacks r follower x wants Events events follows = absurd follows
+game_lacks r follower x wants (Pictures rotated) events follows = absurd follows
+game_lacks r follower x wants (Watched start first rotated) events follows = absurd follows
+game_lacks r follower x wants (Game start first rotated) events follows = wants (record { start = start; first = first; rotated = rotated }) (past_of events) follows
+
+watch_lacks : {E : Type 0} (r : Result ⊤ E) (watcher : Watcher) (x : Timed) → ((setting : Setting) (past : List Event) → HasWatched watcher setting past → OnErr r (WantsMemory setting past x.event))
+    → (listing : Listing) (events : List Timed) → Follows (EachThing watcher) listing events → OnErr r (LacksMemory listing events x)
+watch_lacks r watcher x wants Events events follows = absurd follows
+watch_lacks r watcher x wants (Pictures rotated) events follows = absurd follows
+watch_lacks r watcher x wants (Game start first rotated) events follows = absurd follows
+watch_lacks r watcher x wants (Watched start first rotated) events follows = wants (record { start = start; first = first; rotated = rotated }) (past_of events) follows
+
+-- Where memory was refused it may be.
+pub game_refuses : {E : Type 0} (r : Result ⊤ E) (old : Printer) (follower : Follower) (x : Timed) → old ≡ EachMove follower
+    → ((setting : Setting) (past : List Event) → HasFollowed follower setting past → OnErr r (WantsMemory setting past x.event))
+    → (listing : Listing) (events : List Timed) → Follows old listing events → OnErr r (LacksMemory listing events x)
+game_refuses r old follower x is wants listing events follows =
+    game_lacks r follower x wants listing events (subst (λ (l : Printer). Follows l listing events) is follows)
+
+pub watch_refuses : {E : Type 0} (r : Result ⊤ E) (old : Printer) (watcher : Watcher) (x : Timed) → old ≡ EachThing watcher
+    → ((setting : Setting) (past : List Event) → HasWatched watcher setting past → OnErr r (WantsMemory setting past x.event))
+    → (listing : Listing) (events : List Timed) → Follows old listing events → OnErr r (LacksMemory listing events x)
+watch_refuses r old watcher x is wants listing events follows =
+    watch_lacks r watcher x wants listing events (subst (λ (l : Printer). Follows l listing events) is follows)

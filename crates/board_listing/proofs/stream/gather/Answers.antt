@@ -3,7 +3,7 @@ use Rattle.dgt_frame.specs.Streams.{Timed}
 use Rattle.watched_streams.specs.Watch.{inner_of}
 use Rattle.board_listing.specs.Inside.Printers.{AddsLines}
 use Rattle.watched_streams.proofs.ResultLemmas.{at_err, at_ok}
-use Rattle.board_listing.proofs.GatherLemmas.{at_fault, broken_both, broken_memory, broken_write, gathers_event, gathers_none}
+use Rattle.board_listing.proofs.GatherLemmas.{at_fault, begun_on, broken_both, broken_memory, broken_write, gathers_event, gathers_none}
 use Rattle.board_listing.proofs.stream.gather.Goals as goal
 
 pub returns-in-Ok-clause-broken : goal.returns-in-Ok-clause-broken
@@ -42,3 +42,21 @@ returns-else-is_err-2-clause-ok g c =
     let whole = gathers_none c.args.printer.now c.add.new.self c.args.lines.now.items c.add.new.lines.items x written after
     (gathers_event c.args.printer.now c.add.new.self c.args.lines.now.items c.add.new.lines.items x written added) sent in
     rw c.clear.ensures whole
+
+pub returns-else-len-gt-GATHERED-clause-ok : goal.returns-else-len-gt-GATHERED-clause-ok
+returns-else-len-gt-GATHERED-clause-ok g c =
+    let x : Timed = record { offset = c.args.offset; event = c.args.event.now } in
+    let added : AddsLines c.args.printer.now c.args.lines.now.items x c.add.new.self c.add.new.lines.items = at_ok _ c.add.result (sym c.is_err.ensures.value ∙ c.if-is_err.false) c.add.ensures.ok in
+    gathers_event c.args.printer.now c.add.new.self c.args.lines.now.items c.add.new.lines.items x (g.O.Write.contents (inner_of c.args.out.now)) added
+
+pub returns-else-len-gt-GATHERED-clause-begun : goal.returns-else-len-gt-GATHERED-clause-begun
+returns-else-len-gt-GATHERED-clause-begun g c =
+    let x : Timed = record { offset = c.args.offset; event = c.args.event.now } in
+    let added : AddsLines c.args.printer.now c.args.lines.now.items x c.add.new.self c.add.new.lines.items = at_ok _ c.add.result (sym c.is_err.ensures.value ∙ c.if-is_err.false) c.add.ensures.ok in
+    begun_on c.args.printer.now c.add.new.self c.args.lines.now.items c.add.new.lines.items x c.requires.begun added
+
+pub returns-else-is_err-2-clause-begun : goal.returns-else-is_err-2-clause-begun
+returns-else-is_err-2-clause-begun g c =
+    let x : Timed = record { offset = c.args.offset; event = c.args.event.now } in
+    let added : AddsLines c.args.printer.now c.args.lines.now.items x c.add.new.self c.add.new.lines.items = at_ok _ c.add.result (sym c.is_err.ensures.value ∙ c.if-is_err.false) c.add.ensures.ok in
+    begun_on c.args.printer.now c.add.new.self c.args.lines.now.items c.add.new.lines.items x c.requires.begun added

@@ -213,3 +213,102 @@ pub returns-then-is_err-clause-front : goal.returns-then-is_err-clause-front
 returns-then-is_err-clause-front g c =
     front_at_begin c.args.listing (g.R.Read.remaining (inner_of c.args.reader.now)) (g.O.Write.contents (inner_of c.args.out.now)) (g.O.Write.contents (inner_of c.begin.new.out))
     (search rules) (at_err _ c.begin.result (sym c.is_err.ensures.value ∙ c.if-is_err.true) c.begin.ensures.front)
+
+pub returns-then-is_err-clause-ok : goal.returns-then-is_err-clause-ok
+returns-then-is_err-clause-ok g c = search rules
+
+pub returns-then-is_err-clause-reading : goal.returns-then-is_err-clause-reading
+returns-then-is_err-clause-reading g c = search rules
+
+pub returns-then-is_err-clause-working : goal.returns-then-is_err-clause-working
+returns-then-is_err-clause-working g c = search rules
+
+pub returns-then-is_err-clause-reader_blamed : goal.returns-then-is_err-clause-reader_blamed
+returns-then-is_err-clause-reader_blamed g c = search rules
+
+pub returns-then-is_err-clause-whole : goal.returns-then-is_err-clause-whole
+returns-then-is_err-clause-whole g c = search rules
+
+pub returns-then-is_err-clause-bounded : goal.returns-then-is_err-clause-bounded
+returns-then-is_err-clause-bounded g c = search rules
+
+pub returns-then-is_err-clause-read : goal.returns-then-is_err-clause-read
+returns-then-is_err-clause-read g c = search rules
+
+pub returns-then-is_err-clause-long : goal.returns-then-is_err-clause-long
+returns-then-is_err-clause-long g c = search rules
+
+pub returns-then-is_err-clause-memory : goal.returns-then-is_err-clause-memory
+returns-then-is_err-clause-memory g c = search rules
+
+pub returns-in_default-clause-ok : goal.returns-in_default-clause-ok
+returns-in_default-clause-ok g c = search rules
+
+pub returns-in_default-clause-reading : goal.returns-in_default-clause-reading
+returns-in_default-clause-reading g c = search rules
+
+pub returns-in_default-clause-working : goal.returns-in_default-clause-working
+returns-in_default-clause-working g c = search rules
+
+pub returns-in_default-clause-reader_blamed : goal.returns-in_default-clause-reader_blamed
+returns-in_default-clause-reader_blamed g c = search rules
+
+pub returns-in_default-clause-whole : goal.returns-in_default-clause-whole
+returns-in_default-clause-whole g c = search rules
+
+pub returns-in_default-clause-long : goal.returns-in_default-clause-long
+returns-in_default-clause-long g c = search rules
+
+pub returns-in_default-clause-memory : goal.returns-in_default-clause-memory
+returns-in_default-clause-memory g c = search rules
+
+pub returns-in_default-read-clause-reading : goal.returns-in_default-read-clause-reading
+returns-in_default-read-clause-reading g c = search rules
+
+pub returns-in_default-read-clause-working : goal.returns-in_default-read-clause-working
+returns-in_default-read-clause-working g c = search rules
+
+pub returns-in_default-read-clause-read : goal.returns-in_default-read-clause-read
+returns-in_default-read-clause-read g c = search rules
+
+pub returns-in_default-read-clause-long : goal.returns-in_default-read-clause-long
+returns-in_default-read-clause-long g c = search rules
+
+pub returns-in_default-read-clause-memory : goal.returns-in_default-read-clause-memory
+returns-in_default-read-clause-memory g c = search rules
+
+pub returns-in-Err-clause-ok : goal.returns-in-Err-clause-ok
+returns-in-Err-clause-ok g c = search rules
+
+pub returns-in-Err-clause-working : goal.returns-in-Err-clause-working
+returns-in-Err-clause-working g c = search rules
+
+pub returns-in-Err-clause-whole : goal.returns-in-Err-clause-whole
+returns-in-Err-clause-whole g c = search rules
+
+pub returns-then-chunk-clause-ok : goal.returns-then-chunk-clause-ok
+returns-then-chunk-clause-ok g c = search rules
+
+pub returns-then-chunk-clause-reading : goal.returns-then-chunk-clause-reading
+returns-then-chunk-clause-reading g c = search rules
+
+pub returns-then-chunk-clause-working : goal.returns-then-chunk-clause-working
+returns-then-chunk-clause-working g c = search rules
+
+pub returns-then-chunk-clause-whole : goal.returns-then-chunk-clause-whole
+returns-then-chunk-clause-whole g c = search rules
+
+pub returns-then-chunk-clause-read : goal.returns-then-chunk-clause-read
+returns-then-chunk-clause-read g c = search rules
+
+pub returns-then-chunk-clause-memory : goal.returns-then-chunk-clause-memory
+returns-then-chunk-clause-memory g c = search rules
+
+pub list_chunk-requires-clause-working : goal.list_chunk-requires-clause-working
+list_chunk-requires-clause-working g c = search rules
+
+pub list_chunk-requires-clause-room : goal.list_chunk-requires-clause-room
+list_chunk-requires-clause-room g c = search rules
+
+pub list_chunk-requires-clause-taken : goal.list_chunk-requires-clause-taken
+list_chunk-requires-clause-taken g c = search rules

@@ -2,6 +2,7 @@ use Rattle.std.proofs.Common.{◌∷◌, refl, inl, inr}
 use Rattle.dgt_frame.specs.Streams.{Timed}
 use Rattle.board_events.specs.Entries.{entry_at}
 use Rattle.board_events.specs.Session.{entries_in}
+use Rattle.board_listing.proofs.RangeLemmas.{in_range}
 use Rattle.board_listing.proofs.FollowLemmas.{added_fault, added_news, added_nothing, added_same, is_same, may_tell_news, news, told_waits}
 use Rattle.board_listing.proofs.follower.Follower.add.Goals as goal
 
@@ -48,3 +49,6 @@ returns-clause-ok c setting past followed =
           (rw told.session stands) tells c.if-taken.false c.in-Some.is (rw told.session fresh)
           (rw told.session (told.told other entry.picture fresh.last (told_waits c.args.self.now c.take_ref.new.self.settler setting past entry c.in-Some.seen followed fresh)))
     ]
+
+pub take_ref-requires : goal.take_ref-requires
+take_ref-requires c = in_range c.args.event.now c.requires.frame

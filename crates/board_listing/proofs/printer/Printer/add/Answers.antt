@@ -1,5 +1,6 @@
 use Rattle.dgt_frame.specs.Streams.{Timed}
-use Rattle.board_listing.proofs.PrinterLemmas.{event_adds, game_adds, none_adds, square_adds, watch_adds}
+use Rattle.board_listing.proofs.RangeLemmas.{in_range}
+use Rattle.board_listing.proofs.PrinterLemmas.{event_adds, game_adds, game_begun, game_refuses, none_adds, picture_adds, square_adds, watch_adds, watch_begun, watch_refuses}
 use Rattle.board_listing.proofs.printer.Printer.add.Goals as goal
 
 pub returns-in-Game-clause-ok : goal.returns-in-Game-clause-ok
@@ -28,3 +29,29 @@ pub returns-in-Watched-clause-ok : goal.returns-in-Watched-clause-ok
 returns-in-Watched-clause-ok c =
     let x : Timed = record { offset = c.args.offset; event = c.args.event.now } in
     watch_adds c.add-in-Watched.result c.args.self.now c.in-Watched.watcher c.add-in-Watched.new.self x c.args.lines.now.items c.add-in-Watched.new.lines.items c.in-Watched.is c.add-in-Watched.ensures.ok
+
+pub add-requires-clause-followed : goal.add-requires-clause-followed
+add-requires-clause-followed c = game_begun c.args.self.now c.in-Game.follower c.in-Game.is c.requires.begun
+
+pub add-requires-in-Watched-clause-watched : goal.add-requires-in-Watched-clause-watched
+add-requires-in-Watched-clause-watched c = watch_begun c.args.self.now c.in-Watched.watcher c.in-Watched.is c.requires.begun
+
+pub returns-in-Game-clause-memory : goal.returns-in-Game-clause-memory
+returns-in-Game-clause-memory c =
+    let x : Timed = record { offset = c.args.offset; event = c.args.event.now } in
+    game_refuses c.add.result c.args.self.now c.in-Game.follower x c.in-Game.is c.add.ensures.memory
+
+pub returns-in-Watched-clause-memory : goal.returns-in-Watched-clause-memory
+returns-in-Watched-clause-memory c =
+    let x : Timed = record { offset = c.args.offset; event = c.args.event.now } in
+    watch_refuses c.add-in-Watched.result c.args.self.now c.in-Watched.watcher x c.in-Watched.is c.add-in-Watched.ensures.memory
+
+pub returns-in-Picture-clause-ok : goal.returns-in-Picture-clause-ok
+returns-in-Picture-clause-ok c =
+    let x : Timed = record { offset = c.args.offset; event = c.args.event.now } in
+    rw c.add_placement-in-Picture.ensures
+    (picture_adds c.args.self.now c.in-Pictures.view c.see.new.self c.in-Pictures.placement c.show.new.self x c.args.lines.now.items _
+    c.in-Pictures.is c.in-Picture.ensures.views c.in-Picture.ensures.shown c.picture.ensures.last c.show.ensures)
+
+pub see-requires : goal.see-requires
+see-requires c = in_range c.args.event.now c.requires.frame
