@@ -8,7 +8,7 @@ use unseen_pairs::Recovery;
 pub type Way = (u8, u8);
 
 /// What shows by itself, by numbers.
-#[derive(Clone, Copy, PartialEq, Eq, Debug)]
+#[derive(Clone, Copy, PartialEq, Eq)]
 pub enum Shown {
     Same,
     Moved(Way),
@@ -18,7 +18,7 @@ pub enum Shown {
 }
 
 /// What is returned, by numbers.
-#[derive(Clone, Copy, PartialEq, Eq, Debug)]
+#[derive(Clone, Copy, PartialEq, Eq)]
 pub enum Answer {
     Shown(Shown),
     /// Whether it corrects, its two plies, and what goes on from it.

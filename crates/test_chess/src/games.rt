@@ -46,21 +46,6 @@ pub struct Game<'a> {
     pub status: Status,
 }
 
-/// Where a game goes otherwise than it tells.
-#[derive(Clone, Copy, Debug, PartialEq, Eq)]
-pub enum Unlike {
-    /// The position to start from, which is none, or its own picture, which the settlers see first.
-    Start,
-    /// The update with this number: what is returned for it, or the sign or the moves after it.
-    Update(usize),
-    /// For how many updates the game tells what is returned.
-    Answers,
-    /// What the settler holds at the end: the moves, the sign or the status.
-    Moves,
-    Sign,
-    Status,
-}
-
 /// Shows the first picture to each settler: whether all three wait.
 fn wait(
     by_pictures: &mut Settler,
@@ -153,17 +138,18 @@ fn update(
     }
 }
 
-/// Plays the game: whole pictures to one settler, updates to another, and pictures to the plain one.
+/// Plays the game: whole pictures to one settler, updates to another, and pictures to the plain one. Whether it goes as it
+/// tells.
 fn play(
     by_pictures: &mut Settler,
     by_updates: &mut Settler,
     start: Position,
     game: &Game<'_>,
-) -> Result<Option<Unlike>, AllocError> {
+) -> Result<bool, AllocError> {
     let mut plain = Plain::new(start);
     let mut picture = start.picture();
     if !wait(by_pictures, by_updates, &mut plain, &picture)? {
-        return Ok(Some(Unlike::Start));
+        return Ok(false);
     }
     for (i, (field, code)) in game.updates.iter().enumerate() {
         let given = update(
@@ -175,25 +161,18 @@ fn play(
             *code,
         )?;
         if !is_told(game.answers, i, given) {
-            return Ok(Some(Unlike::Update(i)));
+            return Ok(false);
         }
     }
-    Ok(unlike_end(by_pictures, game))
+    Ok(ends(by_pictures, game))
 }
 
-/// What the settler holds otherwise than the game tells of its end.
-fn unlike_end(settler: &Settler, game: &Game<'_>) -> Option<Unlike> {
-    if !tells_each(game) {
-        Some(Unlike::Answers)
-    } else if !has_moves(settler, game.moves) {
-        Some(Unlike::Moves)
-    } else if settler.sign() != game.sign {
-        Some(Unlike::Sign)
-    } else if settler.position().status() != game.status {
-        Some(Unlike::Status)
-    } else {
-        None
-    }
+/// Whether the settler holds what the game tells of its end.
+fn ends(settler: &Settler, game: &Game<'_>) -> bool {
+    tells_each(game)
+        && has_moves(settler, game.moves)
+        && settler.sign() == game.sign
+        && settler.position().status() == game.status
 }
 
 fn has_moves(settler: &Settler, ways: &[Way]) -> bool {
@@ -209,29 +188,26 @@ fn has_moves(settler: &Settler, ways: &[Way]) -> bool {
     true
 }
 
-/// Plays the game with new settlers: the part of it that goes otherwise than it tells.
-pub fn part_unlike(
-    alloc: Global,
-    start: Position,
-    game: &Game<'_>,
-) -> Result<Option<Unlike>, AllocError> {
+/// Plays the game with new settlers: whether it goes as it tells.
+pub fn goes(alloc: Global, start: Position, game: &Game<'_>) -> Result<bool, AllocError> {
     let mut by_pictures = Settler::new(alloc, start);
     let mut by_updates = Settler::new(alloc, start);
     play(&mut by_pictures, &mut by_updates, start, game)
 }
 
-/// Plays the games, each with new settlers: the number of the first that goes otherwise than it tells, and where.
+/// Plays the games, each with new settlers: the number of the first that goes otherwise than it tells, 0 where there is no
+/// start.
 fn first_unlike(
     alloc: Global,
     start: Option<Position>,
     games: &[Game<'_>],
-) -> Result<Option<(usize, Unlike)>, AllocError> {
+) -> Result<Option<usize>, AllocError> {
     let Some(start) = start else {
-        return Ok(Some((0, Unlike::Start)));
+        return Ok(Some(0));
     };
     for (i, game) in games.iter().enumerate() {
-        if let Some(part) = part_unlike(alloc, start, game)? {
-            return Ok(Some((i, part)));
+        if !goes(alloc, start, game)? {
+            return Ok(Some(i));
         }
     }
     Ok(None)
@@ -239,5 +215,5 @@ fn first_unlike(
 
 /// Plays the games, and fails where one goes otherwise than it tells.
 pub fn play_all(rt: &impl Abort, alloc: Global, start: Option<Position>, games: &[Game<'_>]) {
-    assert_eq!(rt; first_unlike(alloc, start, games), Ok(None));
+    assert!(rt; first_unlike(alloc, start, games) == Ok(None));
 }

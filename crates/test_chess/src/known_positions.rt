@@ -9,6 +9,16 @@ pub fn expect_none(rt: &impl Abort, first: Option<usize>) {
     assert_eq!(rt; first, None);
 }
 
+/// The number of the first that doesn't hold.
+pub fn first_false(holds: &[bool]) -> Option<usize> {
+    for (i, holds) in holds.iter().enumerate() {
+        if !*holds {
+            return Some(i);
+        }
+    }
+    None
+}
+
 const NO_RIGHTS: Rights = Rights {
     white_king: false,
     white_queen: false,
@@ -94,13 +104,6 @@ fn square(number: u8) -> Option<(u8, u8, u8)> {
     Some((square.number(), square.file(), square.rank()))
 }
 
-#[test]
-fn squares_are_0_to_63(rt: HostRuntime) {
-    assert!(rt; square(63) == Some((63, 7, 1)));
-    assert!(rt; square(0) == Some((0, 0, 8)));
-    assert!(rt; Square::new(64).is_none());
-}
-
 /// Pieces from a8 to h1 with White to move, the halfmove clock, the fullmove number, whether White may castle short,
 /// the number of the en passant target, and why these parts are refused, if they are.
 type Refused<'a> = (&'a [u8; 64], u16, u16, bool, Option<u8>, Option<Invalid>);
@@ -131,11 +134,6 @@ static COUNTERS: [Refused<'static>; 4] = [
     (ONE_KING, 10000, 1, false, None, Some(Invalid::Counters)),
 ];
 
-#[test]
-fn counters_have_a_range(rt: HostRuntime) {
-    expect_none(&rt, first_other_refusal(&COUNTERS));
-}
-
 const PAWN_ON_LAST: &[u8; 64] = b"....k..P....................................................K...";
 
 const ROOK_GIVES_CHECK: &[u8; 64] =
@@ -151,11 +149,6 @@ static CONDITIONS: [Refused<'static>; 6] = [
     (ROOK_GIVES_CHECK, 0, 1, false, None, Some(Invalid::Check)),
 ];
 
-#[test]
-fn the_first_broken_condition_is_answered(rt: HostRuntime) {
-    expect_none(&rt, first_other_refusal(&CONDITIONS));
-}
-
 /// Whether White, with the right to it, may castle on the queen side.
 fn castles_long(pieces: &[u8; 64]) -> Option<bool> {
     let mut parts = parts_of(pieces, Side::White);
@@ -163,14 +156,6 @@ fn castles_long(pieces: &[u8; 64]) -> Option<bool> {
     let castles = step(60, 58)?;
     let position = Position::new(parts).ok()?;
     Some(position.is_legal(castles))
-}
-
-#[test]
-fn an_attacked_b1_is_no_bar_to_castling(rt: HostRuntime) {
-    let b1_attacked = b"....k............................................r......R...K...";
-    assert!(rt; castles_long(b1_attacked) == Some(true));
-    let d1_attacked = b"....k..............................................r....R...K...";
-    assert!(rt; castles_long(d1_attacked) == Some(false));
 }
 
 /// Whether the position has these parts, and this board.
@@ -190,11 +175,6 @@ fn opening_sets_the_target(initial: &Position) -> bool {
     }
 }
 
-#[test]
-fn a_double_step_sets_the_target(rt: HostRuntime) {
-    assert!(rt; opening_sets_the_target(&Position::initial()));
-}
-
 /// The position after Kd8 at the last counters.
 fn after_the_last_counters() -> Option<Position> {
     let position = Position::new(with_counters(KINGS, Side::Black, 9999, 9999)).ok()?;
@@ -207,11 +187,6 @@ fn last_counters_stand_still() -> bool {
         Some(next) => has_parts(&next, &with_counters(pieces, Side::White, 9999, 9999)),
         None => false,
     }
-}
-
-#[test]
-fn counters_stand_still(rt: HostRuntime) {
-    assert!(rt; last_counters_stand_still());
 }
 
 /// The codes of the first eight squares and of the last eight.
@@ -236,11 +211,6 @@ fn first_other_code(picture: &[u8; 64]) -> Option<usize> {
         }
     }
     None
-}
-
-#[test]
-fn pictures(rt: HostRuntime) {
-    expect_none(&rt, first_other_code(&Position::initial().picture()));
 }
 
 /// The squares' numbers of the first moves, in the order of `legal_moves`.
@@ -308,12 +278,6 @@ fn listed(alloc: Global, initial: &Position) -> Result<(bool, usize, Option<usiz
     Ok((first_other_move(&moves).is_none(), moves.len(), replies))
 }
 
-#[test]
-fn lists_moves(rt: HostRuntime) {
-    let listed = listed(rt.alloc(), &Position::initial());
-    assert_eq!(rt; listed, Ok((true, 20, Some(400))));
-}
-
 /// Whether the position of these parts has this status, the side to move is in check or isn't, and no move is legal.
 fn ends(alloc: Global, parts: &Parts, status: Status, in_check: bool) -> Result<bool, AllocError> {
     let Ok(position) = Position::new(*parts) else {
@@ -331,10 +295,32 @@ fn mated() -> Parts {
 }
 
 #[test]
-fn checkmate_and_stalemate_end_a_game(rt: HostRuntime) {
+fn positions_are_known(rt: HostRuntime) {
+    let initial = Position::initial();
+    let b1_attacked = b"....k............................................r......R...K...";
+    let d1_attacked = b"....k..............................................r....R...K...";
     let stale = b".......k.....Q........K.........................................";
     let stuck = parts_of(stale, Side::Black);
-    assert!(rt; ends(rt.alloc(), &mated(), Status::Checkmate, true) == Ok(true));
-    assert!(rt; ends(rt.alloc(), &stuck, Status::Stalemate, false) == Ok(true));
-    assert!(rt; Position::initial().status() == Status::Running);
+    let holds = [
+        // squares have the numbers 0 to 63
+        square(63) == Some((63, 7, 1)),
+        square(0) == Some((0, 0, 8)),
+        Square::new(64).is_none(),
+        // counters have a range
+        first_other_refusal(&COUNTERS).is_none(),
+        // the first broken condition is answered
+        first_other_refusal(&CONDITIONS).is_none(),
+        // an attacked b1 is no bar to castling
+        castles_long(b1_attacked) == Some(true),
+        castles_long(d1_attacked) == Some(false),
+        opening_sets_the_target(&initial),
+        last_counters_stand_still(),
+        first_other_code(&initial.picture()).is_none(),
+        listed(rt.alloc(), &initial) == Ok((true, 20, Some(400))),
+        // checkmate and stalemate end a game
+        ends(rt.alloc(), &mated(), Status::Checkmate, true) == Ok(true),
+        ends(rt.alloc(), &stuck, Status::Stalemate, false) == Ok(true),
+        initial.status() == Status::Running,
+    ];
+    expect_none(&rt, first_false(&holds));
 }

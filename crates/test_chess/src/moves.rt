@@ -1,13 +1,14 @@
 //! Steps, captures, promotions, castling and en passant, in each order of their updates.
 
-use crate::games::{Game, Unlike, part_unlike, play_all};
+use crate::games::{Game, goes, play_all};
+use crate::known_positions::expect_none;
 use crate::starts::{
     KING_FIRST, before_capture, before_castling, before_en_passant, before_promotion,
 };
-use crate::told::{Told, WAITS};
+use crate::told::{Told, WAITS, Way};
 use crate::ways::{E1_G1, E2_E4, E4_D5, E5_D6, E7_E8_KNIGHT, E7_E8_QUEEN, H1_F1};
 use chess_rules::{Position, Status};
-use std::alloc::{AllocError, Global};
+use std::alloc::Global;
 
 /// From the initial position.
 static STEP_GAMES: [Game<'static>; 4] = [
@@ -112,57 +113,58 @@ static CASTLING_GAMES: [Game<'static>; 2] = [
     },
 ];
 
-/// Plays king and rook in each order: the number of the first order that doesn't end with castling, and where.
-fn first_order_without_castling(alloc: Global) -> Result<Option<(usize, Unlike)>, AllocError> {
+/// Whether the updates, in the order with this number, are this move.
+fn is_made(
+    alloc: Global,
+    start: Position,
+    updates: &mut [(u8, u8)],
+    order: usize,
+    answers: Option<&[Told]>,
+    way: Way,
+) -> bool {
+    reorder(updates, order);
+    let game = Game {
+        updates: &*updates,
+        answers,
+        moves: &[way],
+        sign: None,
+        status: Status::Running,
+    };
+    goes(alloc, start, &game) == Ok(true)
+}
+
+/// The number of the first order of king and rook that doesn't end with castling.
+fn first_order_without_castling(alloc: Global) -> Option<usize> {
     let Some(start) = before_castling() else {
-        return Ok(Some((0, Unlike::Start)));
+        return Some(0);
     };
     for order in 0..24usize {
         let mut updates = KING_FIRST;
-        reorder(&mut updates, order);
-        let game = Game {
-            updates: &updates,
-            answers: None,
-            moves: &[E1_G1],
-            sign: None,
-            status: Status::Running,
-        };
-        if let Some(part) = part_unlike(alloc, start, &game)? {
-            return Ok(Some((order, part)));
+        if !is_made(alloc, start, &mut updates, order, None, E1_G1) {
+            return Some(order);
         }
     }
-    Ok(None)
+    None
 }
 
-#[test]
-fn castling_in_each_order(rt: HostRuntime) {
-    play_all(&rt, rt.alloc(), before_castling(), &CASTLING_GAMES);
-    assert_eq!(rt; first_order_without_castling(rt.alloc()), Ok(None));
-}
-
-/// Plays an en passant capture in each order: the number of the first order that goes otherwise, and where.
-fn first_order_without_capture(alloc: Global) -> Result<Option<(usize, Unlike)>, AllocError> {
+/// The number of the first order of an en passant capture that goes otherwise.
+fn first_order_without_capture(alloc: Global) -> Option<usize> {
     let Some(start) = before_en_passant() else {
-        return Ok(Some((0, Unlike::Start)));
+        return Some(0);
     };
+    let answers = [WAITS, WAITS, Told::Moved(E5_D6)];
     for order in 0..6usize {
         let mut updates = [(28, 0), (19, 1), (27, 0)];
-        reorder(&mut updates, order);
-        let game = Game {
-            updates: &updates,
-            answers: Some(&[WAITS, WAITS, Told::Moved(E5_D6)]),
-            moves: &[E5_D6],
-            sign: None,
-            status: Status::Running,
-        };
-        if let Some(part) = part_unlike(alloc, start, &game)? {
-            return Ok(Some((order, part)));
+        if !is_made(alloc, start, &mut updates, order, Some(&answers), E5_D6) {
+            return Some(order);
         }
     }
-    Ok(None)
+    None
 }
 
 #[test]
-fn en_passant_in_each_order(rt: HostRuntime) {
-    assert_eq!(rt; first_order_without_capture(rt.alloc()), Ok(None));
+fn castling_and_en_passant_in_each_order(rt: HostRuntime) {
+    play_all(&rt, rt.alloc(), before_castling(), &CASTLING_GAMES);
+    expect_none(&rt, first_order_without_castling(rt.alloc()));
+    expect_none(&rt, first_order_without_capture(rt.alloc()));
 }

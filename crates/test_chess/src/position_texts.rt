@@ -1,6 +1,6 @@
 //! Worked positions. The positions and texts are those of the PGN standard, of known games, or worked out by hand.
 
-use crate::known_positions::{expect_none, step};
+use crate::known_positions::{expect_none, first_false, step};
 use chess_rules::{Kind, Move, Position};
 use chess_text::{FenError, SanError, read_fen, read_san, write_fen, write_san};
 use std::alloc::{AllocError, Global};
@@ -137,13 +137,6 @@ fn first_unlike_fen(start: &Position, rows: &[(&str, &str)]) -> Option<usize> {
     None
 }
 
-#[test]
-fn fen_is_written_after_moves(rt: HostRuntime) {
-    let start = Position::initial();
-    assert!(rt; is_fen(&start, START));
-    expect_none(&rt, first_unlike_fen(&start, &FENS_AFTER_MOVES));
-}
-
 /// From the position of a FEN.
 fn first_unlike_fen_from(start: &str, rows: &[(&str, &str)]) -> Option<usize> {
     match read_fen(start.as_bytes()) {
@@ -153,12 +146,6 @@ fn first_unlike_fen_from(start: &str, rows: &[(&str, &str)]) -> Option<usize> {
 }
 
 static LAST_COUNTERS: [(&str, &str); 1] = [("Kd8", "3k4/8/8/8/8/8/8/4K3 w - - 9999 9999")];
-
-#[test]
-fn counters_stand_still_at_9999(rt: HostRuntime) {
-    let start = "4k3/8/8/8/8/8/8/4K3 b - - 9999 9999";
-    expect_none(&rt, first_unlike_fen_from(start, &LAST_COUNTERS));
-}
 
 static FENS: [&str; 6] = [
     "rnbqkbnr/pppppppp/8/8/8/8/PPPPPPPP/RNBQKBNR w KQkq - 0 1",
@@ -187,11 +174,6 @@ fn first_rewritten(fens: &[&str]) -> Option<usize> {
     None
 }
 
-#[test]
-fn fen_is_read_and_written_again(rt: HostRuntime) {
-    expect_none(&rt, first_rewritten(&FENS));
-}
-
 static FIRST_REFUSALS: [(&[u8], FenError); 10] = [
     (b"x w - - 00 1", FenError::Counters),
     (b"4k3/8/8/8/8/8/8/4K3 w - - 0 10000", FenError::Counters),
@@ -204,11 +186,6 @@ static FIRST_REFUSALS: [(&[u8], FenError); 10] = [
     (b"4k3/8/8/8/8/8/8/4K3 w - d6 0 1", FenError::EnPassant),
     (b"4k3/8/8/8/8/8/8/4RK2 w - - 0 1", FenError::Check),
 ];
-
-#[test]
-fn first_refusal_is_answered(rt: HostRuntime) {
-    expect_none(&rt, first_other_refusal(&FIRST_REFUSALS));
-}
 
 static FORM_REFUSALS: [(&[u8], FenError); 11] = [
     (b"", FenError::Form),
@@ -224,11 +201,6 @@ static FORM_REFUSALS: [(&[u8], FenError); 11] = [
     (b"4k3/8/8/8/8/8/8/4K3 w - - 0 1\n", FenError::Form),
 ];
 
-#[test]
-fn form_is_refused(rt: HostRuntime) {
-    expect_none(&rt, first_other_refusal(&FORM_REFUSALS));
-}
-
 static FOUR_FIELD_REFUSALS: [(&[u8], FenError); 4] = [
     (b"4k3/8/8/8/8/8/8/4K3 w - - ", FenError::Form),
     (b"4k3/8/8/8/8/8/8/4K3 w - - 0", FenError::Form),
@@ -236,23 +208,11 @@ static FOUR_FIELD_REFUSALS: [(&[u8], FenError); 4] = [
     (b"8/8/8/8/8/8/8/4K3 w - -", FenError::Kings),
 ];
 
-#[test]
-fn four_fields_have_counters_0_and_1(rt: HostRuntime) {
-    let fen = "4k3/8/8/8/8/8/8/4K3 w - - 0 1";
-    assert!(rt; is_written("4k3/8/8/8/8/8/8/4K3 w - -", fen));
-    expect_none(&rt, first_other_refusal(&FOUR_FIELD_REFUSALS));
-}
-
 static PINNED_KNIGHT: [Moves<'static>; 1] = [(
     "4r2k/8/8/8/8/8/4N3/1N2K3 w - - 0 1",
     &[(57, 42, "Nc3")],
     &["Nbc3"],
 )];
-
-#[test]
-fn pinned_piece_is_no_rival(rt: HostRuntime) {
-    expect_none(&rt, first_with_other_moves(&PINNED_KNIGHT));
-}
 
 static RIVALS: [Moves<'static>; 2] = [
     (
@@ -267,11 +227,6 @@ static RIVALS: [Moves<'static>; 2] = [
     ),
 ];
 
-#[test]
-fn origin_is_named_as_far_as_needed(rt: HostRuntime) {
-    expect_none(&rt, first_with_other_moves(&RIVALS));
-}
-
 static CASTLING: [Moves<'static>; 2] = [
     (
         "4k3/8/8/8/8/8/1r6/R3K3 w Q - 0 1",
@@ -280,11 +235,6 @@ static CASTLING: [Moves<'static>; 2] = [
     ),
     ("4k3/8/8/8/8/8/3r4/R3K3 w Q - 0 1", &[], &["O-O-O"]),
 ];
-
-#[test]
-fn castling_is_read(rt: HostRuntime) {
-    expect_none(&rt, first_with_other_moves(&CASTLING));
-}
 
 /// FENs of positions, and the SANs of all their legal moves.
 static LISTS: [(&str, &[&str]); 3] = [
@@ -349,11 +299,6 @@ fn first_with_other_list(
     Ok(None)
 }
 
-#[test]
-fn legal_moves_are_written_in_order(rt: HostRuntime) {
-    assert_eq!(rt; first_with_other_list(rt.alloc(), &LISTS), Ok(None));
-}
-
 fn mate_is_marked() -> bool {
     match after_all(&Position::initial(), &["f3", "e5", "g4"]) {
         Ok(p) => has_moves(&p, &[(3, 39, "Qh4#")], &["Qh4+", "Qh4"]),
@@ -361,21 +306,11 @@ fn mate_is_marked() -> bool {
     }
 }
 
-#[test]
-fn mate_and_check_are_marked(rt: HostRuntime) {
-    assert!(rt; mate_is_marked());
-}
-
 static EN_PASSANT: [Moves<'static>; 1] = [(
     "4k3/8/8/3pP3/8/8/8/4K3 w - d6 0 2",
     &[(28, 19, "exd6")],
     &["d6", "exd6e.p.", "e5d6", "e5xd6", "exd6 "],
 )];
-
-#[test]
-fn en_passant_has_the_pawns_file(rt: HostRuntime) {
-    expect_none(&rt, first_with_other_moves(&EN_PASSANT));
-}
 
 /// Whether the text is that of a legal move that promotes to this kind.
 fn promotes_to(p: &Position, text: &str, kind: Kind) -> bool {
@@ -391,11 +326,6 @@ fn promotion_is_read() -> bool {
             && has_moves(&p, &[], &["e8", "e8N", "e8=K", "e8=P", "e8=n", "e8=Q+"]),
         Err(_) => false,
     }
-}
-
-#[test]
-fn promotion_names_the_kind(rt: HostRuntime) {
-    assert!(rt; promotion_is_read());
 }
 
 /// Fischer and Spassky, Belgrade 1992, the example of the PGN standard, section 2.3.
@@ -440,7 +370,34 @@ fn leads_to(game: &str, plies: u32, fen: &str) -> Result<bool, u32> {
 }
 
 #[test]
-fn whole_game_is_read_and_written_again(rt: HostRuntime) {
-    let fen = "8/8/4R1p1/2k3p1/1p4P1/1P1b1P2/3K1n2/8 b - - 2 43";
-    assert_eq!(rt; leads_to(BELGRADE, 85, fen), Ok(true));
+fn texts_are_written_and_read(rt: HostRuntime) {
+    let start = Position::initial();
+    let last = "4k3/8/8/8/8/8/8/4K3 b - - 9999 9999";
+    let kings = "4k3/8/8/8/8/8/8/4K3 w - - 0 1";
+    let belgrade = "8/8/4R1p1/2k3p1/1p4P1/1P1b1P2/3K1n2/8 b - - 2 43";
+    let holds = [
+        is_fen(&start, START),
+        first_unlike_fen(&start, &FENS_AFTER_MOVES).is_none(),
+        // counters stand still at 9999
+        first_unlike_fen_from(last, &LAST_COUNTERS).is_none(),
+        first_rewritten(&FENS).is_none(),
+        first_other_refusal(&FIRST_REFUSALS).is_none(),
+        first_other_refusal(&FORM_REFUSALS).is_none(),
+        // four fields have the counters 0 and 1
+        is_written("4k3/8/8/8/8/8/8/4K3 w - -", kings),
+        first_other_refusal(&FOUR_FIELD_REFUSALS).is_none(),
+        // a pinned piece is no rival
+        first_with_other_moves(&PINNED_KNIGHT).is_none(),
+        // the origin is named as far as needed
+        first_with_other_moves(&RIVALS).is_none(),
+        first_with_other_moves(&CASTLING).is_none(),
+        // legal moves are written in their order
+        first_with_other_list(rt.alloc(), &LISTS) == Ok(None),
+        mate_is_marked(),
+        // en passant has the pawn's file
+        first_with_other_moves(&EN_PASSANT).is_none(),
+        promotion_is_read(),
+        leads_to(BELGRADE, 85, belgrade) == Ok(true),
+    ];
+    expect_none(&rt, first_false(&holds));
 }

@@ -38,18 +38,6 @@ pub struct Game<'a> {
     pub sign: Option<Outcome>,
 }
 
-/// Where a game goes otherwise than it tells.
-#[derive(Clone, Copy, Debug, PartialEq, Eq)]
-pub enum Unlike {
-    /// The position to start from, which is none, or its own picture, which is seen first.
-    Start,
-    /// The update with this number, and what is returned for it, if it is one.
-    Update(usize, Option<Answer>),
-    /// What is held at the end.
-    Moves,
-    Sign,
-}
-
 /// Shows a picture at a reading: what is returned.
 pub fn show(
     alloc: Global,
@@ -86,35 +74,29 @@ fn update(
     }
 }
 
-/// Shows the game.
+/// Shows the game: whether it goes as it tells.
 fn play(
     alloc: Global,
     recoverer: &mut Recoverer,
     start: Position,
     game: &Game<'_>,
-) -> Result<Option<Unlike>, AllocError> {
+) -> Result<bool, AllocError> {
     let mut picture = start.picture();
     if show(alloc, recoverer, &picture, None)? != WAITS {
-        return Ok(Some(Unlike::Start));
+        return Ok(false);
     }
     for (i, (field, code)) in game.updates.iter().enumerate() {
         let given = update(alloc, recoverer, &mut picture, *field, *code)?;
         if given.is_none() || given.as_ref() != game.answers.get(i) {
-            return Ok(Some(Unlike::Update(i, given)));
+            return Ok(false);
         }
     }
-    Ok(unlike_end(recoverer.settler(), game))
+    Ok(ends(recoverer.settler(), game))
 }
 
-/// What is held at the end otherwise than the game tells.
-fn unlike_end(settler: &Settler, game: &Game<'_>) -> Option<Unlike> {
-    if !has_moves(settler, game.moves) {
-        Some(Unlike::Moves)
-    } else if settler.sign() != game.sign {
-        Some(Unlike::Sign)
-    } else {
-        None
-    }
+/// Whether what is held at the end is what the game tells.
+fn ends(settler: &Settler, game: &Game<'_>) -> bool {
+    has_moves(settler, game.moves) && settler.sign() == game.sign
 }
 
 /// Whether the line has these moves.
@@ -131,28 +113,25 @@ pub fn has_moves(settler: &Settler, ways: &[Way]) -> bool {
     true
 }
 
-/// Shows the game to a new recoverer: the part of it that goes otherwise than it tells.
-fn part_unlike(
-    alloc: Global,
-    start: Position,
-    game: &Game<'_>,
-) -> Result<Option<Unlike>, AllocError> {
+/// Shows the game to a new recoverer: whether it goes as it tells.
+fn goes(alloc: Global, start: Position, game: &Game<'_>) -> Result<bool, AllocError> {
     let mut recoverer = Recoverer::new(alloc, start);
     play(alloc, &mut recoverer, start, game)
 }
 
-/// Shows the games, each to a new recoverer: the number of the first that goes otherwise than it tells, and where.
+/// Shows the games, each to a new recoverer: the number of the first that goes otherwise than it tells, 0 where there is no
+/// start.
 fn first_unlike(
     alloc: Global,
     start: Option<Position>,
     games: &[Game<'_>],
-) -> Result<Option<(usize, Unlike)>, AllocError> {
+) -> Result<Option<usize>, AllocError> {
     let Some(start) = start else {
-        return Ok(Some((0, Unlike::Start)));
+        return Ok(Some(0));
     };
     for (i, game) in games.iter().enumerate() {
-        if let Some(part) = part_unlike(alloc, start, game)? {
-            return Ok(Some((i, part)));
+        if !goes(alloc, start, game)? {
+            return Ok(Some(i));
         }
     }
     Ok(None)
@@ -160,5 +139,5 @@ fn first_unlike(
 
 /// Shows the games, and fails where one goes otherwise than it tells.
 pub fn play_all(rt: &impl Abort, alloc: Global, start: Option<Position>, games: &[Game<'_>]) {
-    assert_eq!(rt; first_unlike(alloc, start, games), Ok(None));
+    assert!(rt; first_unlike(alloc, start, games) == Ok(None));
 }
