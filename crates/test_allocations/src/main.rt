@@ -1,10 +1,13 @@
 //! Calls that take memory, each made a second time where it was refused. Each line says whether the call was granted,
-//! was refused and left all as it was so that the second one gave what is due, or is broken.
+//! was refused and left all as it was so that the second one gave what is due, or is broken. Where standard input has no number, three
+//! lines more say what only streams in memory show of the program.
 #![tactic(auto)]
 
 mod calls;
+mod flushes;
 mod recordings;
 mod recoveries;
+mod running;
 mod runs;
 mod settling;
 
@@ -111,6 +114,14 @@ fn make_runs(rt: &HostRuntime) -> io::Result<bool> {
     say(rt, "run ", "recover", recoveries::recovers(rt.alloc()))
 }
 
+/// Says of how many failed flushes the program told, how many runs flushed all that they wrote, and the status without an argument.
+fn make_flushes(rt: &HostRuntime) -> io::Result<()> {
+    println!(rt; "failed flushes told {}", flushes::told(rt.alloc()))?;
+    println!(rt; "outputs flushed {}", flushes::flushed(rt.alloc()))?;
+    let status = flushes::status_without_arguments(rt.alloc());
+    println!(rt; "status without arguments {status}")
+}
+
 /// The decimal number in a text, of which other bytes are passed over.
 fn number_in(text: &[u8]) -> u32 {
     let mut number: u32 = 0;
@@ -132,6 +143,9 @@ fn main(rt: HostRuntime) -> io::Result<()> {
     spend(rt.alloc(), number_in(buffer.get(..count).unwrap_or(&[])));
     if make_calls(&rt)? && make_recordings(&rt)? {
         make_runs(&rt)?;
+    }
+    if count == 0 {
+        make_flushes(&rt)?;
     }
     Ok(())
 }

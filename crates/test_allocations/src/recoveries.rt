@@ -1,12 +1,12 @@
 //! The program's `recover`. It is run again where it was refused.
 
 use crate::Outcome;
+use crate::running::{Left, run_over};
 use dgt_vectors::bytes::Bytes;
 use dgt_vectors::captures::Signal::{self, Dump, Lift, Put};
 use dgt_vectors::captures::{INITIAL, bytes_of};
 use dgt_vectors::streams::{Sink, Source};
 use std::alloc::Global;
-use test_dgt_replay::running::{Left, run_over};
 
 /// 1. e4 e5, then 2. Nf3 Nc6 by two hands at once, and 3. Bb5, which confirms them.
 static HIDDEN: [Signal<'static>; 11] = [

@@ -1,13 +1,13 @@
 //! The program. It is run again where it was refused.
 
 use crate::Outcome;
+use crate::running::{Left, run_over};
 use dgt_vectors::bytes::Bytes;
 use dgt_vectors::captures::Signal::{self, Dump, Lift, Put, Raw, Time};
 use dgt_vectors::captures::{INITIAL, bytes_of};
 use dgt_vectors::streams::{Sink, Source};
 use dgt_vectors::texts::{GameText, NO_MOVE, ONE_MOVE, with_game};
 use std::alloc::Global;
-use test_dgt_replay::running::{Left, run_over};
 
 /// Arguments after the program's name, an input, and what is left of them.
 #[derive(Clone, Copy)]

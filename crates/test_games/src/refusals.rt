@@ -1,8 +1,8 @@
 //! Streams that fail at each call in turn: what was taken before stands, and the result says which stream it was.
 
+use crate::games::{expect_none, first_false};
 use crate::recordings::{is_told, text_without_move};
-use board_session::{RecordError, Report};
-use chess_text::FenError;
+use board_session::RecordError;
 use dgt_vectors::recording::{Recording, recorded_over};
 use dgt_vectors::row::{CUT, OPENING, Row, commands};
 use dgt_vectors::streams::{ALWAYS, Sink, Source};
@@ -120,12 +120,6 @@ fn first_read_untold(alloc: Global, row: &Row<'_>) -> Option<u32> {
     }
 }
 
-/// With a read that fails the text is that of the bytes before it.
-#[test]
-fn each_read_fails_in_turn(rt: HostRuntime) {
-    assert_eq!(rt; first_read_untold(rt.alloc(), &CUT), None);
-}
-
 /// How many calls on the board's stream succeed, what it then holds, and what of it shows.
 static BOARD_CALLS: [(u32, &[u8], &[u8]); 4] = [
     (0, &[], &[]),
@@ -161,18 +155,6 @@ fn first_board_call_untold(alloc: Global, row: &Row<'_>) -> Option<u32> {
         }
     }
     None
-}
-
-/// The board's stream is written and flushed twice. After a failure nothing more is sent, and the text is that of the
-/// events up to the one that asked.
-#[test]
-fn each_call_on_the_board_fails_in_turn(rt: HostRuntime) {
-    assert_eq!(rt; first_board_call_untold(rt.alloc(), &CUT), None);
-    let streams = Streams {
-        board_calls: 4,
-        ..WORKING
-    };
-    assert!(rt; is_recorded(rt.alloc(), &CUT, streams));
 }
 
 /// What an output leaves on which so many calls succeed.
@@ -232,13 +214,6 @@ fn all_is_held_before_last_call(alloc: Global, row: &Row<'_>) -> Result<bool, u3
     Ok(held == row.text().len())
 }
 
-/// The output fails at each write and at the flush: a part of the text stands, and only a flush shows it. The last call
-/// is the flush: all was written before it, and nothing showed.
-#[test]
-fn each_call_on_the_output_fails_in_turn(rt: HostRuntime) {
-    assert_eq!(rt; all_is_held_before_last_call(rt.alloc(), &CUT), Ok(true));
-}
-
 /// An output that takes so many bytes has these.
 fn fills(alloc: Global, row: &Row<'_>, reads: u32, out_room: usize) -> bool {
     let streams = Streams {
@@ -280,27 +255,6 @@ fn ten_bytes_are_known() -> bool {
     OPENING.text().front(10) == b"[Event \"?\"".as_slice()
 }
 
-/// An output that takes so many bytes has these, whether or not the reading ended well.
-#[test]
-fn an_output_that_fills_has_the_front_of_the_text(rt: HostRuntime) {
-    assert_eq!(rt; first_front_untold(rt.alloc(), &[&CUT, &OPENING]), None);
-    assert!(rt; ten_bytes_are_known());
-}
-
-#[test]
-fn a_failed_output_outweighs_a_failed_reading(rt: HostRuntime) {
-    assert!(rt; fills(rt.alloc(), &CUT, 0, 0));
-}
-
-#[test]
-fn what_was_taken_before_a_failed_read_is_written(rt: HostRuntime) {
-    let streams = Streams {
-        reads: 1,
-        ..WORKING
-    };
-    assert!(rt; stops_with_text(rt.alloc(), &OPENING, streams));
-}
-
 /// A recording whose reading fails has the whole text of the row, and the board no more than its commands.
 fn stops_with_text(alloc: Global, row: &Row<'_>, streams: Streams) -> bool {
     match recording(alloc, row, streams) {
@@ -324,61 +278,34 @@ fn boards_fill(alloc: Global) -> bool {
 }
 
 #[test]
-fn a_board_that_fills_ends_the_reading(rt: HostRuntime) {
-    assert!(rt; boards_fill(rt.alloc()));
-}
-
-/// What is returned for so many zeros, and how many of them aren't read.
-static LONG_STREAMS: [(u32, Result<Report, RecordError>, u32); 3] = [
-    (
-        67_108_864,
-        Ok(Report {
-            messages: 0,
-            faults: 1,
-            moves: 0,
-            rest: 0,
-        }),
-        0,
-    ),
-    (67_108_865, Err(RecordError::TooLong), 0),
-    (67_108_870, Err(RecordError::TooLong), 5),
-];
-
-/// Records so many zeros.
-fn zeros_recording(alloc: Global, zeros: u32) -> Result<Recording, FenError> {
-    let source = Source::new(&[]).and_then(zeros, 0);
-    recorded_over(alloc, &OPENING, source, Sink::new(ROOM), Sink::new(ROOM))
-}
-
-/// A dump was asked for at one fault, and the text is without a move.
-fn shows_a_fault(got: &Recording) -> bool {
-    got.board_shown.get() == commands(1).get() && got.text_shown.get() == text_without_move().get()
-}
-
-/// For so many zeros this is returned and so many aren't read; one fault is told, and the text without a move.
-fn zeros_are_recorded(
-    alloc: Global,
-    zeros: u32,
-    answer: &Result<Report, RecordError>,
-    unread: u32,
-) -> bool {
-    match zeros_recording(alloc, zeros) {
-        Ok(got) => got.answer == *answer && got.unread == unread && shows_a_fault(&got),
-        Err(_) => false,
-    }
-}
-
-/// The number of zeros of which something else is recorded.
-fn first_long_stream_untold(alloc: Global) -> Option<u32> {
-    for (zeros, answer, unread) in &LONG_STREAMS {
-        if !zeros_are_recorded(alloc, *zeros, answer, *unread) {
-            return Some(*zeros);
-        }
-    }
-    None
-}
-
-#[test]
-fn a_stream_has_at_most_67_108_864_bytes(rt: HostRuntime) {
-    assert_eq!(rt; first_long_stream_untold(rt.alloc()), None);
+fn streams_fail_at_each_call_in_turn(rt: HostRuntime) {
+    let alloc = rt.alloc();
+    let four_calls = Streams {
+        board_calls: 4,
+        ..WORKING
+    };
+    let one_read = Streams {
+        reads: 1,
+        ..WORKING
+    };
+    let holds = [
+        // with a read that fails the text is that of the bytes before it
+        first_read_untold(alloc, &CUT).is_none(),
+        // the board's stream is written and flushed twice; after a failure nothing more is sent, and the text is that of the
+        // events up to the one that asked
+        first_board_call_untold(alloc, &CUT).is_none(),
+        is_recorded(alloc, &CUT, four_calls),
+        // the output fails at each write and at the flush: a part of the text stands, and only a flush shows it; the last call
+        // is the flush: all was written before it, and nothing showed
+        all_is_held_before_last_call(alloc, &CUT) == Ok(true),
+        // an output that takes so many bytes has these, whether or not the reading ended well
+        first_front_untold(alloc, &[&CUT, &OPENING]).is_none(),
+        ten_bytes_are_known(),
+        // a failed output outweighs a failed reading
+        fills(alloc, &CUT, 0, 0),
+        // what was taken before a failed read is written
+        stops_with_text(alloc, &OPENING, one_read),
+        boards_fill(alloc),
+    ];
+    expect_none(&rt, first_false(&holds));
 }

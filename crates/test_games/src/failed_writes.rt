@@ -18,14 +18,10 @@ fn stops_after_ten(game: &Game) -> bool {
     write_pgn(game, &mut out) == Err(WriteFault { written: 10 }) && out.failed()
 }
 
-fn empty_game_stops_after_ten(alloc: Global) -> bool {
+/// A fault tells how much was written.
+pub fn empty_game_stops_after_ten(alloc: Global) -> bool {
     match game(alloc, &EMPTY) {
         Some(game) => stops_after_ten(&game),
         None => false,
     }
-}
-
-#[test]
-fn a_fault_tells_how_much_was_written(rt: HostRuntime) {
-    assert!(rt; empty_game_stops_after_ten(rt.alloc()));
 }

@@ -5,7 +5,6 @@ use chess_game::Game;
 use dgt_vectors::bytes::Bytes;
 use dgt_vectors::recording::{Recording, recorded, report_of};
 use dgt_vectors::row::{OPENING, Row, commands};
-use dgt_vectors::rows::rows_by_subject;
 use dgt_vectors::streams::Sink;
 use pgn_book::{read_pgn, write_pgn};
 use std::alloc::Global;
@@ -94,11 +93,6 @@ fn first_other_cost<'a>(alloc: Global, cases: &[Case<'a>]) -> Option<&'a str> {
     None
 }
 
-#[test]
-fn damage_costs_what_it_hits(rt: HostRuntime) {
-    assert_eq!(rt; first_other_cost(rt.alloc(), &DAMAGES), None);
-}
-
 /// Whether the game's plies but the last are the first of the other game's plies.
 fn is_front_of(cut: &Game, whole: &Game) -> bool {
     let closed = cut.plies().len().saturating_sub(1);
@@ -142,27 +136,10 @@ fn first_cut(alloc: Global, row: &Row<'_>, whole: &Game) -> Option<usize> {
 }
 
 /// The least length at which a cut doesn't hold; the whole length where the row's own text isn't read.
-fn cut_failing(alloc: Global, row: &Row<'_>) -> Option<usize> {
+pub fn cut_failing(alloc: Global, row: &Row<'_>) -> Option<usize> {
     match read_pgn(alloc, row.text().get()) {
         Ok(whole) => first_cut(alloc, row, &whole),
         Err(_) => Some(row.bytes().len()),
-    }
-}
-
-/// The name of the first row with a cut that doesn't hold, and the cut's length.
-fn first_cut_failing<'a>(alloc: Global, rows: &[Row<'a>]) -> Option<(&'a str, usize)> {
-    for row in rows {
-        if let Some(len) = cut_failing(alloc, row) {
-            return Some((row.name, len));
-        }
-    }
-    None
-}
-
-#[test]
-fn a_cut_capture_has_the_front_of_the_game(rt: HostRuntime) {
-    for rows in rows_by_subject() {
-        assert_eq!(rt; first_cut_failing(rt.alloc(), rows), None);
     }
 }
 
@@ -185,7 +162,7 @@ fn turned_bit_holds(alloc: Global, row: &Row<'_>, at: usize) -> bool {
 }
 
 /// The first byte of the capture whose top bit can't be turned.
-fn turned_bit_failing(alloc: Global, row: &Row<'_>) -> Option<usize> {
+pub fn turned_bit_failing(alloc: Global, row: &Row<'_>) -> Option<usize> {
     for at in 0..row.bytes().len() {
         if !turned_bit_holds(alloc, row, at) {
             return Some(at);
@@ -194,19 +171,7 @@ fn turned_bit_failing(alloc: Global, row: &Row<'_>) -> Option<usize> {
     None
 }
 
-/// The name of the first row with a turned bit that doesn't hold, and its byte.
-fn first_turned_bit_failing<'a>(alloc: Global, rows: &[Row<'a>]) -> Option<(&'a str, usize)> {
-    for row in rows {
-        if let Some(at) = turned_bit_failing(alloc, row) {
-            return Some((row.name, at));
-        }
-    }
-    None
-}
-
 #[test]
-fn a_turned_bit_refuses_nothing(rt: HostRuntime) {
-    for rows in rows_by_subject() {
-        assert_eq!(rt; first_turned_bit_failing(rt.alloc(), rows), None);
-    }
+fn damage_costs_what_it_hits(rt: HostRuntime) {
+    assert_eq!(rt; first_other_cost(rt.alloc(), &DAMAGES), None);
 }

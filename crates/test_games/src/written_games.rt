@@ -1,6 +1,7 @@
 //! Games that are written and read back.
 
-use crate::games::{CASTLING, EMPTY, Row, expect_none, game, is_written_as};
+use crate::failed_writes::empty_game_stops_after_ten;
+use crate::games::{CASTLING, EMPTY, Row, expect_none, first_false, game, is_written_as};
 use chess_game::Game;
 use pgn_book::read_pgn;
 use settle_core::Outcome;
@@ -63,11 +64,6 @@ static GAMES: [Row<'static>; 4] = [
     },
 ];
 
-#[test]
-fn games_are_written_and_read(rt: HostRuntime) {
-    expect_none(&rt, first_failing(rt.alloc(), &GAMES));
-}
-
 const MATED: Row<'static> = Row {
     outcome: "0-1",
     moves: "f3 e5 g4 Qh4#",
@@ -86,11 +82,6 @@ static MATES: [Row<'static>; 3] = [
         ..MATED
     },
 ];
-
-#[test]
-fn mate_decides_whatever_the_sign(rt: HostRuntime) {
-    expect_none(&rt, first_failing(rt.alloc(), &MATES));
-}
 
 static TIMED: [Row<'static>; 3] = [
     Row {
@@ -112,11 +103,6 @@ static TIMED: [Row<'static>; 3] = [
         ..EMPTY
     },
 ];
-
-#[test]
-fn a_clock_comment_asks_for_the_number(rt: HostRuntime) {
-    expect_none(&rt, first_failing(rt.alloc(), &TIMED));
-}
 
 /// White castles short, and the text of it as it stands in a file.
 static CASTLES: Row<'static> = Row {
@@ -150,12 +136,6 @@ static SET_UP: [Row<'static>; 3] = [
     },
 ];
 
-#[test]
-fn another_start_is_set_up(rt: HostRuntime) {
-    assert!(rt; has_text(rt.alloc(), &CASTLES, CASTLED));
-    expect_none(&rt, first_failing(rt.alloc(), &SET_UP));
-}
-
 const FULL: &str =
     "1. a3 a6 2. b3 b6 3. c3 c6 4. d3 d6 5. e3 e6 6. Nf3 Nf6 7. Ng1 Ng8 8. Nf3 Nf6 *";
 
@@ -176,7 +156,21 @@ static FILLED: [Row<'static>; 2] = [
 ];
 
 #[test]
-fn lines_are_filled_to_79(rt: HostRuntime) {
-    assert!(rt; FULL.len() == 79 && BROKEN.len() == 80);
-    expect_none(&rt, first_failing(rt.alloc(), &FILLED));
+fn games_are_written_and_read(rt: HostRuntime) {
+    let alloc = rt.alloc();
+    let holds = [
+        first_failing(alloc, &GAMES).is_none(),
+        // mate decides, whatever the sign
+        first_failing(alloc, &MATES).is_none(),
+        // a clock's comment asks for the number
+        first_failing(alloc, &TIMED).is_none(),
+        // another start is set up
+        has_text(alloc, &CASTLES, CASTLED),
+        first_failing(alloc, &SET_UP).is_none(),
+        // lines are filled to 79
+        FULL.len() == 79 && BROKEN.len() == 80,
+        first_failing(alloc, &FILLED).is_none(),
+        empty_game_stops_after_ten(alloc),
+    ];
+    expect_none(&rt, first_false(&holds));
 }

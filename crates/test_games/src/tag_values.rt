@@ -1,6 +1,6 @@
 //! Values of tags, and how they are escaped.
 
-use crate::games::{expect_none, is_written_as};
+use crate::games::{expect_none, first_false, is_written_as};
 use chess_game::{Game, Tag, TagError, Tags};
 use chess_rules::Position;
 use dgt_vectors::texts::{GameText, NO_MOVE};
@@ -55,13 +55,6 @@ fn first_other_value(tags: &Tags) -> Option<usize> {
     None
 }
 
-#[test]
-fn values_are_checked(rt: HostRuntime) {
-    let mut tags = Tags::new(rt.alloc());
-    expect_none(&rt, first_other_answer(&mut tags));
-    expect_none(&rt, first_other_value(&tags));
-}
-
 /// As White's name, so many of this part get this result.
 fn gets(
     alloc: Global,
@@ -82,15 +75,6 @@ fn has_name(alloc: Global, tags: &Tags, part: &str, count: usize) -> bool {
         Ok(name) => tags.get(Tag::White) == name.as_str(),
         Err(_) => false,
     }
-}
-
-#[test]
-fn a_long_value_is_refused(rt: HostRuntime) {
-    let mut tags = Tags::new(rt.alloc());
-    assert!(rt; gets(rt.alloc(), &mut tags, "\"", 100, Ok(())));
-    assert!(rt; gets(rt.alloc(), &mut tags, "\"", 101, Err(TagError::Long)));
-    assert!(rt; gets(rt.alloc(), &mut tags, "\n", 200, Err(TagError::Text)));
-    assert!(rt; has_name(rt.alloc(), &tags, "\"", 100));
 }
 
 const ESCAPED: &str =
@@ -121,12 +105,6 @@ fn names_have_text(alloc: Global, white: &str, black: &str, text: &[u8]) -> bool
     }
 }
 
-#[test]
-fn values_are_escaped(rt: HostRuntime) {
-    let (white, black) = ("\"\"", "\\ and \"");
-    assert!(rt; names_have_text(rt.alloc(), white, black, ESCAPED.as_bytes()));
-}
-
 /// White's name has the text of the game without a move in which it is written so.
 fn name_has_text(alloc: Global, white: &str, written: &str) -> bool {
     let game = GameText {
@@ -151,7 +129,28 @@ fn marks_come_back(alloc: Global) -> bool {
     }
 }
 
+/// Values are checked one after the other, and those that were set stand.
+fn values_are_checked(alloc: Global) -> bool {
+    let mut tags = Tags::new(alloc);
+    first_other_answer(&mut tags).is_none() && first_other_value(&tags).is_none()
+}
+
+/// A value of a hundred bytes is set, and stays where a longer one is refused.
+fn long_values_are_refused(alloc: Global) -> bool {
+    let mut tags = Tags::new(alloc);
+    gets(alloc, &mut tags, "\"", 100, Ok(()))
+        && gets(alloc, &mut tags, "\"", 101, Err(TagError::Long))
+        && gets(alloc, &mut tags, "\n", 200, Err(TagError::Text))
+        && has_name(alloc, &tags, "\"", 100)
+}
+
 #[test]
-fn a_hundred_quotation_marks_come_back(rt: HostRuntime) {
-    assert!(rt; marks_come_back(rt.alloc()));
+fn values_are_checked_and_escaped(rt: HostRuntime) {
+    let holds = [
+        values_are_checked(rt.alloc()),
+        long_values_are_refused(rt.alloc()),
+        names_have_text(rt.alloc(), "\"\"", "\\ and \"", ESCAPED.as_bytes()),
+        marks_come_back(rt.alloc()),
+    ];
+    expect_none(&rt, first_false(&holds));
 }

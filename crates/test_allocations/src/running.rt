@@ -16,8 +16,6 @@ pub struct Left {
     pub out: Bytes,
     /// What was written to standard error.
     pub err: Bytes,
-    /// So many of the like bytes at the end of the input weren't read.
-    pub unread: u32,
 }
 
 /// The texts as arguments of the command line, after the name of the program.
@@ -47,7 +45,6 @@ pub fn run_with(
         shown: Bytes::of(&[out.inner().shown()]),
         out: Bytes::of(&[out.inner().held()]),
         err: Bytes::of(&[err.inner().held()]),
-        unread: reader.inner().left(),
     }
 }
 

@@ -3,7 +3,6 @@
 use dgt_vectors::bytes::Bytes;
 use dgt_vectors::recording::{Recording, recorded, report_of};
 use dgt_vectors::row::Row;
-use dgt_vectors::rows::rows_by_subject;
 use dgt_vectors::texts::NO_MOVE;
 use std::alloc::Global;
 
@@ -28,29 +27,11 @@ pub fn row_holds(alloc: Global, row: &Row<'_>, chunk: usize) -> bool {
 }
 
 /// How many bytes come with a read where the row doesn't hold.
-fn chunk_failing(alloc: Global, row: &Row<'_>) -> Option<usize> {
+pub fn chunk_failing(alloc: Global, row: &Row<'_>) -> Option<usize> {
     for chunk in [1, 2, 7, 4096] {
         if !row_holds(alloc, row, chunk) {
             return Some(chunk);
         }
     }
     None
-}
-
-/// The name of the first row that doesn't hold, and how many bytes then come with a read.
-fn first_failing<'a>(alloc: Global, rows: &[Row<'a>]) -> Option<(&'a str, usize)> {
-    for row in rows {
-        if let Some(chunk) = chunk_failing(alloc, row) {
-            return Some((row.name, chunk));
-        }
-    }
-    None
-}
-
-/// Nothing depends on how many bytes a read gives.
-#[test]
-fn captures_are_recorded(rt: HostRuntime) {
-    for rows in rows_by_subject() {
-        assert_eq!(rt; first_failing(rt.alloc(), rows), None);
-    }
 }

@@ -18,6 +18,16 @@ pub fn expect_none(rt: &impl Abort, first: Option<usize>) {
     assert_eq!(rt; first, None);
 }
 
+/// The number of the first that doesn't hold.
+pub fn first_false(holds: &[bool]) -> Option<usize> {
+    for (i, holds) in holds.iter().enumerate() {
+        if !*holds {
+            return Some(i);
+        }
+    }
+    None
+}
+
 /// White may castle short.
 pub const CASTLING: &str = "4k3/8/8/8/8/8/8/4K2R w K - 0 1";
 

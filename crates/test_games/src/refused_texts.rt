@@ -1,6 +1,6 @@
 //! Texts that are no export texts.
 
-use crate::games::{CASTLING, expect_none};
+use crate::games::{CASTLING, expect_none, first_false};
 use dgt_vectors::bytes::Bytes;
 use dgt_vectors::texts::{ONE_MOVE, text_of, with_returns};
 use pgn_book::{PgnError, read_pgn};
@@ -21,11 +21,6 @@ fn first_part_not_refused(alloc: Global) -> Option<usize> {
     None
 }
 
-#[test]
-fn a_part_is_refused(rt: HostRuntime) {
-    expect_none(&rt, first_part_not_refused(rt.alloc()));
-}
-
 fn refuses_returns(alloc: Global) -> bool {
     refuses(alloc, with_returns(ONE_MOVE.bytes().get()).get())
 }
@@ -33,12 +28,6 @@ fn refuses_returns(alloc: Global) -> bool {
 /// The text with a line feed more is refused.
 fn refuses_line_more(alloc: Global) -> bool {
     refuses(alloc, Bytes::of(&[ONE_MOVE.bytes().get(), b"\n"]).get())
-}
-
-#[test]
-fn other_ends_of_lines_are_refused(rt: HostRuntime) {
-    assert!(rt; refuses_returns(rt.alloc()));
-    assert!(rt; refuses_line_more(rt.alloc()));
 }
 
 const FOUR_FIELDS: &str = "4k3/8/8/8/8/8/8/4K2R w K -";
@@ -84,6 +73,12 @@ fn first_not_refused(alloc: Global) -> Option<usize> {
 
 #[test]
 fn other_texts_are_refused(rt: HostRuntime) {
-    expect_none(&rt, first_not_refused(rt.alloc()));
-    assert!(rt; refuses(rt.alloc(), b""));
+    let holds = [
+        first_part_not_refused(rt.alloc()).is_none(),
+        refuses_returns(rt.alloc()),
+        refuses_line_more(rt.alloc()),
+        first_not_refused(rt.alloc()).is_none(),
+        refuses(rt.alloc(), b""),
+    ];
+    expect_none(&rt, first_false(&holds));
 }

@@ -2,15 +2,13 @@
 
 use crate::slow::last_event;
 use dgt_frame::Decoder;
-use dgt_vectors::row::Row;
-use dgt_vectors::rows::rows_by_subject;
 
 /// The bytes of the short lists: those that bound something in the protocol.
 const EDGES: [u8; 10] = [0x00, 0x03, 0x05, 0x43, 0x7F, 0x80, 0x86, 0x8D, 0x8E, 0xFF];
 
 /// At each byte `push` returns what the slow reading of all bytes up to there says, and so does `pending`; before any
 /// it is 0.
-fn agrees(bytes: &[u8]) -> bool {
+pub fn agrees(bytes: &[u8]) -> bool {
     let mut decoder = Decoder::new();
     if decoder.pending() != 0 {
         return false;
@@ -50,23 +48,5 @@ fn first_short_list() -> Option<[u8; 4]> {
 
 #[test]
 fn short_lists_are_decoded_as_the_protocol_says(rt: HostRuntime) {
-    assert!(rt; agrees(&[]));
-    assert_eq!(rt; first_short_list(), None);
-}
-
-/// The name of the first row whose capture doesn't agree.
-fn first_failing<'a>(rows: &[Row<'a>]) -> Option<&'a str> {
-    for row in rows {
-        if !agrees(row.bytes().get()) {
-            return Some(row.name);
-        }
-    }
-    None
-}
-
-#[test]
-fn captures_are_decoded_as_the_protocol_says(rt: HostRuntime) {
-    for rows in rows_by_subject() {
-        assert_eq!(rt; first_failing(rows), None);
-    }
+    assert!(rt; agrees(&[]) && first_short_list().is_none());
 }

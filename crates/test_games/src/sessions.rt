@@ -1,6 +1,7 @@
 //! What a session trusts, what a view tells, and that what is recorded reads back.
 ghost use Rattle.board_events.specs.History.{IsInRange};
 
+use crate::games::{expect_none, first_false};
 use board_events::{Change, Session, Taken, View};
 use board_session::laws::read_recorded;
 use chess_rules::Position;
@@ -48,14 +49,6 @@ fn trusts_nothing_after_a_fault(session: &mut Session) -> bool {
         && session.settler().moves().is_empty()
 }
 
-#[test]
-fn a_session_trusts_from_a_dump_to_a_fault(rt: HostRuntime) {
-    let mut session = Session::new(rt.alloc(), Position::initial(), First::White, false);
-    assert!(rt; trusts_nothing_yet(&mut session));
-    assert!(rt; trusts_a_dump(&mut session));
-    assert!(rt; trusts_nothing_after_a_fault(&mut session));
-}
-
 /// Of the event the view says this.
 fn changes(view: &mut View, event: Event, change: Change) -> bool
     requires { IsInRange event }
@@ -76,17 +69,6 @@ fn sees_the_next_dump_after_a_fault(view: &mut View) -> bool {
         && changes(view, lift(), Change::Nothing)
         && changes(view, dump(), Change::Picture)
         && changes(view, dump(), Change::Nothing)
-}
-
-#[test]
-fn a_view_tells_what_changes(rt: HostRuntime) {
-    let mut view = View::new(false);
-    assert!(rt; sees_a_lifted_pawn(&mut view, 52));
-    assert!(rt; sees_the_next_dump_after_a_fault(&mut view));
-    assert_eq!(rt; view.picture()[52], 1);
-    let mut turned = View::new(true);
-    assert!(rt; sees_a_lifted_pawn(&mut turned, 11));
-    assert_eq!(rt; turned.picture()[12], 1);
 }
 
 /// The text reads back as a game with so many moves.
@@ -115,7 +97,31 @@ fn first_not_read_back(alloc: Global) -> Option<usize> {
     None
 }
 
+/// A session trusts from a dump to a fault.
+fn session_trusts(alloc: Global) -> bool {
+    let mut session = Session::new(alloc, Position::initial(), First::White, false);
+    trusts_nothing_yet(&mut session)
+        && trusts_a_dump(&mut session)
+        && trusts_nothing_after_a_fault(&mut session)
+}
+
+/// A view tells what changes, also of a turned board.
+fn view_tells() -> bool {
+    let mut view = View::new(false);
+    let mut turned = View::new(true);
+    sees_a_lifted_pawn(&mut view, 52)
+        && sees_the_next_dump_after_a_fault(&mut view)
+        && view.picture()[52] == 1
+        && sees_a_lifted_pawn(&mut turned, 11)
+        && turned.picture()[12] == 1
+}
+
 #[test]
-fn a_recorded_text_reads_back(rt: HostRuntime) {
-    assert_eq!(rt; first_not_read_back(rt.alloc()), None);
+fn sessions_and_views_tell(rt: HostRuntime) {
+    let holds = [
+        session_trusts(rt.alloc()),
+        view_tells(),
+        first_not_read_back(rt.alloc()).is_none(),
+    ];
+    expect_none(&rt, first_false(&holds));
 }

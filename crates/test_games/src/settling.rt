@@ -10,7 +10,6 @@ use chess_text::FenError;
 use dgt_frame::{Event, First, Message, read_time};
 use dgt_vectors::recording::{recorded, start_of};
 use dgt_vectors::row::Row;
-use dgt_vectors::rows::rows_by_subject;
 use dgt_vectors::trying::{after, only_move, sign};
 use pgn_book::read_pgn;
 use settle_core::{Outcome, Ply, Seen};
@@ -336,22 +335,5 @@ pub fn settling_failing(alloc: Global, row: &Row<'_>) -> Option<usize> {
     match Beside::new(alloc, row) {
         Ok(mut beside) => first_untold(alloc, row, &mut beside),
         Err(_) => Some(0),
-    }
-}
-
-/// The name of the first row that settles otherwise, and how many bytes have then come.
-fn first_failing<'a>(alloc: Global, rows: &[Row<'a>]) -> Option<(&'a str, usize)> {
-    for row in rows {
-        if let Some(len) = settling_failing(alloc, row) {
-            return Some((row.name, len));
-        }
-    }
-    None
-}
-
-#[test]
-fn captures_are_settled_as_told(rt: HostRuntime) {
-    for rows in rows_by_subject() {
-        assert_eq!(rt; first_failing(rt.alloc(), rows), None);
     }
 }
