@@ -178,13 +178,13 @@ class Text:
         """Puts the new text, open as `target`, in its place. Returns where the old text is kept, if somebody had edited it."""
         paths, edited = self._game.paths, None
         with contextlib.ExitStack() as opened:
-            text, before = content_of(target, LARGEST), self._before(opened)
-            if before and before not in (text, self._game.written.text):
-                edited = keep(paths, before)
             capture = os.open(paths.capture, os.O_RDONLY)
             opened.callback(os.close, capture)
             os.fsync(capture)
             os.fsync(target)
+            text, before = content_of(target, LARGEST), self._before(opened)  # read last: somebody may save it meanwhile
+            if before and before not in (text, self._game.written.text):
+                edited = keep(paths, before)
             os.replace(self._new, paths.pgn)
             self._game.written.text = text
             sync_folder(paths.folder)

@@ -2,12 +2,29 @@
 
 import pathlib
 import subprocess
+import sys
 from typing import List
 
 from played.recorder import LIVE
 from played.stage import begin_game, bytes_of, go_on, kill, same, stop, until, until_game, until_line
 
 SAYS = "was edited by hand: that text is kept in"
+# Starts the recorder; its first argument is NAME.pgn. What is in NAME.mine takes its place while a new text is forced to the disk.
+SAVED_MEANWHILE = """
+import contextlib, os, runpy, sys
+sys.dont_write_bytecode = True
+pgn, sys.argv = sys.argv[1], sys.argv[2:]
+real = os.fsync
+
+def fsync(number):
+    real(number)
+    if os.readlink(f"/proc/self/fd/{number}") == f"{pgn}.new":
+        with contextlib.suppress(FileNotFoundError):
+            os.rename(f"{pgn[:-4]}.mine", pgn)
+
+os.fsync = fsync
+runpy.run_path(sys.argv[0], run_name="__main__")
+"""
 
 
 def edited_by_hand(folder: pathlib.Path) -> None:
@@ -78,3 +95,17 @@ def edited_by_hand(folder: pathlib.Path) -> None:
     until_game(live.name, "1. e4 e5 2. Nf3 Nc6 1-0")
     same(texts(), kept)
     same((folder / "game.log").read_text().count(SAYS), 5)
+
+
+def edited_meanwhile(folder: pathlib.Path) -> None:
+    """A text that is saved by hand while the new one goes to a slow disk is kept too."""
+    script, pgn = folder / "meanwhile.py", folder / "game.pgn"
+    script.write_text(SAVED_MEANWHILE)
+    board, live = begin_game(folder, start=[sys.executable, script, pgn])
+    (folder / "game.mine.new").write_bytes(b"; mine\n")
+    (folder / "game.mine.new").rename(folder / "game.mine")
+    board.play("g1f3")
+    until_game(live.name, "1. e4 e5 2. Nf3 *")
+    until_line(live, f"{pgn} {SAYS} {folder}/game.edited.pgn")
+    same(bytes_of(folder / "game.edited.pgn"), b"; mine\n")
+    same(stop(live), 0)
